@@ -24,13 +24,6 @@ fn areas_of_eleven_frames(rt: HostRuntime) {
     expect_true(&rt, areas.smallest_from(order) == Some(rest));
 }
 
-#[test]
-fn orders_end_at_ten(rt: HostRuntime) {
-    let greatest = order_of(&rt, 10);
-    expect_true(&rt, greatest.exponent() == 10 && greatest.frames() == 1024);
-    expect_true(&rt, Order::of(11).is_none());
-}
-
 // The empty areas of a zone of this many frames.
 fn empty_areas(rt: &(impl Abort + AllocGlobal), frames: u32) -> FreeAreas
     ensures { result.frames ≡ frames }
@@ -56,10 +49,6 @@ enum AreaRow {
     TakeBlock(u32, u32),
     // The pair bit of the first pair of blocks of this order.
     PairBit(u32, Option<bool>),
-    // The first block of exactly this order begins at this frame.
-    FirstBlock(u32, u32),
-    // There is no block of this order or above.
-    NoBlockFrom(u32),
 }
 
 fn block_at(rt: &impl Abort, at: u32, exponent: u32) -> Block {
@@ -88,15 +77,6 @@ fn play_row(rt: &impl Abort, areas: &mut FreeAreas, row: AreaRow) {
         AreaRow::PairBit(exponent, bit) => {
             expect_true(rt, areas.pair_bit(block_at(rt, 0, exponent)) == bit);
         }
-        AreaRow::FirstBlock(exponent, at) => {
-            let first = areas.first(order_of(rt, exponent));
-            expect_true(rt, first == Some(block_at(rt, at, exponent)));
-        }
-        AreaRow::NoBlockFrom(exponent) => {
-            let order = order_of(rt, exponent);
-            expect_true(rt, areas.first(order).is_none());
-            expect_true(rt, areas.smallest_from(order).is_none());
-        }
     }
 }
 
@@ -124,17 +104,4 @@ fn play_rows(rt: &impl Abort, areas: &mut FreeAreas, rows: &[AreaRow]) {
     for row in rows {
         play_row(rt, areas, *row);
     }
-}
-
-#[test]
-fn a_block_is_put_in_and_taken_out(rt: HostRuntime) {
-    let mut areas = empty_areas(&rt, 16);
-    let rows = [
-        AreaRow::PutBlock(8, 1),
-        AreaRow::FirstBlock(1, 8),
-        AreaRow::NoBlockFrom(2),
-        AreaRow::TakeBlock(8, 1),
-        AreaRow::NoBlockFrom(1),
-    ];
-    play_rows(&rt, &mut areas, &rows);
 }

@@ -32,7 +32,7 @@ fn seen_by_first_cpu<N: BootName, R: Wait + Abort>(
     Seen {
         frames: system.show_text(rt, alloc, cpu).expect(rt, "memory"),
         blocks: system.blocks_text(rt, alloc, cpu).expect(rt, "memory"),
-        group: system.find(rt, path),
+        group: system.find(rt, cpu, path),
     }
 }
 

@@ -5,12 +5,11 @@ ghost use Rattle.mem_system.specs.Commands.{IsOfZone};
 use cpu_part::BootName;
 use group_tree::fault::Fault;
 use group_tree::group::GroupId;
-use mem_system::{Audit, Boot, Cmd, Cpu, Gate, Reply, System, boot};
+use mem_system::{Audit, Boot, Cmd, Cpu, Reply, System, boot};
 use std::alloc::Global;
 use std::marker::Brand;
 use std::process::Abort;
 use std::sync::Wait;
-use std::sync::atomic::{AtomicU32, Ordering};
 use zone_blocks::config::Config;
 
 /// 16 frames and two CPUs.
@@ -21,22 +20,6 @@ pub const SIZES: Config = Config {
     high: 8,
     stock: 4,
 };
-
-// Sums the numbers of the CPUs for which it is called inside a visit.
-#[derive(Drop)]
-struct Counter {
-    inside: AtomicU32,
-}
-
-impl Gate for Counter {
-    fn before(&self, _cpu: u32, _line: usize) {}
-
-    fn inside(&self, cpu: u32) {
-        self.inside.fetch_add(cpu, Ordering::SeqCst);
-    }
-
-    fn after(&self, _cpu: u32, _line: usize) {}
-}
 
 /// The condition holds, or the test fails. A call is cheaper to prove than the macro in its place.
 pub fn expect_true(rt: &impl Abort, condition: bool) {
@@ -86,9 +69,9 @@ fn makes_and_reads<N: BootName, R: Wait + Abort>(rt: &R, system: &System<N>, cpu
     let file: &[u8] = b"memory.max";
     let value: &[u8] = b"8K";
     let group = GroupId::of(1).expect(rt, "a group");
-    expect_true(rt, system.find(rt, path).is_none());
+    expect_true(rt, system.find(rt, cpu, path).is_none());
     answers(rt, system, cpu, &Cmd::Mkdir { path }, &Reply::Group(group));
-    expect_true(rt, system.find(rt, path) == Some(group));
+    expect_true(rt, system.find(rt, cpu, path) == Some(group));
     reads_limit(rt, system, cpu, b"max\n");
     let write = Cmd::Write { path, file, value };
     answers(rt, system, cpu, &write, &Reply::Done);
@@ -115,54 +98,9 @@ fn shows_all_free<N: BootName, R: Wait + Abort>(
 fn removes_group<N: BootName, R: Wait + Abort>(rt: &R, system: &System<N>, cpu: &mut Cpu<N>) {
     let path: &[u8] = b"/a";
     let no_group = Reply::Refused(Fault::NoGroup);
-    expect_true(rt, system.find(rt, path) == GroupId::of(1));
+    expect_true(rt, system.find(rt, cpu, path) == GroupId::of(1));
     answers(rt, system, cpu, &Cmd::Rmdir { path }, &Reply::Done);
     answers(rt, system, cpu, &Cmd::Rmdir { path }, &no_group);
-}
-
-// The reply to a settle in a visit with this gate.
-fn settles_by<N: BootName, R: Wait>(
-    rt: &R,
-    system: &System<N>,
-    cpu: &mut Cpu<N>,
-    gate: &Counter,
-) -> Reply {
-    system.visit_with(rt, cpu, &Cmd::Settle, gate)
-}
-
-// The CPU asks for the removal of `/a`. The new reply replaces this one.
-fn rmdir_into<N: BootName, R: Wait>(
-    rt: &R,
-    system: &System<N>,
-    cpu: &mut Cpu<N>,
-    gate: &Counter,
-    reply: &mut Reply,
-) {
-    let path: &[u8] = b"/a";
-    system.visit_into(rt, cpu, &Cmd::Rmdir { path }, gate, reply);
-}
-
-// CPU 2 makes two visits with a gate, which is called inside each. The second visit replaces an older reply.
-fn passes_the_gate<N: BootName, R: Wait + Abort>(rt: &R, system: &System<N>, cpu: &mut Cpu<N>) {
-    let gate = Counter {
-        inside: AtomicU32::new(0),
-    };
-    expect_true(rt, settles_by(rt, system, cpu, &gate) == Reply::Done);
-    expect_true(rt, gate.inside.load(Ordering::SeqCst) == 2);
-    is_answered_in_place(rt, system, cpu, &gate);
-    expect_true(rt, gate.inside.load(Ordering::SeqCst) == 4);
-}
-
-// The reply to the CPU replaces an older one.
-fn is_answered_in_place<N: BootName, R: Wait + Abort>(
-    rt: &R,
-    system: &System<N>,
-    cpu: &mut Cpu<N>,
-    gate: &Counter,
-) {
-    let mut reply = Reply::Free;
-    rmdir_into(rt, system, cpu, gate, &mut reply);
-    expect_true(rt, reply == Reply::Refused(Fault::NoGroup));
 }
 
 /// Shuts the system down, in which no CPU has a pin.
@@ -195,7 +133,8 @@ fn serves_each_cpu<N: BootName, R: Wait + Abort>(rt: &R, alloc: Global, boot: Bo
     let (system, mut cpus) = boot.start::<N>(alloc).expect(rt, "memory");
     expect_true(rt, cpus.len() == 2);
     let root: &[u8] = b"/";
-    expect_true(rt, system.find(rt, root) == Some(GroupId::root()));
+    let first = cpus.first_mut().expect(rt, "a CPU");
+    expect_true(rt, system.find(rt, first, root) == Some(GroupId::root()));
     visits(rt, alloc, &system, &mut cpus);
     expect_true(rt, ends(rt, system, cpus) == nothing_was_charged());
 }
@@ -213,7 +152,6 @@ fn visits<N: BootName, R: Wait + Abort>(
             shows_all_free(rt, alloc, system, cpu);
         } else {
             removes_group(rt, system, cpu);
-            passes_the_gate(rt, system, cpu);
         }
     }
 }
@@ -222,10 +160,4 @@ fn visits<N: BootName, R: Wait + Abort>(
 fn a_group_is_made_and_read(rt: HostRuntime) {
     let boot = boot(rt.alloc(), SIZES).expect(&rt, "a boot");
     serves_each_cpu::<Brand, _>(&rt, rt.alloc(), boot);
-}
-
-#[test]
-fn bad_sizes_are_refused(rt: HostRuntime) {
-    let sizes = Config { cpus: 65, ..SIZES };
-    expect_true(&rt, boot(rt.alloc(), sizes).is_err());
 }

@@ -3,14 +3,16 @@ use Rattle.std.proofs.Common.{◌≡◌, ℕ, ◌+◌, ◌-◌, ◌%◌, ◌^◌
 use Rattle.std.specs.Prelude.{◌⊎◌, slice_index}
 use mathlib.Core.Option.{none}
 use prog.Atomic.{either}
+use Rattle.atomic_table.specs.Seated.{TableId}
 use Rattle.atomic_table.specs.Table.{Allows, Me, step}
 use Rattle.frame_word.specs.declared.view.FrameView.{FrameView}
+use Rattle.frame_word.specs.Seats.{KnownTable}
 use Rattle.frame_word.specs.ReferenceRule.{mark, most_references, visit_index}
-use Rattle.frame_word.specs.Kinds.{by_one, by_two, collects, freezes, stores_pass_back, stores_pass_out, puts, takes_in, unfreezes, stores_visit}
+use Rattle.frame_word.specs.Kinds.{by_one, by_two, collects, freezes, stores_pass_back, puts, unfreezes, stores_visit}
 use Rattle.frame_word.specs.Views.{hand_overs_begun, hand_overs_ended, in_hands, note_of}
 use Rattle.step_rules.specs.declared.step.Step.{Step}
 use Rattle.step_rules.specs.declared.step.Action.{Action}
-use Rattle.step_rules.specs.declared.step.Action.TheVariants.{Collect, Freeze, OpenVisit, PassBack, PassOut, Put, ShutVisit, TakeIn, Unfreeze}
+use Rattle.step_rules.specs.declared.step.Action.TheVariants.{Collect, Freeze, OpenVisit, PassBack, Put, ShutVisit, Unfreeze}
 use Rattle.step_rules.specs.declared.step.Answer.{Answer}
 use Rattle.step_rules.specs.declared.step.Answer.TheVariants.{Done}
 use Rattle.step_rules.specs.State.{Zone}
@@ -21,14 +23,15 @@ use Rattle.boot_words.specs.declared.view.BootView.TheVariants.{OfFrames, OfRun}
 use Rattle.boot_words.specs.declared.word.Word.{Word}
 use Rattle.boot_words.specs.declared.word.Word.TheVariants.{OfFrame, VisitOf}
 use Rattle.boot_words.specs.Rule.{boot_rule, frame_base}
-use Rattle.boot_words.specs.Allowed.{put_answer_at}
+use Rattle.step_rules.specs.After.{after}
+use Rattle.boot_words.specs.Allowed.{GrewBy, put_answer_at}
 use Rattle.boot_words.specs.Held.{AreViewsOf, HoldsLock, MadeUnderLock, StoresUnderLock, freeze_answer, joined, local_seen}
-use Rattle.boot_words.specs.Seats.{MayStep, index_of}
+use Rattle.boot_words.specs.Seats.{MayStep, but_last, index_of, zone_of_boot}
 use Rattle.boot_words.specs.Sitting.{frame_view, second_view_of_frames}
-use Rattle.boot_words.specs.Pasts.{pasts_in, second_past}
+use Rattle.boot_words.specs.Pasts.{KnownPasts, MakesStep, cpu_past, local_by_pasts, own_past, pasts_in, second_past}
 use Rattle.boot_words.proofs.Told.{may_step, none_carried, past_at}
 use Rattle.boot_words.proofs.Freezing.{freeze_is_allowed, held_put_is_allowed}
-use Rattle.boot_words.proofs.Storing.{collect_is_allowed, open_is_allowed, pass_back_is_allowed, pass_out_is_allowed, shut_is_allowed, take_in_is_allowed, unfreeze_is_allowed}
+use Rattle.boot_words.proofs.Storing.{collect_is_allowed, open_is_allowed, pass_back_is_allowed, shut_is_allowed, unfreeze_is_allowed}
 
 -- the past of the CPU that holds the lock
 abbrev pub holder_at : List BootView → Past
@@ -64,6 +67,38 @@ with_kind wrap zone before made_step answer kind weak views less told = record {
   holds = told.holds;
   local_is = told.local_is;
 }
+
+-- the run goes on by the step, with both pasts alone again
+pub held_run : {V : Type 0} (wrap : V → BootView) (t : KnownTable) (s : KnownPasts) (before loaded left : List BootView) (behind : List V) (made_step : Step) (answer : Answer)
+    (kind : Me (Unit {0}) (List V) → Type 0) (table : TableId) → before ≡ joined wrap (own_past s) (cpu_past s) behind
+    → (told : held_told wrap (zone_of_boot t) before made_step answer kind loaded) → left ≡ OfRun told.zone_past ∷ OfRun told.cpu_past ∷ [] → table ≡ t.table
+    → MakesStep t s made_step.seat made_step.action answer (record { table = table; pasts = pasts_in left })
+held_run wrap t s before loaded left behind made_step answer kind table is told are same =
+    let zone = zone_of_boot t in
+    subst (λ (y : TableId × List BootView). MakesStep t s made_step.seat made_step.action answer (record { table = y.0; pasts = pasts_in y.1 }))
+    (λ i. (sym same i, sym are i))
+    (record {
+      zone_grew = subst (λ (p : Past). GrewBy p made_step answer told.zone_past) (ap past_at is) told.zone_grew;
+      cpu_grew = subst (λ (p : Past). GrewBy p made_step answer told.cpu_past) (ap holder_at is) told.cpu_grew;
+      held = record { table_is = refl; both = refl; holds = told.holds };
+      local_is = told.local_is ∙ ap (λ (l : List BootView). after (local_seen zone (holder_at l)) made_step.seat made_step.action answer) is;
+    })
+
+-- the same step by other names of its numbers
+pub same_step : (t : KnownTable) (s : KnownPasts) (x y : Step) (answer : Answer) (later : KnownPasts) → x ≡ y → MakesStep t s x.seat x.action answer later
+    → MakesStep t s y.seat y.action answer later
+same_step t s x y answer later e made = subst (λ (z : Step). MakesStep t s z.seat z.action answer later) e made
+
+-- what is left when the view behind the pasts is split off, or both
+pub one_left : {V : Type 0} (wrap : V → BootView) (z c : Past) (w : V) (views : List V) (loaded left : List BootView) → ◌≡◌ {A = Me (Unit {0}) (List BootView)} (loaded, []) (joined wrap z c views, [])
+    → ◌≡◌ {A = Me (Unit {0}) (List V)} (views, []) (w ∷ [], []) → left ≡ but_last loaded → left ≡ OfRun z ∷ OfRun c ∷ []
+one_left wrap z c w views loaded left is one parted =
+    parted ∙ ap (λ (m : Me (Unit {0}) (List BootView)). but_last m.0) is ∙ ap (λ m. but_last (joined wrap z c m.0)) one
+
+pub two_left : {V : Type 0} (wrap : V → BootView) (z c : Past) (u w : V) (views : List V) (loaded left : List BootView) → ◌≡◌ {A = Me (Unit {0}) (List BootView)} (loaded, []) (joined wrap z c views, [])
+    → ◌≡◌ {A = Me (Unit {0}) (List V)} (views, []) (u ∷ w ∷ [], []) → left ≡ but_last (but_last loaded) → left ≡ OfRun z ∷ OfRun c ∷ []
+two_left wrap z c u w views loaded left is two parted =
+    parted ∙ ap (λ (m : Me (Unit {0}) (List BootView)). but_last (but_last m.0)) is ∙ ap (λ m. but_last (but_last (joined wrap z c m.0))) two
 
 -- ---- by one seat
 abbrev pub freezes_told : Zone → List BootView → ℕ → ℕ → ℕ → List BootView → Type 0
@@ -103,20 +138,6 @@ may_unfreeze zone before f count z c v is holds inside low high own legal =
     (may_held OfFrames zone (OfFrame f) (λ n. count) z c (v ∷ []) _ (λ found. Done) (λ found. by_one unfreezes (step 0 f count 0 none) (v ∷ [], []) count)
     (λ id. unfreeze_is_allowed zone 0 id f count z c (local_seen zone c) v holds legal inside low high own))
 
-abbrev pub passes_out_told : Zone → List BootView → ℕ → ℕ → ℕ → ℕ → List BootView → Type 0
-passes_out_told zone before f word cpu stored = held_told OfFrames zone before (record { seat = 0; action = PassOut f cpu }) Done
-    (by_one stores_pass_out (step 0 f word 0 none) (frame_view before ∷ [], []) word)
-
-pub may_pass_out : (zone : Zone) (before : List BootView) (f word named cpu : ℕ) (z c : Past) (v : FrameView) → before ≡ OfRun z ∷ OfRun c ∷ OfFrames v ∷ []
-    → word ≡ mark cpu → named ≡ cpu → HoldsLock zone z c (local_seen zone c) → f < zone.frames → v.number ≡ 0 → 1 ≤ cpu → cpu ≤ zone.cpus
-    → slice_index v.opened cpu ≡ 1 → (note_of v f).own ≡ 1 → is_legal (local_seen zone c) 0 (PassOut f cpu) ≡ true
-    → MayStep zone before (OfFrame f) (λ n. word) (λ found. passes_out_told zone before f word named word)
-may_pass_out zone before f word named cpu z c v is stored same holds inside zone_is low high visiting own legal =
-    subst (λ (y : List BootView × ℕ × ℕ). MayStep zone y.0 (OfFrame f) (λ n. y.1) (λ found. passes_out_told zone y.0 f y.1 y.2 y.1))
-    (λ i. (sym is i, sym stored i, sym same i))
-    (may_held OfFrames zone (OfFrame f) (λ n. mark cpu) z c (v ∷ []) _ (λ found. Done) (λ found. by_one stores_pass_out (step 0 f (mark cpu) 0 none) (v ∷ [], []) (mark cpu))
-    (λ id. pass_out_is_allowed zone 0 id f cpu z c (local_seen zone c) v holds legal inside zone_is low high visiting own))
-
 -- ---- by the zone's seat joined with the CPU's
 module _ (zone : Zone) where
   -- a store of this kind, which is this step of this seat
@@ -140,16 +161,6 @@ module _ (zone : Zone) where
   by_holder : (c : Past) (number : ℕ) (action : ℕ → Action) → number ≡ c.number → is_legal (local_seen zone c) number (action number) ≡ true
       → is_legal (local_seen zone c) c.number (action c.number) ≡ true
   by_holder c number action same legal = subst (λ (q : ℕ). is_legal (local_seen zone c) q (action q) ≡ true) same legal
-
-  pub may_take_in : (before : List BootView) (f : ℕ) (z c : Past) (m v : FrameView) → before ≡ joined OfFrames z c (m ∷ v ∷ []) → HoldsLock zone z c (local_seen zone c)
-      → AreViewsOf zone c m.number v.number → f < zone.frames → hand_overs_begun m v f ≡ hand_overs_ended m v f + 1 → (note_of m f).lent ≡ v.number
-      → is_legal (local_seen zone c) v.number (TakeIn f) ≡ true
-      → MayStep zone before (OfFrame f) (λ n. 0) (λ found. stores_told takes_in before f 0 (record { seat = (second_view_of_frames before).number; action = TakeIn f }) 0)
-  may_take_in before f z c m v is holds are inside passes lent legal =
-      subst (λ (y : ℕ). MayStep zone before (OfFrame f) (λ n. 0) (λ found. stores_told takes_in before f 0 (record { seat = y; action = TakeIn f }) 0))
-      (sym are.cpu_is ∙ sym (ap (λ l. (second_view_of_frames l).number) is))
-      (may_store takes_in before (OfFrame f) f 0 z c m v (record { seat = c.number; action = TakeIn f }) is
-      (λ id. take_in_is_allowed zone 0 id f z c (local_seen zone c) m v holds (by_holder c v.number (λ q. TakeIn f) are.cpu_is legal) inside are passes lent) refl)
 
   pub may_pass_back : (before : List BootView) (f word : ℕ) (z c : Past) (m v : FrameView) → before ≡ joined OfFrames z c (m ∷ v ∷ []) → word ≡ mark v.number
       → HoldsLock zone z c (local_seen zone c) → AreViewsOf zone c m.number v.number → f < zone.frames → slice_index m.opened v.number ≡ 1 → in_hands (note_of v f) ≡ 1

@@ -3,12 +3,14 @@ use Rattle.std.proofs.Common.{◌≡◌, ℕ, ◌+◌, ◌<◌, ◌≤◌, true,
 use Rattle.std.specs.Prelude.{slice_index}
 use Rattle.std.proofs.lemmas.List.{set-get_or}
 use mathlib.Core.Option.{none, some}
+use Rattle.atomic_table.specs.Seated.{TableId}
 use Rattle.atomic_table.specs.Table.{Me, step}
 use Rattle.atomic_table.proofs.Lists.{at_map}
 use Rattle.frame_word.specs.declared.view.FrameNote.{FrameNote}
 use Rattle.frame_word.specs.declared.view.FrameView.{FrameView}
 use Rattle.frame_word.specs.Kinds.{by_one, by_two, stores_pass_out, takes_in}
 use Rattle.frame_word.specs.ReferenceRule.{hands_in, mark}
+use Rattle.frame_word.specs.Seats.{KnownTable}
 use Rattle.frame_word.specs.Views.{changed, hand_overs_begun, hand_overs_ended, in_hands, note_of, passed_out_to}
 use Rattle.frame_word.proofs.Cases.{case_handed}
 use Rattle.frame_word.proofs.Notes.{note_here, put_here}
@@ -22,12 +24,13 @@ use Rattle.step_rules.specs.State.{Zone, State}
 use Rattle.step_rules.specs.Legal.{is_legal}
 use Rattle.boot_words.specs.declared.view.Past.{Past}
 use Rattle.boot_words.specs.declared.view.BootView.{BootView}
-use Rattle.boot_words.specs.declared.view.BootView.TheVariants.{OfFrames}
-use Rattle.boot_words.specs.Composed.{AreLegal, GrewUnderLock, LendIsAllowed, Lends, answered_done, lend_run}
+use Rattle.boot_words.specs.declared.view.BootView.TheVariants.{OfFrames, OfRun}
+use Rattle.boot_words.specs.Composed.{AreLegal, GrewUnderLock, LendIsAllowed, Lends, MakesInTurn, answered_done, lend_run}
 use Rattle.boot_words.specs.Held.{AreViewsOf, HoldsLock, MadeUnderLock, joined, local_seen}
 use Rattle.boot_words.specs.declared.word.Word.TheVariants.{Quiet}
+use Rattle.boot_words.specs.Pasts.{KnownPasts, cpu_past, own_past, pasts_in}
 use Rattle.boot_words.specs.Rule.{frame_base, frames_in}
-use Rattle.boot_words.specs.Seats.{MayStep}
+use Rattle.boot_words.specs.Seats.{MayStep, but_last, zone_of_boot}
 use Rattle.boot_words.specs.Sitting.{frame_view, second_view_of_frames}
 use Rattle.boot_words.proofs.Composing.{Turns, Whenever, may_turn, set_over, turns_among, turns_both, turns_by, turns_less}
 use Rattle.boot_words.proofs.Parting.{deals_last}
@@ -191,3 +194,15 @@ may_lend zone before f z c m v is few holds legal inside are visiting own still 
     subst (λ (b : List BootView). MayStep zone b Quiet (λ n. n) (lends_told zone b f)) (sym is)
     (lend_is_allowed zone f z c m v few holds (subst (λ q. AreLegal (local_seen zone c) (lend_run q f)) are.cpu_is legal) inside are
     (subst (λ q. slice_index m.opened q ≡ 1) are.cpu_is visiting) own still)
+
+-- the run goes on by the two steps, with the seats apart again
+pub lends_run : (t : KnownTable) (s : KnownPasts) (before loaded left : List BootView) (f number found : ℕ) (m v : FrameView) (table : TableId)
+    → before ≡ OfRun (own_past s) ∷ OfRun (cpu_past s) ∷ OfFrames m ∷ OfFrames v ∷ [] → number ≡ (cpu_past s).number
+    → lends_told (zone_of_boot t) before f found loaded → left ≡ but_last (but_last loaded) → table ≡ t.table
+    → MakesInTurn t s (lend_run number f) (record { table = table; pasts = pasts_in left })
+lends_run t s before loaded left f number found m v table is holder told parted same =
+    let lent : Lends (zone_of_boot t) (own_past s) (cpu_past s) f m v loaded = subst (λ (l : List BootView). lends_told (zone_of_boot t) l f found loaded) is told in
+    let are : left ≡ OfRun lent.made.zone_past ∷ OfRun lent.made.cpu_past ∷ [] = parted ∙ ap (λ (l : List BootView). but_last (but_last l)) lent.made.views_are in
+    subst (λ (y : ℕ × TableId × List BootView). MakesInTurn t s (lend_run y.0 f) (record { table = y.1; pasts = pasts_in y.2 }))
+    (λ i. (sym holder i, sym same i, sym are i))
+    (record { held = record { table_is = refl; both = refl; holds = lent.made.holds }; grew = lent.made.grew })

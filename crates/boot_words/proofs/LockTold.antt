@@ -1,5 +1,9 @@
 -- What the steps of the lock and the plain steps tell of the seat's views afterwards.
-use Rattle.std.proofs.Common.{◌≡◌, ℕ, ◌≤◌, true, List, [], ◌∷◌, sym, subst, arith}
+use Rattle.std.proofs.Common.{◌≡◌, ℕ, ◌≤◌, true, List, [], ◌∷◌, refl, sym, ap, ◌∙◌, subst, arith}
+use Rattle.atomic_table.specs.Seated.{TableId}
+use Rattle.atomic_table.specs.Table.{Me}
+use Rattle.frame_word.specs.declared.view.FrameView.{FrameView}
+use Rattle.frame_word.specs.Seats.{KnownTable}
 use Rattle.step_rules.specs.declared.step.Step.{Step}
 use Rattle.step_rules.specs.declared.step.Action.TheVariants.{Unlock}
 use Rattle.step_rules.specs.declared.step.Answer.{Answer}
@@ -11,9 +15,10 @@ use Rattle.boot_words.specs.declared.view.Past.{Past}
 use Rattle.boot_words.specs.declared.view.BootView.{BootView}
 use Rattle.boot_words.specs.declared.view.BootView.TheVariants.{OfFrames, OfRun}
 use Rattle.boot_words.specs.declared.word.Word.TheVariants.{Quiet}
-use Rattle.boot_words.specs.Held.{HoldsLock, local_seen}
+use Rattle.boot_words.specs.Held.{HoldsLock, MadeUnderLock, joined, local_seen}
 use Rattle.boot_words.specs.Locks.{LeavesFree, ReleasesLock, SeeTheSame, TakesLock}
-use Rattle.boot_words.specs.Seats.{MayStep}
+use Rattle.boot_words.specs.Pasts.{KnownPasts, MakesStep, cpu_past, local_by_pasts, own_past, pasts_in}
+use Rattle.boot_words.specs.Seats.{MayStep, zone_of_boot}
 use Rattle.boot_words.proofs.HeldTold.{held_told, holder_at, may_held}
 use Rattle.boot_words.proofs.Locking.{lock_is_allowed, unlock_is_allowed}
 use Rattle.boot_words.proofs.Meeting.{meet_is_allowed}
@@ -63,3 +68,21 @@ may_note zone before z c made_step answer is holds plain does =
     subst (λ (b : List BootView). MayStep zone b Quiet (λ n. n) (notes_told zone b made_step answer)) (sym is)
     (may_held OfFrames zone Quiet (λ n. n) z c [] made_step (λ found. answer) (λ found m. m.0 ≡ [])
     (λ id. plain_is_allowed zone 0 id z c (local_seen zone c) made_step answer holds plain does))
+
+-- the plain step is made with both pasts alone
+pub notes_run : (t : KnownTable) (s : KnownPasts) (before left : List BootView) (made_step : Step) (answer : Answer) (found : ℕ) (table : TableId)
+    → before ≡ OfRun (own_past s) ∷ OfRun (cpu_past s) ∷ [] → notes_told (zone_of_boot t) before made_step answer found left → table ≡ t.table
+    → MakesStep t s made_step.seat made_step.action answer (record { table = table; pasts = pasts_in left })
+notes_run t s before left made_step answer found table is told same =
+    let made : MadeUnderLock OfFrames (Unit {0}) (zone_of_boot t) (own_past s) (cpu_past s) (local_by_pasts t s) made_step answer (λ m. m.0 ≡ []) (left, []) =
+    subst (λ (l : List BootView). notes_told (zone_of_boot t) l made_step answer found left) is told in
+    let are : left ≡ OfRun made.zone_past ∷ OfRun made.cpu_past ∷ [] = ap (λ (m : Me (Unit {0}) (List BootView)). m.0) made.later_is
+    ∙ ap (λ (v : List FrameView). joined OfFrames made.zone_past made.cpu_past v) made.made in
+    subst (λ (y : TableId × List BootView). MakesStep t s made_step.seat made_step.action answer (record { table = y.0; pasts = pasts_in y.1 }))
+    (λ i. (sym same i, sym are i))
+    (record {
+      zone_grew = made.zone_grew;
+      cpu_grew = made.cpu_grew;
+      held = record { table_is = refl; both = refl; holds = made.holds };
+      local_is = made.local_is;
+    })

@@ -10,9 +10,9 @@ use Rattle.stock_word.specs.declared.view.Stock.{Stock}
 use Rattle.stock_word.specs.declared.view.Stock.TheVariants.{DrainedOf, HeldBy, NoGroup}
 use Rattle.stock_word.specs.declared.view.StockView.{StockView}
 use Rattle.stock_word.specs.Stock.{HasWord, MayBeFilled, account_of, group_of, word_of}
-use Rattle.stock_word.specs.StockRule.{report_index, stock_index}
-use Rattle.stock_word.specs.Kinds.{Absorbs, Alone, DrainsWord, DrainsNone, FillsWord, Joined, LooksAt, absorbing_step, consuming_held_step, draining_step, filling_step, looking_step, reporting_step, seeing_stock_step}
-use Rattle.step_rules.specs.declared.step.Action.TheVariants.{Absorb, Consume, Credit, DrainStock, Fill, Report}
+use Rattle.stock_word.specs.StockRule.{stock_index}
+use Rattle.stock_word.specs.Kinds.{Alone, DrainsWord, DrainsNone, FillsWord, Joined, LooksAt, consuming_held_step, draining_step, filling_step, looking_step, seeing_stock_step}
+use Rattle.step_rules.specs.declared.step.Action.TheVariants.{Consume, Credit, DrainStock, Fill}
 use Rattle.step_rules.specs.declared.step.Answer.TheVariants.{Done, Pages, Took}
 use Rattle.step_rules.specs.State.{State, Zone}
 use Rattle.step_rules.specs.Legal.{is_legal}
@@ -20,18 +20,18 @@ use Rattle.step_rules.specs.After.{state_of}
 use Rattle.boot_words.specs.declared.view.Past.{Past}
 use Rattle.boot_words.specs.declared.view.BootView.{BootView}
 use Rattle.boot_words.specs.declared.view.BootView.TheVariants.{OfStocks, OfRun}
-use Rattle.boot_words.specs.declared.word.Word.TheVariants.{ReportOf, StockOf}
+use Rattle.boot_words.specs.declared.word.Word.TheVariants.{StockOf}
 use Rattle.boot_words.specs.Allowed.{BacksByOne, TakesByOne}
 use Rattle.boot_words.specs.Held.{AreViewsOf, HoldsLock, local_seen}
 use Rattle.boot_words.specs.StockHeld.{pages_said}
 use Rattle.boot_words.specs.Looks.{Looks, LooksToDrain}
 use Rattle.boot_words.specs.Seats.{MayStep}
 use Rattle.boot_words.specs.Sitting.{second_view_of_stocks, stock_view}
-use Rattle.boot_words.proofs.Banking.{absorb_is_allowed, drain_is_allowed, fill_is_allowed}
+use Rattle.boot_words.proofs.Banking.{drain_is_allowed, fill_is_allowed}
 use Rattle.boot_words.proofs.HeldTold.{held_told, holder_at, may_held, with_kind}
 use Rattle.boot_words.proofs.Looking.{joined_look_is_allowed, look_to_drain_is_allowed, stock_look_is_allowed}
 use Rattle.boot_words.proofs.Prepaying.{consume_is_allowed, credit_is_allowed}
-use Rattle.boot_words.proofs.Reporting.{held_consume_is_allowed, report_is_allowed}
+use Rattle.boot_words.proofs.Reporting.{held_consume_is_allowed}
 use Rattle.boot_words.proofs.Told.{may_step, may_weaken, none_carried, past_at}
 
 -- ---- the steps of a CPU without the lock
@@ -176,31 +176,8 @@ may_drain zone before cpu g z c m is holds zone_is low high group few legal =
     (λ x. (w : StockView) × (x ≡ (w ∷ [], [])) × DrainsWord cpu g (stock_index cpu) found (word_of (DrainedOf g)) m w) later
     (λ x made. (made.0, made.1, made.2 cpu g refl group))))
 
-abbrev pub absorbs_told : Zone → List BootView → ℕ → ℕ → List BootView → Type 0
-absorbs_told zone before cpu found = held_told OfStocks zone before (record { seat = 0; action = Absorb cpu }) (Pages found)
-    (λ x. (w : StockView) × (x ≡ (w ∷ [], [])) × Absorbs cpu (report_index cpu) found 0 (stock_view before) w)
-
-pub may_absorb : (zone : Zone) (before : List BootView) (cpu : ℕ) (z c : Past) (m : StockView) → before ≡ OfRun z ∷ OfRun c ∷ OfStocks m ∷ []
-    → HoldsLock zone z c (local_seen zone c) → m.number ≡ 0 → 1 ≤ cpu → cpu ≤ zone.cpus → is_legal (local_seen zone c) 0 (Absorb cpu) ≡ true
-    → MayStep zone before (ReportOf cpu) (λ n. 0) (absorbs_told zone before cpu)
-may_absorb zone before cpu z c m is holds zone_is low high legal =
-    let views : List BootView = OfRun z ∷ OfRun c ∷ OfStocks m ∷ [] in
-    let kind : ℕ → Me (Unit {0}) (List StockView) → Type 0 = Alone absorbing_step (step 0 (report_index cpu) 0 0 none) (m ∷ [], []) in
-    subst (λ (b : List BootView). MayStep zone b (ReportOf cpu) (λ n. 0) (absorbs_told zone b cpu)) (sym is)
-    (may_weaken zone views (ReportOf cpu) (λ n. 0)
-    (λ found. held_told OfStocks zone views (record { seat = 0; action = Absorb cpu }) (Pages found) (kind found)) (absorbs_told zone views cpu)
-    (may_held OfStocks zone (ReportOf cpu) (λ n. 0) z c (m ∷ []) (record { seat = 0; action = Absorb cpu }) (λ found. Pages found) kind
-    (λ id. absorb_is_allowed zone 0 id cpu z c (local_seen zone c) m holds legal zone_is low high))
-    (λ found later. with_kind OfStocks zone views (record { seat = 0; action = Absorb cpu }) (Pages found) (kind found)
-    (λ x. (w : StockView) × (x ≡ (w ∷ [], [])) × Absorbs cpu (report_index cpu) found 0 m w) later
-    (λ x made. (made.0, made.1, made.2 cpu refl))))
-
 -- ---- under the lock, by the zone's seat joined with the CPU's. The code's number of the CPU is q
 module _ (zone : Zone) (before : List BootView) (q : ℕ) where
-  abbrev pub reports_told : ℕ → ℕ → List BootView → Type 0
-  reports_told n found = held_told OfStocks zone before (record { seat = q; action = Report n }) Done
-      (Joined reporting_step (step 0 (report_index q) n 0 none) (stock_view before ∷ second_view_of_stocks before ∷ [], []) found)
-
   abbrev pub takes_held_told : ℕ → ℕ → List BootView → Type 0
   takes_held_told g found = held_told OfStocks zone before (record { seat = q; action = Consume g }) Took
       (Joined consuming_held_step (step 0 (stock_index q) 1 0 none) (stock_view before ∷ second_view_of_stocks before ∷ [], []) found)
@@ -211,14 +188,6 @@ module _ (zone : Zone) (before : List BootView) (q : ℕ) where
 
 module _ (zone : Zone) (before : List BootView) (q : ℕ) (z c : Past) (m v : StockView) (is : before ≡ OfRun z ∷ OfRun c ∷ OfStocks m ∷ OfStocks v ∷ []) (at : q ≡ c.number)
     (holds : HoldsLock zone z c (local_seen zone c)) (are : AreViewsOf zone c m.number v.number) where
-  pub may_report : (n : ℕ) → n ≤ v.fresh → is_legal (local_seen zone c) q (Report n) ≡ true
-      → MayStep zone before (ReportOf q) (λ x. (x + n) % 2 ^ 64) (reports_told zone before q n)
-  may_report n few legal =
-      subst (λ (y : List BootView × ℕ). MayStep zone y.0 (ReportOf y.1) (λ x. (x + n) % 2 ^ 64) (reports_told zone y.0 y.1 n)) (λ i. (sym is i, sym at i))
-      (may_held OfStocks zone (ReportOf c.number) (λ x. (x + n) % 2 ^ 64) z c (m ∷ v ∷ []) _ (λ found. Done)
-      (λ found. Joined reporting_step (step 0 (report_index c.number) n 0 none) (m ∷ v ∷ [], []) found)
-      (λ id. report_is_allowed zone 0 id n z c (local_seen zone c) m v holds (subst (λ (k : ℕ). is_legal (local_seen zone c) k (Report n) ≡ true) at legal) are few))
-
   pub may_consume_held : (g : ℕ) → (account_of m v.number).group ≡ Some g → v.fresh + (account_of m v.number).unabsorbed < (account_of m v.number).book
       → is_legal (local_seen zone c) q (Consume g) ≡ true → MayStep zone before (StockOf q) (λ x. (x + (2 ^ 64 - 1)) % 2 ^ 64) (takes_held_told zone before q g)
   may_consume_held g group more legal =

@@ -375,3 +375,9 @@ takes_back_run t s before loaded left f number found m v a b table is holder tol
     subst (λ (y : ℕ × TableId × List BootView). MakesInTurn t s (take_back_run y.0 f) (record { table = y.1; pasts = pasts_in y.2 }))
     (λ i. (sym holder i, sym same i, sym are i))
     (record { held = record { table_is = refl; both = refl; holds = made.holds }; grew = made.grew })
+
+-- what the load told, of the views that the seats had
+pub takes_back_at : (zone : Zone) (before loaded : List BootView) (f found : ℕ) (z c : Past) (m v : FrameView) (a b : StockView)
+    → before ≡ OfRun z ∷ OfRun c ∷ OfFrames m ∷ OfFrames v ∷ OfStocks a ∷ OfStocks b ∷ [] → takes_back_told zone before f found loaded
+    → TakesBack zone z c f m v a b loaded
+takes_back_at zone before loaded f found z c m v a b is told = subst (λ (l : List BootView). takes_back_told zone l f found loaded) is told

@@ -51,7 +51,7 @@ GrewInTurn zone z c [] z' c' = (z' ≡ z) × (c' ≡ c)
 GrewInTurn zone z c (made ∷ rest) z' c' =
     (x : Past) × (y : Past) × GrewUnderLock zone z c made x y × GrewInTurn zone x y rest z' c'
 
--- the steps were made under the lock by one atomic step, and the seat has these views of frames afterwards
+-- the steps were made under the lock, one behind the other, and the seat has these views of frames afterwards
 pub record MadeInTurn (zone : Zone) (z c : Past) (steps : Run) (after_views : List FrameView) (views : List BootView) : Type 0 where
   pub zone_past : Past
   pub cpu_past : Past

@@ -4,11 +4,11 @@ use Rattle.atomic_table.specs.Seated.{TableId}
 use Rattle.atomic_table.specs.Table.{Allows}
 use Rattle.frame_word.specs.ReferenceRule.{visit_index}
 use Rattle.frame_word.specs.Seats.{KnownTable}
-use Rattle.stock_word.specs.StockRule.{report_index, stock_index}
+use Rattle.stock_word.specs.StockRule.{stock_index}
 use Rattle.step_rules.specs.State.{Zone}
 use Rattle.boot_words.specs.declared.view.BootView.{BootView}
 use Rattle.boot_words.specs.declared.word.Word.{Word}
-use Rattle.boot_words.specs.declared.word.Word.TheVariants.{Quiet, StockOf, ReportOf, OfFrame, VisitOf}
+use Rattle.boot_words.specs.declared.word.Word.TheVariants.{Quiet, StockOf, OfFrame, VisitOf}
 use Rattle.boot_words.specs.Rule.{boot_rule, frame_base}
 use Rattle.boot_words.specs.Seating.{word_count}
 
@@ -37,7 +37,6 @@ pub record HasBootLayout (table : TableId) (rule_frames rule_cpus frames cpus : 
 abbrev pub index_of : Zone → Word → ℕ
 index_of zone Quiet = 0
 index_of zone (StockOf cpu) = stock_index cpu
-index_of zone (ReportOf cpu) = report_index cpu
 index_of zone (OfFrame f) = frame_base zone + f
 index_of zone (VisitOf cpu) = frame_base zone + visit_index zone.frames cpu
 
@@ -45,7 +44,6 @@ index_of zone (VisitOf cpu) = frame_base zone + visit_index zone.frames cpu
 abbrev pub HasPlace : Zone → Word → Type 0
 HasPlace zone Quiet = Unit {0}
 HasPlace zone (StockOf cpu) = cpu ≤ zone.cpus
-HasPlace zone (ReportOf cpu) = cpu ≤ zone.cpus
 HasPlace zone (OfFrame f) = f < zone.frames
 HasPlace zone (VisitOf cpu) = (1 ≤ cpu) × (cpu ≤ zone.cpus)
 
@@ -57,7 +55,6 @@ frame_at word = 0
 -- the CPU of the word
 abbrev pub cpu_at : Word → ℕ
 cpu_at (StockOf cpu) = cpu
-cpu_at (ReportOf cpu) = cpu
 cpu_at (VisitOf cpu) = cpu
 cpu_at word = 0
 

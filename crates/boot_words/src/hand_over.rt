@@ -1,7 +1,7 @@
 //! The hand-over of frames between the zone and the CPU that holds the lock, and its visit. The zone's seat is joined
 //! with the CPU's for each step.
 ghost use Rattle.std.specs.Prelude.{◌≡◌, ◌⊎◌, ◌<◌};
-ghost use Rattle.frame_word.specs.Views.{took_in, passed_back_by_cpu, collected_from};
+ghost use Rattle.frame_word.specs.Views.{passed_back_by_cpu, collected_from};
 ghost use Rattle.frame_word.specs.Seats.{seat_number, seat_references, seat_with, seat_with_visit, HandsAreApart};
 ghost use Rattle.frame_word.specs.Seats.{HasNothingOf, IsBorrowed, IsCpuSeat, IsInHand, IsInOwnHand, IsLent};
 ghost use Rattle.frame_word.specs.Seats.{IsLentToNone, IsOpen, IsShut, IsZoneSeat, LentIsBorrowed, NothingPasses, Passes};
@@ -16,35 +16,6 @@ use frame_word::{Frame, MARK_BASE};
 use std::marker::Brand;
 
 impl BootWords {
-    /// Takes a frame that is in transit to this CPU, and lent to it, into the CPU's hand as borrowed. Neither seat had
-    /// a reference on it or had it in a hand.
-    pub fn take_in(
-        &self,
-        held: &mut PastSeat,
-        zone: &mut FrameSeat,
-        cpu: &mut FrameSeat,
-        frame: Frame,
-    )
-        requires zone { IsZoneSeat self.now zone.old }
-        requires cpu { IsCpuSeat self.now cpu.old }
-        requires held { IsHeld self.now held.old }
-        requires holder { IsHolder held.old (seat_number cpu.old) }
-        requires frame { frame < self.now.frames }
-        requires passes { Passes zone.old cpu.old frame }
-        requires lent { IsLent zone.old frame (seat_number cpu.old) }
-        requires legal { MayMake self.now held.old (seat_number cpu.old) (step.TakeIn frame) }
-        ensures cpu { cpu.new ≡ seat_with cpu.old frame took_in }
-        ensures zone { zone.new ≡ zone.old }
-        ensures nothing { HasNothingOf zone.old frame × HasNothingOf cpu.old frame }
-        ensures run { MakesStep self.now held.old (seat_number cpu.old) (step.TakeIn frame) Done held.new }
-    {
-        self.join(&mut held.raw, &mut zone.raw);
-        self.join(&mut held.raw, &mut cpu.raw);
-        self.store::<Brand>(&mut held.raw, Word::OfFrame(frame), 0);
-        cpu.raw = self.split_last(&mut held.raw);
-        zone.raw = self.split_last(&mut held.raw);
-    }
-
     /// Passes a frame of this CPU's hand, its own or borrowed, back to the zone. The CPU's visit is open. The zone's
     /// seat had no reference on the frame and didn't have it in its hand. A frame of the CPU's own was lent to no CPU,
     /// a borrowed one to this CPU.
@@ -75,8 +46,8 @@ impl BootWords {
         self.join(&mut held.raw, &mut zone.raw);
         self.join(&mut held.raw, &mut cpu.raw);
         self.store::<Brand>(&mut held.raw, Word::OfFrame(frame), mark);
-        cpu.raw = self.split_last(&mut held.raw);
-        zone.raw = self.split_last(&mut held.raw);
+        self.split_last(&mut held.raw, &mut cpu.raw);
+        self.split_last(&mut held.raw, &mut zone.raw);
     }
 
     /// Takes a frame that is in transit from this CPU into the zone's hand. It is lent to no CPU any more. Neither seat
@@ -105,8 +76,8 @@ impl BootWords {
         self.join(&mut held.raw, &mut zone.raw);
         self.join(&mut held.raw, &mut cpu.raw);
         self.store::<Brand>(&mut held.raw, marked, 0);
-        cpu.raw = self.split_last(&mut held.raw);
-        zone.raw = self.split_last(&mut held.raw);
+        self.split_last(&mut held.raw, &mut cpu.raw);
+        self.split_last(&mut held.raw, &mut zone.raw);
     }
 
     /// Opens the visit of this CPU, which isn't open. No frame is in transit to or from it yet, and what is lent to it
@@ -129,8 +100,8 @@ impl BootWords {
         self.join(&mut held.raw, &mut zone.raw);
         self.join(&mut held.raw, &mut cpu.raw);
         self.store::<Brand>(&mut held.raw, word, 1);
-        cpu.raw = self.split_last(&mut held.raw);
-        zone.raw = self.split_last(&mut held.raw);
+        self.split_last(&mut held.raw, &mut cpu.raw);
+        self.split_last(&mut held.raw, &mut zone.raw);
     }
 
     /// Shuts the visit of this CPU, which is open, and has no frame in transit any more. What is lent to the CPU is
@@ -154,7 +125,7 @@ impl BootWords {
         self.join(&mut held.raw, &mut zone.raw);
         self.join(&mut held.raw, &mut cpu.raw);
         self.store::<Brand>(&mut held.raw, word, 0);
-        cpu.raw = self.split_last(&mut held.raw);
-        zone.raw = self.split_last(&mut held.raw);
+        self.split_last(&mut held.raw, &mut cpu.raw);
+        self.split_last(&mut held.raw, &mut zone.raw);
     }
 }

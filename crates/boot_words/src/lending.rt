@@ -15,7 +15,7 @@ use frame_word::Frame;
 use std::marker::Brand;
 
 impl BootWords {
-    // The load of steps on a frame that together leave its word as it was.
+    // The load that makes steps on a frame which together leave all words as they were.
     #[inline(always)]
     pub(crate) fn load_for<M: Telling>(&self, raw: &mut RawSeat, _frame: Frame) -> u64
         requires table { raw.old.table ≡ self.now.table }
@@ -52,7 +52,7 @@ impl BootWords {
         self.join(&mut held.raw, &mut zone.raw);
         self.join(&mut held.raw, &mut cpu.raw);
         self.load_for::<Brand>(&mut held.raw, frame);
-        cpu.raw = self.split_last(&mut held.raw);
-        zone.raw = self.split_last(&mut held.raw);
+        self.split_last(&mut held.raw, &mut cpu.raw);
+        self.split_last(&mut held.raw, &mut zone.raw);
     }
 }

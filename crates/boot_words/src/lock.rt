@@ -38,7 +38,7 @@ impl BootWords {
         ensures run { Unlocks self.now zone.old zone.new cpu.new }
     {
         self.load::<Brand>(&mut zone.raw, Word::Quiet);
-        cpu.raw = self.split_last(&mut zone.raw);
+        self.split_last(&mut zone.raw, &mut cpu.raw);
     }
 
     /// A CPU, which doesn't hold the lock, and the zone now see the same run: all steps that either saw, and all that
@@ -52,7 +52,7 @@ impl BootWords {
     {
         self.join(&mut zone.raw, &mut cpu.raw);
         self.load::<Brand>(&mut zone.raw, Word::Quiet);
-        cpu.raw = self.split_last(&mut zone.raw);
+        self.split_last(&mut zone.raw, &mut cpu.raw);
     }
 
     // The load of a plain step, which the word doesn't say.

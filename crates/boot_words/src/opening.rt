@@ -27,8 +27,17 @@ impl BootWords {
     {
         let (words, mut raw) = BootWords::start(alloc, frames, cpus)?;
         let zone = words.seated(&mut raw, 0);
-        let seats = words.deal(alloc, &mut raw, cpus)?;
-        Ok((words, zone, seats))
+        let seats = words.deal(alloc, &mut raw, cpus);
+        // Calls, because what is let go here is dropped here, part by part, which is long to check.
+        drop(raw);
+        match seats {
+            Ok(seats) => Ok((words, zone, seats)),
+            Err(error) => {
+                drop(words);
+                drop(zone);
+                Err(error)
+            }
+        }
     }
 
     // The seats of this number, which have the first three views.
@@ -64,9 +73,9 @@ impl BootWords {
         requires views { raw.old.views ≡ cpus_views 1 cpus }
         ensures { IfOk result (λ seats. seats.items ≡ opening_seats self.now.table 1 cpus) }
     {
-        let mut seats = Vec::new(alloc);
+        let mut seats = Vec::with_capacity(alloc, cpus as usize)?;
         for cpu in 1..cpus + 1 {
-            seats.push(self.seated(raw, cpu))?;
+            seats.push_reserved(self.seated(raw, cpu));
         }
         Ok(seats)
     }

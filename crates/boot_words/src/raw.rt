@@ -169,7 +169,6 @@ impl BootWords {
         match word {
             Word::Quiet => 0,
             Word::StockOf(cpu) => 16 * cpu as usize,
-            Word::ReportOf(cpu) => 16 * cpu as usize + 1,
             Word::OfFrame(frame) => base + frame.number() as usize,
             Word::VisitOf(cpu) => base + (self.frames as usize + (cpu as usize - 1)),
         }
@@ -235,21 +234,6 @@ impl BootWords {
             .compare_exchange::<Tells<M>>(&mut raw.seat, at, old, new)
     }
 
-    /// Adds to a word and returns what it was.
-    #[inline(always)]
-    pub(crate) fn add<M: Telling>(&self, raw: &mut RawSeat, word: Word, more: u32) -> u64
-        requires table { raw.old.table ≡ self.now.table }
-        requires place { HasPlace (zone_of_boot self.now) word }
-        requires may { MayStep (zone_of_boot self.now) raw.old.views word (λ n. (n + more) % 2 ^ 64) M.told }
-        ensures table { raw.new.table ≡ raw.old.table }
-        ensures told { M.told result raw.new.views }
-    {
-        let at = self.index(word);
-        self.table
-            .shared
-            .fetch_add::<Tells<M>>(&mut raw.seat, at, u64::from(more))
-    }
-
     /// Takes one off a word and returns what it was.
     #[inline(always)]
     pub(crate) fn take_one<M: Telling>(&self, raw: &mut RawSeat, word: Word) -> u64
@@ -291,16 +275,16 @@ impl BootWords {
         }
     }
 
-    /// The seat's last view, in a seat of its own.
+    /// The seat's last view goes to the other seat, whose own views end here.
     #[inline(always)]
-    pub(crate) fn split_last(&self, raw: &mut RawSeat) -> RawSeat
+    pub(crate) fn split_last(&self, raw: &mut RawSeat, last: &mut RawSeat)
         requires table { raw.old.table ≡ self.now.table }
         ensures rest { raw.new ≡ record { table = self.now.table; views = but_last raw.old.views } }
-        ensures last { result ≡ record { table = self.now.table; views = last_alone raw.old.views } }
+        ensures last { last.new ≡ record { table = self.now.table; views = last_alone raw.old.views } }
     {
-        RawSeat {
+        *last = RawSeat {
             seat: self.table.shared.split_seat::<Last>(&mut raw.seat),
-        }
+        };
     }
 
     /// A table of zeros, and one seat that has all views.

@@ -29,7 +29,7 @@ impl BootWords {
     {
         self.join(&mut past.raw, &mut seat.raw);
         let found = self.load::<Brand>(&mut past.raw, Word::OfFrame(frame));
-        seat.raw = self.split_last(&mut past.raw);
+        self.split_last(&mut past.raw, &mut seat.raw);
         found
     }
 
@@ -48,7 +48,7 @@ impl BootWords {
     {
         self.join(&mut past.raw, &mut seat.raw);
         let found = self.exchange::<Brand>(&mut past.raw, Word::OfFrame(frame), seen, seen + 1);
-        seat.raw = self.split_last(&mut past.raw);
+        self.split_last(&mut past.raw, &mut seat.raw);
         found
     }
 
@@ -96,7 +96,7 @@ impl BootWords {
     {
         self.join(&mut past.raw, &mut seat.raw);
         let found = self.take_one::<Brand>(&mut past.raw, Word::OfFrame(frame));
-        seat.raw = self.split_last(&mut past.raw);
+        self.split_last(&mut past.raw, &mut seat.raw);
         found
     }
 

@@ -2,7 +2,7 @@
 ghost use Rattle.std.specs.Prelude.{◌≡◌, ◌≢◌, ◌+◌, ◌<◌, ◌≤◌, ◌==◌};
 ghost use prog.Atomic.{either};
 ghost use Rattle.stock_word.specs.declared.view.Stock.TheVariants.{HeldBy};
-ghost use Rattle.stock_word.specs.Stock.{word_of, HasWord, IsCpuView};
+ghost use Rattle.stock_word.specs.Stock.{word_of, HasWord};
 ghost use Rattle.stock_word.specs.StockRule.{stock_index};
 ghost use Rattle.stock_word.specs.Kinds.{Consumes, Credits, SeesDrained};
 ghost use Rattle.stock_word.specs.Calls.{Consumed, Credited};
@@ -102,7 +102,7 @@ impl BootWords {
     {
         self.join(&mut past.raw, raw);
         let found = self.exchange_stock::<Brand>(&mut past.raw, cpu, group, left + 1, left);
-        *raw = self.split_last(&mut past.raw);
+        self.split_last(&mut past.raw, raw);
         found
     }
 
@@ -138,7 +138,7 @@ impl BootWords {
     {
         self.join(&mut past.raw, raw);
         let found = self.exchange_for::<Brand>(&mut past.raw, cpu, group, pages, frame);
-        *raw = self.split_last(&mut past.raw);
+        self.split_last(&mut past.raw, raw);
         found
     }
 

@@ -66,9 +66,9 @@ impl BootWords {
         self.join(&mut held.raw, &mut zone_stock.raw);
         self.join(&mut held.raw, &mut stock.raw);
         self.load_for::<Brand>(&mut held.raw, frame);
-        stock.raw = self.split_last(&mut held.raw);
-        cpu.raw = self.split_last(&mut held.raw);
-        zone.raw = self.split_last(&mut held.raw);
-        zone_stock.raw = self.split_last(&mut held.raw);
+        self.split_last(&mut held.raw, &mut stock.raw);
+        self.split_last(&mut held.raw, &mut cpu.raw);
+        self.split_last(&mut held.raw, &mut zone.raw);
+        self.split_last(&mut held.raw, &mut zone_stock.raw);
     }
 }

@@ -2,9 +2,9 @@
 ghost use Rattle.std.specs.Prelude.{◌≡◌, ◌⊎◌, ◌≤◌, ◌<◌};
 ghost use Rattle.frame_word.specs.ReferenceRule.{most_references};
 ghost use Rattle.frame_word.specs.Kinds.{freezes, puts};
-ghost use Rattle.frame_word.specs.Views.{passed_out_to, unfrozen};
+ghost use Rattle.frame_word.specs.Views.{unfrozen};
 ghost use Rattle.frame_word.specs.Seats.{seat_number, seat_references, seat_with, FreezeAnswers, IsInHand, IsInNoHand};
-ghost use Rattle.frame_word.specs.Seats.{IsInOwnHand, IsLentToNone, IsOpen, IsZoneSeat, PutAnswers};
+ghost use Rattle.frame_word.specs.Seats.{IsInOwnHand, IsLentToNone, PutAnswers};
 ghost use Rattle.step_rules.specs.declared.step.Action.TheVariants as step;
 ghost use Rattle.step_rules.specs.declared.step.Answer.TheVariants.{Done};
 ghost use Rattle.boot_words.specs.Allowed.{put_answer_at};
@@ -14,7 +14,7 @@ ghost use Rattle.boot_words.specs.Pasts.{freeze_said, put_said, IsHeld, IsHolder
 use crate::raw::BootWords;
 use crate::seat::{FrameSeat, PastSeat};
 use crate::word::Word;
-use frame_word::{Frame, MARK_BASE, Put};
+use frame_word::{Frame, Put};
 use std::marker::Brand;
 
 impl BootWords {
@@ -37,7 +37,7 @@ impl BootWords {
     {
         self.join(&mut held.raw, &mut zone.raw);
         let found = self.exchange::<Brand>(&mut held.raw, Word::OfFrame(frame), count, 0);
-        zone.raw = self.split_last(&mut held.raw);
+        self.split_last(&mut held.raw, &mut zone.raw);
         found
     }
 
@@ -77,7 +77,7 @@ impl BootWords {
     {
         self.join(&mut held.raw, &mut seat.raw);
         let found = self.take_one::<Brand>(&mut held.raw, Word::OfFrame(frame));
-        seat.raw = self.split_last(&mut held.raw);
+        self.split_last(&mut held.raw, &mut seat.raw);
         found
     }
 
@@ -119,28 +119,6 @@ impl BootWords {
     {
         self.join(&mut held.raw, &mut zone.raw);
         self.store::<Brand>(&mut held.raw, Word::OfFrame(frame), count);
-        zone.raw = self.split_last(&mut held.raw);
-    }
-
-    /// Passes a frame of the zone's hand to CPU `cpu`, whose visit is open. The frame was lent to no CPU, and is lent
-    /// to this one from now on.
-    pub fn pass_out(&self, held: &mut PastSeat, zone: &mut FrameSeat, frame: Frame, cpu: u32)
-        requires zone { IsZoneSeat self.now zone.old }
-        requires held { IsHeld self.now held.old }
-        requires frame { frame < self.now.frames }
-        requires cpu { (1 ≤ cpu) × (cpu ≤ self.now.cpus) }
-        requires open { IsOpen zone.old cpu }
-        requires hand { IsInOwnHand zone.old frame }
-        requires legal { MayMake self.now held.old 0 (step.PassOut frame cpu) }
-        ensures zone { zone.new ≡ seat_with zone.old frame (passed_out_to cpu) }
-        ensures no_reference { seat_references zone.old frame ≡ 0 }
-        ensures one_hand { IsInHand zone.old frame }
-        ensures not_lent { IsLentToNone zone.old frame }
-        ensures run { MakesStep self.now held.old 0 (step.PassOut frame cpu) Done held.new }
-    {
-        let mark = MARK_BASE + u64::from(cpu);
-        self.join(&mut held.raw, &mut zone.raw);
-        self.store::<Brand>(&mut held.raw, Word::OfFrame(frame), mark);
-        zone.raw = self.split_last(&mut held.raw);
+        self.split_last(&mut held.raw, &mut zone.raw);
     }
 }

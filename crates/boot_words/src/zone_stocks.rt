@@ -3,9 +3,9 @@ ghost use Rattle.std.specs.Prelude.{◌≡◌, ◌≢◌, ◌+◌, ◌-◌, ◌%
 ghost use Rattle.stock_word.specs.declared.view.Stock.TheVariants.{DrainedOf, HeldBy};
 ghost use Rattle.stock_word.specs.Stock.{account_of, account_for, drained_of, group_of, is_held, stock_pages_of};
 ghost use Rattle.stock_word.specs.Stock.{stocked, word_of, HasWord, IsZoneView};
-ghost use Rattle.stock_word.specs.StockRule.{report_index, stock_index};
-ghost use Rattle.stock_word.specs.Kinds.{after_fill, after_report, after_took, with_steps, zone_after_absorb};
-ghost use Rattle.stock_word.specs.Kinds.{zone_after_drain, zone_after_fill, zone_after_report, Absorbs, DrainsWord};
+ghost use Rattle.stock_word.specs.StockRule.{stock_index};
+ghost use Rattle.stock_word.specs.Kinds.{after_fill, after_took, with_steps};
+ghost use Rattle.stock_word.specs.Kinds.{zone_after_drain, zone_after_fill, DrainsWord};
 ghost use Rattle.stock_word.specs.Kinds.{DrainsNone, LooksAt};
 ghost use Rattle.stock_word.specs.Calls.{after_look, steps_of_drain, with_view};
 ghost use Rattle.step_rules.specs.declared.step.Action.TheVariants as step;
@@ -62,36 +62,6 @@ impl BootWords {
 }
 
 impl BootWords {
-    /// Puts `pages` fresh pages of the CPU into its report word, from which an `absorb` takes them.
-    pub fn report(
-        &self,
-        held: &mut PastSeat,
-        zone: &mut StockSeat,
-        seat: &mut StockSeat,
-        pages: u32,
-    )
-        requires tables { (zone.old.table ≡ self.now.table) × (seat.old.table ≡ self.now.table) }
-        requires zone { IsZoneView zone.old.view }
-        requires cpu { IsCpuStock self.now seat.old.view }
-        requires held { IsHeld self.now held.old }
-        requires holder { IsHolder held.old seat.old.view.number }
-        requires fresh { pages ≤ seat.old.view.fresh }
-        requires legal { MayMake self.now held.old seat.old.view.number (step.Report pages) }
-        ensures booked { seat.old.view.fresh + (account_for zone.old.view seat.old.view).unabsorbed
-            ≤ (account_for zone.old.view seat.old.view).book }
-        ensures group { group_of seat.old.view.last ≡ (account_for zone.old.view seat.old.view).group }
-        ensures zone { zone.new ≡ with_view zone.old (zone_after_report zone.old.view seat.old.view.number pages) }
-        ensures cpu { seat.new ≡ with_view seat.old (after_report seat.old.view pages) }
-        ensures run { MakesStep self.now held.old seat.old.view.number (step.Report pages) Done held.new }
-    {
-        let word = Word::ReportOf(seat.number);
-        self.join(&mut held.raw, &mut zone.raw);
-        self.join(&mut held.raw, &mut seat.raw);
-        self.add::<Brand>(&mut held.raw, word, pages);
-        seat.raw = self.split_last(&mut held.raw);
-        zone.raw = self.split_last(&mut held.raw);
-    }
-
     /// What the CPU's stock is, by its word and so by the book. This is one look, which counts at the zone's seat
     /// and changes nothing else. The book is the pages in the stock, the fresh ones and the reported ones.
     pub fn look(&self, zone: &mut StockSeat, seat: &mut StockSeat) -> Stock
@@ -111,7 +81,7 @@ impl BootWords {
         let word = Word::StockOf(seat.number);
         self.join(&mut zone.raw, &mut seat.raw);
         let found = self.load::<Brand>(&mut zone.raw, word);
-        seat.raw = self.split_last(&mut zone.raw);
+        self.split_last(&mut zone.raw, &mut seat.raw);
         Stock::of_word(found)
     }
 
@@ -141,8 +111,8 @@ impl BootWords {
         self.join(&mut held.raw, &mut seat.raw);
         let found = self.take_page_of::<Brand>(&mut held.raw, seat.number, group);
         seat.last = Stock::of_word(found - 1);
-        seat.raw = self.split_last(&mut held.raw);
-        zone.raw = self.split_last(&mut held.raw);
+        self.split_last(&mut held.raw, &mut seat.raw);
+        self.split_last(&mut held.raw, &mut zone.raw);
     }
 
     /// Fills the CPU's stock with this many pages, 1 to 65,535, of this group, 0 to 63. The stock was never filled, or
@@ -174,8 +144,8 @@ impl BootWords {
         self.join(&mut held.raw, &mut seat.raw);
         self.fill_with::<Brand>(&mut held.raw, seat.number, group, pages);
         seat.last = Stock::HeldBy { group, pages };
-        seat.raw = self.split_last(&mut held.raw);
-        zone.raw = self.split_last(&mut held.raw);
+        self.split_last(&mut held.raw, &mut seat.raw);
+        self.split_last(&mut held.raw, &mut zone.raw);
     }
 
     // The look of a drain: the stock was never filled, and is drained by it, or is of the group of its last fill.
@@ -193,7 +163,7 @@ impl BootWords {
     {
         self.join(&mut held.raw, &mut zone.raw);
         let found = self.load::<Brand>(&mut held.raw, Word::StockOf(cpu));
-        zone.raw = self.split_last(&mut held.raw);
+        self.split_last(&mut held.raw, &mut zone.raw);
         found
     }
 
@@ -213,7 +183,7 @@ impl BootWords {
     {
         self.join(&mut held.raw, &mut zone.raw);
         let found = self.drain_of::<Brand>(&mut held.raw, cpu, group);
-        zone.raw = self.split_last(&mut held.raw);
+        self.split_last(&mut held.raw, &mut zone.raw);
         found
     }
 
@@ -266,39 +236,5 @@ impl BootWords {
     {
         let word = self.step_look_stock(zone, cpu);
         Stock::of_word(word).group()
-    }
-
-    /// Absorbs the pages that CPU `cpu` reported since the last absorb, and returns how many they are. They are no
-    /// longer booked to its stock.
-    pub fn absorb(&self, held: &mut PastSeat, zone: &mut StockSeat, cpu: u32) -> u32
-        requires table { zone.old.table ≡ self.now.table }
-        requires zone { IsZoneView zone.old.view }
-        requires held { IsHeld self.now held.old }
-        requires cpu { (0 < cpu) × (cpu ≤ self.now.cpus) }
-        requires legal { MayMake self.now held.old 0 (step.Absorb cpu) }
-        ensures reported { result ≡ (account_of zone.old.view cpu).unabsorbed }
-        ensures booked { result ≤ (account_of zone.old.view cpu).book }
-        ensures bounded { (account_of zone.old.view cpu).book < 65536 }
-        ensures zone { zone.new ≡ with_view zone.old (with_steps 1 (zone_after_absorb zone.old.view cpu)) }
-        ensures run { MakesStep self.now held.old 0 (step.Absorb cpu) (Pages result) held.new }
-    {
-        self.step_absorb(held, zone, cpu) as u32
-    }
-
-    // Absorb: the report word becomes 0.
-    fn step_absorb(&self, held: &mut PastSeat, zone: &mut StockSeat, cpu: u32) -> u64
-        requires table { zone.old.table ≡ self.now.table }
-        requires zone { IsZoneView zone.old.view }
-        requires held { IsHeld self.now held.old }
-        requires cpu { (0 < cpu) × (cpu ≤ self.now.cpus) }
-        requires legal { MayMake self.now held.old 0 (step.Absorb cpu) }
-        ensures table { zone.new.table ≡ zone.old.table }
-        ensures kind { Absorbs cpu (report_index cpu) result 0 zone.old.view zone.new.view }
-        ensures run { MakesStep self.now held.old 0 (step.Absorb cpu) (Pages result) held.new }
-    {
-        self.join(&mut held.raw, &mut zone.raw);
-        let found = self.swap::<Brand>(&mut held.raw, Word::ReportOf(cpu), 0);
-        zone.raw = self.split_last(&mut held.raw);
-        found
     }
 }

@@ -15,8 +15,8 @@ no_table = record { words = 0; slots = 0; views_name = 0; atom = 0; block = 0; o
 abbrev pub stock_table_of : KnownTable → KnownStockTable
 stock_table_of t = record { table = t.table; cpus = t.cpus }
 
--- A CPU's part: its number, its listed, fresh and back frames, its pins (an entry for each), its seats at the two
--- tables, and how often a fresh frame was dropped to its list.
+-- A CPU's part: its number, its listed, fresh and back frames, its pins (an entry for each), its seats at the words of
+-- frames and of stocks, and how often a fresh frame was dropped to its list.
 pub record KnownCpu : Type 0 where
   pub number : ℕ
   pub list : List ℕ
@@ -45,7 +45,7 @@ abbrev pub AreNoted : ℕ → List ℕ → List ℕ → List ℕ → List ℕ �
 AreNoted frames list fresh back pins view = (f : ℕ)
     → IsNoted frames f (times f list + times f fresh) (times f back) (times f pins) (note_of view f)
 
--- both seats are this CPU's, at these tables
+-- both seats are this CPU's
 pub record AreItsSeats (t : KnownTable) (w : KnownStockTable) (cpu : ℕ) (seat : KnownSeat)
     (stock : KnownStockSeat) : Type 0 where
   pub frame_table : seat.table ≡ t.table

@@ -56,6 +56,7 @@ impl<N: BootName> Tables<N> {
 
 impl<N: BootName> Drop for Tables<N> {
     fn drop(self) {
-        let Tables { words: _, of: _ } = self;
+        let Tables { words, of: _ } = self;
+        drop(words);
     }
 }

@@ -1,5 +1,7 @@
 //! A CPU's part, and how it is made.
-ghost use Rattle.std.specs.Prelude.{◌≡◌, ◌≤◌, IfOk};
+ghost use Rattle.std.specs.Prelude.{◌≡◌, ◌≤◌, [], IfOk, vec_capacity};
+ghost use Rattle.std.specs.VecDeque.{deque_capacity};
+ghost use Rattle.cpu_part.specs.Cpus.{HasRoom};
 
 use crate::boot_name::BootName;
 use boot_words::{FrameSeat, StockSeat};
@@ -65,6 +67,34 @@ impl<N: BootName> Model for Cpu<N> {
     }) × HasRoom (deque_capacity c.list) (vec_capacity c.fresh) (deque_capacity c.back) (vec_capacity c.pins) };
 }
 
+// The frames that a CPU has, by their lists.
+#[derive(Drop)]
+struct Frames {
+    list: VecDeque<Frame>,
+    fresh: Vec<Frame>,
+    back: VecDeque<Frame>,
+    pins: Vec<Frame>,
+}
+
+// No frames, with all room that the calls of a CPU need.
+fn new_frames(alloc: Global) -> Result<Frames, AllocError>
+    ensures lists { IfOk result (λ f. (f.list.items ≡ []) × (f.back.items ≡ [])) }
+    ensures vecs { IfOk result (λ f. (f.fresh.items ≡ []) × (f.pins.items ≡ [])) }
+    ensures room { IfOk result (λ f. HasRoom (deque_capacity f.list) (vec_capacity f.fresh) (deque_capacity f.back)
+        (vec_capacity f.pins)) }
+{
+    let list = VecDeque::with_capacity(alloc, MAX_LISTED)?;
+    let fresh = Vec::with_capacity(alloc, MAX_FRESH)?;
+    let back = VecDeque::with_capacity(alloc, MAX_PINS)?;
+    let pins = Vec::with_capacity(alloc, MAX_PINS + SPARE)?;
+    Ok(Frames {
+        list,
+        fresh,
+        back,
+        pins,
+    })
+}
+
 impl<N: BootName> Cpu<N> {
     ghost use Rattle.frame_word.specs.Seats.{seat_number, first_cpu_view, IsCpuSeat};
     ghost use Rattle.stock_word.specs.Stock.{IsCpuView};
@@ -84,16 +114,13 @@ impl<N: BootName> Cpu<N> {
         requires same { stock_seat.view.number ≡ seat_number frame_seat }
         ensures { IfOk result (λ c. c ≡ first_cpu frame_seat stock_seat) }
     {
-        let list = VecDeque::with_capacity(alloc, MAX_LISTED)?;
-        let fresh = Vec::with_capacity(alloc, MAX_FRESH)?;
-        let back = VecDeque::with_capacity(alloc, MAX_PINS)?;
-        let pins = Vec::with_capacity(alloc, MAX_PINS + SPARE)?;
+        let frames = new_frames(alloc)?;
         Ok(Cpu {
             number: frame_seat.number(),
-            list,
-            fresh,
-            back,
-            pins,
+            list: frames.list,
+            fresh: frames.fresh,
+            back: frames.back,
+            pins: frames.pins,
             frame_seat,
             stock_seat,
             drops: 0,
@@ -109,16 +136,23 @@ impl<N: BootName> Cpu<N> {
     {
         let Cpu {
             number: _,
-            list: _,
-            fresh: _,
-            back: _,
-            pins: _,
+            list,
+            fresh,
+            back,
+            pins,
             frame_seat,
             stock_seat,
             drops: _,
             gap: _,
             of: _,
         } = self;
+        // A call, because a field that is let go here is dropped here, part by part, which is long to check.
+        drop(Frames {
+            list,
+            fresh,
+            back,
+            pins,
+        });
         (frame_seat, stock_seat)
     }
 }

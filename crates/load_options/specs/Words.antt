@@ -34,9 +34,13 @@ flag_rule name = record (new_rule name) {
   action = Some SetTrue;
 }
 
+-- the command with more options
+abbrev pub with_options : Shape → List Rule → Shape
+with_options shape rules = record shape { rules = shape.rules ++ rules }
+
 -- the command with one more option
 abbrev pub with_option : Shape → Rule → Shape
-with_option shape rule = record shape { rules = shape.rules ++ rule ∷ [] }
+with_option shape rule = with_options shape (rule ∷ [])
 
 -- the options of the sizes
 abbrev pub size_rules : List Rule

@@ -1,14 +1,14 @@
 //! Parses the words of the command line.
 
-ghost use Rattle.std.specs.Prelude.{◌≡◌, IfOk, false, map, pos};
-ghost use Rattle.clap.specs.Words.{app_of, kind_of, rule_of};
+ghost use Rattle.std.specs.Prelude.{◌≡◌, IfOk, codes, false, map, pos};
+ghost use Rattle.clap.specs.Words.{app_of, kind_of, new_app};
 ghost use Rattle.clap.specs.declared.builder.command.Command.TheViews.{out-Command as fields_of};
 ghost use Rattle.clap.specs.declared.builder.value_parser.ValueParser.TheVariants.{Signed};
 ghost use Rattle.load_options.specs.Fault.{IsNoMemory};
 ghost use Rattle.load_options.specs.Sizes.{HasSizesInRange};
 ghost use Rattle.load_options.specs.Words.{GivesOptions, asks_version, bare_program, check_shape, command_shape};
 ghost use Rattle.load_options.specs.Words.{flag_rule, options_of, program, replay_shape, serve_shape, size_rule};
-ghost use Rattle.load_options.specs.Words.{sized_shape, with_option};
+ghost use Rattle.load_options.specs.Words.{sized_shape, with_option, with_options};
 
 use crate::fault::WordsFault;
 use crate::task::{Options, VERSION_OPTIONS, read_options};
@@ -66,6 +66,34 @@ const CHECKED_HELP: &str =
 
 const STEPS_HELP: &str =
     "Writes the steps of the lines as a log, with the answers as comments, in place of the answers";
+
+// The options of the sizes: name, help, greatest value and default.
+const SIZES: [(&str, &str, u32, &str); 5] = [
+    ("frames", FRAMES_HELP, Config::MAX_FRAMES, "16"),
+    ("cpus", CPUS_HELP, Config::MAX_CPUS, "2"),
+    ("batch", BATCH_HELP, Config::MAX_BATCH, "4"),
+    ("high", HIGH_HELP, Config::MAX_HIGH, "8"),
+    ("stock", STOCK_HELP, Config::MAX_STOCK, "4"),
+];
+
+// The options without a value that both subcommands that answer scripts have, with their help.
+const TASK_FLAGS: [(&str, &str); 3] = [
+    ("audit", AUDIT_HELP),
+    ("numbered", NUMBERED_HELP),
+    ("strict", STRICT_HELP),
+];
+
+const REPLAY_FLAGS: [(&str, &str); 3] = [
+    ("explain", EXPLAIN_HELP),
+    ("check", CHECKED_HELP),
+    ("steps", STEPS_HELP),
+];
+
+const SERVE_FLAGS: [(&str, &str); 3] = [
+    ("audit", AUDIT_HELP),
+    ("explain", EXPLAIN_HELP),
+    ("steps", STEPS_HELP),
+];
 
 // Why the words are refused though clap takes each of them.
 const STEPS_ALONE: &str =
@@ -171,13 +199,19 @@ fn bare_command<'a>(alloc: Global) -> Result<Command<'a>, AllocError>
     ensures app { IfOk result (λ command. app_of command ≡ bare_program) }
 {
     let command = Command::new(alloc, "memcg").bin_name("memcg")?;
-    Ok(
-        command
-            .no_binary_name(true)
-            .about(MEMCG_HELP)
-            .version(VERSION)
-            .subcommand_required(true),
-    )
+    Ok(as_program(command))
+}
+
+// The command with the texts and settings of the program. A longer chain would make the check dearer.
+fn as_program(command: Command<'_>) -> Command<'_>
+    requires { app_of command ≡ new_app (codes "memcg") }
+    ensures { app_of result ≡ bare_program }
+{
+    command
+        .no_binary_name(true)
+        .about(MEMCG_HELP)
+        .version(VERSION)
+        .subcommand_required(true)
 }
 
 // `replay`, which has three more options.
@@ -186,9 +220,7 @@ fn replay_command<'a>(alloc: Global) -> Result<Command<'a>, AllocError>
     ensures local { IfOk result (λ command. (fields_of command).has_globals ≡ false) }
 {
     let command = subcommand(alloc, "replay", REPLAY_HELP)?;
-    let command = with_flag(alloc, command, "explain", EXPLAIN_HELP)?;
-    let command = with_flag(alloc, command, "check", CHECKED_HELP)?;
-    with_flag(alloc, command, "steps", STEPS_HELP)
+    with_flags(alloc, command, &REPLAY_FLAGS)
 }
 
 // `serve`, which has three more options than the sizes.
@@ -197,9 +229,7 @@ fn serve_command<'a>(alloc: Global) -> Result<Command<'a>, AllocError>
     ensures local { IfOk result (λ command. (fields_of command).has_globals ≡ false) }
 {
     let command = sized(alloc, "serve", SERVE_HELP)?;
-    let command = with_flag(alloc, command, "audit", AUDIT_HELP)?;
-    let command = with_flag(alloc, command, "explain", EXPLAIN_HELP)?;
-    with_flag(alloc, command, "steps", STEPS_HELP)
+    with_flags(alloc, command, &SERVE_FLAGS)
 }
 
 // `check`, which has one option.
@@ -217,9 +247,7 @@ fn subcommand<'a>(alloc: Global, name: &'a str, about: &'a str) -> Result<Comman
     ensures local { IfOk result (λ command. (fields_of command).has_globals ≡ false) }
 {
     let command = sized(alloc, name, about)?;
-    let command = with_flag(alloc, command, "audit", AUDIT_HELP)?;
-    let command = with_flag(alloc, command, "numbered", NUMBERED_HELP)?;
-    with_flag(alloc, command, "strict", STRICT_HELP)
+    with_flags(alloc, command, &TASK_FLAGS)
 }
 
 // A subcommand on scripts, with the options of the sizes.
@@ -227,12 +255,42 @@ fn sized<'a>(alloc: Global, name: &'a str, about: &'a str) -> Result<Command<'a>
     ensures shape { IfOk result (λ command. (app_of command).top ≡ sized_shape name.entry.now) }
     ensures local { IfOk result (λ command. (fields_of command).has_globals ≡ false) }
 {
-    let app = Command::new(alloc, name).about(about);
-    let app = with_size(alloc, app, "frames", FRAMES_HELP, Config::MAX_FRAMES, "16")?;
-    let app = with_size(alloc, app, "cpus", CPUS_HELP, Config::MAX_CPUS, "2")?;
-    let app = with_size(alloc, app, "batch", BATCH_HELP, Config::MAX_BATCH, "4")?;
-    let app = with_size(alloc, app, "high", HIGH_HELP, Config::MAX_HIGH, "8")?;
-    with_size(alloc, app, "stock", STOCK_HELP, Config::MAX_STOCK, "4")
+    let command = Command::new(alloc, name).about(about);
+    with_sizes(alloc, command, &SIZES)
+}
+
+// The command with these options, each with its help, which have no values.
+fn with_flags<'a>(
+    alloc: Global,
+    mut command: Command<'a>,
+    flags: &[(&'a str, &'a str)],
+) -> Result<Command<'a>, AllocError>
+    requires local { (fields_of command).has_globals ≡ false }
+    ensures shape { IfOk result (λ more. (app_of more).top
+        ≡ with_options (app_of command.entry).top (map (λ flag. flag_rule flag.0.now) flags.now)) }
+    ensures local { IfOk result (λ more. (fields_of more).has_globals ≡ false) }
+{
+    for (name, help) in flags {
+        command = with_flag(alloc, command, name, help)?;
+    }
+    Ok(command)
+}
+
+// The command with these options: each with its help, its greatest value and its default.
+fn with_sizes<'a>(
+    alloc: Global,
+    mut command: Command<'a>,
+    sizes: &[(&'a str, &'a str, u32, &'a str)],
+) -> Result<Command<'a>, AllocError>
+    requires local { (fields_of command).has_globals ≡ false }
+    ensures shape { IfOk result (λ more. (app_of more).top ≡ with_options (app_of command.entry).top
+        (map (λ size. size_rule size.0.now size.2 size.3.now) sizes.now)) }
+    ensures local { IfOk result (λ more. (fields_of more).has_globals ≡ false) }
+{
+    for (name, help, most, default) in sizes {
+        command = with_size(alloc, command, name, help, *most, default)?;
+    }
+    Ok(command)
 }
 
 // The command with one more option, which has no value.

@@ -1,12 +1,12 @@
 -- The changes of a seat in a run, and how they grow with its past.
-use Rattle.std.proofs.Common.{◌≡◌, ◌∙◌, ℕ, ◌==◌, ◌&&◌, Bool, true, false, [], ◌∷◌, ◌++◌, cond, refl, ap, sym, inl, inr, append_assoc}
+use Rattle.std.proofs.Common.{◌≡◌, ◌∙◌, ℕ, ◌==◌, ◌&&◌, Bool, true, false, [], ◌∷◌, ◌++◌, cond, refl, ap, sym, subst, inl, inr, append-nil, append_assoc}
 use Rattle.std.specs.Prelude.{not}
 use Rattle.std.proofs.lemmas.Bool.{ne_eqb}
 use Rattle.std.proofs.lemmas.List.Elements.{filter-append}
 use Rattle.step_rules.specs.declared.step.Step.{Step}
 use Rattle.step_rules.specs.declared.step.Answer.{Answer}
 use Rattle.step_rules.specs.After.{Run}
-use Rattle.boot_words.specs.Growth.{AreChangesOf, GrewByAll, changes_nothing}
+use Rattle.boot_words.specs.Growth.{AreChangesOf, GrewByAll, SeesMore, changes_nothing}
 use Rattle.boot_words.specs.Runs.{HasNoStepOf, OthersFollow}
 use Rattle.boot_words.specs.declared.view.Past.{Past}
 use Rattle.mem_system.proofs.Mixed.{AreBehindOthers, gained}
@@ -69,3 +69,12 @@ others_follow seat a b o = record { rest = o.rest; is = o.is; changes = no_chang
 pub grew_follow : (before : Past) (steps : Run) (later : Past) → GrewByAll before steps later → ChangesFollow before.number before.seen steps later.seen
 grew_follow before steps later grew =
     let g = gained before steps later grew in record { rest = g.run; is = g.seen; changes = changes_behind before.number steps g.run g.behind }
+
+-- and then has seen steps of others
+pub follow_seen : (before : Past) (steps : Run) (last later : Past) → GrewByAll before steps last → SeesMore last later
+    → ChangesFollow before.number before.seen steps later.seen
+follow_seen before steps last later grew more =
+    let none = subst (λ (n : ℕ). HasNoStepOf n more.between) (grew_number before steps last grew) more.others in
+    subst (λ (r : Run). ChangesFollow before.number before.seen r later.seen) (append-nil steps)
+    (follow_both before.number before.seen steps last.seen [] later.seen (grew_follow before steps last grew)
+    (others_follow before.number last.seen later.seen (record { rest = more.between; is = more.seen; others = none })))

@@ -30,7 +30,7 @@ use Rattle.load_run.specs.declared.boot_end.BootEnd.{BootEnd}
 use Rattle.load_run.specs.Answers.{AreThreadAnswers, IsNewBootState, IsQuietSystem}
 use Rattle.load_run.specs.Ending.{EndsHeld, boot_end_text}
 use Rattle.load_run.specs.Survey.{AreNumbered, HasPast, ChangesFollow, HasSeen, SeesAllPasts}
-use Rattle.load_run.proofs.Changes.{follow_both, grew_follow, grew_number, others_follow, same_changes}
+use Rattle.load_run.proofs.Changes.{follow_both, follow_seen, grew_number, others_follow, same_changes}
 use Rattle.load_run.proofs.Starting.{boot_agrees, boot_shown, lines_there, parts_tied}
 use Rattle.load_run.proofs.Surveying.{at_index}
 use Rattle.load_run.proofs.Whole.{whole_run}
@@ -102,7 +102,7 @@ module _ (beginning : Run) (z : Past) (tables : KnownSystem) (before after : Lis
       let was = own_past tells.cpu.past in
       let has : HasSeen beginning was = at_index (HasSeen beginning) (pasts_of before) index was seen (past_at before index tells.cpu tells.cpu_is) in
       let made = follow_both was.number beginning [] was.seen tells.grew.made (own_past cpu.past).seen (others_follow was.number beginning was.seen has)
-      (grew_follow was tells.grew.made (own_past cpu.past) tells.grew.grew) in
+      (follow_seen was tells.grew.made tells.grew.last (own_past cpu.past) tells.grew.grew tells.grew.more) in
       subst (λ (n : ℕ). ChangesFollow n beginning tells.steps (own_past cpu.past).seen) (number_before index tells.cpu tells.cpu_is)
       (record { rest = made.rest; is = made.is; changes = made.changes ∙ same_changes was.number tells.grew.made tells.steps tells.grew.changes })
 
@@ -110,7 +110,7 @@ module _ (beginning : Run) (z : Past) (tables : KnownSystem) (before after : Lis
   numbers_after index p at =
       let cpu = cpu_at after index p at in
       let tells = tells_at tables 1 before after lines is_numbered told text all index cpu.0 cpu.1 in
-      ap (λ (q : Past). q.number) cpu.2 ∙ grew_number (own_past tells.cpu.past) tells.grew.made (own_past (cpu.0).past) tells.grew.grew
+      ap (λ (q : Past). q.number) cpu.2 ∙ tells.grew.more.number ∙ grew_number (own_past tells.cpu.past) tells.grew.made tells.grew.last tells.grew.grew
       ∙ number_before index tells.cpu tells.cpu_is
 
   -- what all have seen then begins with it
@@ -143,7 +143,7 @@ pub are_answers : (sizes : Config) (is_numbered is_audited : Bool) (t : KnownTab
     (start replayed at_go end at_end : SystemState) (early later text : List ℕ) (told : List Run) (ended : BootEnd) → IsNewBootState sizes t w start
     → first_lines ≡ take (lines_before_go lines) lines → other_lines ≡ drop (lines_before_go lines) lines
     → Replays (numbered_terms t w false is_numbered) first_lines start replayed early → SeesAllPasts t replayed at_go
-    → AreAllAnswers (boot_tables t w) (workers_from 1 at_go.cpus other_lines is_numbered) end.cpus told later
+    → AreAllAnswers (boot_tables t w sizes) (workers_from 1 at_go.cpus other_lines is_numbered) end.cpus told later
     → IsQuietSystem t w end → SeesAllPasts t end at_end → EndsHeld t w at_end ended
     → text ≡ (early ++ later) ++ boot_end_text is_audited ended → AreThreadAnswers sizes is_numbered is_audited lines text
 are_answers sizes is_numbered is_audited t w lines first_lines other_lines start replayed at_go end at_end early later text told ended new is_first is_other served
@@ -151,19 +151,19 @@ are_answers sizes is_numbered is_audited t w lines first_lines other_lines start
     let on = numbered_terms t w false is_numbered in
     let front = take (lines_before_go lines) lines in
     let replays = subst (λ (l : List Line). Replays on l start replayed early) is_first served in
-    let tells = subst (λ (l : List Line). AreAllAnswers (boot_tables t w) (workers_from 1 at_go.cpus l is_numbered) end.cpus told later) is_other all in
+    let tells = subst (λ (l : List Line). AreAllAnswers (boot_tables t w sizes) (workers_from 1 at_go.cpus l is_numbered) end.cpus told later) is_other all in
     let history = replays.history [] (boot_shown _ _ _ _ new) (parts_tied _ _ _ _ new) in
     let run : Run = steps_of on front (past [] start) replayed early history in
     let has : HasRun run replayed = all_lines_go_on on front (past [] start) replayed early history [] new.so_far in
     let rest = drop (lines_before_go lines) lines in
     let z = own_past at_go.locked.machine.run.past in
-    let told_at = tells_at (boot_tables t w) 1 at_go.cpus end.cpus rest is_numbered told later tells in
+    let told_at = tells_at (boot_tables t w sizes) 1 at_go.cpus end.cpus rest is_numbered told later tells in
     let goes = sees.goes_on run has in
-    let its_lines = all_follow sees.beginning z (boot_tables t w) at_go.cpus end.cpus rest is_numbered told later sees.seen.1 run goes tells sees_end.beginning
+    let its_lines = all_follow sees.beginning z (boot_tables t w sizes) at_go.cpus end.cpus rest is_numbered told later sees.seen.1 run goes tells sees_end.beginning
     sees_end.begins.1 in
-    let its_past = others_after sees.beginning z (boot_tables t w) at_go.cpus end.cpus rest is_numbered told later sees.seen.1 run goes tells sees_end.beginning
+    let its_past = others_after sees.beginning z (boot_tables t w sizes) at_go.cpus end.cpus rest is_numbered told later sees.seen.1 run goes tells sees_end.beginning
     sees_end.begins.1 in
-    let numbers = numbers_after sees.beginning z (boot_tables t w) at_go.cpus end.cpus rest is_numbered told later sees.seen.1 run goes tells in
+    let numbers = numbers_after sees.beginning z (boot_tables t w sizes) at_go.cpus end.cpus rest is_numbered told later sees.seen.1 run goes tells in
     let last = whole_run t w sees_end.beginning at_end ended (sees_end.is_run numbers) ends in
     let low = quiet.quiet.valid.cpus_low in
     let sized = quiet.quiet.sized.cpus in

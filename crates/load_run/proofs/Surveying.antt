@@ -24,25 +24,14 @@ use Rattle.mem_machine.specs.Interleaving.{zone_of}
 use Rattle.mem_system.specs.Cpus.{CpuInRun, parts_of, pasts_of}
 use Rattle.mem_system.specs.Ends.{ForEachCpu}
 use Rattle.script_replay.specs.Lines.{SystemState}
+use Rattle.script_replay.proofs.Growing.{none_both, sees_both}
 use Rattle.load_run.specs.Survey.{AreNumbered, HasPast, HasSeen, MeetsZone, SeesAllPasts}
 
 -- ---- steps of others
 
-none_both : (seat : ℕ) (xs ys : Run) → HasNoStepOf seat xs → HasNoStepOf seat ys → HasNoStepOf seat (xs ++ ys)
-none_both seat [] ys one two = two
-none_both seat (e ∷ xs) ys one two = (one.0, none_both seat xs ys one.1 two)
-
 none_parts : (seat : ℕ) (xs ys : Run) → HasNoStepOf seat (xs ++ ys) → HasNoStepOf seat xs × HasNoStepOf seat ys
 none_parts seat [] ys none = (tt, none)
 none_parts seat (e ∷ xs) ys none = let rest = none_parts seat xs ys none.1 in ((none.0, rest.0), rest.1)
-
-sees_both : (a b c : Past) → SeesMore a b → SeesMore b c → SeesMore a c
-sees_both a b c one two = record {
-  between = one.between ++ two.between;
-  others = none_both a.number one.between two.between one.others (subst (λ (n : ℕ). HasNoStepOf n two.between) one.number two.others);
-  number = two.number ∙ one.number;
-  seen = two.seen ∙ ap (λ (r : Run). r ++ two.between) one.seen ∙ append_assoc a.seen one.between two.between;
-}
 
 -- a run that begins with a past begins with the one before
 begins_before : (a b : Past) (run : Run) → SeesMore a b → HasPast run b → HasPast run a

@@ -1,4 +1,5 @@
--- A run shows a visit whose CPU's past is a beginning of it. Serves `runs_show_visits`.
+-- A run shows a visit whose CPU's past is a beginning of it, and what a look behind the lock found. Serves
+-- `runs_show_visits`, `runs_show_finds`, `pasts_begin`.
 use Rattle.std.proofs.Common.{◌≡◌, ◌≢◌, ◌∙◌, ℕ, ◌==◌, Bool, true, false, [], ◌∷◌, ◌++◌, cond, refl, ap, sym, subst, arith, inl, inr, append_assoc}
 use Rattle.std.specs.Prelude.{◌⊎◌}
 use Rattle.std.proofs.lemmas.Bool.{and_parts, eqb-true, false≢true, true≢false}
@@ -35,7 +36,7 @@ use Rattle.mem_system.specs.Cpus.{between_locks}
 use Rattle.mem_system.proofs.Beside.{legal_front}
 use Rattle.mem_system.proofs.Mixed.{AreBehindOthers, all_own, as_many, both, cpu_and_zone, gained, has_none, just_these}
 use Rattle.mem_system.proofs.Mixed.{no_fewer, none_of, own_is, steps_of, zone_and_cpu}
-use Rattle.load_run.specs.Threads.{PastsBegin, RunsShowVisits}
+use Rattle.load_run.specs.Threads.{PastsBegin, RunsShowFinds, RunsShowVisits}
 
 -- ---- where a visit begins
 
@@ -278,6 +279,17 @@ runs_show_visits table stock_table cmd reply before after run sound served left 
       left_is = ap (λ (l : Run). hide (state_of zone l)) (sym is) ∙ rests_after.left;
     }
 
+pub runs_show_finds : RunsShowFinds
+runs_show_finds table stock_table found after run sound same begins = record {
+  before = (own_past found.machine.run.past).seen;
+  after = begins.rest;
+  is = begins.is ∙ ap (λ (l : Run). l ++ begins.rest) (sym same);
+  found_is = sound.quiet.rests.left;
+}
+
 pub pasts_begin : PastsBegin
 pasts_begin before after steps grew =
-    let g = gained (own_past before) grew.made (own_past after) grew.grew in record { rest = g.run; is = g.seen }
+    let g = gained (own_past before) grew.made grew.last grew.grew in record {
+      rest = g.run ++ grew.more.between;
+      is = grew.more.seen ∙ ap (λ (l : Run). l ++ grew.more.between) g.seen ∙ append_assoc (own_past before).seen g.run grew.more.between;
+    }

@@ -84,8 +84,8 @@ pub record IsQuietSystem (frames : KnownTable) (stock_table : KnownStockTable) (
 
 -- What a boot with these sizes answers to the lines by threads. Those before `go` are served one after the other, as a
 -- replay serves them, and led to `replayed`. Then all pasts were looked at, and from `at_go` each CPU was answered its own
--- among the lines from `go` on, and told its steps. When all threads had ended, at `end`, all pasts were looked at again,
--- and from `at_end` the boot ended. The first look shows the run of the lines before `go`, with steps that change nothing
+-- among the lines from `go` on, and told its steps. Each command under the lock found the sizes of the boot. When all
+-- threads had ended, at `end`, all pasts were looked at again, and from `at_end` the boot ended. The first look shows the run of the lines before `go`, with steps that change nothing
 -- among them. The second look shows a run that goes on from it. Behind the first run, each CPU changes in the second just
 -- what the steps change that its answers tell, in their order. All steps, `whole`, are the second run and then the steps of
 -- the end. They are one legal run, and what is left in the words of the boot's table is what it leads to. The promise holds
@@ -112,7 +112,7 @@ pub record AreThreadAnswers (sizes : Config) (is_numbered is_audited : Bool) (li
       (past [] start) (past run replayed) early
   pub agrees : AgreesWithRun frames [] start.locked.machine.ledger
   pub sees : SeesAllPasts frames replayed at_go
-  pub tells : AreAllAnswers (boot_tables frames stocks)
+  pub tells : AreAllAnswers (boot_tables frames stocks sizes)
       (workers_from 1 at_go.cpus (drop (lines_before_go lines) lines) is_numbered) end.cpus told later
   pub quiet : IsQuietSystem frames stocks end
   pub sees_end : SeesAllPasts frames end at_end

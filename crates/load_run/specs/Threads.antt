@@ -1,4 +1,4 @@
--- The steps of all threads as one legal run, and what it shows of each visit.
+-- The steps of all threads as one legal run, and what it shows of each visit and of what was found.
 use Rattle.std.specs.Prelude.{◌≡◌, ℕ, ◌++◌}
 use Rattle.frame_word.specs.Seats.{KnownTable}
 use Rattle.stock_word.specs.Stock.{KnownStockTable}
@@ -11,8 +11,8 @@ use Rattle.mem_machine.specs.Machines.{KnownMachine}
 use Rattle.mem_machine.specs.Resting.{hidden_of}
 use Rattle.mem_system.specs.declared.command.Cmd.{Cmd}
 use Rattle.mem_system.specs.declared.command.Reply.{Reply}
-use Rattle.mem_system.specs.Cpus.{between_locks}
-use Rattle.mem_system.specs.Locked.{IsSound}
+use Rattle.mem_system.specs.Cpus.{CpuInRun, between_locks}
+use Rattle.mem_system.specs.Locked.{IsSound, KnownLocked}
 use Rattle.mem_system.specs.Visits.{IsServed, LockedState}
 use Rattle.script_replay.specs.Visits.{GrewByChanges}
 
@@ -41,6 +41,20 @@ RunsShowVisits = (table : KnownTable) (stock_table : KnownStockTable) (cmd : Cmd
     → (served : IsServed table cmd reply before after) → IsSound table stock_table after.locked
     → IsBeginning (own_past after.cpu.past).seen run
     → ShowsVisit table run before.cpu.part.number served.steps before.locked.machine after.locked.machine
+
+-- With every CPU's own part hidden, the run shows this at some beginning of it that leaves the lock free.
+pub record ShowsFound (table : KnownTable) (run : Run) (found : KnownMachine) : Type 0 where
+  pub before : Run
+  pub after : Run
+  pub is : run ≡ before ++ after
+  pub found_is : hide (state_of (zone_of table) before) ≡ hidden_of table found
+
+-- If a CPU has seen the run that led to what was found behind the lock, which is sound (`SeenBehindLock`), and the CPU's
+-- past then is a beginning of a run, then this run shows what was found, such as its groups.
+abbrev pub RunsShowFinds : Type 0
+RunsShowFinds = (table : KnownTable) (stock_table : KnownStockTable) (found : KnownLocked) (after : CpuInRun) (run : Run)
+    → IsSound table stock_table found → (own_past found.machine.run.past).seen ≡ (own_past after.past).seen
+    → IsBeginning (own_past after.past).seen run → ShowsFound table run found.machine
 
 -- A CPU's past is a beginning of its past after more steps.
 abbrev pub PastsBegin : Type 0

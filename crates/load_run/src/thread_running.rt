@@ -38,12 +38,14 @@ pub fn run_by_threads<N: BootName + Send + Sync, R: Threads + Wait + Sync>(
 {
     let (early, later) = lines.split_at(before_go(lines));
     let (mut locked, tables, mut cpus) = boot.into_parts::<N>(alloc)?;
+    let sizes = locked.sizes();
     let form = Form {
         is_explained: false,
         is_numbered,
     };
     let first = replay(alloc, &mut locked, &tables, &mut cpus, early, form);
     survey(&mut locked, &tables, &mut cpus); // All pasts at `go`.
+    locked.set_sizes(sizes); // The threads find the sizes of the boot.
     locked.prove_quiet(); // There are fewer than 2^31 CPUs, as `run_each` requires.
     let system = System::of(locked, tables);
     let has_memory = first.is_ok();
@@ -76,8 +78,8 @@ fn serve_later<N: BootName + Send + Sync, R: Threads + Wait + Sync>(
 ) -> Result<Vec<u8>, AllocError>
     requires count { length cpus.old < 2 ^ 31 }
     requires lines { All (LineInRange N.frames.frames (length cpus.old)) lines.now }
-    ensures told { IfOk result (λ text. (told : List Run) × AreAllAnswers (boot_tables N.frames N.stocks)
-        (workers_from 1 cpus.old lines.now is_numbered) cpus.new told text.items) }
+    ensures told { IfOk result (λ text. (told : List Run)
+        × AreAllAnswers (boot_tables N.frames N.stocks system.now.sizes) (workers_from 1 cpus.old lines.now is_numbered) cpus.new told text.items) }
 {
     if has_memory {
         run_each(rt, alloc, system, cpus, lines, is_numbered, &NoGate)

@@ -8,7 +8,7 @@ use Rattle.step_rules.specs.State.{Zone}
 use Rattle.step_rules.specs.After.{IsLegalRun}
 use Rattle.step_rules.proofs.Runs.{legal_from}
 use Rattle.mem_core.specs.declared.verdict.Verdict.TheVariants as verdict
-use Rattle.mem_core.proofs.Checking.{illegal_only}
+use Rattle.mem_core.proofs.Checking.{says_of_log}
 use Rattle.log_lines.specs.declared.line.LogLine.{LogLine}
 use Rattle.log_lines.specs.declared.line.LogLine.TheVariants as kinds
 use Rattle.log_lines.specs.Log.{IsLog, WholeLog, says_something}
@@ -70,7 +70,7 @@ breaks_rules text illegal breaks legal =
     let zone = zone_in breaks.log in
     let whole : IsLegalRun zone legal.log.run = subst (λ z. IsLegalRun z legal.log.run) on.zone legal.legal in
     let run : IsLegalRun zone breaks.log.run = legal_front zone breaks.log.run on.more (subst (IsLegalRun zone) on.run whole) in
-    no_verdict (illegal.step - 1) illegal.expected ((illegal_only zone breaks.log.run (illegal.step - 1) illegal.expected breaks.first).1 run)
+    no_verdict (illegal.step - 1) illegal.expected ((says_of_log zone breaks.log.run (verdict.IllegalAt (illegal.step - 1) illegal.expected) breaks.first).1 run)
 
 leaves_out : (text : List ℕ) (steps count : ℕ) (first : List IllegalStep) → NamesLeftOut text steps count first → ¬ IsLegalLog text
 leaves_out text steps count first names legal =

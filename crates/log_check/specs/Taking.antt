@@ -144,13 +144,14 @@ ReadsOrJudges text r (Some verdict) = (rest : List ℕ) → IsLogVerdict r.is_al
 -- ---- what comes of a line
 
 -- the step is among those left out, and nothing else changed
-pub record NotesLeftOut (r s : LogReader) (illegal : IllegalStep) : Type 0 where
-  pub line : s.line ≡ r.line
-  pub lines : s.lines ≡ r.lines
-  pub progress : s.progress ≡ r.progress
-  pub is_all : s.is_all ≡ r.is_all
-  pub noted : (left : List IllegalStep) → AreLeftOut left r.left_out → AreLeftOut (left ++ illegal ∷ []) s.left_out
-  pub count : s.left_out.count ≡ r.left_out.count + 1
+pub record AddsLeftOut (before after : LogReader) (illegal : IllegalStep) : Type 0 where
+  pub line : after.line ≡ before.line
+  pub lines : after.lines ≡ before.lines
+  pub progress : after.progress ≡ before.progress
+  pub is_all : after.is_all ≡ before.is_all
+  pub noted : (left : List IllegalStep) → AreLeftOut left before.left_out
+      → AreLeftOut (left ++ illegal ∷ []) after.left_out
+  pub count : after.left_out.count ≡ before.left_out.count + 1
 
 -- the step that isn't legal, on the line that ended
 abbrev pub illegal_in : LogReader → Answer → Reason → IllegalStep
@@ -162,5 +163,5 @@ abbrev pub Concludes : Taken → (r s : LogReader) → Option LogVerdict → Typ
 Concludes GoesOn r s known = (known ≡ None) × (s ≡ r)
 Concludes (NotLegal expected reason) r s known =
     ((r.is_all ≡ false) × (known ≡ Some (verdict.NotLegal (illegal_in r expected reason))) × (s ≡ r))
-    ⊎ ((r.is_all ≡ true) × (known ≡ None) × NotesLeftOut r s (illegal_in r expected reason))
+    ⊎ ((r.is_all ≡ true) × (known ≡ None) × AddsLeftOut r s (illegal_in r expected reason))
 Concludes (Bad fault) r s known = (known ≡ Some (verdict.BadLine r.lines fault)) × (s ≡ r)

@@ -87,9 +87,9 @@ abbrev pub group_kill_text : List Group → (gone : List ℕ) → ℕ → ℕ �
 group_kill_text groups gone g number =
     codes "# group " ++ group_text groups gone g ++ codes " groups " ++ decimal number ++ codes "\n"
 
--- a group that was killed: what was freed (`returned`), how many of its units are pinned, what stays charged to the
--- group itself, and the usage under the limit
-abbrev pub killed_text : List Group → (gone : List ℕ) → ℕ → ℕ → ℕ → ℕ → ℕ → ℕ → List ℕ
+-- a group that was killed: how many of its units were freed, and of how many pages; how many stay, since CPUs have pins
+-- on them; how many pages stay charged to the group itself (`left`); and the usage under the limit, in pages
+abbrev pub killed_text : List Group → (gone : List ℕ) → (g returned pages pinned left usage : ℕ) → List ℕ
 killed_text groups gone g returned pages pinned left usage =
     codes "# killed " ++ group_text groups gone g ++ codes " returned " ++ decimal returned
     ++ codes " bytes " ++ bytes_text pages ++ codes " pinned " ++ decimal pinned ++ ending_text left usage

@@ -1,5 +1,5 @@
 -- What notes and drains keep: usage is no higher, no stock is filled, and groups stay. Serves all calls.
-use Rattle.std.proofs.Common.{◌≡◌, ℕ, zero, suc, ◌+◌, ◌-◌, ◌<◌, ◌≤◌, ◌==◌, Bool, true, false, Option, Some, None, List, [], ◌∷◌, map, refl, sym, ap, ◌∙◌}
+use Rattle.std.proofs.Common.{◌≡◌, ℕ, zero, suc, ◌+◌, ◌-◌, ◌<◌, ◌≤◌, ◌==◌, Bool, true, false, Option, List, [], ◌∷◌, map, refl, sym, ap, ◌∙◌}
 use Rattle.std.proofs.Common.{subst, inl, inr, arith, cond, eq-eqb}
 use Rattle.std.specs.List.{sum_by}
 use Rattle.std.proofs.lemmas.Bool.{cases_eq, cases_lt, ne_eqb, cond-true, cond-false, false≢true}
@@ -15,8 +15,7 @@ use Rattle.group_charge.proofs.SumLemmas.{share}
 use Rattle.stock_word.specs.declared.view.StockAccount.{StockAccount}
 use Rattle.stock_word.specs.declared.view.StockView.{StockView}
 use Rattle.stock_word.specs.Stock.{KnownStockSeat, account_of}
-use Rattle.stock_word.specs.Kinds.{with_steps, zone_after_drain}
-use Rattle.stock_word.specs.Calls.{with_view, after_look}
+use Rattle.stock_word.specs.Kinds.{zone_after_drain}
 use Rattle.step_rules.specs.State.{sum_to}
 use Rattle.step_rules.specs.After.{Run}
 use Rattle.mem_machine.specs.Machines.{KnownMachine, is_killed, with_run}
@@ -75,29 +74,18 @@ drain_lowers t m n q k d = record {
   emptied = λ p is. ap (λ (y : KnownMachine). (account_of y.stock_seat.view p).filled) d.machine ∙ emptied_at m.stock_seat.view q k p is;
 }
 
-look_lowers : (t : KnownTable) (m n : KnownMachine) (q : ℕ) (o : Option ℕ) → n ≡ record m { stock_seat = with_view m.stock_seat (with_steps 1 (after_look m.stock_seat.view q o)) }
-    → Lowers t m n
-look_lowers t m n q None is = record {
-  killed = λ v dead. ap (λ (y : KnownMachine). is_killed y.killed v) is ∙ dead;
-  opened = ap (λ (y : KnownMachine). y.frame_seat.view.opened) is;
-  groups = ap (λ (y : KnownMachine). y.ledger.groups) is;
-  falls = λ h. let a : current_of n.ledger h ≡ current_of m.ledger h = ap (λ (y : KnownMachine). current_of y.ledger h) is in omega (arith, a);
-  emptied = λ p e. ap (λ (y : KnownMachine). (account_of y.stock_seat.view p).filled) is ∙ emptied_at m.stock_seat.view q 0 p e;
-}
-look_lowers t m n q (Some g) is = record {
-  killed = λ v dead. ap (λ (y : KnownMachine). is_killed y.killed v) is ∙ dead;
-  opened = ap (λ (y : KnownMachine). y.frame_seat.view.opened) is;
-  groups = ap (λ (y : KnownMachine). y.ledger.groups) is;
-  falls = λ h. let a : current_of n.ledger h ≡ current_of m.ledger h = ap (λ (y : KnownMachine). current_of y.ledger h) is in omega (arith, a);
-  emptied = λ p e. ap (λ (y : KnownMachine). (account_of y.stock_seat.view p).filled) is ∙ e;
-}
-
 -- a look at a stock
 pub looked_lowers : (t : KnownTable) (m : KnownMachine) → Lowers t m (with_look m)
-looked_lowers t m = look_lowers t m (with_look m) 0 (Some 0) refl
+looked_lowers t m = record {
+  killed = λ v dead. dead;
+  opened = refl;
+  groups = refl;
+  falls = λ h. omega arith;
+  emptied = λ p e. e;
+}
 
 below_lowers : (t : KnownTable) (g q : ℕ) (m n : KnownMachine) (drains : List Drain) → DrainsBelow g q drains m n → Lowers t m n
-below_lowers t g q m n [] h = look_lowers t m n q (stock_group m q) h.1
+below_lowers t g q m n [] h = subst (λ (x : KnownMachine). Lowers t m x) (sym h.1) (lowers_none t m)
 below_lowers t g q m n (drain ∷ []) h =
     let l = drain_lowers t m (record n { notes = m.notes }) q drain.pages h.1.drains.drains in
     record {

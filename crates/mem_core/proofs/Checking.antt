@@ -1,5 +1,5 @@
 -- A checker takes a step, and what follows of the log so far (for `Checker` and `check`).
-use Rattle.std.proofs.Common.{◌≡◌, ℕ, ◌+◌, ◌^◌, ◌<◌, ◌≤◌, ◌↔◌, Bool, true, false, Some, [], ◌∷◌, ◌++◌, length, take, get_or, sym, ◌∙◌}
+use Rattle.std.proofs.Common.{◌≡◌, ℕ, ◌+◌, ◌^◌, ◌<◌, ◌≤◌, ◌↔◌, Bool, true, false, Some, [], ◌∷◌, ◌++◌, length, take, get_or, refl, sym, ◌∙◌}
 use Rattle.std.proofs.Common.{ap, subst}
 use Rattle.std.specs.Prelude.{IfSome}
 use Rattle.std.proofs.lemmas.Bool.{false≢true}
@@ -20,7 +20,7 @@ use Rattle.mem_core.specs.Bounded.{IsBounded}
 use Rattle.mem_core.specs.declared.verdict.Verdict.{Verdict}
 use Rattle.mem_core.specs.declared.verdict.Verdict.TheVariants.{Legal, IllegalAt}
 use Rattle.mem_core.specs.Shown.{CoreState, state_shown}
-use Rattle.mem_core.specs.Checked.{Leads, IsFirstIllegal}
+use Rattle.mem_core.specs.Checked.{Leads, IsFirstIllegal, IsVerdict}
 use Rattle.mem_core.proofs.Advancing.{sound_after, bounded_after}
 
 -- what a step keeps of a sound state, bounded by n pages
@@ -85,10 +85,10 @@ abbrev says_legal : Verdict → Bool
 says_legal Legal = true
 says_legal (IllegalAt index expected) = false
 
--- a log with such a step is no legal run
-pub illegal_only : (zone : Zone) (log : Run) (k : ℕ) (expected : Answer) → IsFirstIllegal zone log k expected
-    → (IllegalAt k expected ≡ Legal) ↔ IsLegalRun zone log
-illegal_only zone log k expected first = (
+-- a verdict says whether the log is a legal run
+pub says_of_log : (zone : Zone) (log : Run) (verdict : Verdict) → IsVerdict zone log verdict → (verdict ≡ Legal) ↔ IsLegalRun zone log
+says_of_log zone log Legal legal = (λ same. legal, λ _. refl)
+says_of_log zone log (IllegalAt index expected) first = (
   λ e. absurd (false≢true (ap says_legal e)),
-  λ legal. absurd (not_legal zone log k expected first legal),
+  λ legal. absurd (not_legal zone log index expected first legal),
 )

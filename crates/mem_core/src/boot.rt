@@ -58,11 +58,13 @@ impl Rows {
         ensures fits { IfOk result FitsZone }
         ensures state { IfOk result (λ r. state_in r ≡ at_boot (record { frames = frames; cpus = cpus })) }
     {
-        let phases = PhaseTable::new(alloc, frames)?;
-        let seats = new_seats(alloc, frames, cpus)?;
+        // What a failure has to drop grows from part to part, and with it the time of this function's check, so the parts
+        // that are longest to drop come last.
         let killed = new_flags(alloc)?;
         let pending = new_counts(alloc)?;
+        let phases = PhaseTable::new(alloc, frames)?;
         let tree = Tree::new(alloc)?;
+        let seats = new_seats(alloc, frames, cpus)?;
         Ok(Rows {
             frames,
             cpus,

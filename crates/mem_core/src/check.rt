@@ -1,8 +1,9 @@
 //! The check of a whole log: whether it is a legal run.
 
 ghost use Rattle.std.specs.Prelude.{◌≡◌, ◌↔◌, IfOk};
+ghost use Rattle.step_rules.specs.State.{at_boot};
 ghost use Rattle.step_rules.specs.After.{IsLegalRun};
-ghost use Rattle.mem_core.specs.Shown.{zone_of_config};
+ghost use Rattle.mem_core.specs.Shown.{state_shown, zone_of_config};
 ghost use Rattle.mem_core.specs.Promise.{AlwaysKeepsPromise};
 ghost use Rattle.mem_core.specs.Checked.{IsVerdict};
 ghost use Rattle.mem_core.specs.declared.verdict.Verdict.TheVariants.{Legal};
@@ -27,10 +28,21 @@ pub fn check(alloc: Global, config: Config, log: &[(Step, Answer)]) -> Result<Ve
     ensures promise { IfOk result (λ verdict. verdict ≡ Legal → AlwaysKeepsPromise (zone_of_config config) log.now) }
 {
     let mut checker = Checker::new(alloc, config)?;
+    let verdict = judge(&mut checker, log);
+    drop(checker);
+    Ok(verdict)
+}
+
+// The verdict of a checker that has taken no step.
+fn judge(checker: &mut Checker, log: &[(Step, Answer)]) -> Verdict
+    requires state { state_shown checker.old ≡ at_boot (state_shown checker.old).zone }
+    requires steps { checker.old.steps ≡ 0 }
+    ensures { IsVerdict (state_shown checker.old).zone log.now result }
+{
     for (index, (step, answer)) in log.iter().enumerate() {
         if let Err(expected) = checker.accept(step, answer) {
-            return Ok(Verdict::IllegalAt { index, expected });
+            return Verdict::IllegalAt { index, expected };
         }
     }
-    Ok(Verdict::Legal)
+    Verdict::Legal
 }

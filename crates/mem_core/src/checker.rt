@@ -170,9 +170,9 @@ impl Checker {
         ensures state { IfOk result (λ checker. state_shown checker ≡ at_boot (zone_of_config config)) }
         ensures steps { IfOk result (λ checker. checker.steps ≡ 0) }
     {
-        let rows = Rows::new(alloc, config.frames, config.cpus)?;
         let free = Vec::with_capacity(alloc, config.frames as usize)?;
         let areas = FreeAreas::new(alloc, config.frames)?;
+        let rows = Rows::new(alloc, config.frames, config.cpus)?;
         Ok(Checker {
             rows,
             free,

@@ -55,10 +55,10 @@ impl Core {
         ensures empty { IfOk result (λ core. ShowsRun core []) }
         ensures areas { IfOk result HasMaximalAreas }
     {
-        let rows = Rows::new(alloc, config.frames, config.cpus)?;
         let accounts = new_accounts(alloc)?;
         let mut free = Vec::with_capacity(alloc, config.frames as usize)?;
         let mut areas = FreeAreas::new(alloc, config.frames)?;
+        let rows = Rows::new(alloc, config.frames, config.cpus)?;
         set_areas(&rows, &mut free, &mut areas);
         Ok(Core {
             rows,

@@ -255,7 +255,8 @@ impl Rows {
         self.phases.set(frame, phase);
     }
 
-    /// Sets the pages pending for a group.
+    /// Sets how many pages are pending for a group: granted to it, and not yet placed, filled into a stock or
+    /// ungranted.
     pub fn set_pending(&mut self, group: GroupId, pages: u128)
         requires fits { FitsZone self.old }
         ensures state { state_in self.new ≡ with_pending (state_in self.old) group pages }
@@ -348,7 +349,8 @@ impl Rows {
         push_back_frame(&mut self.seats[cpu as usize], frame);
     }
 
-    /// Reports this many of a CPU's unreported pages.
+    /// Reports this many of a CPU's unreported pages. Sums of pages stay far below 2^100: each step adds less than
+    /// 2^32, and there are fewer than 2^64 steps.
     pub fn report_pages(&mut self, cpu: u32, pages: u32)
         requires fits { FitsZone self.old }
         requires cpu { cpu ≤ self.old.cpus }
@@ -361,7 +363,7 @@ impl Rows {
         report_pages(&mut self.seats[cpu as usize], pages);
     }
 
-    /// Takes the pages that a CPU reported off its book, and returns how many they are.
+    /// Subtracts the pages that a CPU has reported from its book, and returns how many there were.
     pub fn absorb_pages(&mut self, cpu: u32) -> u128
         requires fits { FitsZone self.old }
         requires cpu { cpu ≤ self.old.cpus }

@@ -1,6 +1,6 @@
 //! Whole runs: the steps of any list get answers of a legal run, which keeps the promise.
 
-ghost use Rattle.std.specs.Prelude.{◌≡◌, ◌≤◌, IfOk, length};
+ghost use Rattle.std.specs.Prelude.{◌≡◌, IfOk, length};
 ghost use Rattle.std.specs.List.{zip};
 ghost use Rattle.step_rules.specs.After.{IsLegalRun};
 ghost use Rattle.mem_core.specs.Shown.{ShowsRun, zone_of_config, HasMaximalAreas};
@@ -40,10 +40,10 @@ pub fn play(alloc: Global, config: Config, steps: &[Step]) -> Result<Played, All
     ensures promise_shown { IfOk result (λ p. CoreKeepsPromise p.core (zip steps.now p.answers.items)) }
     ensures first { IfOk result (λ p. AlwaysPlacesFirst (zone_of_config config) (zip steps.now p.answers.items)) }
 {
-    let mut core = Core::new(alloc, config)?;
     let mut answers = Vec::with_capacity(alloc, steps.len())?;
+    let mut core = Core::new(alloc, config)?;
     for step in steps {
-        answers.push(core.step(*step))?;
+        answers.push_reserved(core.step(*step));
     }
     Ok(Played { core, answers })
 }
@@ -62,6 +62,7 @@ pub fn run(alloc: Global, config: Config, steps: &[Step]) -> Result<Vec<Answer>,
         (zip steps.now answers.items)) }
     ensures first { IfOk result (λ answers. AlwaysPlacesFirst (zone_of_config config) (zip steps.now answers.items)) }
 {
-    let Played { core: _, answers } = play(alloc, config, steps)?;
+    let Played { core, answers } = play(alloc, config, steps)?;
+    drop(core);
     Ok(answers)
 }

@@ -1,6 +1,6 @@
 -- The pages booked to the stocks of each group, as they are counted, through each change of a book. Serves the calls of
 -- `BookedSeat`.
-use Rattle.std.proofs.Common.{◌≡◌, ℕ, ◌+◌, ◌-◌, ◌<◌, ◌≤◌, ◌==◌, ◌^◌, cond, true, false, Option, Some, None, List, length, replicate, get_or, refl, sym, ap, ◌∙◌, subst, inl, inr, arith, eq-eqb}
+use Rattle.std.proofs.Common.{◌≡◌, ℕ, ◌+◌, ◌-◌, ◌<◌, ◌≤◌, ◌==◌, ◌^◌, cond, true, false, Some, List, length, replicate, get_or, refl, sym, ap, ◌∙◌, subst, inl, inr, arith, eq-eqb}
 use Rattle.std.specs.Prelude.{slice_set}
 use Rattle.std.proofs.lemmas.Bool.{cases_eq, cases_lt, false≢true, ne_eqb, cond-true, cond-false}
 use Rattle.std.proofs.lemmas.List.{get_or-set_same, get_or-set_other, length-set, length-replicate}
@@ -9,7 +9,7 @@ use Rattle.stock_word.specs.declared.view.StockAccount.{StockAccount}
 use Rattle.stock_word.specs.declared.view.StockView.{StockView}
 use Rattle.stock_word.specs.Stock.{KnownStockTable, KnownStockSeat, account_of, with_account, first_zone_stock_view}
 use Rattle.stock_word.specs.Kinds.{with_steps, zone_after_absorb, zone_after_drain, zone_after_fill, zone_after_report}
-use Rattle.stock_word.specs.Calls.{after_look, with_view}
+use Rattle.stock_word.specs.Calls.{with_view}
 use Rattle.stock_word.proofs.CallerLemmas.{account_of-with_account, account_of-with_account_other}
 use Rattle.step_rules.specs.State.{sum_to, with_at}
 use Rattle.step_rules.proofs.Basics.{at_same, at_other}
@@ -167,11 +167,10 @@ same_seat : (m n : KnownStockSeat) (v : StockView) → v.number ≡ m.view.numbe
 same_seat m n v number is = (ap (λ (x : KnownStockSeat). x.table) is, ap (λ (x : KnownStockSeat). x.view.number) is ∙ number)
 
 module _ (t : KnownTable) (w : KnownStockTable) (m : KnownStockSeat) (sums : List ℕ) (are : AreBooked t w m sums) where
-  -- a look for the group of a stock
-  pub after_group : (q : ℕ) → q ≤ t.cpus → (o : Option ℕ) (n : KnownStockSeat) → n ≡ with_view m (with_steps 1 (after_look m.view q o)) → AreBooked t w n sums
-  after_group q inside None n is =
+  -- the look that drains a stock of no group
+  pub after_drain_none : (q : ℕ) → q ≤ t.cpus → (n : KnownStockSeat) → n ≡ with_view m (with_steps 1 (zone_after_drain m.view q 0)) → AreBooked t w n sums
+  after_drain_none q inside n is =
       counted_same t w m n sums are (same_seat m n _ refl is) (λ h. ap (λ (x : KnownStockSeat). pages_booked t x h) is ∙ looked_books t m q inside h)
-  after_group q inside (Some g) n is = counted_same t w m n sums are (same_seat m n _ refl is) (λ h. ap (λ (x : KnownStockSeat). pages_booked t x h) is)
 
   -- a look that changes nothing
   pub after_look_only : (n : KnownStockSeat) → n ≡ with_view m (with_steps 1 m.view) → AreBooked t w n sums

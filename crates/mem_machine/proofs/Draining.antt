@@ -9,9 +9,9 @@ use Rattle.std.proofs.lemmas.Option.{none-some}
 use Rattle.frame_word.specs.Seats.{KnownTable}
 use Rattle.stock_word.specs.declared.view.StockAccount.{StockAccount}
 use Rattle.stock_word.specs.declared.view.StockView.{StockView}
-use Rattle.stock_word.specs.Stock.{KnownStockTable, KnownStockSeat, IsZoneView, account_of, no_account, with_account_at}
+use Rattle.stock_word.specs.Stock.{KnownStockTable, KnownStockSeat, IsZoneView, account_of}
 use Rattle.stock_word.specs.Kinds.{with_steps, zone_after_drain}
-use Rattle.stock_word.specs.Calls.{with_view}
+use Rattle.stock_word.specs.Calls.{steps_of_drain, with_view}
 use Rattle.stock_word.proofs.CallerLemmas.{account_of-with_account, account_of-with_account_other}
 use Rattle.group_tree.specs.Groups.{has_group}
 use Rattle.group_tree.proofs.GroupLemmas.{is_some-find}
@@ -28,9 +28,9 @@ use Rattle.step_rules.proofs.Basics.{at_same, at_other, at_each, at_itself, cond
 use Rattle.step_rules.proofs.Sums.{sum_part, sum_change}
 use Rattle.mem_machine.specs.FrameStates.{one_if_is}
 use Rattle.mem_machine.specs.Machines.{KnownMachine, IsConsistent, booked, frames_charged, pages_booked}
-use Rattle.mem_machine.specs.Local.{IsSeenByRun, SomeSeenByRun, StaysVisited, local_of, part_of, part_with, IsLocalRun, MakesAs, visit_state}
+use Rattle.mem_machine.specs.Local.{IsSeenByRun, StaysVisited, local_of, part_of, part_with, IsLocalRun, visit_state}
 use Rattle.mem_machine.specs.Steps.{ungrant_steps, drain_steps, zone_makes}
-use Rattle.mem_machine.specs.Stocks.{uncharged, stock_group, steps_to_drain, with_look, Drains, DrainsBy}
+use Rattle.mem_machine.specs.Stocks.{uncharged, stock_group, with_look, Drains, DrainsBy}
 use Rattle.mem_machine.proofs.Reaching.{zone_step, run_one}
 use Rattle.mem_machine.proofs.Holds.{zone_may_act}
 use Rattle.mem_machine.proofs.Followed.{follows_same, follows_still, LeadsAs}
@@ -95,26 +95,6 @@ module _ (view : StockView) (q n : ℕ) where
         (ap h drained_at ∙ sym (at_same (λ k. h (account_of view k)) q (h drained_account)))
     | inr ne ↦ ap h (drained_else p ne) ∙ sym (at_other (λ k. h (account_of view k)) q (h drained_account) p ne)
   ]
-
--- the later of two accounts of a CPU
-placed_twice : (accounts : List StockAccount) (q : ℕ) (a b : StockAccount) → with_account_at (with_account_at accounts q a) q b ≡ with_account_at accounts q b
-placed_twice [] zero a b = refl
-placed_twice [] (suc q) a b = ap (◌∷◌ no_account) (placed_twice [] q a b)
-placed_twice (x ∷ accounts) zero a b = refl
-placed_twice (x ∷ accounts) (suc q) a b = ap (◌∷◌ x) (placed_twice accounts q a b)
-
--- a stock of no group: a look drains no page, and so does the next one
-drained_twice : (view : StockView) (q : ℕ) → with_steps 1 (zone_after_drain (with_steps 1 (zone_after_drain view q 0)) q 0) ≡ with_steps 2 (zone_after_drain view q 0)
-drained_twice view q =
-    let book : (account_of view q).book - 0 - 0 ≡ (account_of view q).book - 0 = omega arith in
-    let account : (let a = account_of (zone_after_drain view q 0) q in record a { book = a.book - 0; filled = false }) ≡ drained_account view q 0 =
-    ap (λ (a : StockAccount). record a { book = a.book - 0; filled = false }) (drained_at view q 0)
-    ∙ (λ i. record (account_of view q) { book = book i; filled = false }) in
-    let steps : view.steps + 1 + 1 ≡ view.steps + 2 = omega arith in
-    let accounts = placed_twice view.accounts q (drained_account view q 0)
-    (let a = account_of (zone_after_drain view q 0) q in record a { book = a.book - 0; filled = false })
-    ∙ ap (with_account_at view.accounts q) account in
-    λ i. record view { accounts = accounts i; steps = steps i }
 
 pub booked_is : (h : ℕ) (a : StockAccount) (c : ℕ) → one_if_is h a.group ≡ c → booked h a ≡ cond (c == 0) 0 a.book
 booked_is h a c is = ap (λ (k : ℕ). cond (k == 0) 0 a.book) is
@@ -394,7 +374,7 @@ drained_within t w m now same ok facts q k inside enough g of some id is =
     subst (λ (h : ℕ). (has_group m.ledger.groups h ≡ true) × (k ≤ pages_of m.ledger h)) (sym is)
     (drained_there t w m ok 0 q k inside enough g facts (ap (λ (x : KnownMachine). stock_group x q) same ∙ of) some)
 
--- a stock of no group: looks drain nothing
+-- a stock of no group: a look drains nothing
 pub never_drained : (t : KnownTable) (w : KnownStockTable) (m now : KnownMachine) → m ≡ now → IsConsistent t w m → (q : ℕ) → 1 ≤ q → q ≤ t.cpus
     → None ≡ stock_group m q → (steps : ℕ) (stock : KnownStockSeat) → stock ≡ with_view m.stock_seat (with_steps steps (zone_after_drain m.stock_seat.view q 0))
     → Drained t w m now steps q 0 m.ledger stock
@@ -403,27 +383,13 @@ never_drained t w m now same ok q some inside none steps stock emptied =
     (sym (ap (λ (x : KnownMachine). stock_group x q) same) ∙ sym none) (λ e. refl)
     m.ledger stock refl emptied
 
--- the look for its group, and the look that notes the drain
-pub looked_twice : (m : KnownStockSeat) (q : ℕ) (one two : KnownStockSeat) → one ≡ with_view m (with_steps 1 (zone_after_drain m.view q 0))
-    → two ≡ with_view one (with_steps 1 (zone_after_drain one.view q 0)) → two ≡ with_view m (with_steps 2 (zone_after_drain m.view q 0))
-looked_twice m q one two first second = second ∙ ap (λ (x : KnownStockSeat). with_view x (with_steps 1 (zone_after_drain x.view q 0))) first
-    ∙ ap (with_view m) (drained_twice m.view q)
+-- this look is all
+pub drained_never : (now n : KnownMachine) (q : ℕ) → None ≡ stock_group now q → DrainsBy 1 q 0 now n → Drains q 0 now n
+drained_never now n q none drains = subst (λ (o : Option ℕ). DrainsBy (steps_of_drain o) q 0 now n) none drains
 
--- the first look leaves it of no group
-pub looked_no_group : (m : KnownStockSeat) (q : ℕ) (one : KnownStockSeat) → one ≡ with_view m (with_steps 1 (zone_after_drain m.view q 0))
-    → None ≡ (account_of m.view q).group → (account_of one.view q).group ≡ None
-looked_no_group m q one first none = ap (λ (x : KnownStockSeat). (account_of x.view q).group) first
-    ∙ ap (λ (a : StockAccount). a.group) (drained_at m.view q 0) ∙ sym none
-
--- and counts it as drained
-pub looked_never_filled : (m : KnownStockSeat) (q : ℕ) (one : KnownStockSeat) → one ≡ with_view m (with_steps 1 (zone_after_drain m.view q 0))
-    → (account_of one.view q).filled ≡ false
-looked_never_filled m q one first = ap (λ (x : KnownStockSeat). (account_of x.view q).filled) first ∙ ap (λ (a : StockAccount). a.filled) (drained_at m.view q 0)
-
--- these looks are all
-pub drained_never : (m now n : KnownMachine) → m ≡ now → (q : ℕ) → None ≡ stock_group m q → DrainsBy 2 q 0 now n → Drains q 0 now n
-drained_never m now n same q none drains = subst (λ (o : Option ℕ). DrainsBy (steps_to_drain o) q 0 now n)
-    (none ∙ ap (λ (x : KnownMachine). stock_group x q) same) drains
+-- so are the look and the swap
+pub drained_some : (now n : KnownMachine) (q k g : ℕ) → Some g ≡ stock_group now q → DrainsBy 2 q k now n → Drains q k now n
+drained_some now n q k g of drains = subst (λ (o : Option ℕ). DrainsBy (steps_of_drain o) q k now n) of drains
 
 -- a look at a stock of a group, of the machine as it was seen before
 pub looked_now : (m now : KnownMachine) → m ≡ now → (stock : KnownStockSeat) → stock ≡ with_view m.stock_seat (with_steps 1 m.stock_seat.view)
@@ -435,41 +401,6 @@ pub looked_consistent : (t : KnownTable) (w : KnownStockTable) (m : KnownMachine
     → stock ≡ with_view m.stock_seat (with_steps 1 m.stock_seat.view) → IsConsistent t w (record m { stock_seat = stock })
 looked_consistent t w m ok stock is = subst (λ (x : KnownStockSeat). IsConsistent t w (record m { stock_seat = x })) (sym is)
     (stocks_consistent t w m m.ledger (with_look m).stock_seat ok refl ok.seats.stocks ok.absorbed ok.bounded ok.charged)
-
--- the pages come off after a look that found the group, and the steps of both count
-after_look : (m n : KnownMachine) (q k g : ℕ) → stock_group m q ≡ Some g → DrainsBy 2 q k (with_look m) n → Drains q k m n
-after_look m n q k g of drains = record {
-  machine = drains.machine ∙ (λ i. record m {
-    ledger = uncharged m.ledger (stock_group m q) k;
-    stock_seat = record {
-      table = m.stock_seat.table;
-      view = record (zone_after_drain m.stock_seat.view q k) { steps = counted i };
-    };
-    run = n.run;
-  });
-  booked = drains.booked;
-  drained_before = drains.drained_before;
-}
-  where
-    counted : m.stock_seat.view.steps + 1 + 2 ≡ m.stock_seat.view.steps + steps_to_drain (stock_group m q)
-    counted =
-        let three : m.stock_seat.view.steps + 1 + 2 ≡ m.stock_seat.view.steps + 3 = omega arith in
-        three ∙ ap (λ (o : Option ℕ). m.stock_seat.view.steps + steps_to_drain o) (sym of)
-
--- of the machine as it was seen before the look
-module _ (m now : KnownMachine) (same : m ≡ now) (stock : KnownStockSeat) (is : stock ≡ with_view m.stock_seat (with_steps 1 m.stock_seat.view)) (q k g : ℕ)
-    (of : Some g ≡ stock_group m q) (n : KnownMachine) where
-  pub drained_looked : DrainsBy 2 q k (record m { stock_seat = stock }) n → Drains q k now n
-  drained_looked drains = after_look now n q k g (sym (of ∙ ap (λ (x : KnownMachine). stock_group x q) same))
-      (subst (λ (x : KnownMachine). DrainsBy 2 q k x n) (looked_now m now same stock is) drains)
-
-  pub runs_looked : (t : KnownTable)
-      → ((c : KnownCpu) → MakesAs t c.number (visit_state (record m { stock_seat = stock }) c) (drain_steps q (stock_group (record m { stock_seat = stock }) q) k) (visit_state n c))
-      → (c : KnownCpu) → MakesAs t c.number (visit_state now c) (drain_steps q (stock_group now q) k) (visit_state n c)
-  runs_looked t runs c =
-      let here : MakesAs t c.number (visit_state (with_look now) c) (drain_steps q (stock_group (with_look now) q) k) (visit_state n c) =
-      subst (λ (x : KnownMachine). MakesAs t c.number (visit_state x c) (drain_steps q (stock_group x q) k) (visit_state n c)) (looked_now m now same stock is) (runs c) in
-      record { leads = here.leads; follows = here.follows; counts = here.counts; noted = here.noted }
 
 -- ---- under the lock
 
@@ -484,12 +415,7 @@ drain_may t m now same c at q some inside =
       tt,
     )).legal
 
--- after a look the same is seen, and each visit is open
-pub looked_shown : (t : KnownTable) (m now : KnownMachine) → m ≡ now → (stock : KnownStockSeat) → stock ≡ with_view m.stock_seat (with_steps 1 m.stock_seat.view)
-    → SomeSeenByRun t now → SomeSeenByRun t (record m { stock_seat = stock })
-looked_shown t m now same stock is some = subst (SomeSeenByRun t) (sym (looked_now m now same stock is))
-    (record { cpu = some.cpu; is = record { held = some.is.held; who = some.is.who; here = some.is.here } })
-
+-- after a look each visit is open
 pub looked_visits : (t : KnownTable) (m now : KnownMachine) → m ≡ now → (stock : KnownStockSeat) → stock ≡ with_view m.stock_seat (with_steps 1 m.stock_seat.view)
     → StaysVisited t now (record m { stock_seat = stock })
 looked_visits t m now same stock is = subst (StaysVisited t now) (sym (looked_now m now same stock is))

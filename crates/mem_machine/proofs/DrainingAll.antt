@@ -1,42 +1,27 @@
--- The stocks of a subtree, or of a group, are drained, one CPU after the other. Serves `drain_if_in_subtree`, `drain_if_own`
--- and the loops of `drain_stocks` and `drain_group_stocks`.
-use Rattle.std.proofs.Common.{◌≡◌, ℕ, ◌+◌, ◌-◌, ◌*◌, ◌≤◌, ◌==◌, ◌&&◌, Bool, true, false, cond, Option, Some, None, List, [], ◌∷◌, ◌++◌, length, suc, refl}
+-- The stocks of a subtree, or of a group, are drained, one CPU after the other. Serves `drain_each`.
+use Rattle.std.proofs.Common.{◌≡◌, ◌≢◌, ℕ, ◌+◌, ◌-◌, ◌*◌, ◌<◌, ◌≤◌, ◌↔◌, Bool, true, false, Option, Some, None, List, [], ◌∷◌, ◌++◌, zero, suc, refl}
 use Rattle.std.proofs.Common.{sym, ap, ◌∙◌, subst, inl, inr, arith}
-use Rattle.std.specs.Prelude.{not, is_some}
+use Rattle.std.specs.Int.{bit_at}
 use Rattle.std.proofs.lemmas.List.{append-nil}
 use Rattle.std.proofs.lemmas.List.Sums.{sum_by-append}
 use Rattle.std.proofs.lemmas.Grind.{flat_map-append}
-use Rattle.std.proofs.lemmas.Bool.{cases_eq, false_from_ne_true, false≢true}
+use Rattle.std.proofs.lemmas.Bool.{cases_eq, cases_lt, false_from_ne_true, false≢true}
+use Rattle.std.proofs.lemmas.Nat.Bits.{bit_at-zero}
 use Rattle.frame_word.specs.Seats.{KnownTable}
 use Rattle.stock_word.specs.declared.view.StockAccount.{StockAccount}
-use Rattle.stock_word.specs.declared.view.StockView.{StockView}
-use Rattle.stock_word.specs.Stock.{KnownStockSeat, account_of}
-use Rattle.stock_word.specs.Calls.{with_view, after_look}
-use Rattle.stock_word.specs.Kinds.{with_steps, zone_after_drain}
+use Rattle.stock_word.specs.Stock.{account_of}
+use Rattle.stock_word.specs.Calls.{steps_of_drain}
 use Rattle.group_tree.specs.declared.group.Group.{Group}
-use Rattle.group_tree.specs.Groups.{has_group, in_subtree}
-use Rattle.group_tree.proofs.CallerLemmas.{in_subtree-below}
 use Rattle.cpu_part.specs.Cpus.{KnownCpu}
-use Rattle.group_charge.specs.declared.note.Note.TheVariants.{Stock}
-use Rattle.group_charge.specs.Notes.{KnownNotes, noted as added}
 use Rattle.mem_machine.specs.Machines.{KnownMachine}
-use Rattle.step_rules.specs.State.{Part}
 use Rattle.step_rules.specs.After.{Run}
-use Rattle.mem_machine.specs.Local.{StaysVisited, local_of, part_with, MakesAs, visit_state}
+use Rattle.mem_machine.specs.Local.{StaysVisited, MakesAs, visit_state}
 use Rattle.mem_machine.specs.Steps.{Drain, drain_steps, drain_stocks_steps, pages_drained}
-use Rattle.mem_machine.specs.Stocks.{stock_group, steps_to_drain, with_look, DrainsBy, DrainsNoted, DrainsIf, DrainsAllIf, DrainsBySteps, AreDrainedIf}
-use Rattle.mem_machine.proofs.Draining.{drained_at, drained_else, drained_looked, groups_stay, runs_looked}
+use Rattle.mem_machine.specs.Stocks.{stock_group, AreChosen, AreChosenBySome, DrainsNoted, DrainsIf, DrainsAllIf, DrainsBySteps, AreDrainedIf}
+use Rattle.mem_machine.proofs.Draining.{drained_at, drained_else, groups_stay}
 use Rattle.mem_machine.proofs.Followed.{makes_both, makes_stay}
 
--- ---- the accounts after a look
-
-look_else : (view : StockView) (q p : ℕ) (o : Option ℕ) → (p ≡ q → ⊥) → account_of (after_look view q o) p ≡ account_of view p
-look_else view q p None ne = drained_else view q 0 p ne
-look_else view q p (Some g) ne = refl
-
-look_group : (view : StockView) (q : ℕ) (o : Option ℕ) → (account_of (after_look view q o) q).group ≡ (account_of view q).group
-look_group view q None = ap (λ (a : StockAccount). a.group) (drained_at view q 0)
-look_group view q (Some g) = refl
+-- ---- the accounts
 
 module _ (test : List Group → Option ℕ → Bool) (q : ℕ) (x n : KnownMachine) where
   pub below_groups : (drains : List Drain) → DrainsIf test q drains x n → n.ledger.groups ≡ x.ledger.groups
@@ -45,14 +30,20 @@ module _ (test : List Group → Option ℕ → Bool) (q : ℕ) (x n : KnownMachi
   below_groups (e ∷ f ∷ more) d = absurd d
 
   pub below_else : (drains : List Drain) → DrainsIf test q drains x n → (p : ℕ) → (p ≡ q → ⊥) → account_of n.stock_seat.view p ≡ account_of x.stock_seat.view p
-  below_else [] d p ne = ap (λ (y : KnownMachine). account_of y.stock_seat.view p) d.1 ∙ look_else x.stock_seat.view q p (stock_group x q) ne
+  below_else [] d p ne = ap (λ (y : KnownMachine). account_of y.stock_seat.view p) d.1
   below_else (e ∷ []) d p ne = ap (λ (y : KnownMachine). account_of y.stock_seat.view p) d.1.drains.drains.machine ∙ drained_else x.stock_seat.view q e.pages p ne
   below_else (e ∷ f ∷ more) d p ne = absurd d
 
   pub below_group : (drains : List Drain) → DrainsIf test q drains x n → stock_group n q ≡ stock_group x q
-  below_group [] d = ap (λ (y : KnownMachine). stock_group y q) d.1 ∙ look_group x.stock_seat.view q (stock_group x q)
+  below_group [] d = ap (λ (y : KnownMachine). stock_group y q) d.1
   below_group (e ∷ []) d = ap (λ (y : KnownMachine). stock_group y q) d.1.drains.drains.machine ∙ ap (λ (a : StockAccount). a.group) (drained_at x.stock_seat.view q e.pages)
   below_group (e ∷ f ∷ more) d = absurd d
+
+  pub below_owners : (drains : List Drain) → DrainsIf test q drains x n → (p : ℕ) → stock_group n p ≡ stock_group x p
+  below_owners drains d p = elim (cases_eq p q) [
+    | inl e ↦ subst (λ (k : ℕ). stock_group n k ≡ stock_group x k) (sym e) (below_group drains d)
+    | inr ne ↦ ap (λ (a : StockAccount). a.group) (below_else drains d p ne)
+  ]
 
   pub below_filled : (drains : List Drain) → DrainsIf test q drains x n → test x.ledger.groups (stock_group x q) ≡ true
       → (account_of n.stock_seat.view q).filled ≡ false
@@ -63,109 +54,33 @@ module _ (test : List Group → Option ℕ → Bool) (q : ℕ) (x n : KnownMachi
 
 -- ---- one CPU's stock
 
--- it is of the subtree, and is drained
-pub drained_one : (t : KnownTable) (test : List Group → Option ℕ → Bool) (q pages : ℕ) (m n : KnownMachine) → test m.ledger.groups (stock_group m q) ≡ true
-    → DrainsNoted (steps_to_drain (stock_group m q)) q pages m n
+-- it is chosen, and is drained
+pub drained_one : (t : KnownTable) (test : List Group → Option ℕ → Bool) (q pages h : ℕ) (m n : KnownMachine) → test m.ledger.groups (stock_group m q) ≡ true
+    → stock_group m q ≡ Some h → DrainsNoted 2 q pages m n
     → ((c : KnownCpu) → MakesAs t c.number (visit_state m c) (drain_steps q (stock_group m q) pages) (visit_state n c)) → DrainsBySteps t (DrainsIf test q) pages m n
-drained_one t test q pages m n below drains steps = record {
+drained_one t test q pages h m n chosen of drains steps = record {
   drains = record { cpu = q; group = stock_group m q; pages = pages } ∷ [];
-  all = (below, record { same_cpu = refl; group = refl; drains = drains });
+  all = (chosen, record { same_cpu = refl; group = refl; drains = subst (λ (o : Option ℕ). DrainsNoted (steps_of_drain o) q pages m n) (sym of) drains });
   sum = omega arith;
   steps = λ c. subst (λ (r : Run). MakesAs t c.number (visit_state m c) r (visit_state n c))
       (sym (append-nil (drain_steps q (stock_group m q) pages))) (steps c);
 }
 
--- it is of another group, or of none
-pub drained_not : (t : KnownTable) (test : List Group → Option ℕ → Bool) (q : ℕ) (m n : KnownMachine) → test m.ledger.groups (stock_group m q) ≡ false
-    → n ≡ record m { stock_seat = with_view m.stock_seat (with_steps 1 (after_look m.stock_seat.view q (stock_group m q))) }
-    → ((c : KnownCpu) → MakesAs t c.number (visit_state m c) [] (visit_state n c)) → DrainsBySteps t (DrainsIf test q) 0 m n
-drained_not t test q m n other is steps = record { drains = []; all = (other, is); sum = refl; steps = steps }
-
--- a part whose stock is of no group shows the same once that counts as drained
-part_none : (l f b : List ℕ) (a : StockAccount) → a.group ≡ None → part_with l f b (record a { book = a.book - 0; filled = false }) ≡ part_with l f b a
-part_none l f b a none =
-    let book : a.book - 0 ≡ a.book = omega arith in
-    let pages : a.book - 0 - length f - a.unabsorbed ≡ a.book - length f - a.unabsorbed = omega arith in
-    let drained : (is_some a.group && true) ≡ (is_some a.group && not a.filled) =
-    ap (λ (o : Option ℕ). is_some o && true) none ∙ sym (ap (λ (o : Option ℕ). is_some o && not a.filled) none) in
-    λ i. record {
-      list = l;
-      fresh = f;
-      back = b;
-      stock = record { group = a.group; pages = pages i; is_drained = drained i };
-      book = book i;
-      unreported = 0;
-      reported = a.unabsorbed;
-    }
-
-module _ (t : KnownTable) (m : KnownMachine) (q : ℕ) (none : stock_group m q ≡ None) (c : KnownCpu) where
-  abbrev shown : ℕ → StockAccount → Part
-  shown p a = cond (p == c.number) (part_with c.list c.fresh c.back a) (part_with [] [] [] a)
-
-  shown_here : shown q (account_of (zone_after_drain m.stock_seat.view q 0) q) ≡ shown q (account_of m.stock_seat.view q)
-  shown_here =
-      let a = account_of m.stock_seat.view q in
-      ap (shown q) (drained_at m.stock_seat.view q 0)
-      ∙ (λ i. cond (q == c.number) (part_none c.list c.fresh c.back a none i) (part_none [] [] [] a none i))
-
-  shown_same : (p : ℕ) → shown p (account_of (zone_after_drain m.stock_seat.view q 0) p) ≡ shown p (account_of m.stock_seat.view p)
-  shown_same p = elim (cases_eq p q) [
-    | inl e ↦ subst (λ (k : ℕ). shown k (account_of (zone_after_drain m.stock_seat.view q 0) k) ≡ shown k (account_of m.stock_seat.view k)) (sym e) shown_here
-    | inr ne ↦ ap (shown p) (drained_else m.stock_seat.view q 0 p ne)
-  ]
-
-  -- the look at a stock of no group changes nothing that is seen
-  pub looked_none : MakesAs t c.number (visit_state m c) [] (visit_state (record m { stock_seat = with_view m.stock_seat (with_steps 1 (zone_after_drain m.stock_seat.view q 0)) }) c)
-  looked_none = makes_stay t m (record m { stock_seat = with_view m.stock_seat (with_steps 1 (zone_after_drain m.stock_seat.view q 0)) }) c c
-      (λ i. record (local_of t m c) { parts = λ p. sym (shown_same p) i }) refl refl refl
-
--- the stock of a group that the test chooses, of the machine as it was seen before the look
-pub looked_own : (t : KnownTable) (m now : KnownMachine) → m ≡ now → (stock : KnownStockSeat) → stock ≡ with_view m.stock_seat (with_steps 1 m.stock_seat.view)
-    → (test : List Group → Option ℕ → Bool)
-    → (q h pages : ℕ) (n : KnownMachine) → Some h ≡ stock_group m q → test m.ledger.groups (Some h) ≡ true → DrainsNoted 2 q pages (record m { stock_seat = stock }) n
-    → ((c : KnownCpu) → MakesAs t c.number (visit_state (record m { stock_seat = stock }) c) (drain_steps q (stock_group (record m { stock_seat = stock }) q) pages)
-    (visit_state n c)) → DrainsBySteps t (DrainsIf test q) pages now n
-looked_own t m now same stock is test q h pages n of chosen noted steps =
-    let its : Some h ≡ stock_group now q = of ∙ ap (λ (x : KnownMachine). stock_group x q) same in
-    drained_one t test q pages now n
-    (ap (test now.ledger.groups) (sym its) ∙ ap (λ (x : KnownMachine). test x.ledger.groups (Some h)) (sym same) ∙ chosen)
-    (record {
-      drains = subst (λ (l : KnownNotes). DrainsBy (steps_to_drain (stock_group now q)) q pages now (record n { notes = l }))
-          (ap (λ (x : KnownMachine). x.notes) same)
-          (drained_looked m now same stock is q pages h of (record n { notes = m.notes }) noted.drains);
-      noted = noted.noted ∙ ap (λ (x : KnownMachine). added x.notes (Stock q pages)) same;
-    })
-    (runs_looked m now same stock is q pages h of n t steps)
-
--- the stock of another group
-pub looked_other : (t : KnownTable) (m now : KnownMachine) → m ≡ now → (test : List Group → Option ℕ → Bool) (q h : ℕ) → Some h ≡ stock_group m q
-    → test m.ledger.groups (Some h) ≡ false → (stock : KnownStockSeat) → stock ≡ with_view m.stock_seat (with_steps 1 m.stock_seat.view)
-    → DrainsBySteps t (DrainsIf test q) 0 now (record m { stock_seat = stock })
-looked_other t m now same test q h of other stock is =
-    let none : with_look m ≡ record m { stock_seat = with_view m.stock_seat (with_steps 1 (after_look m.stock_seat.view q (stock_group m q))) } =
-    λ i. record m { stock_seat = with_view m.stock_seat (with_steps 1 (after_look m.stock_seat.view q (of i))) } in
-    subst (λ (x : KnownMachine × KnownMachine). DrainsBySteps t (DrainsIf test q) 0 x.0 x.1) (λ i. (same i, record m { stock_seat = sym is i }))
-    (drained_not t test q m (with_look m) (ap (test m.ledger.groups) (sym of) ∙ other) none (λ c. makes_stay t m (with_look m) c c refl refl refl refl))
-
--- the stock of no group
-pub looked_never : (t : KnownTable) (m now : KnownMachine) → m ≡ now → (test : List Group → Option ℕ → Bool) (q : ℕ) → None ≡ stock_group m q
-    → test m.ledger.groups None ≡ false → (stock : KnownStockSeat) → stock ≡ with_view m.stock_seat (with_steps 1 (zone_after_drain m.stock_seat.view q 0))
-    → DrainsBySteps t (DrainsIf test q) 0 now (record m { stock_seat = stock })
-looked_never t m now same test q of none_chosen stock is =
-    let n : KnownMachine = record m { stock_seat = with_view m.stock_seat (with_steps 1 (zone_after_drain m.stock_seat.view q 0)) } in
-    let seen : n ≡ record m { stock_seat = with_view m.stock_seat (with_steps 1 (after_look m.stock_seat.view q (stock_group m q))) } =
-    λ i. record m { stock_seat = with_view m.stock_seat (with_steps 1 (after_look m.stock_seat.view q (of i))) } in
-    subst (λ (x : KnownMachine × KnownMachine). DrainsBySteps t (DrainsIf test q) 0 x.0 x.1) (λ i. (same i, record m { stock_seat = sym is i }))
-    (drained_not t test q m n (ap (test m.ledger.groups) (sym of) ∙ none_chosen) seen (looked_none t m q (sym of)))
+-- it isn't chosen
+drained_not : (t : KnownTable) (test : List Group → Option ℕ → Bool) (q : ℕ) (m : KnownMachine) → test m.ledger.groups (stock_group m q) ≡ false
+    → DrainsBySteps t (DrainsIf test q) 0 m m
+drained_not t test q m other =
+    record { drains = []; all = (other, refl); sum = refl; steps = λ c. makes_stay t m m c c refl refl refl refl }
 
 -- ---- all of them
 
--- what the loop of `drain_stocks` keeps after k CPUs
+-- after k CPUs
 pub record DrainedSoFar (t : KnownTable) (test : List Group → Option ℕ → Bool) (k pages : ℕ) (m n : KnownMachine) : Type 0 where
   pub drains : List Drain
   pub all : DrainsAllIf test k drains m n
   pub sum : pages ≡ pages_drained drains
   pub groups : n.ledger.groups ≡ m.ledger.groups
+  pub owners : (q : ℕ) → stock_group n q ≡ stock_group m q
   pub drained : AreDrainedIf test k n
   pub steps : (c : KnownCpu) → MakesAs t c.number (visit_state m c) (drain_stocks_steps drains) (visit_state n c)
   pub small : pages ≤ k * 4294967295
@@ -208,6 +123,7 @@ drained_more t test k pages more m x n before last stays bound =
           });
       sum = omega (arith, both, a, b);
       groups = below_groups test (k + 1) x n last.drains last.all ∙ before.groups;
+      owners = λ q. below_owners test (k + 1) x n last.drains last.all q ∙ before.owners q;
       drained = drained_now test k x n last.drains last.all before.drained;
       steps = λ c. subst (λ (r : Run). MakesAs t c.number (visit_state m c) r (visit_state n c)) list
           (makes_both t c.number (drain_stocks_steps before.drains) (drain_stocks_steps last.drains) (visit_state m c) (visit_state x c) (visit_state n c)
@@ -224,6 +140,105 @@ drained_end t test k pages m n so_far all = record {
   steps = so_far.steps;
 }
 
--- who isn't there is below no one
-pub below_none : (groups : List Group) (g h : ℕ) → has_group groups h ≡ false → in_subtree groups g h ≡ false
-below_none groups g h none = false_from_ne_true (in_subtree groups g h) (λ e. false≢true (sym none ∙ in_subtree-below groups g h e))
+-- no stock was drained yet
+drained_first : (t : KnownTable) (test : List Group → Option ℕ → Bool) (m : KnownMachine) → DrainedSoFar t test 0 0 m m
+drained_first t test m = record {
+  drains = [];
+  all = (refl, refl);
+  sum = refl;
+  groups = refl;
+  owners = λ q. refl;
+  drained = λ q some few. absurd (omega (arith, some, few));
+  steps = λ c. makes_stay t m m c c refl refl refl refl;
+  small = omega arith;
+  visit = λ c visit. visit;
+}
+
+-- the next stocks aren't chosen
+drained_past : (t : KnownTable) (test : List Group → Option ℕ → Bool) (k pages : ℕ) (m n : KnownMachine) → DrainedSoFar t test k pages m n → (d : ℕ)
+    → ((p : ℕ) → k ≤ p → p < k + d → test m.ledger.groups (stock_group m (p + 1)) ≡ false) → DrainedSoFar t test (k + d) pages m n
+drained_past t test k pages m n before zero others = subst (λ (j : ℕ). DrainedSoFar t test j pages m n) (omega arith) before
+drained_past t test k pages m n before (suc d) others =
+    let now : test n.ledger.groups (stock_group n (k + 1)) ≡ false = (λ i. test (before.groups i) (before.owners (k + 1) i)) ∙ others k (omega arith) (omega arith) in
+    let next = drained_more t test k pages 0 m n n before (drained_not t test (k + 1) n now) (λ c visit. visit) (omega arith) in
+    let same : pages + 0 ≡ pages = omega arith in
+    subst (λ (j : ℕ). DrainedSoFar t test j pages m n) (omega arith)
+    (drained_past t test (k + 1) pages m n (subst (λ (j : ℕ). DrainedSoFar t test (k + 1) j m n) same next) d
+    (λ p from to. others p (omega (arith, from)) (omega (arith, to))))
+
+-- ---- the chosen ones alone
+
+-- What the loop of `drain_each` keeps: of the stocks that are chosen of the machine m, those from a place on are left, and
+-- those before it are drained.
+pub record DrainedOfChosen (t : KnownTable) (m n : KnownMachine) (stocks rest pages : ℕ) : Type 0 where
+  pub done : ℕ
+  pub inside : done ≤ t.cpus
+  pub left : (p : ℕ) → p < 64 → (bit_at rest p ≡ 1) ↔ (done ≤ p) × (bit_at stocks p ≡ 1)
+  pub drained : (test : List Group → Option ℕ → Bool) → AreChosen t test m stocks → DrainedSoFar t test done pages m n
+
+pub none_drained : (t : KnownTable) (m : KnownMachine) (stocks : ℕ) → DrainedOfChosen t m m stocks stocks 0
+none_drained t m stocks = record {
+  done = 0;
+  inside = omega arith;
+  left = λ p few. ((λ one. (omega arith, one)), (λ both. both.1));
+  drained = λ test chosen. drained_first t test m;
+}
+
+module _ (t : KnownTable) (m n : KnownMachine) (stocks rest pages : ℕ) (so_far : DrainedOfChosen t m n stocks rest pages) (few : t.cpus ≤ 64) where
+  -- those between the last one drained and the first one left aren't chosen
+  passed : (p : ℕ) → so_far.done ≤ p → p ≤ t.cpus → ((i : ℕ) → i < p → bit_at rest i ≡ 0) → (test : List Group → Option ℕ → Bool) → AreChosen t test m stocks
+      → DrainedSoFar t test p pages m n
+  passed p from to none test chosen =
+      let d : ℕ = p - so_far.done in
+      let all : so_far.done + d ≡ p = omega (arith, from) in
+      subst (λ (j : ℕ). DrainedSoFar t test j pages m n) all (drained_past t test so_far.done pages m n (so_far.drained test chosen) d
+      (λ i after before. false_from_ne_true _ (λ is.
+      let low : i < p = omega (arith, before, all) in
+      let zero_bit = none i low in
+      let one = (so_far.left i (omega (arith, low, to, few))).1 (after, (chosen i (omega (arith, low, to, few))).1 (omega (arith, low, to), is)) in
+      absurd (omega (arith, zero_bit, one)))))
+
+  -- the first one left
+  module _ (p : ℕ) (low : p < 64) (here : bit_at rest p ≡ 1) (first : (i : ℕ) → i < p → bit_at rest i ≡ 0) (some : AreChosenBySome t m stocks) where
+    pub first_chosen : (test : List Group → Option ℕ → Bool) → AreChosen t test m stocks → (p < t.cpus) × (test m.ledger.groups (stock_group m (p + 1)) ≡ true)
+    first_chosen test chosen = (chosen p low).0 ((so_far.left p low).0 here).1
+
+    pub first_has_group : None ≡ stock_group n (p + 1) → ⊥
+    first_has_group none =
+        let was : stock_group m (p + 1) ≡ None = sym ((so_far.drained some.test some.chosen).owners (p + 1)) ∙ sym none in
+        false≢true (sym (some.filled m.ledger.groups) ∙ ap (some.test m.ledger.groups) (sym was) ∙ (first_chosen some.test some.chosen).1)
+
+    pub one_drained : (left more h : ℕ) (x : KnownMachine) → (bit_at left p ≡ 0) × (left < rest) × ((i : ℕ) → i < 64 → i ≢ p → bit_at left i ≡ bit_at rest i)
+        → stock_group n (p + 1) ≡ Some h → DrainsNoted 2 (p + 1) more n x
+        → ((c : KnownCpu) → MakesAs t c.number (visit_state n c) (drain_steps (p + 1) (stock_group n (p + 1)) more) (visit_state x c)) → StaysVisited t n x
+        → more ≤ 4294967295 → DrainedOfChosen t m x stocks left (pages + more)
+    one_drained left more h x taken of drains steps stays bound = record {
+      done = p + 1;
+      inside = let c = first_chosen some.test some.chosen in omega (arith, c.0);
+      left = λ i low_i. elim (cases_eq i p) [
+        | inl e ↦ (
+          λ one. absurd (let zero_bit = taken.0 in let one' : bit_at left p ≡ 1 = ap (bit_at left) (sym e) ∙ one in omega (arith, zero_bit, one')),
+          λ both. absurd (let after = both.0 in omega (arith, after, e)),
+        )
+        | inr ne ↦
+            let same = taken.2 i low_i ne in (
+              λ one.
+                  let was : bit_at rest i ≡ 1 = sym same ∙ one in
+                  let from : p + 1 ≤ i = elim (cases_lt i p) [
+                    | inl before ↦ absurd (let zero_bit = first i before in omega (arith, zero_bit, was))
+                    | inr after ↦ omega (arith, after, ne)
+                  ] in
+                  (from, ((so_far.left i low_i).0 was).1),
+              λ both. same ∙ (so_far.left i low_i).1 (let from = ((so_far.left p low).0 here).0 in let after = both.0 in omega (arith, from, after), both.1),
+            )
+      ];
+      drained = λ test chosen.
+          let is = first_chosen test chosen in
+          let before = passed p ((so_far.left p low).0 here).0 (omega (arith, is.0)) first test chosen in
+          let now : test n.ledger.groups (stock_group n (p + 1)) ≡ true = (λ i. test (before.groups i) (before.owners (p + 1) i)) ∙ is.1 in
+          drained_more t test p pages more m n x before (drained_one t test (p + 1) more h n x now of drains steps) stays bound;
+    }
+
+  -- none is left
+  pub all_drained : rest ≡ 0 → (test : List Group → Option ℕ → Bool) → AreChosen t test m stocks → DrainedSoFar t test t.cpus pages m n
+  all_drained none = passed t.cpus so_far.inside (omega arith) (λ i before. ap (λ (w : ℕ). bit_at w i) none ∙ bit_at-zero i)

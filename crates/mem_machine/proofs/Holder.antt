@@ -12,7 +12,7 @@ use Rattle.step_rules.specs.declared.step.Answer.{Answer}
 use Rattle.step_rules.specs.State.{State, Part, visits}
 use Rattle.step_rules.proofs.Lists.{times_same}
 use Rattle.step_rules.proofs.Lists as rules
-use Rattle.boot_words.specs.Pasts.{KnownPasts, IsHeld, IsHolder, MakesStep, MayMake, cpu_past, local_by_pasts}
+use Rattle.boot_words.specs.Pasts.{KnownPasts, IsHolder, MakesStep, MayMake, cpu_past, local_by_pasts}
 use Rattle.boot_words.specs.Seats.{zone_of_boot}
 use Rattle.boot_words.specs.Sight.{MayPassBack, FromBack}
 use Rattle.boot_words.proofs.Returning.{fronts_pass_back}
@@ -23,10 +23,6 @@ use Rattle.mem_machine.proofs.Reached.{who_here}
 
 pub holder_here : (t : KnownTable) (m now : KnownMachine) → m ≡ now → (c : KnownCpu) → IsSeenByRun t (visit_state now c) → IsHolder m.run.past c.number
 holder_here t m now same c at = sym (who_here t m now same c at)
-
--- at a table that is known by another name
-pub held_at : (t u : KnownTable) → u ≡ t → (s : KnownPasts) → IsHeld t s → IsHeld u s
-held_at t u same s held = subst (λ (v : KnownTable). IsHeld v s) (sym same) held
 
 -- the same CPU holds the lock after a step
 pub holder_then : (t : KnownTable) (s : KnownPasts) (seat : ℕ) (action : Action) (answer : Answer) (later : KnownPasts) (p : ℕ)

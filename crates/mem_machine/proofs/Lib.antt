@@ -19,6 +19,7 @@ pub mod Many
 pub mod Takes
 pub mod Draining
 pub mod DrainingAll
+pub mod Choosing
 pub mod Prepaying
 pub mod Listed
 pub mod Dirties
@@ -56,3 +57,4 @@ pub mod Looks
 pub mod Listing
 pub mod Seen
 pub mod Locks
+pub mod Owning

@@ -9,6 +9,7 @@ pub mod Transitions
 pub mod Start
 pub mod Steps
 pub mod Lending
+pub mod Owners
 pub mod Booked
 pub mod Stocks
 pub mod Marks

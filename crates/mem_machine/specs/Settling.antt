@@ -34,7 +34,7 @@ with_page_absorbed seat cpu = with_view seat (with_steps 1 (zone_after_absorb (z
 abbrev pub HasUnreportedPage : StockAccount → Type 0
 HasUnreportedPage account = 1 + account.unabsorbed ≤ account.book
 
--- the seat is the zone's at the frames' table, the CPU's visit is open, and no frame is in transit between the two
+-- the seat is the zone's at the frames' words, the CPU's visit is open, and no frame is in transit between the two
 pub record IsVisitedAt (table : KnownTable) (seat : KnownSeat) (cpu : KnownCpu) : Type 0 where
   pub zone : IsZoneSeat table seat
   pub is_open : IsOpen seat cpu.number

@@ -1,10 +1,11 @@
 -- How stocks are drained and filled.
-use Rattle.std.specs.Prelude.{◌≡◌, ℕ, zero, suc, ◌-◌, ◌≤◌, ◌<◌, Bool, true, false}
+use Rattle.std.specs.Prelude.{◌≡◌, ℕ, zero, suc, ◌+◌, ◌-◌, ◌≤◌, ◌<◌, ◌↔◌, Bool, true, false}
+use Rattle.std.specs.Int.{bit_at}
 use Rattle.std.specs.Prelude.{Option, Some, None, List, [], ◌∷◌, ◌++◌, length}
 use Rattle.frame_word.specs.Seats.{KnownTable}
 use Rattle.stock_word.specs.Stock.{account_of}
 use Rattle.stock_word.specs.Kinds.{zone_after_drain, zone_after_fill, after_fill, with_steps}
-use Rattle.stock_word.specs.Calls.{with_view, after_look}
+use Rattle.stock_word.specs.Calls.{steps_of_drain, with_view}
 use Rattle.group_tree.specs.Room.{PathHasRoom}
 use Rattle.group_charge.specs.declared.charges.Over.{Over}
 use Rattle.group_charge.specs.Charges.{Ledger, current_of, with_charge, with_uncharge}
@@ -45,12 +46,6 @@ with_look machine = record machine {
   stock_seat = with_view machine.stock_seat (with_steps 1 machine.stock_seat.view);
 }
 
--- How many steps of the zone's seat drain a stock of this group. A look finds the group, and a second look the stock. If
--- there is a group, the swap that takes the pages follows.
-abbrev pub steps_to_drain : Option ℕ → ℕ
-steps_to_drain None = 2
-steps_to_drain (Some group) = 3
-
 -- The zone's seat drains the CPU's stock of this many pages, by this many steps. They are no longer booked to the
 -- stock, nor charged to its group. A stock that is already drained gives 0 pages.
 pub record DrainsBy (steps cpu pages : ℕ) (before after : KnownMachine) : Type 0 where
@@ -63,21 +58,21 @@ pub record DrainsBy (steps cpu pages : ℕ) (before after : KnownMachine) : Type
   pub booked : pages ≤ (account_of before.stock_seat.view cpu).book
   pub drained_before : IsDrained before cpu → pages ≡ 0
 
--- the CPU's stock is drained after a look found its group
+-- the CPU's stock is drained by a look and, if it is of a group, a swap
 abbrev pub Drains : ℕ → ℕ → KnownMachine → KnownMachine → Type 0
 Drains cpu pages before after =
-    DrainsBy (steps_to_drain (stock_group before cpu)) cpu pages before after
+    DrainsBy (steps_of_drain (stock_group before cpu)) cpu pages before after
 
 -- the CPU's stock is drained by this many steps of the zone's seat, and the drain is noted
 pub record DrainsNoted (steps cpu pages : ℕ) (before after : KnownMachine) : Type 0 where
   pub drains : DrainsBy steps cpu pages before (record after { notes = before.notes })
   pub noted : after.notes ≡ noted before.notes (Stock cpu pages)
 
--- the CPU's stock is drained after a look found its group, and `drain` is that drain
+-- the CPU's stock is drained, and `drain` is that drain
 pub record DrainsOne (cpu : ℕ) (drain : Drain) (before after : KnownMachine) : Type 0 where
   pub same_cpu : drain.cpu ≡ cpu
   pub group : drain.group ≡ stock_group before cpu
-  pub drains : DrainsNoted (steps_to_drain (stock_group before cpu)) cpu drain.pages before after
+  pub drains : DrainsNoted (steps_of_drain (stock_group before cpu)) cpu drain.pages before after
 
 -- which stocks a call drains: a test of the existing groups and of a stock's group
 abbrev pub StockTest : Type 0
@@ -95,14 +90,21 @@ of_group group groups stock = is_of_group stock group
 abbrev pub is_chosen : StockTest → KnownMachine → ℕ → Bool
 is_chosen test machine cpu = test machine.ledger.groups (stock_group machine cpu)
 
+-- The word has a 1 in the place of each CPU whose stock the test chooses, and in no other. That of CPU 1 is 0.
+abbrev pub AreChosen : KnownTable → StockTest → KnownMachine → ℕ → Type 0
+AreChosen table test machine stocks = (place : ℕ) → place < 64 → (bit_at stocks place ≡ 1)
+    ↔ (place < table.cpus) × (is_chosen test machine (place + 1) ≡ true)
+
+-- these stocks are chosen by some test, which chooses no stock that was never filled
+pub record AreChosenBySome (table : KnownTable) (machine : KnownMachine) (stocks : ℕ) : Type 0 where
+  pub test : StockTest
+  pub filled : (groups : List Group) → test groups None ≡ false
+  pub chosen : AreChosen table test machine stocks
+
 -- If the test chooses the CPU's stock, that stock is drained, and this is the one drain. Else there is no drain, and
--- only the look changes the seat: if the stock is of no group, it now counts as drained with no page.
+-- nothing changes.
 abbrev pub DrainsIf : StockTest → ℕ → List Drain → KnownMachine → KnownMachine → Type 0
-DrainsIf test cpu [] before after =
-    (is_chosen test before cpu ≡ false) × (after ≡ record before {
-      stock_seat = with_view before.stock_seat
-          (with_steps 1 (after_look before.stock_seat.view cpu (stock_group before cpu)));
-    })
+DrainsIf test cpu [] before after = (is_chosen test before cpu ≡ false) × (after ≡ before)
 DrainsIf test cpu (drain ∷ []) before after =
     (is_chosen test before cpu ≡ true) × DrainsOne cpu drain before after
 DrainsIf test cpu (one ∷ two ∷ more) before after = ⊥

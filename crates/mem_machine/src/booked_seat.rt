@@ -1,14 +1,15 @@
-//! The zone's seat at the stocks, and how many pages are booked to the stocks of each group.
+//! The zone's seat at the stocks, how many pages are booked to the stocks of each group, and which stocks those are.
 
 ghost use Rattle.std.specs.Prelude.{◌≡◌, ◌≢◌, ◌+◌, ◌-◌, ◌^◌, ◌<◌, ◌≤◌, ◌⊎◌, ℕ, List, [], ◌∷◌, false};
-ghost use Rattle.std.specs.Prelude.{None, Some};
+ghost use Rattle.std.specs.Prelude.{◌↔◌, None, Some};
+ghost use Rattle.std.specs.Int.{bit_at};
 ghost use Rattle.frame_word.specs.Views.{collected_from};
 ghost use Rattle.frame_word.specs.Seats.{seat_with};
 ghost use Rattle.stock_word.specs.Stock.{account_of, drained_of, first_zone_stock_view, group_of, is_held};
 ghost use Rattle.stock_word.specs.Stock.{stock_pages_of};
 ghost use Rattle.stock_word.specs.Stock.{stocked};
 ghost use Rattle.stock_word.specs.Kinds.{after_fill, with_steps, zone_after_drain, zone_after_fill};
-ghost use Rattle.stock_word.specs.Calls.{after_look, with_view};
+ghost use Rattle.stock_word.specs.Calls.{with_view};
 ghost use Rattle.cpu_part.specs.Calls.{CanTake, PassesFresh, TakesFront};
 ghost use Rattle.mem_machine.specs.Machines.{IsCpuOf, pages_booked};
 ghost use Rattle.mem_machine.specs.Settling.{IsVisitedAt, KnowsFresh, with_page_absorbed};
@@ -20,6 +21,7 @@ ghost use Rattle.step_rules.specs.declared.step.Action.TheVariants as step;
 ghost use Rattle.step_rules.specs.declared.step.Answer.TheVariants.{Done, Pages, Took};
 ghost use Rattle.mem_machine.specs.Settling.{collect_steps};
 
+use crate::owners::StockOwners;
 use crate::proving::prove_tied;
 use boot_words::{FrameSeat, PastSeat, StockSeat};
 use cpu_part::{BootName, Cpu, Tables};
@@ -28,25 +30,28 @@ use group_tree::group::{GroupId, MAX_GROUPS};
 use std::marker::{Model, PhantomData};
 use stock_word::Stock;
 
-/// The zone's seat at the stocks, which contracts see, with the pages booked to the stocks of each group. What is
-/// booked to one CPU's stock exists only in proofs, as a part of what the seat knows.
+/// The zone's seat at the stocks, which contracts see, with the pages booked to the stocks of each group, and the group
+/// of each stock. What is booked to one CPU's stock exists only in proofs, as a part of what the seat knows.
 #[derive(Drop)]
 pub(crate) struct BookedSeat<N: BootName> {
     seat: StockSeat,
     // By group number: the pages booked to the group's stocks, 0 to 2^32 - 1.
     sums: [u32; MAX_GROUPS],
+    // Only the zone's seat changes the group of a stock, so no look is needed to find it.
+    owners: StockOwners,
     of: PhantomData<N>,
 }
 
 impl<N: BootName> Model for BookedSeat<N> {
     ghost use Rattle.stock_word.specs.Stock.{KnownStockSeat};
-    ghost use Rattle.mem_machine.specs.Booked.{AreBooked};
+    ghost use Rattle.mem_machine.specs.Booked.{AreBooked, AreOwners};
 
     ghost Value = { KnownStockSeat };
 
     ghost view = { λ booked. booked.seat };
 
-    ghost invariant = { λ booked. AreBooked N.frames N.stocks booked.seat booked.sums };
+    ghost invariant = { λ booked. AreBooked N.frames N.stocks booked.seat booked.sums
+        × AreOwners N.frames.cpus booked.seat.view.accounts booked.owners };
 }
 
 impl<N: BootName> BookedSeat<N> {
@@ -55,11 +60,13 @@ impl<N: BootName> BookedSeat<N> {
         requires first { seat.view ≡ first_zone_stock_view }
         requires table { seat.table ≡ N.stocks.table }
         requires cpus { N.stocks.cpus ≡ N.frames.cpus }
+        requires few { N.stocks.cpus ≤ 64 }
         ensures { result ≡ seat }
     {
         BookedSeat {
             seat,
             sums: [0; MAX_GROUPS],
+            owners: StockOwners::new(),
             of: PhantomData,
         }
     }
@@ -71,6 +78,7 @@ impl<N: BootName> BookedSeat<N> {
         let BookedSeat {
             seat,
             sums: _,
+            owners: _,
             of: _,
         } = self;
         seat
@@ -83,14 +91,21 @@ impl<N: BootName> BookedSeat<N> {
         self.sums[group.number() as usize]
     }
 
-    /// The group of the CPU's stock, as `BootWords::group` returns it.
-    pub(crate) fn group(&mut self, tables: &Tables<N>, cpu: u32) -> Option<GroupId>
-        requires cpu { IsCpuOf N.frames cpu }
-        ensures group { result ≡ (account_of self.old.view cpu).group }
-        ensures seat { self.new ≡ with_view self.old (with_steps 1 (after_look self.old.view cpu result)) }
+    /// The group of the CPU's stock; None if it was never filled.
+    pub(crate) fn owner(&self, cpu: u32) -> Option<GroupId>
+        requires { IsCpuOf N.frames cpu }
+        ensures group { result ≡ (account_of self.now.view cpu).group }
+        ensures unfilled { result ≡ None → (account_of self.now.view cpu).filled ≡ false }
     {
-        let number = tables.words.group(&mut self.seat, cpu)?;
-        Some(GroupId::of(number).unwrap())
+        self.owners.group(cpu as usize - 1)
+    }
+
+    /// The stocks of the group itself: a 1 in the place of each CPU that has one. That of CPU 1 is 0.
+    pub(crate) fn stocks_of(&self, group: GroupId) -> u64
+        ensures { (place : ℕ) → place < 64 → (bit_at result place ≡ 1)
+            ↔ (place < N.frames.cpus) × ((account_of self.now.view (place + 1)).group ≡ Some group) }
+    {
+        self.owners.stocks_of(group)
     }
 
     /// Drains the stock of the CPU, which is of this group, as `BootWords::drain` does: by a look and a swap.
@@ -116,7 +131,7 @@ impl<N: BootName> BookedSeat<N> {
         pages
     }
 
-    /// Notes the drain of the CPU's stock, which a look found to be of no group, by a second look.
+    /// Notes the drain of the CPU's stock, which is of no group, by a look.
     pub(crate) fn drain_none(&mut self, tables: &Tables<N>, held: &mut PastSeat, cpu: u32)
         requires held { IsHeld N.frames held.old }
         requires legal { MayMake N.frames held.old 0 (step.DrainStock cpu) }
@@ -157,6 +172,7 @@ impl<N: BootName> BookedSeat<N> {
         let owner = group.number();
         cpu.fill(tables, held, &mut self.seat, owner, pages);
         self.sums[owner as usize] += pages;
+        self.owners.set(cpu.number() as usize - 1, group);
     }
 
     /// The CPU's stock, as `Cpu::look` returns it.

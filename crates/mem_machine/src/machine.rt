@@ -9,6 +9,7 @@ ghost use Rattle.mem_machine.specs.Machines.{IsConsistent, IsFirst};
 use crate::booked_seat::BookedSeat;
 use crate::counts::Counts;
 use crate::frame_state::FrameState;
+use crate::proving::prove_sizes;
 use crate::start::{Parts, new_parts};
 use boot_words::{FrameSeat, OwnSeats, PastSeat, StockSeat};
 use cpu_part::{BootName, Tables};
@@ -34,10 +35,10 @@ pub struct Machine<N: BootName> {
     pub(crate) links: Links,
     // The ends and lengths of the two lists of each of the 64 group numbers, by the number.
     pub(crate) lists: Vec<Lru>,
-    // The zone's seat at the frames' table: which frames are in its hand, which frames it lent to which CPU, and its
+    // The zone's seat at the frames' words: which frames are in its hand, which frames it lent to which CPU, and its
     // references, one on the head of each kept unit.
     pub(crate) frame_seat: FrameSeat,
-    // The zone's seat at the stocks' table: the group of each CPU's stock, and the pages booked to it, 0 to 65,535.
+    // The zone's seat at the stocks' words: the group of each CPU's stock, and the pages booked to it, 0 to 65,535.
     // Between two calls no reported page is unabsorbed.
     pub(crate) stock_seat: BookedSeat<N>,
     // Whether each of the 64 group numbers is killed, by the number.
@@ -51,7 +52,7 @@ pub struct Machine<N: BootName> {
     pub(crate) past: PastSeat,
     // Takes each step of the zone's seat and of the CPU that holds the lock, right behind the step.
     pub(crate) watch: Watch,
-    // The boot whose tables these are.
+    // The boot whose words these are.
     pub(crate) of: PhantomData<N>,
 }
 
@@ -79,7 +80,14 @@ impl<N: BootName> Machine<N> {
         ensures rests { IfOk result (λ machine. Rests N.frames machine) }
         ensures past { IfOk result (λ machine. machine.run.past ≡ seats.past) }
     {
-        let parts = new_parts(alloc, tables.words.frames())?;
+        prove_sizes(tables); // There are at most 64 CPUs.
+        let parts = match new_parts(alloc, tables.words.frames()) {
+            Ok(parts) => parts,
+            Err(error) => {
+                drop(seats);
+                return Err(error);
+            }
+        };
         Ok(Machine {
             zone: parts.zone,
             frame_states: parts.frame_states,

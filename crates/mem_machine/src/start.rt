@@ -104,7 +104,7 @@ fn empty_lists(alloc: Global) -> Result<Vec<Lru>, AllocError>
 {
     let mut lists = Vec::with_capacity(alloc, MAX_GROUPS)?;
     for owner in 0..MAX_GROUPS as u8 {
-        lists.push(Lru::new(owner))?;
+        lists.push_reserved(Lru::new(owner));
     }
     Ok(lists)
 }

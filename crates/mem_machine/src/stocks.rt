@@ -4,8 +4,9 @@ ghost use Rattle.std.specs.Prelude.{◌≡◌, ◌<◌, [], Some, IsTrue, OnOk, 
 ghost use Rattle.group_tree.specs.Groups.{has_group, in_subtree};
 ghost use Rattle.mem_machine.specs.Machines.{IsCpuOf, LacksRoom, OnlyWatches};
 ghost use Rattle.mem_machine.specs.Local.{SomeSeenByRun, StaysVisited, Visits};
-ghost use Rattle.mem_machine.specs.Stocks.{IsDrained, AreDrained, AreOwnDrained, FitsStock, stock_group, of_group};
-ghost use Rattle.mem_machine.specs.Stocks.{of_subtree, Drains, DrainsBy, DrainsIf, DrainsBySteps, DrainsNoted};
+ghost use Rattle.mem_machine.specs.Stocks.{IsDrained, AreDrained, AreOwnDrained, FitsStock, stock_group};
+ghost use Rattle.mem_machine.specs.Stocks.{of_subtree, AreChosen, AreChosenBySome, AreDrainedIf, Drains, DrainsAllIf};
+ghost use Rattle.mem_machine.specs.Stocks.{DrainsBy, DrainsBySteps, DrainsNoted, StockTest};
 ghost use Rattle.mem_machine.specs.Stocks.{DrainsGroup, DrainsSubtree, Fills, Prepays, IsOver, RefusesGrant};
 ghost use Rattle.mem_machine.specs.Stocks.{prepay_steps, refused_prepay_steps};
 ghost use Rattle.mem_machine.specs.Paying.{MayCharge};
@@ -13,8 +14,8 @@ ghost use Rattle.mem_machine.specs.Local.{Makes, MakesForAny, visit_state};
 ghost use Rattle.mem_machine.specs.Steps.{drain_steps, fill_steps};
 
 use crate::machine::Machine;
-use crate::proving::{prove_charges, prove_groups};
-use crate::stepping;
+use crate::proving::{prove_charges, prove_groups, prove_sizes};
+use crate::{cpu_set, stepping};
 use cpu_part::{BootName, Cpu, Tables};
 use group_charge::charges::Over;
 use group_charge::note::Note;
@@ -40,7 +41,7 @@ fn is_at_or_below(tree: &Tree, group: GroupId, other: GroupId) -> bool
 }
 
 impl<N: BootName> Machine<N> {
-    // Drains the stock of the CPU, which a look found to be of this group, and returns how many pages were in it.
+    // Drains the stock of the CPU, which is of this group, and returns how many pages were in it.
     fn drain_of(&mut self, tables: &Tables<N>, cpu: u32, group: GroupId) -> u32
         requires cpu { IsCpuOf N.frames cpu }
         requires group { stock_group self.old cpu ≡ Some group }
@@ -60,8 +61,7 @@ impl<N: BootName> Machine<N> {
         pages
     }
 
-    // Drains the stock of the CPU, which a look found to be of this group, notes the drain, and returns how many pages
-    // were in it.
+    // Drains the stock of the CPU, which is of this group, notes the drain, and returns how many pages were in it.
     fn drain_noted(&mut self, tables: &Tables<N>, cpu: u32, group: GroupId) -> u32
         requires cpu { IsCpuOf N.frames cpu }
         requires group { stock_group self.old cpu ≡ Some group }
@@ -86,7 +86,7 @@ impl<N: BootName> Machine<N> {
             (drain_steps cpu (stock_group self.old cpu) result) self.new }
         ensures visit { StaysVisited N.frames self.old self.new }
     {
-        match self.stock_seat.group(tables, cpu) {
+        match self.stock_seat.owner(cpu) {
             None => {
                 self.stock_seat.drain_none(tables, &mut self.past, cpu);
                 self.watch.drained(cpu, 0);
@@ -96,34 +96,47 @@ impl<N: BootName> Machine<N> {
         }
     }
 
-    // Whether `other` exists and is `group` or a descendant of it.
-    fn is_in_subtree(&self, group: GroupId, other: GroupId) -> bool
+    // The stocks of groups in the subtree of `group`.
+    fn stocks_below(&self, group: GroupId) -> u64
         requires there { IsTrue (has_group self.now.ledger.groups group) }
-        ensures { result ≡ in_subtree self.now.ledger.groups group other }
+        ensures { AreChosen N.frames (of_subtree group) self.now result }
     {
         let tree = self.charges.tree();
-        tree.contains(other) && is_at_or_below(tree, group, other)
+        let mut stocks = 0;
+        for row in tree.groups() {
+            if is_at_or_below(tree, group, row.number) {
+                stocks |= self.stock_seat.stocks_of(row.number);
+            }
+        }
+        stocks
     }
 
-    // Drains and notes the CPU's stock if it is of a group in this group's subtree, and returns how many pages were in
-    // it.
-    fn drain_if_in_subtree(&mut self, tables: &Tables<N>, cpu: u32, group: GroupId) -> u32
-        requires cpu { IsCpuOf N.frames cpu }
-        requires there { IsTrue (has_group self.old.ledger.groups group) }
+    // Drains and notes these stocks, by ascending CPU, and returns how many pages were in them.
+    fn drain_each(&mut self, tables: &Tables<N>, stocks: u64) -> u64
+        requires chosen { AreChosenBySome N.frames self.old stocks }
         requires shown { SomeSeenByRun N.frames self.old }
-        ensures drains { DrainsBySteps N.frames (DrainsIf (of_subtree group) cpu) result self.old self.new }
+        ensures drains { (test : StockTest) → AreChosen N.frames test self.old stocks
+            → DrainsBySteps N.frames (DrainsAllIf test N.frames.cpus) result self.old self.new }
+        ensures drained { (test : StockTest) → AreChosen N.frames test self.old stocks
+            → AreDrainedIf test N.frames.cpus self.new }
         ensures visit { StaysVisited N.frames self.old self.new }
     {
-        match self.stock_seat.group(tables, cpu) {
-            None => 0,
-            Some(owner) if self.is_in_subtree(group, owner) => self.drain_noted(tables, cpu, owner),
-            Some(_) => 0,
+        prove_sizes(tables); // At most 64 stocks have at most 65,535 pages each.
+        let mut rest = stocks;
+        let mut pages = 0;
+        while let Some(place) = cpu_set::take_first(&mut rest) {
+            let cpu = place + 1;
+            let Some(owner) = self.stock_seat.owner(cpu) else {
+                unreachable!()
+            };
+            pages += u64::from(self.drain_noted(tables, cpu, owner));
         }
+        pages
     }
 
     /// Drains all stocks of groups in the subtree of `group`, empty ones included, and returns how many pages were in
-    /// them. The pages are no longer booked to the stocks, nor charged to the groups, and each drain is noted. It looks
-    /// once at the stock of each CPU.
+    /// them. The pages are no longer booked to the stocks, nor charged to the groups, and each drain is noted. No other
+    /// stock is looked at.
     pub fn drain_stocks(&mut self, tables: &Tables<N>, group: GroupId) -> u64
         requires there { IsTrue (has_group self.old.ledger.groups group) }
         requires shown { SomeSeenByRun N.frames self.old }
@@ -131,43 +144,20 @@ impl<N: BootName> Machine<N> {
         ensures drained { AreDrained group N.frames.cpus self.new }
         ensures visit { StaysVisited N.frames self.old self.new }
     {
-        let mut pages = 0;
-        for cpu_index in 0..tables.words.cpus() {
-            let cpu = cpu_index + 1;
-            pages += u64::from(self.drain_if_in_subtree(tables, cpu, group));
-        }
-        pages
-    }
-
-    // Drains and notes the CPU's stock if it is of the group itself, and returns how many pages were in it.
-    fn drain_if_own(&mut self, tables: &Tables<N>, cpu: u32, group: GroupId) -> u32
-        requires cpu { IsCpuOf N.frames cpu }
-        requires shown { SomeSeenByRun N.frames self.old }
-        ensures drains { DrainsBySteps N.frames (DrainsIf (of_group group) cpu) result self.old self.new }
-        ensures visit { StaysVisited N.frames self.old self.new }
-    {
-        match self.stock_seat.group(tables, cpu) {
-            None => 0,
-            Some(owner) if owner == group => self.drain_noted(tables, cpu, owner),
-            Some(_) => 0,
-        }
+        let stocks = self.stocks_below(group);
+        self.drain_each(tables, stocks)
     }
 
     /// Drains all stocks of the group itself, empty ones included, and returns how many pages were in them. They are
-    /// no longer booked to the stocks, nor charged to the group, and each drain is noted. It looks once at the stock of
-    /// each CPU.
+    /// no longer booked to the stocks, nor charged to the group, and each drain is noted. No other stock is looked at.
     pub fn drain_group_stocks(&mut self, tables: &Tables<N>, group: GroupId) -> u64
         requires shown { SomeSeenByRun N.frames self.old }
         ensures drains { DrainsGroup N.frames group result self.old self.new }
         ensures drained { AreOwnDrained group N.frames.cpus self.new }
         ensures visit { StaysVisited N.frames self.old self.new }
     {
-        let mut pages = 0;
-        for cpu_index in 0..tables.words.cpus() {
-            let cpu = cpu_index + 1;
-            pages += u64::from(self.drain_if_own(tables, cpu, group));
-        }
-        pages
+        let stocks = self.stock_seat.stocks_of(group);
+        self.drain_each(tables, stocks)
     }
 
     /// Charges `pages` pages (1 to 65,535) to a group that isn't killed, and fills the visited CPU's stock with them.

@@ -29,14 +29,13 @@ use Rattle.mem_machine.specs.Ageing.{entries_in}
 use Rattle.mem_machine.specs.Lists.{LeavesList}
 use Rattle.mem_machine.specs.Releasing.{Releases, release_steps}
 use Rattle.mem_machine.specs.Steps.{Drain, drain_stocks_steps, kill_steps, drain_steps}
-use Rattle.mem_machine.specs.Stocks.{AreOwnDrained, DrainsNoted, DrainsIf, DrainsAllIf, DrainsGroup, of_group, steps_to_drain, stock_group, uncharged}
+use Rattle.mem_machine.specs.Stocks.{AreOwnDrained, DrainsNoted, DrainsIf, DrainsAllIf, DrainsGroup, of_group, stock_group, uncharged}
 use Rattle.mem_machine.proofs.Draining.{drained_at, groups_stay}
 use Rattle.std.proofs.lemmas.List.Folds.{list_any-append}
 use Rattle.std.proofs.lemmas.List.Sums.{sum_by-append}
 use Rattle.group_charge.specs.Charges.{current_of}
 use Rattle.stock_word.specs.declared.view.StockAccount.{StockAccount}
-use Rattle.stock_word.specs.declared.view.StockView.{StockView}
-use Rattle.stock_word.specs.Calls.{after_look}
+use Rattle.stock_word.specs.Calls.{steps_of_drain}
 use Rattle.step_rules.specs.declared.step.Step.{Step}
 use Rattle.step_rules.specs.declared.step.Answer.{Answer}
 use Rattle.mem_machine.proofs.DrainingAll.{below_else, below_group}
@@ -295,15 +294,10 @@ leaves_units_both a b c p q = record {
   stocks = record { of = λ x. q.stocks.of x ∙ p.stocks.of x; drained = λ x is. q.stocks.drained x (p.stocks.drained x is) };
 }
 
--- a stock that was looked at, and is of no group, counts as drained
-looked_filled : (view : StockView) (q : ℕ) (o : Option ℕ) → (account_of view q).filled ≡ false → (account_of (after_look view q o) q).filled ≡ false
-looked_filled view q None is = ap (λ (a : StockAccount). a.filled) (drained_at view q 0)
-looked_filled view q (Some g) is = is
-
 filled_after : (test : List Group → Option ℕ → Bool) (q : ℕ) (m n : KnownMachine) (drains : List Drain) → DrainsIf test q drains m n
     → (account_of m.stock_seat.view q).filled ≡ false → (account_of n.stock_seat.view q).filled ≡ false
 filled_after test q m n [] h is =
-    ap (λ (x : KnownMachine). (account_of x.stock_seat.view q).filled) h.1 ∙ looked_filled m.stock_seat.view q (stock_group m q) is
+    ap (λ (x : KnownMachine). (account_of x.stock_seat.view q).filled) h.1 ∙ is
 filled_after test q m n (drain ∷ []) h is =
     ap (λ (x : KnownMachine). (account_of x.stock_seat.view q).filled) h.1.drains.drains.machine ∙ ap (λ (a : StockAccount). a.filled) (drained_at m.stock_seat.view q drain.pages)
 filled_after test q m n (one ∷ two ∷ more) h is = absurd h
@@ -346,7 +340,7 @@ one_leaves test q m n [] h = record {
   usage = λ g. let e = ap (λ (x : KnownMachine). current_of x.ledger g) h.1 in omega (arith, e);
   stocks = one_drains test q m n [] h;
 }
-one_leaves test q m n (drain ∷ []) h = drain_leaves m n (steps_to_drain (stock_group m q)) q drain.pages h.1.drains (one_drains test q m n (drain ∷ []) h)
+one_leaves test q m n (drain ∷ []) h = drain_leaves m n (steps_of_drain (stock_group m q)) q drain.pages h.1.drains (one_drains test q m n (drain ∷ []) h)
 one_leaves test q m n (one ∷ two ∷ more) h = absurd h
 
 pub drains_leave : (test : List Group → Option ℕ → Bool) (k : ℕ) (m n : KnownMachine) (drains : List Drain) → DrainsAllIf test k drains m n → LeavesUnits m n

@@ -16,11 +16,12 @@ pub record KnownBoot : Type 0 where
   pub frames : KnownTable
   pub stocks : KnownStockTable
 
--- What CPUs share of a system: the table of its boot, as the seats at its frames and at its stocks know it. No clause
--- sees what lies behind its lock.
+-- What CPUs share of a system: the table of its boot, as the seats at its frames and at its stocks know it, and the
+-- boot's sizes. No clause sees what lies behind its lock.
 pub record KnownSystem : Type 0 where
   pub frames : KnownTable
   pub stocks : KnownStockTable
+  pub sizes : Config
 
 -- the tables have these sizes
 pub record IsSizedAs (sizes : Config) (table : KnownTable) (stock_table : KnownStockTable) : Type 0 where

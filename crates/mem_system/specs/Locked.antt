@@ -1,5 +1,6 @@
 -- What lies behind the zone's lock, and what always holds of it.
 use Rattle.std.specs.Prelude.{◌≡◌, ℕ, ◌≤◌}
+use Rattle.boot_words.specs.Growth.{SeesMore}
 use Rattle.boot_words.specs.Pasts.{own_past}
 use Rattle.frame_word.specs.Seats.{KnownTable, IsShut}
 use Rattle.stock_word.specs.Stock.{KnownStockTable}
@@ -14,6 +15,7 @@ use Rattle.mem_machine.specs.Machines.{IsConsistent, KnownMachine}
 use Rattle.mem_machine.specs.Resting.{Rests}
 use Rattle.mem_machine.specs.declared.counts.Counts.{Counts}
 use Rattle.mem_system.specs.Boots.{IsSizedAs}
+use Rattle.mem_system.specs.Cpus.{CpuInRun}
 use Rattle.step_rules.specs.After.{Run}
 use Rattle.step_rules.specs.State.{at_boot}
 
@@ -57,6 +59,17 @@ pub record IsSound (table : KnownTable) (stock_table : KnownStockTable) (locked 
 pub record BehindLock (table : KnownTable) (stock_table : KnownStockTable) (IsSo : KnownLocked → Type 0) : Type 0 where
   pub locked : KnownLocked
   pub sound : IsSound table stock_table locked
+  pub so : IsSo locked
+
+-- `IsSo` holds of some sound value that was behind the lock while the lock was free, and the CPU has then seen the run that
+-- led to it. The CPU made no step: its past has grown by others' steps alone.
+pub record SeenBehindLock (table : KnownTable) (stock_table : KnownStockTable) (IsSo : KnownLocked → Type 0)
+    (before after : CpuInRun) : Type 0 where
+  pub locked : KnownLocked
+  pub sound : IsSound table stock_table locked
+  pub part : after.part ≡ before.part
+  pub sees : SeesMore (own_past before.past) (own_past after.past)
+  pub same : (own_past locked.machine.run.past).seen ≡ (own_past after.past).seen
   pub so : IsSo locked
 
 -- a vector for the CPUs' seats: it is empty, and has room for those of each CPU

@@ -33,7 +33,8 @@ UnitsAt None none tells before after = none × (after ≡ before)
 UnitsAt (Some group) none tells before after = ReadsUnits group tells before after
 
 -- What a text through the lock says if it needs looks at words. Some sound value was behind the lock, the caller was
--- settled in it, and a sound value was left. `tells` holds of the settled state and of the machine that the looks left.
+-- settled in it, which left a sound value, and so did the looks. `tells` holds of the settled state and of the machine
+-- that the looks left.
 pub record ReadsAfterSettling (table : KnownTable) (stock_table : KnownStockTable)
     (tells : LockedState → KnownMachine → Type 0)
     (before after : CpuInRun) : Type 0 where
@@ -42,5 +43,6 @@ pub record ReadsAfterSettling (table : KnownTable) (stock_table : KnownStockTabl
   pub left : KnownLocked
   pub sound_before : IsSound table stock_table found
   pub settles : SettlesCaller table (locked_state found before) (locked_state settled after)
+  pub sound_settled : IsSound table stock_table settled
   pub sound_after : IsSound table stock_table left
   pub told : tells (locked_state settled after) left.machine

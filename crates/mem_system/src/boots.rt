@@ -102,6 +102,7 @@ impl Boot {
     pub fn start<N: BootName>(self, alloc: Global) -> Result<(System<N>, Vec<Cpu<N>>), AllocError>
         requires frames { self.frames ≡ N.frames }
         requires stocks { self.stocks ≡ N.stocks }
+        ensures sizes { IfOk result (λ started. started.0.sizes ≡ self.sizes) }
         ensures cpus { IfOk result (λ started.
             parts_of started.1.items ≡ first_cpus N.frames N.stocks 1 self.sizes.cpus) }
         ensures count { IfOk result (λ started. length started.1.items ≡ N.frames.cpus) }

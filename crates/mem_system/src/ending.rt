@@ -48,7 +48,7 @@ impl<N: BootName> System<N> {
         requires { length cpus.items ≡ N.frames.cpus }
         ensures { BehindLock N.frames N.stocks (λ found. PutsAndEnds N.frames N.stocks found cpus.items result) }
     {
-        let System { locked, tables } = self;
-        put_and_end(locked.into_inner(), tables, cpus)
+        let (locked, tables) = self.into_parts();
+        put_and_end(locked, tables, cpus)
     }
 }

@@ -7,7 +7,9 @@ ghost use Rattle.boot_words.specs.Pasts.{Meets};
 ghost use Rattle.step_watch.specs.Watched.{Watches};
 ghost use Rattle.mem_machine.specs.Machines.{IsConsistent, with_past, with_unit_notes, with_watch};
 ghost use Rattle.mem_machine.specs.Steps.{cpu_makes};
+ghost use Rattle.mem_system.specs.Boots.{IsSizedAs};
 ghost use Rattle.mem_system.specs.Locked.{IsQuiet};
+ghost use Rattle.zone_blocks.specs.Config.{IsValidConfig};
 
 use crate::cpus::Cpu;
 use boot_words::OwnSeats;
@@ -50,6 +52,26 @@ impl<N: BootName> Locked<N> {
     {
         self.machine.prove_consistent();
         prove_charges(self.machine.charges());
+    }
+
+    /// Puts the sizes of the boot there. They are there already, but no clause can look through a lock. So who finds this
+    /// behind one, and has the sizes from the boot, calls it first: then what is found has these sizes.
+    #[inline(always)]
+    pub fn set_sizes(&mut self, sizes: Config)
+        requires valid { IsValidConfig sizes }
+        requires sized { IsSizedAs sizes N.frames N.stocks }
+        ensures { self.new ≡ record self.old { sizes = sizes } }
+    {
+        self.sizes = sizes;
+    }
+
+    /// The sizes of the boot.
+    pub fn sizes(&self) -> Config
+        ensures are { result ≡ self.now.sizes }
+        ensures valid { IsValidConfig result }
+        ensures sized { IsSizedAs result N.frames N.stocks }
+    {
+        self.sizes
     }
 
     /// The machine, which is consistent.

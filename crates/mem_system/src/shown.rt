@@ -91,10 +91,11 @@ impl<N: BootName> System<N> {
             × (machine ≡ with_look settled.locked.machine)) cpu.old cpu.new }
         ensures settled { IsSettled cpu.new.part }
     {
-        let mut guard = self.locked.lock(rt);
+        let mut guard = self.lock(rt);
         let locked = &mut *guard;
         locked.prove_quiet();
         settle(locked, &self.tables, cpu);
+        locked.prove_quiet();
         let told = write_own_stock(locked, &self.tables, cpu, text);
         locked.prove_quiet();
         told
@@ -117,10 +118,11 @@ impl<N: BootName> System<N> {
             settled.locked.machine machine) cpu.old cpu.new }
         ensures settled { IsSettled cpu.new.part }
     {
-        let mut guard = self.locked.lock(rt);
+        let mut guard = self.lock(rt);
         let locked = &mut *guard;
         locked.prove_quiet();
         settle(locked, &self.tables, cpu);
+        locked.prove_quiet();
         let told = write_units_at(locked, &self.tables, path, text);
         locked.prove_quiet();
         told

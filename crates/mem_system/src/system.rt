@@ -1,11 +1,12 @@
 //! The system: the zone's lock, what lies behind it, and the tables that all CPUs share.
 
 ghost use Rattle.std.specs.Prelude.{◌≡◌};
+ghost use Rattle.std.specs.Sync.Mutex.{mutex_guard_value};
 ghost use Rattle.group_tree.specs.Groups.{number_at};
 ghost use Rattle.group_charge.specs.Charges.{AreCharges};
 ghost use Rattle.cpu_part.specs.Cpus.{stock_table_of};
 ghost use Rattle.mem_machine.specs.Machines.{IsConsistent};
-ghost use Rattle.mem_system.specs.Locked.{BehindLock, IsQuiet};
+ghost use Rattle.mem_system.specs.Locked.{IsQuiet, SeenBehindLock};
 ghost use Rattle.mem_system.specs.Commands.{IsOfZone, IsSettledAfter};
 ghost use Rattle.mem_system.specs.Visits.{IsServed, IsVisited};
 
@@ -15,35 +16,52 @@ use crate::gates::{Gate, NoGate};
 use crate::lock::Locked;
 use crate::visits::serve_into;
 use cpu_part::{BootName, Tables};
+use crossbeam_utils::Backoff;
 use group_tree::group::GroupId;
 use std::marker::Model;
-use std::sync::{Mutex, Wait};
+use std::sync::{Mutex, MutexGuard, Wait};
+use zone_blocks::config::Config;
 
-/// A boot that has started: the machine behind the zone's lock, and its tables. CPUs share it by `&`.
+// How often a thread tries the lock before it may sleep.
+const TRIES: u32 = 100;
+
+/// A boot that has started: the machine behind the zone's lock, its tables, and its sizes. CPUs share it by `&`.
 #[derive(Drop)]
 pub struct System<N: BootName> {
     pub(crate) locked: Mutex<Locked<N>>,
     pub(crate) tables: Tables<N>,
+    // No clause can look through the lock: those of visits speak of these.
+    sizes: Config,
 }
 
 impl<N: BootName> Model for System<N> {
     ghost use Rattle.cpu_part.specs.Cpus.{stock_table_of};
-    ghost use Rattle.mem_system.specs.Boots.{KnownSystem};
+    ghost use Rattle.mem_system.specs.Boots.{IsSizedAs, KnownSystem};
+    ghost use Rattle.zone_blocks.specs.Config.{IsValidConfig};
 
     ghost Value = { KnownSystem };
 
-    ghost view = { λ s. record { frames = s.tables.words; stocks = stock_table_of s.tables.words } };
+    ghost view = { λ s.
+        record { frames = s.tables.words; stocks = stock_table_of s.tables.words; sizes = s.sizes } };
+
+    ghost invariant = { λ s. IsValidConfig s.sizes × IsSizedAs s.sizes N.frames N.stocks };
 }
 
 impl<N: BootName> System<N> {
     /// The system with this behind its lock and with these tables; from now on CPUs share it. Clauses speak only of its
-    /// tables, because none can look through the lock.
+    /// tables and sizes, because none can look through the lock.
     pub fn of(locked: Locked<N>, tables: Tables<N>) -> System<N>
         ensures frames { result.frames ≡ tables.words }
         ensures stocks { result.stocks ≡ stock_table_of tables.words }
+        ensures sizes { result.sizes ≡ locked.sizes }
     {
+        let sizes = locked.sizes();
         let locked = Mutex::new(locked);
-        System { locked, tables }
+        System {
+            locked,
+            tables,
+            sizes,
+        }
     }
 
     /// Takes the system apart after all sharing ended: returns what lies behind the lock, as the last visit left it,
@@ -52,11 +70,17 @@ impl<N: BootName> System<N> {
         ensures quiet { IsQuiet N.frames N.stocks result.0 }
         ensures consistent { IsConsistent N.frames N.stocks result.0.machine }
         ensures charges { AreCharges result.0.machine.ledger }
+        ensures sizes { result.0.sizes ≡ self.sizes }
         ensures frames { result.1.words ≡ self.frames }
         ensures stocks { stock_table_of result.1.words ≡ self.stocks }
     {
-        let System { locked, tables } = self;
-        let locked = locked.into_inner();
+        let System {
+            locked,
+            tables,
+            sizes,
+        } = self;
+        let mut locked = locked.into_inner();
+        locked.set_sizes(sizes);
         locked.prove_quiet();
         (locked, tables)
     }
@@ -69,26 +93,56 @@ impl<N: BootName> System<N> {
         &self.tables
     }
 
-    /// The group of this path; None if no group has it. It takes the lock and settles nothing. As with `visit`, the
-    /// clause says that there was such a value behind the lock.
-    pub fn find<R: Wait>(&self, rt: &R, path: &[u8]) -> Option<GroupId>
-        ensures { BehindLock N.frames N.stocks (λ found. result ≡ number_at found.machine.ledger.groups path.now) }
+    /// Takes the lock. Until the guard is dropped, the calls that take a `Locked` by reference, such as `serve_outcome`,
+    /// `settle` and `show_text`, are the caller's, and no other call of this system returns. No clause can name what lies
+    /// behind the lock. But it has the sizes of the system, and `Locked::prove_quiet` shows what else always holds of it.
+    #[inline(always)]
+    pub fn lock<R: Wait>(&self, rt: &R) -> MutexGuard<'_, Locked<N>>
+        ensures { (mutex_guard_value result).sizes ≡ self.now.sizes }
     {
-        let guard = self.locked.lock(rt);
-        let locked = &*guard;
+        let mut guard = match self.locked.try_lock() {
+            Some(guard) => guard,
+            None => self.wait(rt),
+        };
+        guard.set_sizes(self.sizes);
+        guard
+    }
+
+    // Waits for the lock. `Mutex::lock` lets a thread sleep at once if another one sleeps, and a visit takes less time than
+    // that. So the lock is tried for a while first.
+    fn wait<R: Wait>(&self, rt: &R) -> MutexGuard<'_, Locked<N>> {
+        let backoff = Backoff::new();
+        for _ in 0..TRIES {
+            backoff.spin();
+            if let Some(guard) = self.locked.try_lock() {
+                return guard;
+            }
+        }
+        self.locked.lock(rt)
+    }
+
+    /// The group of this path; None if no group has it. It takes the lock and settles nothing. As with `visit`, the
+    /// clause says that there was such a value behind the lock. The CPU makes no step, but sees the run that led to that.
+    pub fn find<R: Wait>(&self, rt: &R, cpu: &mut Cpu<N>, path: &[u8]) -> Option<GroupId>
+        ensures { SeenBehindLock N.frames N.stocks
+            (λ found. result ≡ number_at found.machine.ledger.groups path.now) cpu.old cpu.new }
+    {
+        let mut guard = self.lock(rt);
+        let locked = &mut *guard;
+        locked.meet(&self.tables, cpu);
         locked.prove_quiet();
         locked.find(path)
     }
 
     /// Serves one command of the CPU: takes the lock, serves the command, and releases the lock. A frame that the
     /// command names is a frame of the zone. No clause can name what lies behind the lock. So the contract says that
-    /// some sound value was there, that `serve` did its work on it, and that a sound value was left. The frames lent to
-    /// the CPU afterwards are those that its seat has borrowed. The code calls the form of `serve` that writes the
-    /// reply in place, because returning a reply by value copies its room for a path.
+    /// some sound value was there, with the system's sizes, that `serve` did its work on it, and that a sound value was
+    /// left. The frames lent to the CPU afterwards are those that its seat has borrowed. The code calls the form of
+    /// `serve` that writes the reply in place, because returning a reply by value copies its room for a path.
     #[inline(always)]
     pub fn visit<R: Wait>(&self, rt: &R, cpu: &mut Cpu<N>, cmd: &Cmd<'_>) -> Reply
         requires { IsOfZone N.frames cmd.now }
-        ensures served { IsVisited N.frames N.stocks (IsServed N.frames cmd.now result) cpu.old cpu.new }
+        ensures served { IsVisited N.frames N.stocks self.now.sizes (IsServed N.frames cmd.now result) cpu.old cpu.new }
         ensures settled { IsSettledAfter cmd.now result cpu.new.part }
     {
         self.visit_with(rt, cpu, cmd, &NoGate)
@@ -105,7 +159,7 @@ impl<N: BootName> System<N> {
         gate: &G,
     ) -> Reply
         requires { IsOfZone N.frames cmd.now }
-        ensures served { IsVisited N.frames N.stocks (IsServed N.frames cmd.now result) cpu.old cpu.new }
+        ensures served { IsVisited N.frames N.stocks self.now.sizes (IsServed N.frames cmd.now result) cpu.old cpu.new }
         ensures settled { IsSettledAfter cmd.now result cpu.new.part }
     {
         let mut reply = Reply::Done;
@@ -126,10 +180,10 @@ impl<N: BootName> System<N> {
         reply: &mut Reply,
     )
         requires { IsOfZone N.frames cmd.now }
-        ensures served { IsVisited N.frames N.stocks (IsServed N.frames cmd.now reply.new) cpu.old cpu.new }
+        ensures served { IsVisited N.frames N.stocks self.now.sizes (IsServed N.frames cmd.now reply.new) cpu.old cpu.new }
         ensures settled { IsSettledAfter cmd.now reply.new cpu.new.part }
     {
-        let mut guard = self.locked.lock(rt);
+        let mut guard = self.lock(rt);
         gate.inside(cpu.number());
         let locked = &mut *guard;
         locked.prove_quiet();

@@ -10,7 +10,6 @@ use crate::boot_end::{Pinned, end};
 use crate::cpus::Cpu;
 use crate::system::System;
 use cpu_part::BootName;
-use std::sync::Mutex;
 
 /// A system that isn't shut down because pins remain. It and the CPUs' parts are unchanged.
 pub struct Held<N: BootName> {
@@ -34,10 +33,9 @@ impl<N: BootName> System<N> {
         ensures pins { IfErr result (λ held. held.pins ≡ pins_of_all (parts_of cpus.items)) }
         ensures some_pin { IfErr result (λ held. 1 ≤ held.pins) }
         ensures cpus { IfErr result (λ held. held.cpus.items ≡ cpus.items) }
+        ensures sizes { IfErr result (λ held. held.system.sizes ≡ self.sizes) }
     {
-        let System { locked, tables } = self;
-        let locked = locked.into_inner();
-        locked.prove_quiet();
+        let (locked, tables) = self.into_parts();
         match end(locked, tables, cpus) {
             Ok(audit) => Ok(audit),
             Err(pinned) => Err(Held::of(pinned)),
@@ -50,6 +48,7 @@ impl<N: BootName> Held<N> {
     fn of(pinned: Pinned<N>) -> Held<N>
         ensures cpus { result.cpus.items ≡ pinned.cpus.items }
         ensures pins { result.pins ≡ pinned.pins }
+        ensures sizes { result.system.sizes ≡ pinned.locked.sizes }
     {
         let Pinned {
             locked,
@@ -57,11 +56,7 @@ impl<N: BootName> Held<N> {
             cpus,
             pins,
         } = pinned;
-        let locked = Mutex::new(locked);
-        Held {
-            system: System { locked, tables },
-            cpus,
-            pins,
-        }
+        let system = System::of(locked, tables);
+        Held { system, cpus, pins }
     }
 }

@@ -1,7 +1,6 @@
 //! The texts of the machine that a settled CPU gets.
 
-ghost use Rattle.std.specs.Prelude.{◌≡◌, ◌++◌, IfOk};
-ghost use Rattle.std.specs.String.{string_bytes};
+ghost use Rattle.std.specs.Prelude.{◌≡◌, IfOk};
 ghost use Rattle.machine_texts.specs.Blocks.{blocks_text};
 ghost use Rattle.machine_texts.specs.Show.{show_text};
 ghost use Rattle.mem_system.specs.Shown.{ReadsUnderLock, SettlesCaller};
@@ -69,9 +68,12 @@ impl<N: BootName> System<N> {
             (λ machine. IfOk result (λ text. text.items ≡ show_text machine)) cpu.old cpu.new }
         ensures settled { IsSettled cpu.new.part }
     {
-        let mut text = String::new(alloc);
-        self.show_into(rt, cpu, &mut text)?;
-        Ok(text.into_bytes())
+        let mut guard = self.lock(rt);
+        let locked = &mut *guard;
+        locked.prove_quiet();
+        let shown = show_text(alloc, locked, &self.tables, cpu);
+        locked.prove_quiet();
+        shown
     }
 
     /// What `blocks_text` returns, under the lock, as with `show_text`.
@@ -85,47 +87,11 @@ impl<N: BootName> System<N> {
             (λ machine. IfOk result (λ text. text.items ≡ blocks_text machine.blocks)) cpu.old cpu.new }
         ensures settled { IsSettled cpu.new.part }
     {
-        let mut text = String::new(alloc);
-        self.blocks_into(rt, cpu, &mut text)?;
-        Ok(text.into_bytes())
-    }
-
-    /// Adds what `System::show_text` returns to a text, which may have a part of it if memory runs out.
-    pub fn show_into<R: Wait>(
-        &self,
-        rt: &R,
-        cpu: &mut Cpu<N>,
-        text: &mut String,
-    ) -> Result<(), AllocError>
-        ensures text { ReadsUnderLock N.frames N.stocks (λ machine.
-            IfOk result (λ _. string_bytes text.new ≡ string_bytes text.old ++ show_text machine)) cpu.old cpu.new }
-        ensures settled { IsSettled cpu.new.part }
-    {
-        let mut guard = self.locked.lock(rt);
+        let mut guard = self.lock(rt);
         let locked = &mut *guard;
         locked.prove_quiet();
-        settle(locked, &self.tables, cpu);
+        let shown = blocks_text(alloc, locked, &self.tables, cpu);
         locked.prove_quiet();
-        write_show(&locked.machine, text)
-    }
-
-    /// Adds what `System::blocks_text` returns to a text, which may have a part of it if memory runs out.
-    pub fn blocks_into<R: Wait>(
-        &self,
-        rt: &R,
-        cpu: &mut Cpu<N>,
-        text: &mut String,
-    ) -> Result<(), AllocError>
-        ensures text { ReadsUnderLock N.frames N.stocks (λ machine.
-            IfOk result (λ _. string_bytes text.new ≡ string_bytes text.old ++ blocks_text machine.blocks))
-            cpu.old cpu.new }
-        ensures settled { IsSettled cpu.new.part }
-    {
-        let mut guard = self.locked.lock(rt);
-        let locked = &mut *guard;
-        locked.prove_quiet();
-        settle(locked, &self.tables, cpu);
-        locked.prove_quiet();
-        write_blocks(&locked.machine, text)
+        shown
     }
 }

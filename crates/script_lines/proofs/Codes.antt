@@ -1,6 +1,8 @@
 -- A name can be told by its number.
-use Rattle.std.proofs.Common.{◌≡◌, ◌≢◌, ℕ, zero, suc, ◌+◌, ◌*◌, ◌%◌, ◌^◌, ◌<◌, ◌≤◌, ◌⊎◌, inl, inr, List, [], ◌∷◌, All, length, take, get_or, arith, refl, sym, ap₂}
+use Rattle.std.proofs.Common.{◌≡◌, ◌≢◌, ℕ, zero, suc, ◌+◌, ◌*◌, ◌%◌, ◌/◌, ◌-◌, ◌^◌, ◌<◌, ◌≤◌, ◌⊎◌, inl, inr, List, [], ◌∷◌, All, length, take, get_or, arith, refl, sym, ap, ap₂, ◌∙◌}
 use Rattle.std.proofs.Math.Nat.{mod-eq_of_lt}
+use Rattle.std.proofs.lemmas.List.{get_or-take, length-take-le, take-take}
+use Rattle.std.proofs.lemmas.List.FromFn.{fill_by_all}
 use Rattle.std.proofs.lemmas.Bool.Decides.{eqb_tells}
 use Rattle.script_lines.specs.Names.{code_from, code_of}
 
@@ -103,3 +105,32 @@ same_code xs ys a b e = elim (in_order (length xs) (length ys)) [
     | inr more ↦ absurd (omega arith)
   ]
 ]
+
+-- behind a first bit, a shift leaves the number of the first of eight bytes
+shifted : (end n a b c d e f g h : ℕ) → a < 256 → b < 256 → c < 256 → d < 256 → e < 256 → f < 256 → g < 256 → h < 256
+    → n ≡ ((((((a * 256 + b) * 256 + c) * 256 + d) * 256 + e) * 256 + f) * 256 + g) * 256 + h → end ≤ 7
+    → (n / 2 + 2 ^ 63) / 2 ^ (63 - 8 * end) ≡ code_of (take end (a ∷ b ∷ c ∷ d ∷ e ∷ f ∷ g ∷ h ∷ []))
+shifted zero n a b c d e f g h a1 b1 c1 d1 e1 f1 g1 h1 is few = omega arith
+shifted (suc zero) n a b c d e f g h a1 b1 c1 d1 e1 f1 g1 h1 is few = omega arith
+shifted (suc (suc zero)) n a b c d e f g h a1 b1 c1 d1 e1 f1 g1 h1 is few = omega arith
+shifted (suc (suc (suc zero))) n a b c d e f g h a1 b1 c1 d1 e1 f1 g1 h1 is few = omega arith
+shifted (suc (suc (suc (suc zero)))) n a b c d e f g h a1 b1 c1 d1 e1 f1 g1 h1 is few = omega arith
+shifted (suc (suc (suc (suc (suc zero))))) n a b c d e f g h a1 b1 c1 d1 e1 f1 g1 h1 is few = omega arith
+shifted (suc (suc (suc (suc (suc (suc zero)))))) n a b c d e f g h a1 b1 c1 d1 e1 f1 g1 h1 is few = omega arith
+shifted (suc (suc (suc (suc (suc (suc (suc zero))))))) n a b c d e f g h a1 b1 c1 d1 e1 f1 g1 h1 is few = omega arith
+shifted (suc (suc (suc (suc (suc (suc (suc (suc n9)))))))) n a b c d e f g h a1 b1 c1 d1 e1 f1 g1 h1 is few = absurd (omega arith)
+
+-- the first eight, written out
+first_eight : (xs : List ℕ) → 8 ≤ length xs → take 8 xs ≡ get_or xs 0 0 ∷ get_or xs 1 0 ∷ get_or xs 2 0 ∷ get_or xs 3 0
+    ∷ get_or xs 4 0 ∷ get_or xs 5 0 ∷ get_or xs 6 0 ∷ get_or xs 7 0 ∷ []
+first_eight xs room =
+    fill_by_all (λ k. get_or xs k 0) (take 8 xs) 8 0 (length-take-le 8 xs room) (λ k h. get_or-take 8 xs k 0 h)
+
+-- and so of the first bytes of a text
+pub code_by_shift : (xs : List ℕ) (end n : ℕ) → 8 ≤ length xs → ((k : ℕ) → get_or xs k 0 < 256) → end ≤ 7
+    → n ≡ ((((((get_or xs 0 0 * 256 + get_or xs 1 0) * 256 + get_or xs 2 0) * 256 + get_or xs 3 0) * 256 + get_or xs 4 0) * 256
+    + get_or xs 5 0) * 256 + get_or xs 6 0) * 256 + get_or xs 7 0
+    → (n / 2 + 2 ^ 63) / 2 ^ (63 - 8 * end) ≡ code_of (take end xs)
+code_by_shift xs end n room bytes few is =
+    shifted end n _ _ _ _ _ _ _ _ (bytes 0) (bytes 1) (bytes 2) (bytes 3) (bytes 4) (bytes 5) (bytes 6) (bytes 7) is few
+    ∙ ap (λ front. code_of (take end front)) (sym (first_eight xs room)) ∙ ap code_of (take-take end 8 xs (omega arith))

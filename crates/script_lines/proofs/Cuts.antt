@@ -2,11 +2,11 @@
 use Rattle.std.proofs.Common.{◌≡◌, ◌≢◌, ℕ, zero, suc, ◌+◌, ◌-◌, ◌<◌, List, [], ◌∷◌, ◌++◌, arith, refl, sym, ap, ap₂, ◌∙◌, All, drop, get_or, length, take, inl, inr}
 use Rattle.std.proofs.Math.Seq.{drop-cons, get_or-append_seam}
 use Rattle.std.proofs.lemmas.Bool.{cases_lt}
-use Rattle.std.proofs.lemmas.List.{get_or-take, get_or_append_left, length-drop, length-take-le, take-append-drop, take_all}
+use Rattle.std.proofs.lemmas.List.{get_or-take, get_or_append_left, length-take-le, take-append-drop, take_rest}
 use Rattle.std.proofs.lemmas.Str.Parse.{digit_from_value}
 use Rattle.std.specs.Str.Parse.{AllDigits}
 use Rattle.script_lines.specs.Places.{IsPathEnd}
-use Rattle.script_lines.specs.Script.{IsCut, IsPathText}
+use Rattle.script_lines.specs.Script.{IsCut, IsCutAt, IsPathText}
 
 -- the text has no space
 abbrev pub NoSpace : List ℕ → Type 0
@@ -38,15 +38,22 @@ no_cut (b ∷ bs) [] s a e = let h : b ≡ 32 = cc in a 0 0 (omega arith) h
 no_cut (b ∷ bs) (y ∷ v) s a e = let tails : bs ≡ v ++ 32 ∷ s = cc in no_cut bs v s (no_space_tail b bs a) tails
 
 -- a text is cut at a space with none before it
-pub cut_at : (text : List ℕ) (end : ℕ) → end < length text → NoSpace (take end text) → get_or text end 0 ≡ 32
-    → IsCut text (take end text) (take (length text - (end + 1)) (drop (end + 1) text))
-cut_at text end more none here =
-    let rest = drop (end + 1) text in
-    let whole : take (length text - (end + 1)) rest ≡ rest = take_all _ rest (omega (arith, length-drop (end + 1) text)) in
+pub is_cut : (text : List ℕ) (end : ℕ) → end < length text → NoSpace (take end text) → get_or text end 0 ≡ 32 → IsCutAt text end
+is_cut text end more none here =
     let next : suc end ≡ end + 1 = omega arith in
     let space : drop end text ≡ 32 ∷ drop (suc end) text = drop-cons text end 0 more ∙ ap (λ (b : ℕ). b ∷ drop (suc end) text) here in
-    let parts : take end text ++ 32 ∷ rest ≡ text = rw (← next) (ap (λ t. take end text ++ t) (sym space) ∙ take-append-drop end text) in
-    rw whole (record { parts = sym parts; no_space = none })
+    let parts : take end text ++ 32 ∷ drop (end + 1) text ≡ text
+    = rw (← next) (ap (λ t. take end text ++ t) (sym space) ∙ take-append-drop end text) in
+    (more, record { parts = sym parts; no_space = none })
+
+-- and the slice behind that place is the rest
+pub cut_slice : (text : List ℕ) (end : ℕ) → IsCutAt text end
+    → IsCut text (take end text) (take (length text - (end + 1)) (drop (end + 1) text))
+cut_slice text end is = rw (take_rest text (end + 1)) is.1
+
+pub cut_at : (text : List ℕ) (end : ℕ) → end < length text → NoSpace (take end text) → get_or text end 0 ≡ 32
+    → IsCut text (take end text) (take (length text - (end + 1)) (drop (end + 1) text))
+cut_at text end more none here = cut_slice text end (is_cut text end more none here)
 
 -- a path has no space
 pub path_no_space : (path : List ℕ) → IsPathText path → NoSpace path

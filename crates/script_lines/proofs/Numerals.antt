@@ -1,8 +1,9 @@
 -- Decimal digits, one after the other.
 use Rattle.std.proofs.Common.{◌≡◌, ℕ, zero, suc, ◌+◌, ◌*◌, ◌^◌, ◌<◌, ◌≤◌, List, [], ◌∷◌, length, get_or, take, Option, None, arith, subst, sym, ap, ◌∙◌, ◌≢◌, ◌⊎◌, inl, inr}
+use Rattle.std.proofs.Math.Nat.{pow-le-pow_right}
 use Rattle.std.proofs.Math.Seq.{get_or-append_seam}
 use Rattle.std.proofs.lemmas.List.{get_or-take, get_or_append_left, length-take-le, take-append-le}
-use Rattle.std.proofs.lemmas.Int.Digits.{digits_value_more}
+use Rattle.std.proofs.lemmas.Int.Digits.{digits_value-lt, digits_value_more}
 use Rattle.std.proofs.lemmas.Str.Parse.{digits_value-take-le}
 use Rattle.std.specs.Char.{digit_value}
 use Rattle.std.specs.Option.{SomeIff}
@@ -33,6 +34,14 @@ too_great ds i v d h is_v is_d not_so all =
     let all_below : digits_value 10 ds < 2 ^ 32 = all.1 in
     let sum : v * 10 + d < 2 ^ 32 = omega arith in
     not_so sum
+
+-- the digits before the last of nine write a small number
+pub few_digits : (ds : List ℕ) (i : ℕ) → i < length ds → length ds ≤ 9 → AllDigits 10 (take i ds) → digits_value 10 (take i ds) < 10 ^ 8
+few_digits ds i h few all =
+    let taken = length-take-le i ds (omega arith) in
+    let below = digits_value-lt 10 (take i ds) all in
+    let most : 10 ^ length (take i ds) ≤ 10 ^ 8 = pow-le-pow_right {n = 10} (omega arith) {i = length (take i ds)} {j = 8} (omega arith) in
+    omega arith
 
 -- which of two is the greater
 in_order : (m n : ℕ) → (m < n) ⊎ (n ≤ m)

@@ -1,10 +1,10 @@
 -- The first place of a byte, by the marks of the first lanes.
-use Rattle.std.proofs.Common.{◌≡◌, ◌≢◌, ℕ, suc, ◌+◌, ◌*◌, ◌<◌, ◌≤◌, List, [], ◌∷◌, length, take, get_or, Bool, true, false, not, cond, eqb, arith, sym, ap, ◌∙◌}
+use Rattle.std.proofs.Common.{◌≡◌, ◌≢◌, ℕ, suc, ◌+◌, ◌*◌, ◌^◌, ◌<◌, ◌≤◌, List, [], ◌∷◌, ◌++◌, All, length, take, get_or, Bool, true, false, not, cond, eqb, arith, refl, sym, ap, ◌∙◌}
 use lib.Count.{count_trailing_zeros}
 use lib.Lanes.{chunk, mask_l}
 use mathlib.Core.List.{map}
-use Rattle.std.proofs.lemmas.Bool.{eqb-false, eqb-true}
-use Rattle.std.proofs.lemmas.List.{get_or-take, length-take-le}
+use Rattle.std.proofs.lemmas.Bool.{eq-eqb, eqb-false, eqb-true}
+use Rattle.std.proofs.lemmas.List.{get_or-take, get_or_append_left, length-append, length-take-le, take-append-le, take-take, take_all}
 use Rattle.std.proofs.lemmas.Simd.{length-chunk, run_in_chunk_fails, run_in_chunk_stops, trailing_mask_l}
 use Rattle.std.specs.List.{prefix_len}
 use Rattle.script_lines.specs.Places.{IsFirstPlace}
@@ -18,27 +18,59 @@ stops : (p : ℕ → Bool) (xs : List ℕ) → 0 < mask_l (map p xs) → prefix_
 stops p [] h = absurd (omega arith)
 stops p (x ∷ xs) h = stops_here (p x) (mask_l (map p xs)) (prefix_len (λ y. not (p y)) xs) (length xs) (stops p xs) h
 
--- the lowest mark of the first 32 lanes is the first place
-pub first_marked : (wanted : ℕ) (text : List ℕ) (marks : ℕ) → 32 ≤ length text → marks ≡ mask_l (map (λ x. eqb x wanted) (chunk 0 32 text)) → marks ≢ 0
-    → IsFirstPlace wanted text (count_trailing_zeros 64 marks)
-first_marked wanted text marks room is some =
-    let v = chunk 0 32 text in
-    let long : length v ≡ 32 = length-chunk 0 32 text (omega arith) in
+-- the lowest mark of the first lanes is the first place
+pub first_marked : (lanes wanted : ℕ) (text : List ℕ) (marks : ℕ) → lanes ≤ 64 → lanes ≤ length text
+    → marks ≡ mask_l (map (λ x. eqb x wanted) (chunk 0 lanes text)) → marks ≢ 0
+    → (count_trailing_zeros 64 marks < lanes) × IsFirstPlace wanted text (count_trailing_zeros 64 marks)
+first_marked lanes wanted text marks few room is some =
+    let v = chunk 0 lanes text in
+    let long : length v ≡ lanes = length-chunk 0 lanes text (omega arith) in
     let marked : 0 < mask_l (map (λ x. eqb x wanted) v) = omega arith in
     let place = count_trailing_zeros 64 marks in
     let counted : place ≡ prefix_len (λ x. not (eqb x wanted)) v
     = ap (count_trailing_zeros 64) is ∙ trailing_mask_l (λ x. eqb x wanted) 64 v (omega arith) marked in
     let short = stops (λ x. eqb x wanted) v marked in
-    let low : place < 32 = omega arith in
-    let here : eqb (get_or text (0 + place) 0) wanted ≡ true = run_in_chunk_stops (λ x. eqb x wanted) text 0 32 place 0 (omega arith) counted low in
-    let at : 0 + place ≡ place = omega arith in
-    record {
-      inside = omega arith;
-      here = eqb-true (get_or text place 0) wanted (rw at at here);
-      before = λ k d h.
-          let taken = length-take-le place text (omega arith) in
-          let fails : eqb (get_or text k d) wanted ≡ false
-          = run_in_chunk_fails (λ x. eqb x wanted) text 0 32 place d (omega arith) counted k (omega arith) (omega arith) in
-          let same : get_or (take place text) k d ≡ get_or text k d = get_or-take place text k d (omega arith) in
-          λ e. eqb-false (get_or text k d) wanted fails (sym same ∙ e);
-    }
+    let low : place < lanes = omega arith in
+    let here : eqb (get_or text (0 + place) 0) wanted ≡ true = run_in_chunk_stops (λ x. eqb x wanted) text 0 lanes place 0 (omega arith) counted low in
+    let at : 0 + place ≡ place = omega arith in (
+      low,
+      record {
+        inside = omega arith;
+        here = eqb-true (get_or text place 0) wanted (rw at at here);
+        before = λ k d h.
+            let taken = length-take-le place text (omega arith) in
+            let fails : eqb (get_or text k d) wanted ≡ false
+            = run_in_chunk_fails (λ x. eqb x wanted) text 0 lanes place d (omega arith) counted k (omega arith) (omega arith) in
+            let same : get_or (take place text) k d ≡ get_or text k d = get_or-take place text k d (omega arith) in
+            λ e. eqb-false (get_or text k d) wanted fails (sym same ∙ e);
+      },
+    )
+
+mask_more : (p : ℕ → Bool) (xs : List ℕ) (y : ℕ) → p y ≡ true → mask_l (map p (xs ++ y ∷ [])) ≡ mask_l (map p xs) + 2 ^ length xs
+mask_more p [] y e = rw e refl
+mask_more p (x ∷ xs) y e =
+    let more = mask_more p xs y e in
+    let double : 2 ^ suc (length xs) ≡ 2 * 2 ^ length xs = omega arith in
+    omega (arith, more, double)
+
+-- the lowest mark of the first eight, with one more behind them
+pub near_marked : (wanted : ℕ) (text : List ℕ) (marks : ℕ) → 8 ≤ length text → marks ≡ mask_l (map (λ x. eqb x wanted) (chunk 0 8 text))
+    → (count_trailing_zeros 64 (marks + 256) ≤ 8) × All (λ b. b ≢ wanted) (take (count_trailing_zeros 64 (marks + 256)) text)
+    × (count_trailing_zeros 64 (marks + 256) < 8 → get_or text (count_trailing_zeros 64 (marks + 256)) 0 ≡ wanted)
+near_marked wanted text marks room is =
+    let v = take 8 text in
+    let padded = v ++ wanted ∷ [] in
+    let place = count_trailing_zeros 64 (marks + 256) in
+    let long : length v ≡ 8 = length-take-le 8 text room in
+    let nine : length padded ≡ 9 = length-append v (wanted ∷ []) ∙ ap (λ n. n + 1) long in
+    let whole : take 9 padded ≡ padded = take_all 9 padded (omega arith) in
+    let more : mask_l (map (λ x. eqb x wanted) padded) ≡ mask_l (map (λ x. eqb x wanted) v) + 2 ^ length v = mask_more (λ x. eqb x wanted) v wanted (eq-eqb wanted wanted refl) in
+    let size : 2 ^ length v ≡ 256 = rw long refl in
+    let all : marks + 256 ≡ mask_l (map (λ x. eqb x wanted) padded) = omega (arith, more, size, is) in
+    let found = first_marked 9 wanted padded (marks + 256) (omega arith) (omega arith) (rw whole all) (λ e. omega arith) in
+    let low : place ≤ 8 = omega (arith, found.0) in
+    let front : take place padded ≡ take place text = take-append-le place v (wanted ∷ []) (omega arith) ∙ take-take place 8 text low in (
+      low,
+      rw front at found.1.before,
+      λ near. sym (get_or_append_left v (wanted ∷ []) 0 place (omega arith) ∙ get_or-take 8 text place 0 near) ∙ found.1.here,
+    )

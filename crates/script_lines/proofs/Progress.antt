@@ -11,7 +11,7 @@ use Rattle.std.proofs.lemmas.List.Elements.{filter-append}
 use Rattle.std.proofs.lemmas.List.Splits.{length-slice_split}
 use Rattle.std.proofs.Math.Seq.{drop-cons}
 use Rattle.std.proofs.lemmas.Option.{get_or_from_slice_get, slice_get-get_or}
-use Rattle.script_lines.specs.Script.{AreLines, IsFirstBadLine, IsGoodLine, IsLineText, IsScript, asking_texts, ended_lines}
+use Rattle.script_lines.specs.Script.{AreLines, IsFirstBadLine, IsGoodLine, IsLimit, IsLineText, IsScript, asking_texts, ended_lines}
 use Rattle.script_lines.specs.Script.{has_go, is_go, is_skipped, texts_left, texts_of}
 use Rattle.zone_blocks.specs.declared.config.Config.{Config}
 use Rattle.script_lines.specs.declared.line.Line.{Line}
@@ -35,6 +35,15 @@ IsLeft script count rest = drop count (texts_of script) ≡ texts_left rest
 -- the number of the first line that is too far, if any
 abbrev pub IsOver : List ℕ → Option ℕ → Type 0
 IsOver script over = MatchOption over (length script ≤ 1048576) (λ n. (1048576 < length script) × (n ≡ ended_lines (take 1048576 script) + 1))
+
+-- a limit tells that number
+pub over_of : (script : List ℕ) (limit : ℕ) → IsLimit script limit → (over : Option ℕ) × IsOver script over
+    × ((n : ℕ) → n < limit → IfSome over (λ first. n < first))
+    × ((n : ℕ) → n < 18446744073709551615 → limit ≤ n → ¬ IfSome over (λ first. n < first))
+over_of script limit is = elim (cases_lt 1048576 (length script)) [
+  | inl long ↦ (Some limit, (long, is.0 long), (λ n h. h), (λ n small far near. omega arith))
+  | inr fits ↦ let none = is.1 fits in (None, fits, (λ n h. tt), (λ n small far near. absurd (omega arith)))
+]
 
 zip_push : {A B : Type 0} (R : A → B → Type 0) (xs : List A) (ys : List B) (x : A) (y : B) → AllZip R xs ys → R x y → AllZip R (xs ++ x ∷ []) (ys ++ y ∷ [])
 zip_push R [] [] x y all r = (r, tt)
@@ -214,25 +223,26 @@ ended_more n script =
     omega arith
 
 -- the last of the lines is within the bytes that a script may have
-fits_when_good : (sizes : Config) (script : List ℕ) (over : Option ℕ) → IsOver script over
+fits_when_good : (sizes : Config) (script : List ℕ)
     → ((n : ℕ) → 1 ≤ n → n ≤ length (texts_of script) → IsGoodLine sizes script n) → length script ≤ 1048576
-fits_when_good sizes script None is_over good = is_over
-fits_when_good sizes script (Some first) is_over good =
-    let count = length-slice_split (λ b. b == 10) script in
-    let ended = ended_more 1048576 script in
-    let last = (good (length (texts_of script)) (omega arith) (omega arith)).within is_over.0 in
-    absurd (omega arith)
+fits_when_good sizes script good = elim (cases_lt 1048576 (length script)) [
+  | inl long ↦
+      let count = length-slice_split (λ b. b == 10) script in
+      let ended = ended_more 1048576 script in
+      let last = (good (length (texts_of script)) (omega arith) (omega arith)).within long in
+      absurd (omega arith)
+  | inr fits ↦ fits
+]
 
 -- after the last line
-pub is_whole : (sizes : Config) (script : List ℕ) (count : ℕ) (had_go : Bool) (lines : List Line) (over : Option ℕ)
-    → IsReadTo sizes script count had_go lines → count ≡ length (texts_of script) → IsOver script over
-    → IsScript sizes script lines
-is_whole sizes script count had_go lines over so_far all is_over =
+pub is_whole : (sizes : Config) (script : List ℕ) (count : ℕ) (had_go : Bool) (lines : List Line)
+    → IsReadTo sizes script count had_go lines → count ≡ length (texts_of script) → IsScript sizes script lines
+is_whole sizes script count had_go lines so_far all =
     let good : (n : ℕ) → 1 ≤ n → n ≤ length (texts_of script) → IsGoodLine sizes script n = λ n low high. so_far.good n low (omega arith) in
     let taken : take count (texts_of script) ≡ texts_of script = take_all count (texts_of script) (omega arith) in
     let P : List (List ℕ) → Type 0 = λ texts. AreLines sizes texts lines in
     record {
-      fits = fits_when_good sizes script over is_over good;
+      fits = fits_when_good sizes script good;
       good = good;
       says = subst P taken so_far.says;
     }
@@ -270,3 +280,12 @@ few_lines script =
     let count = length-slice_split (λ b. b == 10) script in
     let few = count_by-le-length (λ b. b == 10) script in
     omega arith
+
+-- a line that isn't `go` changes nothing
+pub went_on : (had_go goes : Bool) → goes ≡ false → had_go ≡ (had_go || goes)
+went_on true goes e = refl
+went_on false goes e = sym e
+
+pub went_now : (had_go goes : Bool) → goes ≡ true → true ≡ (had_go || goes)
+went_now true goes e = refl
+went_now false goes e = sym e

@@ -1,8 +1,11 @@
 -- What a text says, once it is cut at its first space.
-use Rattle.std.proofs.Common.{◌≡◌, ℕ, List, ◌∷◌, ◌++◌, Option, None, Some, MatchOption, subst, sym, ap, ◌∙◌, codes, Bool, true, false, inl, inr}
+use Rattle.std.proofs.Common.{◌≡◌, ℕ, List, ◌∷◌, ◌++◌, Option, None, Some, MatchOption, subst, sym, ap, ◌∙◌, codes, Bool, true, false, inl, inr, ◌<◌, [], arith, refl, length, nat_eq}
+use Rattle.std.proofs.lemmas.Bool.{eqb-true, ne_eqb}
+use Rattle.std.proofs.lemmas.Str.Parse.{digit_from_value}
+use Rattle.std.specs.Str.Parse.{AllDigits}
 use Rattle.zone_blocks.specs.declared.config.Config.{Config}
 use Rattle.script_lines.specs.Script.{BeginsWithName, HasArguments, IsAllocText, IsCommandText, IsCut, IsPathText}
-use Rattle.script_lines.specs.Script.{IsLineText, IsReadText, IsRequestText, IsWriteText, WritesNumber, is_go}
+use Rattle.script_lines.specs.Script.{IsLineText, IsReadText, IsRequestText, IsWriteText, WritesNumber, is_go, is_skipped}
 use Rattle.script_lines.specs.declared.line.Line.{Line}
 use Rattle.script_lines.specs.declared.line.Line.TheVariants.{Go, At}
 use Rattle.script_lines.specs.declared.line.Command.{Command}
@@ -23,6 +26,29 @@ pub not_asked : (sizes : Config) (n : ℕ) (text : List ℕ) → is_go text ≡ 
     → ((cpu : ℕ) (command : Command) → ¬ IsRequestText sizes cpu command text) → (line : Line) → ¬ IsLineText sizes n line text
 not_asked sizes n text goes none Go is = let now : is_go (codes "go") ≡ false = rw is at goes in cc
 not_asked sizes n text goes none (At number cpu command) is = none cpu command is.1
+
+digits_ask : (ds rest : List ℕ) → 0 < length ds → AllDigits 10 ds → is_skipped (ds ++ 32 ∷ rest) ≡ false
+digits_ask [] rest some all = absurd (omega arith)
+digits_ask (c ∷ cs) rest some all = ne_eqb c 35 (λ e. let range = digit_from_value c all.0 in omega arith)
+
+digits_no_go : (ds rest : List ℕ) → 0 < length ds → AllDigits 10 ds → is_go (ds ++ 32 ∷ rest) ≡ false
+digits_no_go [] rest some all = absurd (omega arith)
+digits_no_go (c ∷ cs) rest some all =
+    let other : nat_eq c 103 ≡ false = ne_eqb c 103 (λ e. let range = digit_from_value c all.0 in omega arith) in
+    rw other refl
+
+-- a request asks for something
+pub request_asks : (sizes : Config) (cpu : ℕ) (command : Command) (text : List ℕ) → IsRequestText sizes cpu command text → is_skipped text ≡ false
+request_asks sizes cpu command text is = rw is.parts (digits_ask is.digits is.rest is.writes.digits.0 is.writes.digits.1)
+
+-- and isn't `go`
+pub request_no_go : (sizes : Config) (cpu : ℕ) (command : Command) (text : List ℕ) → IsRequestText sizes cpu command text → is_go text ≡ false
+request_no_go sizes cpu command text is = rw is.parts (digits_no_go is.digits is.rest is.writes.digits.0 is.writes.digits.1)
+
+-- what isn't asked for isn't `go`
+pub skipped_no_go : (text : List ℕ) → is_skipped text ≡ true → is_go text ≡ false
+skipped_no_go [] e = refl
+skipped_no_go (b ∷ bs) e = let hash : b ≡ 35 = eqb-true b 35 e in rw hash refl
 
 -- what follows the path of `alloc` is its order
 pub alloc_order : (text w r : List ℕ) → IsCut text w r → (path : List ℕ) (order : ℕ) → IsAllocText path order text → WritesNumber r order

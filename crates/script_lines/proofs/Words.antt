@@ -1,13 +1,16 @@
 -- The first word of a text, which may name a command.
-use Rattle.std.proofs.Common.{◌≡◌, ◌≢◌, ℕ, ◌+◌, ◌-◌, ◌<◌, ◌≤◌, List, ◌∷◌, ◌++◌, ◌⊎◌, inl, inr, true, length, take, drop, get_or, arith, refl, ◌∙◌}
-use Rattle.std.proofs.lemmas.List.{length-take-le, take_all}
+use Rattle.std.proofs.Common.{◌≡◌, ◌≢◌, ℕ, ◌+◌, ◌-◌, ◌<◌, ◌≤◌, List, ◌∷◌, ◌++◌, ◌⊎◌, inl, inr, true, length, take, drop, get_or, arith, refl, sym, ap, ◌∙◌}
+use Rattle.std.proofs.Math.Seq.{get_or-append_seam}
+use Rattle.std.proofs.lemmas.List.{get_or-take, get_or_default, length-take-le, take_all}
 use Rattle.std.proofs.lemmas.Bool.Decides.{eqb_tells}
 use Rattle.script_lines.specs.Names.{IsWordEnd, is_word}
+use Rattle.script_lines.specs.Places.{IsFrontOf}
 use Rattle.script_lines.specs.Script.{BeginsWithName, IsCut}
 use Rattle.script_lines.specs.Verb.{name_of_verb}
 use Rattle.script_lines.specs.declared.verb.Verb.{Verb}
 use Rattle.script_lines.proofs.Codes.{AreBytes}
 use Rattle.script_lines.proofs.Cuts.{NoSpace, cut_at, cut_once, no_cut}
+use Rattle.script_lines.proofs.Fronts.{front_byte, front_take}
 use Rattle.script_lines.proofs.Verbs.{name_no_space, name_short, word_told}
 
 pub word_no_space : (text : List ℕ) (end : ℕ) → IsWordEnd text end → NoSpace (take end text)
@@ -64,3 +67,33 @@ too_long text end v is long b =
     let taken = length-take-le end text is.inside in
     let short = name_short v in
     omega arith
+
+-- where no byte before the end is a space, and a space or nothing follows, there the first word ends
+pub word_ends : (text wide : List ℕ) (end : ℕ) → IsFrontOf text wide → ((k : ℕ) → get_or text k 0 < 256) → end ≤ length text
+    → NoSpace (take end wide) → (end < length text → get_or wide end 0 ≡ 32) → IsWordEnd text end
+word_ends text wide end front bytes inside none stop =
+    let same : take end wide ≡ take end text = sym (front_take text wide end front inside) in
+    let other : NoSpace (take end text) = rw same at none in
+    record {
+      inside = inside;
+      bytes = λ k d h.
+          let taken = length-take-le end text inside in
+          let here : get_or (take end text) k d ≡ get_or text k 0 = get_or-take end text k d (omega arith) ∙ get_or_default text k d 0 (omega arith) in
+          (other k d h, rw here (bytes k));
+      stop = λ more. front_byte text wide end front more ∙ stop more;
+    }
+
+-- where the first eight bytes have no space, no name ends there
+pub no_near_space : (text wide : List ℕ) (v : Verb) → IsFrontOf text wide → 7 < length text → NoSpace (take 8 wide) → ¬ BeginsWithName v text
+no_near_space text wide v front long none (inl e) =
+    let lengths : length text ≡ length (name_of_verb v) = ap length e in
+    let short = name_short v in
+    absurd (omega arith)
+no_near_space text wide v front long none (inr e) =
+    let short = name_short v in
+    let n = length (name_of_verb v) in
+    let taken = length-take-le 8 text (omega arith) in
+    let same : take 8 wide ≡ take 8 text = sym (front_take text wide 8 front (omega arith)) in
+    let other : NoSpace (take 8 text) = rw same at none in
+    let space : get_or text n 0 ≡ 32 = rw e.1 (get_or-append_seam (name_of_verb v) 32 e.0 0) in
+    other n 0 (omega arith) (get_or-take 8 text n 0 short ∙ space)

@@ -15,6 +15,10 @@ code_of name = code_from 1 name
 abbrev pub longest_command_name : ℕ
 longest_command_name = 7
 
+-- how many bytes are read as one number
+abbrev pub bytes_at_once : ℕ
+bytes_at_once = 8
+
 -- whether each of the text is a byte, and none is a space
 abbrev pub is_word : List ℕ → Bool
 is_word [] = true

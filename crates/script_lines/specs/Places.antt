@@ -7,6 +7,10 @@ pub record IsFirstPlace (wanted : ℕ) (text : List ℕ) (place : ℕ) : Type 0 
   pub here : slice_index text place ≡ wanted
   pub before : All (λ b. b ≢ wanted) (take place text)
 
+-- the wide text begins with this one
+abbrev pub IsFrontOf : List ℕ → List ℕ → Type 0
+IsFrontOf text wide = text ≡ take (length text) wide
+
 -- the first place in the text of a byte that no path has
 pub record IsPathEnd (text : List ℕ) (place : ℕ) : Type 0 where
   pub inside : place < length text

@@ -1,6 +1,6 @@
 -- The form of a script: lines that each end with a line feed, which the last may lack.
-use Rattle.std.specs.Prelude.{◌≡◌, ◌≢◌, ◌⊎◌, ℕ, Bool, true, false, not, ◌==◌, ◌-◌, ◌<◌, ◌≤◌, List, [], ◌∷◌, ◌++◌, All}
-use Rattle.std.specs.Prelude.{codes, nat_eq, count_by, filter, length, slice_get, take, Option, None, Some, ⊤}
+use Rattle.std.specs.Prelude.{◌≡◌, ◌≢◌, ◌⊎◌, ℕ, Bool, true, false, not, ◌==◌, ◌+◌, ◌-◌, ◌<◌, ◌≤◌, List, [], ◌∷◌, ◌++◌, All}
+use Rattle.std.specs.Prelude.{codes, nat_eq, count_by, drop, filter, length, slice_get, take, Option, None, Some, ⊤}
 use Rattle.std.specs.Borrow.{Bor}
 use Rattle.std.specs.List.{AllZip, enumerate_from, list_any, slice_split}
 use Rattle.std.specs.Cmp.Lexicographic.{pointwise}
@@ -37,6 +37,10 @@ texts_left (Some rest) = texts_of rest.now
 pub record IsCut (text word rest : List ℕ) : Type 0 where
   pub parts : text ≡ word ++ 32 ∷ rest
   pub no_space : All (λ b. b ≢ 32) word
+
+-- the text is cut at this place, which has its first space
+abbrev pub IsCutAt : List ℕ → ℕ → Type 0
+IsCutAt text end = (end < length text) × IsCut text (take end text) (drop (end + 1) text)
 
 -- the text is the name of this command, or goes on with a space behind it
 abbrev pub BeginsWithName : Verb → List ℕ → Type 0
@@ -86,6 +90,11 @@ has_go texts = list_any is_go texts
 -- how many bytes of a script are line feeds, and so how many lines end in it
 abbrev pub ended_lines : List ℕ → ℕ
 ended_lines script = count_by (λ b. b == 10) script
+
+-- the lines from this number on are past what a script may have; no line has the number 2^64 - 1
+abbrev pub IsLimit : List ℕ → ℕ → Type 0
+IsLimit script limit = (longest_script < length script → limit ≡ ended_lines (take longest_script script) + 1)
+    × (length script ≤ longest_script → limit ≡ 18446744073709551615)
 
 -- the n-th line is at most 1,024 bytes, is within the 1,048,576 bytes that a script may have, is `go`, `P COMMAND` or
 -- skipped, and isn't a second `go`

@@ -1,9 +1,13 @@
 //! The place of a byte.
 
-ghost use Rattle.std.specs.Prelude.{◌≢◌, ◌<◌, All, MatchOption};
+ghost use Rattle.std.specs.Prelude.{◌≡◌, ◌≢◌, ◌<◌, ◌≤◌, All, MatchOption, length, slice_index, take};
+ghost use Rattle.script_lines.specs.Names.{bytes_at_once};
 ghost use Rattle.script_lines.specs.Places.{IsFirstPlace, IsPathEnd};
 
 use std::simd::prelude::*;
+
+/// The mark behind those of eight bytes.
+const BEHIND_EIGHT: u64 = 256;
 
 /// The place of the first byte that is `wanted`. The first 32 bytes are compared at once: most lines end there.
 pub fn place_of(wanted: u8, text: &[u8]) -> Option<usize>
@@ -35,4 +39,18 @@ pub fn path_end(text: &[u8]) -> Option<usize>
     ensures { MatchOption result (All (λ b. (32 < b) × (b < 127)) text.now) (λ end. IsPathEnd text.now end) }
 {
     text.iter().position(|byte| !byte.is_ascii_graphic())
+}
+
+/// The place of the first space in the first eight bytes, which are compared at once; 8 if there is none.
+#[inline(always)]
+pub(crate) fn near_space(text: &[u8]) -> usize
+    requires { bytes_at_once ≤ length text.now }
+    ensures low { result ≤ bytes_at_once }
+    ensures before { All (λ b. b ≢ 32) (take result text.now) }
+    ensures stop { result < bytes_at_once → slice_index text.now result ≡ 32 }
+{
+    let marks = u8x8::from_slice(text)
+        .simd_eq(u8x8::splat(b' '))
+        .to_bitmask();
+    (marks + BEHIND_EIGHT).trailing_zeros() as usize
 }

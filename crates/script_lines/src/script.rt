@@ -2,7 +2,8 @@
 
 ghost use Rattle.std.specs.Prelude.{◌≡◌, ◌≢◌, ◌↔◌, ◌∷◌, ◌++◌, ℕ, ◌+◌, ◌<◌, ◌≤◌, All, IfErr, IfOk, IfSome, IsTrue, List};
 ghost use Rattle.std.specs.Prelude.{MatchOption, length, take};
-ghost use Rattle.script_lines.specs.Script.{HasArguments, IsAllocText, IsCommandText, IsCut, IsFirstBadLine};
+ghost use Rattle.script_lines.specs.Places.{IsFrontOf};
+ghost use Rattle.script_lines.specs.Script.{HasArguments, IsAllocText, IsCommandText, IsCut, IsFirstBadLine, IsLimit};
 ghost use Rattle.script_lines.specs.Script.{IsFrameText, IsGroupText, IsLineText, IsPathText, IsReadText};
 ghost use Rattle.script_lines.specs.Script.{IsRequestText, IsScript, IsWriteText, NamesFirstBadLine, ended_lines};
 ghost use Rattle.script_lines.specs.Script.{is_go, is_skipped, longest_script, texts_left, texts_of};
@@ -14,7 +15,7 @@ use crate::fault::ScriptFault;
 use crate::line::{Command, Line};
 use crate::number::{first_number, number};
 use crate::place::{path_end, place_by_one, place_of};
-use crate::verb::{Names, Verb, command_names, first_verb};
+use crate::verb::{Names, Verb, command_names, first_verb_within};
 use group_tree::group::MAX_GROUPS;
 use std::alloc::Global;
 use zone_blocks::config::Config;
@@ -44,7 +45,7 @@ pub fn parse_script<'a>(
     parse_lines(alloc, &names, input, sizes)
 }
 
-// The lines, by the table of the commands' names.
+// The lines, by the table of the commands' names. Most lines are a CPU and a command, so that is tried first.
 fn parse_lines<'a>(
     alloc: Global,
     names: &Names,
@@ -55,7 +56,7 @@ fn parse_lines<'a>(
     ensures ok { IfOk result (λ lines. IsScript sizes.now input.now lines.items) }
     ensures bad_line { IfErr result (NamesFirstBadLine sizes.now input.now) }
 {
-    let over = first_line_past_limit(input);
+    let limit = first_number_past_limit(input);
     let mut lines = Vec::new(alloc);
     let mut had_go = false;
     let mut number = 0;
@@ -64,21 +65,28 @@ fn parse_lines<'a>(
         let (text, after) = first_line(left);
         rest = after;
         number += 1;
-        if text.len() > MAX_LINE || !is_within(number, over) {
+        if text.len() > MAX_LINE || number >= limit {
             return Err(ScriptFault::BadLine(number));
         }
-        let goes = is_go(text);
-        if had_go && goes {
-            return Err(ScriptFault::BadLine(number));
+        if let Some((cpu, command)) = parse_request(names, text, left, sizes) {
+            lines.push(Line::At {
+                number,
+                cpu,
+                command,
+            })?;
+            continue;
         }
-        had_go = had_go || goes;
         if is_skipped(text) {
             continue;
         }
-        match parse_line(names, number, text, sizes) {
-            Some(line) => lines.push(line)?,
-            None => return Err(ScriptFault::BadLine(number)),
+        if !is_go(text) {
+            return Err(ScriptFault::BadLine(number));
         }
+        if had_go {
+            return Err(ScriptFault::BadLine(number));
+        }
+        had_go = true;
+        lines.push(Line::Go)?;
     }
     Ok(lines)
 }
@@ -107,6 +115,14 @@ pub fn first_line_past_limit(input: &[u8]) -> Option<usize>
         .filter(|byte| **byte == b'\n')
         .count();
     Some(before + 1)
+}
+
+// The number of the line with the first byte past the most; if there is none, one that no line has. So a single
+// comparison is made for each line.
+fn first_number_past_limit(input: &[u8]) -> usize
+    ensures { IsLimit input.now result }
+{
+    first_line_past_limit(input).unwrap_or(usize::MAX)
 }
 
 /// Whether the line of this number is before the one at which the script is too long.
@@ -153,7 +169,7 @@ pub fn parse_line<'a>(
     if is_go(text) {
         return Some(Line::Go);
     }
-    let (cpu, command) = parse_request(names, text, sizes)?;
+    let (cpu, command) = parse_request(names, text, text, sizes)?;
     Some(Line::At {
         number,
         cpu,
@@ -161,29 +177,41 @@ pub fn parse_line<'a>(
     })
 }
 
-// The CPU and the command.
+// The CPU and the command of a text that a wider one begins with.
 #[inline(always)]
-fn parse_request<'a>(names: &Names, text: &'a [u8], sizes: &Config) -> Option<(u32, Command<'a>)>
-    requires { IsNames names.now }
+fn parse_request<'a>(
+    names: &Names,
+    text: &'a [u8],
+    wide: &[u8],
+    sizes: &Config,
+) -> Option<(u32, Command<'a>)>
+    requires names { IsNames names.now }
+    requires front { IsFrontOf text.now wide.now }
     ensures { MatchOption result
         ((cpu : ℕ) (command : Command) → ¬ IsRequestText sizes.now cpu command text.entry.now)
         (λ r. IsRequestText sizes.now r.0 r.1 text.entry.now) }
 {
-    let (cpu, rest) = first_number(text)?;
+    let (cpu, end) = first_number(text)?;
     if cpu < 1 || sizes.cpus < cpu {
         return None;
     }
-    let command = parse_command(names, rest, sizes)?;
+    let command = parse_command(names, &text[end + 1..], &wide[end + 1..], sizes)?;
     Some((cpu, command))
 }
 
 #[inline(always)]
-fn parse_command<'a>(names: &Names, text: &'a [u8], sizes: &Config) -> Option<Command<'a>>
-    requires { IsNames names.now }
+fn parse_command<'a>(
+    names: &Names,
+    text: &'a [u8],
+    wide: &[u8],
+    sizes: &Config,
+) -> Option<Command<'a>>
+    requires names { IsNames names.now }
+    requires front { IsFrontOf text.now wide.now }
     ensures { MatchOption result ((command : Command) → ¬ IsCommandText sizes.now command text.entry.now)
         (λ command. IsCommandText sizes.now command text.entry.now) }
 {
-    let (verb, rest) = first_verb(names, text)?;
+    let (verb, rest) = first_verb_within(names, text, wide)?;
     match rest {
         None => match verb {
             Verb::Settle => Some(Command::Settle),
@@ -197,6 +225,7 @@ fn parse_command<'a>(names: &Names, text: &'a [u8], sizes: &Config) -> Option<Co
 }
 
 // The command of this name, with its arguments.
+#[inline(always)]
 fn parse_arguments<'a>(verb: Verb, arguments: &'a [u8], sizes: &Config) -> Option<Command<'a>>
     ensures { MatchOption result
         ((command : Command) → its_verb command ≡ verb → ¬ HasArguments sizes.now command arguments.entry.now)
@@ -234,6 +263,7 @@ fn parse_arguments<'a>(verb: Verb, arguments: &'a [u8], sizes: &Config) -> Optio
 }
 
 // The command about this frame. None for a command that names no frame.
+#[inline(always)]
 fn on_frame<'a>(verb: Verb, frame: u32) -> Option<Command<'a>>
     ensures { result ≡ on_frame verb frame }
 {
@@ -250,6 +280,7 @@ fn on_frame<'a>(verb: Verb, frame: u32) -> Option<Command<'a>>
 }
 
 // The frame of the zone that has this number.
+#[inline(always)]
 fn frame_of(text: &[u8], sizes: &Config) -> Option<u32>
     ensures { MatchOption result ((frame : ℕ) → ¬ IsFrameText sizes.now frame text.now)
         (λ frame. IsFrameText sizes.now frame text.now) }
@@ -263,6 +294,7 @@ fn frame_of(text: &[u8], sizes: &Config) -> Option<u32>
 }
 
 // The number of a group.
+#[inline(always)]
 fn group_of(text: &[u8]) -> Option<u32>
     ensures { MatchOption result ((group : ℕ) → ¬ IsGroupText group text.now) (λ group. IsGroupText group text.now) }
 {
@@ -275,6 +307,7 @@ fn group_of(text: &[u8]) -> Option<u32>
 }
 
 // The path and the order.
+#[inline(always)]
 fn parse_alloc(arguments: &[u8]) -> Option<(&[u8], u32)>
     ensures { MatchOption result
         ((path : List ℕ) (order : ℕ) → ¬ IsAllocText path order arguments.now)
@@ -285,6 +318,7 @@ fn parse_alloc(arguments: &[u8]) -> Option<(&[u8], u32)>
 }
 
 // The path, the file's name and the value, which is all that follows the space after the name.
+#[inline(always)]
 fn parse_write(arguments: &[u8]) -> Option<(&[u8], &[u8], &[u8])>
     ensures { MatchOption result
         ((path : List ℕ) (file : List ℕ) (value : List ℕ) → ¬ IsWriteText path file value arguments.now)
@@ -296,6 +330,7 @@ fn parse_write(arguments: &[u8]) -> Option<(&[u8], &[u8], &[u8])>
 }
 
 // The path and the file's name.
+#[inline(always)]
 fn parse_read(arguments: &[u8]) -> Option<(&[u8], &[u8])>
     ensures { MatchOption result
         ((path : List ℕ) (file : List ℕ) → ¬ IsReadText path file arguments.now)
@@ -307,6 +342,7 @@ fn parse_read(arguments: &[u8]) -> Option<(&[u8], &[u8])>
 
 // The path, or file name, before the first space, and what follows that space. None if there is none, or no path before
 // it.
+#[inline(always)]
 fn first_path(text: &[u8]) -> Option<(&[u8], &[u8])>
     ensures { MatchOption result
         ((path : List ℕ) (rest : List ℕ) → IsPathText path → text.now ≢ path ++ 32 ∷ rest)
@@ -331,6 +367,7 @@ pub fn first_word(text: &[u8]) -> Option<(&[u8], &[u8])>
 }
 
 // The text, if it is a path or a file name: one or more bytes above 32 and below 127.
+#[inline(always)]
 fn path_of(text: &[u8]) -> Option<&[u8]>
     ensures { MatchOption result (¬ IsPathText text.now) (λ path. IsPathText text.now × (path.now ≡ text.now)) }
 {

@@ -1,11 +1,13 @@
 //! The names of the commands.
 
-ghost use Rattle.std.specs.Prelude.{◌≡◌, ◌≤◌, IfOk, MatchOption, length, take, true};
-ghost use Rattle.script_lines.specs.Names.{IsWordEnd, code_of, is_word, longest_command_name};
+ghost use Rattle.std.specs.Prelude.{◌≡◌, ◌<◌, ◌≤◌, IfOk, MatchOption, length, take, true};
+ghost use Rattle.script_lines.specs.Names.{IsWordEnd, bytes_at_once, code_of, is_word, longest_command_name};
+ghost use Rattle.script_lines.specs.Places.{IsFrontOf};
 ghost use Rattle.script_lines.specs.Script.{BeginsWithName, IsNamed};
 ghost use Rattle.script_lines.specs.Verb.{IsNames, verb_coded};
 ghost use Rattle.script_lines.specs.declared.verb.Verb.{Verb};
 
+use crate::place::near_space;
 use indexmap::IndexMap;
 use std::alloc::{AllocError, Global};
 
@@ -14,6 +16,9 @@ const LONGEST_NAME: usize = 7;
 
 /// Each of the first 16 names has a place of its own in the table: the upper four bits of its number times this one.
 const SPREAD: u64 = 7_351_189_111_781_068_673;
+
+/// The first bit of a number.
+const FIRST_BIT: u64 = 1 << 63;
 
 /// Which command a line has.
 #[derive(Clone, Copy, PartialEq, Eq)]
@@ -69,6 +74,22 @@ impl Name {
         }
         (Name { code }, end)
     }
+
+    // The name that so many of the first eight bytes are. All eight are read as one number, and what follows the name
+    // is shifted out of it.
+    #[inline(always)]
+    fn of_first(text: &[u8], end: usize) -> Name
+        requires room { bytes_at_once ≤ length text.now }
+        requires short { end ≤ longest_command_name }
+        ensures { result.code ≡ code_of (take end text.now) }
+    {
+        let bytes = u64::from_be_bytes([
+            text[0], text[1], text[2], text[3], text[4], text[5], text[6], text[7],
+        ]);
+        Name {
+            code: ((bytes >> 1) + FIRST_BIT) >> (63 - 8 * end),
+        }
+    }
 }
 
 /// The commands by their names.
@@ -121,17 +142,67 @@ fn verb_named(names: &Names, name: Name) -> Option<Verb>
 }
 
 /// The command that the text begins with the name of, and what follows the space behind that. The latter is None if
-/// nothing follows the name. It is inlined, because each line of a script calls it once, and its result is large.
-#[inline(always)]
+/// nothing follows the name.
 pub fn first_verb<'a>(names: &Names, text: &'a [u8]) -> Option<(Verb, Option<&'a [u8]>)>
     requires { IsNames names.now }
     ensures { MatchOption result ((verb : Verb) → ¬ BeginsWithName verb text.entry.now)
         (λ r. IsNamed r.0 r.1 text.entry.now) }
 {
-    let (name, end) = Name::at_front(text);
+    first_verb_within(names, text, text)
+}
+
+// Where the first word ends, if that is within the first eight bytes of the wide text. Any greater end says that the
+// word is longer than a name.
+#[inline(always)]
+fn near_end(text: &[u8], wide: &[u8]) -> usize
+    requires front { IsFrontOf text.now wide.now }
+    requires room { bytes_at_once ≤ length wide.now }
+    ensures end { result ≤ longest_command_name → IsWordEnd text.now result }
+    ensures long { longest_command_name < result → (verb : Verb) → ¬ BeginsWithName verb text.now }
+{
+    let place = near_space(wide);
+    if place < text.len() {
+        place
+    } else {
+        text.len()
+    }
+}
+
+// The first word as a name, and its end. None if it is longer than a name.
+#[inline(always)]
+fn first_name(text: &[u8], wide: &[u8]) -> Option<(Name, usize)>
+    requires { IsFrontOf text.now wide.now }
+    ensures { MatchOption result ((verb : Verb) → ¬ BeginsWithName verb text.now)
+        (λ r. IsWordEnd text.now r.1 × (r.0.code ≡ code_of (take r.1 text.now))) }
+{
+    if wide.len() < 8 {
+        let (name, end) = Name::at_front(text);
+        if end > LONGEST_NAME {
+            return None;
+        }
+        return Some((name, end));
+    }
+    let end = near_end(text, wide);
     if end > LONGEST_NAME {
         return None;
     }
+    Some((Name::of_first(wide, end), end))
+}
+
+/// As `first_verb`, for a text that a wider one begins with: eight bytes of that are read at once, which a short text
+/// lacks. It is inlined, because each line of a script calls it once, and its result is large.
+#[inline(always)]
+pub(crate) fn first_verb_within<'a>(
+    names: &Names,
+    text: &'a [u8],
+    wide: &[u8],
+) -> Option<(Verb, Option<&'a [u8]>)>
+    requires names { IsNames names.now }
+    requires front { IsFrontOf text.now wide.now }
+    ensures { MatchOption result ((verb : Verb) → ¬ BeginsWithName verb text.entry.now)
+        (λ r. IsNamed r.0 r.1 text.entry.now) }
+{
+    let (name, end) = first_name(text, wide)?;
     let verb = verb_named(names, name)?;
     if end == text.len() {
         return Some((verb, None));

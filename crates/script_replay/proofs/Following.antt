@@ -1,5 +1,5 @@
 -- A line carries the whole on. Serves `replay`.
-use Rattle.std.proofs.Common.{Bool, true, false, ◌≡◌, ◌≢◌, ℕ, ◌==◌, ◌&&◌, ◌++◌, cond, Some, List, [], ◌∷◌, refl, sym, ◌∙◌, ap, subst, inl, inr, suc, zero}
+use Rattle.std.proofs.Common.{Bool, true, ◌≡◌, ◌≢◌, ℕ, ◌==◌, ◌&&◌, ◌++◌, cond, Some, List, [], ◌∷◌, refl, sym, ◌∙◌, ap, subst, inl, inr, suc, zero}
 use Rattle.std.specs.Prelude.{nat_le, slice_set}
 use Rattle.std.specs.List.{slice_get}
 use Rattle.std.proofs.lemmas.Bool.{cases_eq}
@@ -51,9 +51,7 @@ use Rattle.mem_history.proofs.Deciding.{legal_lines_are_decided, legal_fast_step
 use Rattle.mem_history.proofs.Agreeing.{lines_agree, fast_lines_agree}
 use Rattle.mem_history.proofs.Leading.{fast_calls_lead}
 use Rattle.mem_system.specs.declared.command.Cmd.{Cmd}
-use Rattle.mem_system.specs.declared.command.Cmd.TheVariants as cmd
 use Rattle.mem_system.specs.declared.command.Reply.{Reply}
-use Rattle.mem_system.specs.declared.command.Reply.TheVariants.{Done}
 use Rattle.mem_system.specs.Cpus.{CpuInRun}
 use Rattle.mem_system.specs.Locked.{KnownLocked, AllShut}
 use Rattle.mem_system.specs.Visits.{transition, LockedState, locked_state, IsServed}
@@ -349,24 +347,25 @@ module _ (t : KnownTable) (w : KnownStockTable) (run : Run) (locked : KnownLocke
       as_made steps (steps_alone p command said) after is.1.steps_are (λ all. alone_follows command said after names is.0 is.1.locked all) legal
 
   -- served under the lock
-  locked_follows : (is_explained : Bool) (seen : LockedState) → OnlySaw [] locked seen.locked → IsUnseen t m c.part seen.cpu.part → (cmd : Cmd) (reply : Reply) (steps : Run) →
-      (after : LockedState) → IsServedUnderLock is_explained cmd reply (transition t seen steps after) → AllShut after.locked.machine → IsLegalOn steps → Follows steps after
-  locked_follows is_explained seen saw unseen cmd reply steps after is shut legal =
+  locked_follows : (is_explained : Bool) (seen : LockedState) → OnlySaw [] locked seen.locked → IsUnseen t m c.part seen.cpu.part → (command : Command) (answer : LineAnswer) (steps : Run) →
+      (after : LockedState) → IsServedUnderLock is_explained command answer (transition t seen steps after) → AllShut after.locked.machine → IsLegalOn steps → Follows steps after
+  locked_follows is_explained seen saw unseen command answer steps after is shut legal =
+      let served = is.answers.served in
       let q = seen.cpu.part.number in
       let watch = is.found.machine.run.watch in
       let left_shut : AllShut is.left.machine = subst (λ (l : KnownLocked). AllShut l.machine) is.unlock.locked shut in
-      as_made steps (under_lock p is.served.steps) after (is.steps_are ∙ ap (λ (n : ℕ). under_lock n is.served.steps) unseen.number)
-      (λ all. watched_follows (under_lock p is.served.steps) (cpu_makes q step.Unlock step_answer.Done ∷ []) is.left after is.unlock
+      as_made steps (under_lock p served.steps) after (is.steps_are ∙ ap (λ (n : ℕ). under_lock n served.steps) unseen.number)
+      (λ all. watched_follows (under_lock p served.steps) (cpu_makes q step.Unlock step_answer.Done ∷ []) is.left after is.unlock
       (served_follows seen.cpu unseen is.found is_explained (record (seen.locked.machine.run) { watch = watch })
       (is.lock.locked ∙ ap (λ (l : KnownLocked). locked_with_watch (locked_with_unit_notes l is_explained) watch) saw.locked)
-      cmd reply (locked_state is.left after.cpu) is.served left_shut all)) legal
+      is.answers.asked is.answers.reply (locked_state is.left after.cpu) served left_shut all)) legal
 
   answer_follows : (is_explained : Bool) (command : Command) (steps : Run) (after : LockedState) (answer : LineAnswer) → CommandInRange t.frames command
       → AnswersCommand is_explained command (transition t before steps after) answer → AllShut after.locked.machine → IsLegalOn steps → Follows steps after
   answer_follows is_explained command steps after (answer.Served reply) names is shut legal =
-      locked_follows is_explained is.seen is.only_saw (vain_unseen t m command before is.seen.cpu.part is.tried) is.cmd reply steps after is.served shut legal
+      locked_follows is_explained is.seen is.only_saw (vain_unseen t m command before is.seen.cpu.part is.tried) command (answer.Served reply) steps after is.served shut legal
   answer_follows is_explained command steps after answer.Settled names is shut legal =
-      locked_follows false before (saw_none locked) (unseen_same t m c.part c.part refl) cmd.Settle Done steps after is.1 shut legal
+      locked_follows is_explained before (saw_none locked) (unseen_same t m c.part c.part refl) command answer.Settled steps after is shut legal
   answer_follows is_explained command steps after (answer.Unlocked said) names is shut legal = unlocked_follows command steps after said names is legal
 
   -- served, and then written by looks at words

@@ -1,4 +1,4 @@
--- Looks at words, which no CPU sees. Serves `write_units_or_refusal`, `visit_units`, and what follows from a line.
+-- Looks at words, which no CPU sees. Serves `write_units_or_refusal`, and what follows from a line.
 use Rattle.std.proofs.Common.{◌≡◌, ◌∙◌, ◌++◌, ℕ, Bool, true, false, Option, Some, None, Result, Ok, Err, IfOk, List, get_or, refl, sym, ap, subst}
 use Rattle.std.specs.declared.string.String.{String}
 use Rattle.std.specs.String.{string_bytes}

@@ -12,7 +12,7 @@ use Rattle.script_replay.specs.Numbers.{SaysNumbered}
 use Rattle.script_replay.specs.Ranges.{LineInRange}
 use Rattle.script_replay.specs.Own.{LineCommandInRange, ServesOwn, ServesOwnBySteps, ServesOwnLine, TellsCommand, ToldCpu, told_cpu, worker}
 use Rattle.script_replay.proofs.InOrder.{in_order_end, in_order_line}
-use Rattle.script_replay.proofs.Visiting.{all_grew, grew_both}
+use Rattle.script_replay.proofs.Growing.{all_grew, grew_both}
 
 line_names : (frames cpus : ℕ) (line : Line) → LineInRange frames cpus line → LineCommandInRange frames line
 line_names frames cpus Go there = tt

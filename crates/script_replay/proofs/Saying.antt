@@ -3,7 +3,8 @@ use Rattle.std.proofs.Common.{◌≡◌, ◌-◌, ℕ, false, Some, List, [], �
 use Rattle.std.specs.Prelude.{length, slice_set}
 use Rattle.std.specs.List.{slice_get}
 use Rattle.std.proofs.lemmas.Option.{slice_get_read}
-use Rattle.mem_system.specs.Boots.{KnownSystem}
+use Rattle.frame_word.specs.Seats.{KnownTable}
+use Rattle.stock_word.specs.Stock.{KnownStockTable}
 use Rattle.mem_system.specs.Cpus.{CpuInRun}
 use Rattle.mem_system.specs.Locked.{KnownLocked}
 use Rattle.mem_system.specs.Visits.{LockedState, Transition, locked_state, transition}
@@ -37,7 +38,7 @@ settled_text command left has settles = absurd settles
 said_text : (command : Command) (call : Transition LockedState) (answer : LineAnswer) → HasValueAnswer command
     → AnswersCommand false command call answer → IsAnswerText false command answer (answer_text answer) call.after call.after.locked.machine
 said_text command call (answer.Served reply) has so = (sym (append-nil (answer_text (answer.Served reply))), refl)
-said_text command call answer.Settled has so = settled_text command call.after has so.0
+said_text command call answer.Settled has so = settled_text command call.after has so.answers.is_answer.0
 said_text command call (answer.Unlocked said) has so = (sym (append-nil (answer_text (answer.Unlocked said))), refl)
 
 as_text : (command : Command) (call : Transition LockedState) (answer : LineAnswer) → HasValueAnswer command → AnswersCommand false command call answer
@@ -51,12 +52,12 @@ as_text command call answer has so = record {
 
 -- ---- a command at its part
 
-module _ (tables : KnownSystem) (l m : KnownLocked) (cpus : List CpuInRun) (cpu : ℕ) (command : Command) (c d : CpuInRun) (answer : LineAnswer)
-    (there : CpuCommandInRange tables.frames.frames (length cpus) cpu command) (has : HasValueAnswer command) (is_part : slice_get cpus (cpu - 1) ≡ Some c)
-    (says : ServesAnswer (terms tables.frames tables.stocks false) command (locked_state l c) (locked_state m d) answer)
-    (held : HoldsOfPart tables.frames tables.stocks m d.part) where
+module _ (table : KnownTable) (stock_table : KnownStockTable) (l m : KnownLocked) (cpus : List CpuInRun) (cpu : ℕ) (command : Command) (c d : CpuInRun) (answer : LineAnswer)
+    (there : CpuCommandInRange table.frames (length cpus) cpu command) (has : HasValueAnswer command) (is_part : slice_get cpus (cpu - 1) ≡ Some c)
+    (says : ServesAnswer (terms table stock_table false) command (locked_state l c) (locked_state m d) answer)
+    (held : HoldsOfPart table stock_table m d.part) where
   abbrev on : Terms
-  on = terms tables.frames tables.stocks false
+  on = terms table stock_table false
 
   abbrev before : SystemState
   before = system_state l cpus
@@ -75,7 +76,7 @@ module _ (tables : KnownSystem) (l m : KnownLocked) (cpus : List CpuInRun) (cpu 
           part = c;
           left = d;
           is_part = is_part;
-          done = as_text command (transition tables.frames (locked_state l c) says.steps (locked_state m d)) answer has says.answered;
+          done = as_text command (transition table (locked_state l c) says.steps (locked_state m d)) answer has says.answered;
           cpus = refl;
         };
         text_is = refl;
@@ -84,11 +85,11 @@ module _ (tables : KnownSystem) (l m : KnownLocked) (cpus : List CpuInRun) (cpu 
     };
     keeps = record {
       holds = held.sound;
-      tied = λ all. tied_still tables.frames tables.stocks cpus (cpu - 1) c d is_part held all;
+      tied = λ all. tied_still table stock_table cpus (cpu - 1) c d is_part held all;
     };
   }
 
-  pub command_said : SaysCommand tables cpu command before after answer
+  pub command_said : SaysCommand table stock_table cpu command before after answer
   command_said = record {
     says = record { part = c; left = d; is_part = is_part; done = says; cpus = refl };
     replays = λ number. all_replayed on (At number cpu command ∷ []) before after (answer_text answer) (record {

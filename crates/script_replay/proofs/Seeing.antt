@@ -1,5 +1,5 @@
 -- The watch took the steps of each line, and so of all lines. Serves `replay`, `replay_checked`.
-use Rattle.std.proofs.Common.{◌≡◌, ◌∙◌, ◌++◌, ℕ, zero, Bool, true, false, List, [], ◌∷◌, refl, sym, ap, subst}
+use Rattle.std.proofs.Common.{◌≡◌, ◌∙◌, ◌++◌, ℕ, zero, Bool, true, List, [], ◌∷◌, refl, sym, ap, subst}
 use Rattle.std.proofs.lemmas.List.{append_assoc, append-nil}
 use Rattle.frame_word.specs.Seats.{KnownTable}
 use Rattle.cpu_part.specs.declared.answers.Fast.TheVariants.{Got}
@@ -14,8 +14,6 @@ use Rattle.mem_machine.specs.Interleaving.{zone_of}
 use Rattle.mem_machine.specs.Steps.{cpu_makes}
 use Rattle.mem_machine.specs.Agreeing.{AgreesWithRun}
 use Rattle.mem_history.proofs.Deciding.{legal_front}
-use Rattle.mem_system.specs.declared.command.Cmd.{Cmd}
-use Rattle.mem_system.specs.declared.command.Reply.{Reply}
 use Rattle.mem_system.specs.Locked.{KnownLocked}
 use Rattle.mem_system.specs.Visits.{transition, LockedState}
 use Rattle.reply_texts.specs.LineAnswer.{LineAnswer}
@@ -50,19 +48,20 @@ module _ (t : KnownTable) (before : LockedState) (steps : Run) (after : LockedSt
   alone_seen : (made : Run) → steps ≡ made → OnlySaw made before.locked after.locked → SeesAll
   alone_seen made are only = subst (λ (r : Run). Sees r before.locked after.locked) (sym are) only.watched
 
-  locked_seen : (is_explained : Bool) (cmd : Cmd) (seen : LockedState) (reply : Reply) → OnlySaw [] before.locked seen.locked
-      → IsServedUnderLock is_explained cmd reply (transition t seen steps after) → SeesAll
-  locked_seen is_explained cmd seen reply saw is =
+  locked_seen : (is_explained : Bool) (command : Command) (seen : LockedState) (answer : LineAnswer) → OnlySaw [] before.locked seen.locked
+      → IsServedUnderLock is_explained command answer (transition t seen steps after) → SeesAll
+  locked_seen is_explained command seen answer saw is =
+      let served = is.answers.served in
       let first : Run = cpu_makes seen.cpu.part.number step.Lock step_answer.Done ∷ [] in
       let last : Run = cpu_makes seen.cpu.part.number step.Unlock step_answer.Done ∷ [] in
       let a : KnownWatch = seen.locked.machine.run.watch in
       let b : KnownWatch = is.found.machine.run.watch in
       let d : KnownWatch = is.left.machine.run.watch in
       let e : KnownWatch = after.locked.machine.run.watch in
-      let rest : Watches b (is.served.steps ++ last) e =
-      watches_both b is.served.steps d last e is.served.makes.noted.watched is.unlock.watched in
+      let rest : Watches b (served.steps ++ last) e =
+      watches_both b served.steps d last e served.makes.noted.watched is.unlock.watched in
       watches_both before.locked.machine.run.watch [] a steps e saw.watched
-      (subst (λ (r : Run). Watches a r e) (sym is.steps_are) (watches_both a first b (is.served.steps ++ last) e is.lock.watched rest))
+      (subst (λ (r : Run). Watches a r e) (sym is.steps_are) (watches_both a first b (served.steps ++ last) e is.lock.watched rest))
 
   unlocked_seen : (command : Command) (said : UnlockedAnswer) → AnswersUnlocked command (transition t before steps after) said → SeesAll
   unlocked_seen (command.Alloc path zero) (unlocked.Fast (Got f)) is = alone_seen _ is.alone.steps_are is.alone.locked
@@ -72,8 +71,8 @@ module _ (t : KnownTable) (before : LockedState) (steps : Run) (after : LockedSt
 
   answer_seen : (is_explained : Bool) (command : Command) (answer : LineAnswer)
       → AnswersCommand is_explained command (transition t before steps after) answer → SeesAll
-  answer_seen is_explained command (answer.Served reply) is = locked_seen is_explained is.cmd is.seen reply is.only_saw is.served
-  answer_seen is_explained command answer.Settled is = locked_seen false _ before _ (saw_none before.locked) is.1
+  answer_seen is_explained command (answer.Served reply) is = locked_seen is_explained command is.seen (answer.Served reply) is.only_saw is.served
+  answer_seen is_explained command answer.Settled is = locked_seen is_explained command before answer.Settled (saw_none before.locked) is
   answer_seen is_explained command (answer.Unlocked said) is = unlocked_seen command said is
 
 -- the watch took nothing at the looks by which the answer is written

@@ -5,14 +5,11 @@ use Rattle.std.specs.Borrow.{Bor}
 use Rattle.std.specs.declared.string.String.{String}
 use Rattle.std.specs.String.{string_bytes}
 use Rattle.group_charge.specs.Charges.{Ledger}
+use Rattle.frame_word.specs.Seats.{KnownTable}
 use Rattle.cpu_part.specs.Cpus.{KnownCpu}
 use Rattle.cpu_part.specs.declared.answers.Fast.{Fast as FastAnswer}
 use Rattle.cpu_part.specs.declared.answers.Fast.TheVariants.{FreshFull, ListEmpty, OtherGroup, Drained, NoStock, Got}
 use Rattle.mem_machine.specs.Machines.{KnownMachine}
-use Rattle.mem_system.specs.declared.command.Cmd.{Cmd}
-use Rattle.mem_system.specs.declared.command.Cmd.TheVariants as cmd
-use Rattle.mem_system.specs.declared.command.Reply.{Reply}
-use Rattle.mem_system.specs.declared.command.Reply.TheVariants.{Done}
 use Rattle.boot_words.specs.Pasts.{own_past}
 use Rattle.boot_words.proofs.Gaining.{gains_both}
 use Rattle.mem_system.specs.Cpus.{CpuInRun}
@@ -28,7 +25,7 @@ use Rattle.script_lines.specs.declared.line.Command.TheVariants.{Alloc, Fast, Ge
 use Rattle.step_rules.specs.After.{Run}
 use Rattle.script_replay.specs.declared.answer_value.AnswerValue.{AnswerValue}
 use Rattle.script_replay.specs.declared.answer_value.AnswerValue.TheVariants as value
-use Rattle.script_replay.specs.Answers.{AddsText, AnswersAlone, Gains, OnlySaw, AnswersCommand, AnswersUnlocked, IsAnswerText, IsSettledText, IsTriedInVain, NeedsLock}
+use Rattle.script_replay.specs.Answers.{AddsText, AnswersAlone, AnswersLocked, Gains, OnlySaw, AnswersCommand, AnswersUnlocked, IsAnswerText, IsSettledText, IsTriedInVain, NeedsLock}
 use Rattle.script_replay.specs.Answers.{OnlyWatched, ServesAnswer, ServesUnderLock, TakesNoLock, WritesAnswer, explanation_if, is_noted, steps_alone}
 use Rattle.script_replay.specs.Commands.{OnlySettles, cmd_of, frame_path, head_named, is_tried, path_removed}
 use Rattle.script_replay.specs.Reasons.{borrower_of, fault_in, refusal_reason_text, reasoned_text}
@@ -62,27 +59,19 @@ module _ (on : Terms) (command : Command) (l m : KnownLocked) (c d : CpuInRun) w
   }
 
   -- under the lock, after it was tried in vain
-  pub lock_served : (cmd : Cmd) (seen : LockedState) (reply : Reply) → cmd_of command ≡ Some cmd → IsTriedInVain command (locked_state l c) seen.cpu.part
-      → OnlySaw [] l seen.locked → Gains [] (locked_state l c) seen → ServesUnderLock on.frames on.is_explained cmd reply seen (locked_state m d)
-      → ServesAnswer on command (locked_state l c) (locked_state m d) (answer.Served reply)
-  lock_served cmd seen reply named tried saw gains under = let is = under.served in record {
+  pub lock_served : (seen : LockedState) (answer : LineAnswer) → IsTriedInVain command (locked_state l c) seen.cpu.part → OnlySaw [] l seen.locked
+      → Gains [] (locked_state l c) seen → (OnlySettles command → seen ≡ locked_state l c)
+      → ServesUnderLock on.frames on.is_explained command answer seen (locked_state m d) → ServesAnswer on command (locked_state l c) (locked_state m d) answer
+  lock_served seen (answer.Served reply) tried saw gains stays under = record {
     steps = under.steps;
-    answered = record {
-      cmd = cmd;
-      named = named;
-      seen = seen;
-      tried = tried;
-      only_saw = saw;
-      served = record { found = is.found; left = is.left; lock = is.lock; served = is.served; unlock = is.unlock; steps_are = is.steps_are };
-    };
+    answered = record { seen = seen; tried = tried; only_saw = saw; served = under.served };
     gains = gains_both (own_past l.machine.run.past) (own_past c.past) [] (own_past seen.locked.machine.run.past) (own_past seen.cpu.past) under.steps
         (own_past m.machine.run.past) (own_past d.past) gains under.gains;
   }
-
-  -- by settling the CPU alone
-  pub settle_served : OnlySettles command → ServesUnderLock on.frames false cmd.Settle Done (locked_state l c) (locked_state m d)
-      → ServesAnswer on command (locked_state l c) (locked_state m d) answer.Settled
-  settle_served settles under = record { steps = under.steps; answered = (settles, under.served); gains = under.gains }
+  lock_served seen answer.Settled tried saw gains stays under =
+      let here = subst (λ (x : LockedState). ServesUnderLock on.frames on.is_explained command answer.Settled x (locked_state m d))
+      (stays under.served.answers.is_answer.0) under in record { steps = here.steps; answered = here.served; gains = here.gains }
+  lock_served seen (answer.Unlocked said) tried saw gains stays under = absurd under.served.answers.is_answer
 
 -- a frame that wasn't got is no step
 pub none_got : (n g : ℕ) (tried : FastAnswer) (before after : LockedState) → ((f : ℕ) → tried ≢ Got f)
@@ -140,7 +129,13 @@ is_settle command settles blocks show stock units = absurd settles
 pub value_settles : (on : Terms) (command : Command) (before after : LockedState) (ledger : Ledger) (said : AnswerValue)
     → ServesAnswer on command before after (answer_of ledger said) → said ≡ value.Settled → OnlySettles command
 value_settles on command before after ledger said serves is =
-    (subst (λ (v : AnswerValue). AnswersCommand on.is_explained command (transition on.frames before serves.steps after) (answer_of ledger v)) is serves.answered).0
+    (subst (λ (v : AnswerValue). AnswersCommand on.is_explained command (transition on.frames before serves.steps after) (answer_of ledger v)) is serves.answered).answers.is_answer.0
+
+-- the same of one that was answered under the lock
+pub locked_settles : (t : KnownTable) (command : Command) (before after : LockedState) (ledger : Ledger) (said : AnswerValue)
+    → AnswersLocked t command (answer_of ledger said) before after → said ≡ value.Settled → OnlySettles command
+locked_settles t command before after ledger said answers is =
+    (subst (λ (v : AnswerValue). AnswersLocked t command (answer_of ledger v) before after) is answers).is_answer.0
 
 -- ---- written
 

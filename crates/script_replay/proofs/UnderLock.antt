@@ -1,5 +1,4 @@
--- A command between the Lock and the Unlock that the watch takes. Serves `serve_under_lock`, `serve_frame_under_lock`,
--- `settle_under_lock`.
+-- A command between the Lock and the Unlock that the watch takes. Serves `serve_under_lock`, `serve_frame_under_lock`.
 use Rattle.std.proofs.Common.{◌≡◌, ◌≢◌, ℕ, ◌++◌, Bool, [], ◌∷◌, ap, inr, refl, subst, sym}
 use Rattle.std.specs.Prelude.{◌⊎◌}
 use Rattle.boot_words.specs.Rule.{AllOf}
@@ -19,12 +18,14 @@ use Rattle.mem_machine.specs.Steps.{cpu_makes}
 use Rattle.mem_history.specs.Whole.{under_lock}
 use Rattle.mem_system.specs.declared.command.Cmd.{Cmd}
 use Rattle.mem_system.specs.declared.command.Reply.{Reply}
-use Rattle.mem_system.specs.declared.outcome.Outcome.{Outcome}
 use Rattle.mem_system.specs.Cpus.{CpuInRun}
 use Rattle.mem_system.specs.Locked.{KnownLocked}
-use Rattle.mem_system.specs.Outcomes.{HasItsGroups, reply_of}
-use Rattle.mem_system.specs.Visits.{IsServed, ServesOutcome, locked_state}
-use Rattle.script_replay.specs.Answers.{Gains, OnlyWatched, ServesUnderLock, locked_with_unit_notes}
+use Rattle.mem_system.specs.Visits.{IsServed, locked_state}
+use Rattle.reply_texts.specs.LineAnswer.{LineAnswer}
+use Rattle.script_lines.specs.declared.line.Command.{Command}
+use Rattle.script_replay.specs.declared.answer_value.AnswerValue.{AnswerValue}
+use Rattle.script_replay.specs.Answers.{AnswersLocked, Gains, OnlyWatched, ServesUnderLock, locked_with_unit_notes}
+use Rattle.script_replay.specs.ValueAnswers.{NamesItsGroups, answer_of}
 
 -- ---- the seats of the steps under the lock
 
@@ -45,13 +46,13 @@ under_lock_own cpu steps all = (inr refl, and_unlock cpu steps all)
 
 -- ---- one command
 
-module _ (t : KnownTable) (is_explained : Bool) (cmd : Cmd) (before found left after : KnownLocked) (c d : CpuInRun) (number : ℕ) (named : number ≡ c.part.number)
+module _ (t : KnownTable) (is_explained : Bool) (command : Command) (before found left after : KnownLocked) (c d : CpuInRun) (number : ℕ) (named : number ≡ c.part.number)
     (in_run : (own_past c.past).number ≡ c.part.number) (zone : (own_past before.machine.run.past).number ≡ 0)
     (lock : OnlyWatched (cpu_makes number Lock step_answer.Done ∷ []) (locked_with_unit_notes before is_explained) found) (unlock : OnlyWatched (cpu_makes number Unlock step_answer.Done ∷ []) left after) where
   -- the zone's past and the CPU's gained the steps, which the watch took
-  visit_made : (reply : Reply) → (served : IsServed t cmd reply (locked_state found c) (locked_state left d))
+  visit_made : (asked : Cmd) (reply : Reply) → (served : IsServed t asked reply (locked_state found c) (locked_state left d))
       → Gains (under_lock c.part.number served.steps) (locked_state before c) (locked_state after d)
-  visit_made reply served =
+  visit_made asked reply served =
       let p = c.part.number in
       let steps = under_lock p served.steps in
       let all = under_lock_own p served.steps (local_own p served.steps _ _ served.makes.leads) in
@@ -62,29 +63,29 @@ module _ (t : KnownTable) (is_explained : Bool) (cmd : Cmd) (before found left a
       (subst (λ (n : ℕ). (other : ℕ) → other ≢ 0 → other ≢ n → changes_of other steps ≡ 0) (sym in_run) (of_two_seats p steps all)))
 
   -- the watch took a Lock before the command, and an Unlock after it
-  pub served_locked : (reply : Reply) → IsServed t cmd reply (locked_state found c) (locked_state left d)
-      → ServesUnderLock t is_explained cmd reply (locked_state before c) (locked_state after d)
-  served_locked reply served = record {
-    steps = under_lock c.part.number served.steps;
+  served_locked : (answer : LineAnswer) → AnswersLocked t command answer (locked_state found c) (locked_state left d)
+      → ServesUnderLock t is_explained command answer (locked_state before c) (locked_state after d)
+  served_locked answer answers = record {
+    steps = under_lock c.part.number answers.served.steps;
     served = record {
       found = found;
       left = left;
       lock = subst (λ (n : ℕ). OnlyWatched (cpu_makes n Lock step_answer.Done ∷ []) (locked_with_unit_notes before is_explained) found) named lock;
-      served = served;
+      answers = answers;
       unlock = subst (λ (n : ℕ). OnlyWatched (cpu_makes n Unlock step_answer.Done ∷ []) left after) named unlock;
       steps_are = refl;
     };
-    gains = visit_made reply served;
+    gains = visit_made answers.asked answers.reply answers.served;
   }
 
   -- the charges are those that the command left
   same_ledger : left.machine.ledger ≡ after.machine.ledger
   same_ledger = sym (ap (λ (l : KnownLocked). l.machine.ledger) unlock.locked)
 
-  pub outcome_locked : (outcome : Outcome) → ServesOutcome t cmd outcome (locked_state found c) (locked_state left d)
-      → ServesUnderLock t is_explained cmd (reply_of after.machine.ledger outcome) (locked_state before c) (locked_state after d)
-  outcome_locked outcome served = served_locked (reply_of after.machine.ledger outcome)
-      (subst (λ (l : Ledger). IsServed t cmd (reply_of l outcome) (locked_state found c) (locked_state left d)) same_ledger served)
+  pub value_locked : (value : AnswerValue) → AnswersLocked t command (answer_of left.machine.ledger value) (locked_state found c) (locked_state left d)
+      → ServesUnderLock t is_explained command (answer_of after.machine.ledger value) (locked_state before c) (locked_state after d)
+  value_locked value answers = served_locked (answer_of after.machine.ledger value)
+      (subst (λ (l : Ledger). AnswersLocked t command (answer_of l value) (locked_state found c) (locked_state left d)) same_ledger answers)
 
-  pub groups_locked : (outcome : Outcome) → HasItsGroups left.machine.ledger outcome → HasItsGroups after.machine.ledger outcome
-  groups_locked outcome groups = subst (λ (l : Ledger). HasItsGroups l outcome) same_ledger groups
+  pub groups_locked : (value : AnswerValue) → NamesItsGroups left.machine.ledger value → NamesItsGroups after.machine.ledger value
+  groups_locked value groups = subst (λ (l : Ledger). NamesItsGroups l value) same_ledger groups

@@ -34,7 +34,6 @@ use Rattle.mem_history.specs.Leading.{put_answer}
 use Rattle.mem_system.specs.declared.command.Cmd.{Cmd}
 use Rattle.mem_system.specs.declared.command.Cmd.TheVariants as cmd
 use Rattle.mem_system.specs.declared.command.Reply.{Reply}
-use Rattle.mem_system.specs.declared.command.Reply.TheVariants.{Done}
 use Rattle.mem_system.specs.Locked.{KnownLocked}
 use Rattle.mem_system.specs.Shown.{UnitsAt}
 use Rattle.mem_system.specs.Visits.{Transition, transition, LockedState, locked_state, visit_state_of, IsServed}
@@ -59,12 +58,6 @@ pub record AddsText {Z T E : Type 0} (result : Result T E) (old new : String Z) 
   pub text : List ℕ
   pub so : is_said text
   pub added : IfOk result (λ _. string_bytes new ≡ string_bytes old ++ text)
-
--- the text of an answer of which `is_answered` holds
-pub record IsTextOf (is_answered : LineAnswer → Type 0) (text : List ℕ) : Type 0 where
-  pub answer : LineAnswer
-  pub answered : is_answered answer
-  pub text_is : text ≡ answer_text answer
 
 -- ---- the watch
 
@@ -204,33 +197,46 @@ AnswersUnlocked command call answer =
     AnswersAlone command call.before.cpu.part call.after.cpu.part answer
     × TakesNoLock (steps_alone call.before.cpu.part.number command answer) call
 
+-- ---- under the lock
+
+-- what a command is answered that is served under the lock: the reply to its `Cmd`, or that its CPU was only settled
+abbrev pub IsAnswerOf : Command → (asked : Cmd) (reply : Reply) → LineAnswer → Type 0
+IsAnswerOf command asked reply (answer.Served said) = (cmd_of command ≡ Some asked) × (said ≡ reply)
+IsAnswerOf command asked reply answer.Settled = OnlySettles command × (asked ≡ cmd.Settle)
+IsAnswerOf command asked reply (answer.Unlocked said) = ⊥
+
+-- the command was served under the lock with this answer
+pub record AnswersLocked (table : KnownTable) (command : Command) (answer : LineAnswer) (before after : LockedState)
+    : Type 0 where
+  pub asked : Cmd
+  pub reply : Reply
+  pub is_answer : IsAnswerOf command asked reply answer
+  pub served : IsServed table asked reply before after
+
 -- ---- with what lies behind the lock: no lock is taken by value, but in the history the steps are between a Lock and
 -- an Unlock, which the watch takes
 
 -- The command is served under the lock: the steps are Lock, those of the command, and Unlock. Reclaimed units are noted
 -- exactly if the command is explained. The command finds `found` behind the lock, where the watch took the Lock, and
 -- leaves `left`.
-pub record IsServedUnderLock (is_explained : Bool) (cmd : Cmd) (reply : Reply) (call : Transition LockedState)
-    : Type 0 where
+pub record IsServedUnderLock (is_explained : Bool) (command : Command) (answer : LineAnswer)
+    (call : Transition LockedState) : Type 0 where
   pub found : KnownLocked
   pub left : KnownLocked
   pub lock : OnlyWatched (cpu_makes call.before.cpu.part.number step.Lock step_answer.Done ∷ [])
       (locked_with_unit_notes call.before.locked is_explained) found
-  pub served : IsServed call.table cmd reply (locked_state found call.before.cpu) (locked_state left call.after.cpu)
+  pub answers : AnswersLocked call.table command answer
+      (locked_state found call.before.cpu) (locked_state left call.after.cpu)
   pub unlock : OnlyWatched (cpu_makes call.before.cpu.part.number step.Unlock step_answer.Done ∷ [])
       left call.after.locked
-  pub steps_are : call.steps ≡ under_lock call.before.cpu.part.number served.steps
+  pub steps_are : call.steps ≡ under_lock call.before.cpu.part.number answers.served.steps
 
--- the command of a CPU was served under the lock with this reply, by some steps
-pub record ServesUnderLock (table : KnownTable) (is_explained : Bool) (cmd : Cmd) (reply : Reply)
+-- the command of a CPU was served under the lock with this answer, by some steps
+pub record ServesUnderLock (table : KnownTable) (is_explained : Bool) (command : Command) (answer : LineAnswer)
     (before after : LockedState) : Type 0 where
   pub steps : Run
-  pub served : IsServedUnderLock is_explained cmd reply (transition table before steps after)
+  pub served : IsServedUnderLock is_explained command answer (transition table before steps after)
   pub gains : Gains steps before after
-
--- the CPU was settled under the lock; there is nothing to explain
-abbrev pub SettlesUnderLock : Transition LockedState → Type 0
-SettlesUnderLock call = IsServedUnderLock false cmd.Settle Done call
 
 -- what was tried for the command without the lock gave no answer, and left the part `seen`
 abbrev pub IsTriedInVain : Command → LockedState → (seen : KnownCpu) → Type 0
@@ -240,19 +246,18 @@ IsTriedInVain command before seen = NeedsLock command before.cpu.part seen
 -- the command was tried in vain without the lock, which left `seen`, and then served under it
 pub record RepliesServed (is_explained : Bool) (command : Command) (reply : Reply) (call : Transition LockedState)
     : Type 0 where
-  pub cmd : Cmd
-  pub named : cmd_of command ≡ Some cmd
   pub seen : LockedState
   pub tried : IsTriedInVain command call.before seen.cpu.part
   pub only_saw : OnlySaw [] call.before.locked seen.locked
-  pub served : IsServedUnderLock is_explained cmd reply (transition call.table seen call.steps call.after)
+  pub served : IsServedUnderLock is_explained command (answer.Served reply)
+      (transition call.table seen call.steps call.after)
 
 -- ---- any command
 
 -- The answer of a command. If it only settles its CPU, its text is read from what it left.
 abbrev pub AnswersCommand : (is_explained : Bool) → Command → Transition LockedState → LineAnswer → Type 0
 AnswersCommand is_explained command call (answer.Served reply) = RepliesServed is_explained command reply call
-AnswersCommand is_explained command call answer.Settled = OnlySettles command × SettlesUnderLock call
+AnswersCommand is_explained command call answer.Settled = IsServedUnderLock is_explained command answer.Settled call
 AnswersCommand is_explained command call (answer.Unlocked said) = AnswersUnlocked command call said
 
 -- the answer of a command, by some steps

@@ -2,12 +2,13 @@
 use Rattle.std.specs.Prelude.{Bool, false}
 use Rattle.frame_word.specs.Seats.{KnownTable}
 use Rattle.stock_word.specs.Stock.{KnownStockTable}
+use Rattle.zone_blocks.specs.declared.config.Config.{Config}
 use Rattle.mem_system.specs.Boots.{KnownSystem}
 use Rattle.script_replay.specs.declared.form.Form.{Form}
 
--- what CPUs share of a boot whose table the seats at its frames and at its stocks know like this
-abbrev pub boot_tables : KnownTable → KnownStockTable → KnownSystem
-boot_tables frames stock_table = record { frames = frames; stocks = stock_table }
+-- what CPUs share of a boot of these sizes, whose table the seats at its frames and at its stocks know like this
+abbrev pub boot_tables : KnownTable → KnownStockTable → Config → KnownSystem
+boot_tables frames stock_table sizes = record { frames = frames; stocks = stock_table; sizes = sizes }
 
 -- the terms of a replay: the tables of its boot, whether answers are explained, and whether each line of an answer
 -- begins with the number of its script line

@@ -1,69 +1,42 @@
 -- What lines do by visits, while other CPUs go on. No clause can name what lies behind the lock, so each visit is
--- described by itself: it found some value there, and the next visit may find another. `Answers..Visit` relates what
--- is done to an answer, and `Visits..` to a text, as `Answers..` and `Serves..` do by value. Each says by which steps:
--- the CPU's past shows where they stand in the run.
-use Rattle.std.specs.Prelude.{◌≡◌, ℕ, zero, false, List, [], Some}
+-- described by itself: it found some value there, and the next visit may find another. What is answered under the lock
+-- and what is written of it are what they are by value (`AnswersLocked`, `WritesAnswer`). Each relation says by which
+-- steps: the CPU's past shows where they are in the run.
+use Rattle.std.specs.Prelude.{◌≡◌, ◌⊎◌, ℕ, zero, false, List, [], None}
 use Rattle.boot_words.specs.Pasts.{KnownPasts, own_past}
-use Rattle.boot_words.specs.Growth.{AreChangesOf, GrewByAll}
+use Rattle.boot_words.specs.Growth.{AreChangesOf, GrewByAll, SeesMore}
+use Rattle.boot_words.specs.declared.view.Past.{Past}
 use Rattle.cpu_part.specs.Cpus.{KnownCpu}
 use Rattle.cpu_part.specs.declared.answers.Fast.TheVariants.{Got}
 use Rattle.mem_system.specs.Cpus.{CpuInRun, between_locks}
+use Rattle.group_tree.specs.Groups.{number_at}
 use Rattle.group_tree.specs.declared.fault.Fault.TheVariants.{NoGroup}
-use Rattle.machine_texts.specs.Blocks.{blocks_text}
-use Rattle.machine_texts.specs.Show.{show_text}
-use Rattle.mem_system.specs.declared.command.Cmd.{Cmd}
-use Rattle.mem_system.specs.declared.command.Cmd.TheVariants as cmd
-use Rattle.mem_system.specs.declared.command.Reply.{Reply}
-use Rattle.mem_system.specs.declared.command.Reply.TheVariants.{Done}
 use Rattle.mem_system.specs.Boots.{KnownSystem}
-use Rattle.mem_system.specs.Locked.{BehindLock}
-use Rattle.mem_system.specs.Visits.{LockedState, locked_state, IsServed, IsVisited}
-use Rattle.mem_system.specs.Shown.{ReadsAfterSettling, ReadsUnderLock}
+use Rattle.mem_system.specs.Locked.{IsSound, KnownLocked, SeenBehindLock}
+use Rattle.mem_system.specs.Visits.{LockedState, locked_state, IsVisited}
 use Rattle.reply_texts.specs.LineAnswer.{LineAnswer}
 use Rattle.reply_texts.specs.LineAnswer as answer
 use Rattle.reply_texts.specs.Answers.{answer_text}
 use Rattle.reply_texts.specs.declared.steps.UnlockedAnswer.{UnlockedAnswer}
 use Rattle.reply_texts.specs.declared.steps.UnlockedAnswer.TheVariants as unlocked
 use Rattle.script_lines.specs.declared.line.Command.{Command}
-use Rattle.script_lines.specs.declared.line.Command.TheVariants.{Alloc, Fast, Settle, Blocks, Show, Stock, Units}
+use Rattle.script_lines.specs.declared.line.Command.TheVariants.{Alloc, Fast}
 use Rattle.step_rules.specs.After.{Run}
 use Rattle.script_lines.specs.declared.line.Line.{Line}
 use Rattle.script_lines.specs.declared.line.Line.TheVariants.{Go, At}
-use Rattle.script_replay.specs.Answers.{AnswersAlone, FindsNoGroup, GetsFast, IsStockText, IsTextOf, IsTriedInVain}
-use Rattle.script_replay.specs.Answers.{IsUnitsTextOf, MakesAlone, steps_alone}
-use Rattle.script_replay.specs.Commands.{cmd_of}
+use Rattle.script_replay.specs.Answers.{AnswersAlone, AnswersLocked, GetsFast, GetsNoneFast, MakesAlone}
+use Rattle.script_replay.specs.Answers.{NeedsLock, WritesAnswer, steps_alone}
+use Rattle.script_replay.specs.Commands.{OnlySettles}
 use Rattle.script_replay.specs.Lines.{AtPart, InOrder}
 
--- a past has grown by these steps, and by steps that change nothing
+-- A past has grown by these steps, and by steps that change nothing. Behind the last of them it may have seen steps of
+-- others.
 pub record GrewByChanges (before : KnownPasts) (steps : Run) (after : KnownPasts) : Type 0 where
   pub made : Run
-  pub grew : GrewByAll (own_past before) made (own_past after)
+  pub last : Past
+  pub grew : GrewByAll (own_past before) made last
+  pub more : SeesMore last (own_past after)
   pub changes : AreChangesOf made steps
-
--- The command was served by a visit, and this was its reply. The steps are the Lock, those of the visit, and the Unlock.
-pub record IsServedByVisit (tables : KnownSystem) (cmd : Cmd) (steps : Run) (before after : CpuInRun) (reply : Reply)
-    : Type 0 where
-  pub visited : IsVisited tables.frames tables.stocks (IsServed tables.frames cmd reply) before after
-  pub steps_are : steps ≡ between_locks before.part.number visited.served.steps
-
--- the command was served by a visit, by some steps, and the text is that of its reply
-pub record IsReplyVisited (tables : KnownSystem) (cmd : Cmd) (before after : CpuInRun) (text : List ℕ) : Type 0 where
-  pub steps : Run
-  pub reply : Reply
-  pub visited : IsServedByVisit tables cmd steps before after reply
-  pub text_is : text ≡ answer_text (answer.Served reply)
-
--- What was tried for the command without the lock gave no answer, and left the CPU `seen` by steps that change nothing.
--- Then the command was served by a visit, which may find another value behind the lock.
-pub record RepliesByVisit (tables : KnownSystem) (command : Command) (steps : Run) (before after : CpuInRun)
-    (reply : Reply) : Type 0 where
-  pub cmd : Cmd
-  pub named : cmd_of command ≡ Some cmd
-  pub seen : CpuInRun
-  pub tried : BehindLock tables.frames tables.stocks
-      (λ locked. IsTriedInVain command (locked_state locked before) seen.part)
-  pub alone : MakesAlone before.part.number [] before.past seen.past
-  pub visited : IsServedByVisit tables cmd steps seen after reply
 
 -- a group has the path, and the CPU got this frame of its list for the group, by the step of a Fast for the group
 pub record GetsFastBySteps (path : List ℕ) (steps : Run) (before : LockedState) (after : KnownCpu) (frame : ℕ)
@@ -71,45 +44,77 @@ pub record GetsFastBySteps (path : List ℕ) (steps : Run) (before : LockedState
   pub gets : GetsFast path before after frame
   pub steps_are : steps ≡ steps_alone before.cpu.part.number (Fast gets.group) (unlocked.Fast (Got frame))
 
--- What a command is answered without a visit. The group of an Alloc of a single frame is found under the lock. If there
--- is none, the command is refused; else the CPU may get a frame of its list without the lock.
+-- What a command is answered without a visit. The group of an Alloc of a single frame is found under the lock, by the
+-- run that the CPU has seen then (`met`). If there is none, the command is refused; else the CPU may get a frame of its
+-- list without the lock.
 abbrev pub AnswersWithoutVisit : KnownSystem → Command → (steps : Run) (before after : CpuInRun) → UnlockedAnswer
     → Type 0
 AnswersWithoutVisit tables (Alloc path zero) steps before after (unlocked.Fast (Got frame)) =
-    BehindLock tables.frames tables.stocks
-    (λ locked. GetsFastBySteps path.now steps (locked_state locked before) after.part frame)
+    (met : CpuInRun) × SeenBehindLock tables.frames tables.stocks
+    (λ locked. GetsFastBySteps path.now steps (locked_state locked met) after.part frame) before met
 AnswersWithoutVisit tables (Alloc path zero) steps before after (unlocked.Refused NoGroup) =
-    BehindLock tables.frames tables.stocks
-    (λ locked. FindsNoGroup path.now (locked_state locked before) (locked_state locked after)) × (steps ≡ [])
+    SeenBehindLock tables.frames tables.stocks
+    (λ locked. number_at locked.machine.ledger.groups path.now ≡ None) before after × (steps ≡ [])
 AnswersWithoutVisit tables command steps before after answer =
     AnswersAlone command before.part after.part answer × (steps ≡ steps_alone before.part.number command answer)
 
--- the answer of a command, except of those that answer a text of any length
-abbrev pub AnswersByVisit : KnownSystem → Command → (steps : Run) (before after : CpuInRun) → LineAnswer → Type 0
-AnswersByVisit tables command steps before after (answer.Served reply) =
-    RepliesByVisit tables command steps before after reply
-AnswersByVisit tables Settle steps before after answer.Settled =
-    IsServedByVisit tables cmd.Settle steps before after Done
-AnswersByVisit tables command steps before after answer.Settled = ⊥
-AnswersByVisit tables command steps before after (answer.Unlocked said) =
-    AnswersWithoutVisit tables command steps before after said
+-- a command was answered without a visit, by some steps, by which the CPU's past has grown
+pub record AnswersAloneBySteps (tables : KnownSystem) (command : Command) (before after : CpuInRun)
+    (answer : UnlockedAnswer) : Type 0 where
+  pub steps : Run
+  pub answers : AnswersWithoutVisit tables command steps before after answer
+  pub grew : GrewByChanges before.past steps after.past
 
--- The answer of a script's command for a part, as text, and the part after it. `blocks` and `show` settle the CPU, and
--- write the machine as it is after that. `stock` and `units` also look at words, in the same visit.
+-- A group has the path: it was found under the lock, which left the CPU `met`. Then a call that takes no lock got no
+-- frame for it, and left the CPU `seen` by steps that change nothing.
+pub record TriesFrame (tables : KnownSystem) (path : List ℕ) (before seen : CpuInRun) : Type 0 where
+  pub met : CpuInRun
+  pub found : SeenBehindLock tables.frames tables.stocks
+      (λ locked. GetsNoneFast path (locked_state locked met) seen.part) before met
+  pub alone : MakesAlone before.part.number [] met.past seen.past
+
+-- what was tried for a command without a visit gave no answer, and left the CPU `seen` by steps that change nothing
+abbrev pub TriesInVain : KnownSystem → Command → (before seen : CpuInRun) → Type 0
+TriesInVain tables (Alloc path zero) before seen = TriesFrame tables path.now before seen
+TriesInVain tables command before seen =
+    NeedsLock command before.part seen.part × MakesAlone before.part.number [] before.past seen.past
+
+-- the command is served by a visit, after tries that left the CPU `seen`
+pub record NeedsVisit (tables : KnownSystem) (command : Command) (before seen : CpuInRun) : Type 0 where
+  pub tried : TriesInVain tables command before seen
+  pub grew : GrewByChanges before.past [] seen.past
+  pub untried : OnlySettles command → seen ≡ before
+
+-- The command was served by a visit, which found the sizes of the boot: the steps are the Lock, those of the visit, and
+-- the Unlock. The text of its answer was written from what it left, by looks at words at most, before another visit could begin.
+pub record WritesByVisit (tables : KnownSystem) (command : Command) (steps : Run) (before after : CpuInRun)
+    (text : List ℕ) : Type 0 where
+  pub answer : LineAnswer
+  pub visited : IsVisited tables.frames tables.stocks tables.sizes (AnswersLocked tables.frames command answer)
+      before after
+  pub steps_are : steps ≡ between_locks before.part.number visited.served.served.steps
+  pub left : KnownLocked
+  pub sound : IsSound tables.frames tables.stocks left
+  pub writes : WritesAnswer false command answer (locked_state visited.left after) (locked_state left after) text
+
+-- the text of a command that was answered without a visit
+pub record SaysAlone (tables : KnownSystem) (command : Command) (steps : Run) (before after : CpuInRun)
+    (text : List ℕ) : Type 0 where
+  pub said : UnlockedAnswer
+  pub answers : AnswersWithoutVisit tables command steps before after said
+  pub text_is : text ≡ answer_text (answer.Unlocked said)
+
+-- The text of a command that was tried in vain. The visit may find another value behind the lock than the try did.
+pub record SaysByVisit (tables : KnownSystem) (command : Command) (steps : Run) (before after : CpuInRun)
+    (text : List ℕ) : Type 0 where
+  pub seen : CpuInRun
+  pub needs : NeedsVisit tables command before seen
+  pub writes : WritesByVisit tables command steps seen after text
+
+-- the answer of a script's command for a CPU, as text, and the CPU after it
 abbrev pub VisitsCommand : KnownSystem → Command → (steps : Run) (before after : CpuInRun) (text : List ℕ) → Type 0
-VisitsCommand tables Blocks steps before after text =
-    (reads : ReadsUnderLock tables.frames tables.stocks (λ machine. text ≡ blocks_text machine.blocks) before after)
-    × (steps ≡ between_locks before.part.number reads.settles.steps)
-VisitsCommand tables Show steps before after text =
-    (reads : ReadsUnderLock tables.frames tables.stocks (λ machine. text ≡ show_text machine) before after)
-    × (steps ≡ between_locks before.part.number reads.settles.steps)
-VisitsCommand tables Stock steps before after text =
-    (reads : ReadsAfterSettling tables.frames tables.stocks (IsStockText text) before after)
-    × (steps ≡ between_locks before.part.number reads.settles.steps)
-VisitsCommand tables (Units path) steps before after text =
-    (reads : ReadsAfterSettling tables.frames tables.stocks (IsUnitsTextOf false path.now text) before after)
-    × (steps ≡ between_locks before.part.number reads.settles.steps)
-VisitsCommand tables command steps before after text = IsTextOf (AnswersByVisit tables command steps before after) text
+VisitsCommand tables command steps before after text =
+    SaysAlone tables command steps before after text ⊎ SaysByVisit tables command steps before after text
 
 -- the answer of a command, as text, by these steps, by which the CPU's past has grown
 pub record VisitsBySteps (tables : KnownSystem) (command : Command) (steps : Run) (before after : CpuInRun)

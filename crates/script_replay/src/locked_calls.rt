@@ -1,22 +1,26 @@
-//! The commands under the lock, by value: the machine's watch takes the Lock before a command and the Unlock after it.
+//! The commands under the lock. By value, the machine's watch takes the Lock before a command and the Unlock after it.
 
-ghost use Rattle.std.specs.Prelude.{◌≡◌, ◌∷◌, [], IsTrue, List, Some, false, ℕ};
+ghost use Rattle.std.specs.Prelude.{◌≡◌, ◌∷◌, [], IsTrue, List, None, Some, ℕ};
 ghost use Rattle.std.specs.Borrow.{Bor};
 ghost use Rattle.group_tree.specs.Groups.{has_group, number_at};
 ghost use Rattle.boot_words.specs.Pasts.{own_past};
+ghost use Rattle.frame_word.specs.Seats.{LentIsBorrowed};
 ghost use Rattle.step_rules.specs.declared.step.Action.TheVariants.{Lock, Unlock};
 ghost use Rattle.step_rules.specs.declared.step.Answer.TheVariants.{Done};
 ghost use Rattle.mem_machine.specs.Steps.{cpu_makes};
-ghost use Rattle.mem_system.specs.declared.command.Cmd.TheVariants.{Alloc, Settle};
-ghost use Rattle.mem_system.specs.declared.command.Reply.TheVariants as reply;
-ghost use Rattle.mem_system.specs.Commands.{IsOfZone};
-ghost use Rattle.mem_system.specs.Outcomes.{HasItsGroups, reply_of};
 ghost use Rattle.mem_system.specs.Visits.{locked_state};
-ghost use Rattle.script_replay.specs.Answers.{OnlyWatched, ServesUnderLock, locked_with_unit_notes};
+ghost use Rattle.script_lines.specs.declared.line.Command.TheVariants.{Alloc};
+ghost use Rattle.script_replay.specs.Answers.{AnswersLocked, OnlyWatched, ServesUnderLock, locked_with_unit_notes};
+ghost use Rattle.script_replay.specs.Commands.{OnlySettles, cmd_of};
+ghost use Rattle.script_replay.specs.Ranges.{CommandInRange};
+ghost use Rattle.script_replay.specs.ValueAnswers.{NamesItsGroups, answer_of};
 
+use crate::answer_value::AnswerValue;
+use crate::commands::cmd_of;
 use cpu_part::{BootName, Tables};
 use group_tree::group::GroupId;
-use mem_system::{Cmd, Cpu, Locked, Outcome, serve_frame_outcome, serve_outcome};
+use mem_system::{Cpu, Locked, serve_frame_outcome, serve_outcome, settle};
+use script_lines::line::Command;
 use step_rules::step::{Action, Answer};
 
 // The watch takes the Lock of this CPU. It is asked first whether it is on, because an action has room for a path, and
@@ -56,25 +60,51 @@ fn end_command<N: BootName>(locked: &mut Locked<N>, cpu: u32)
     locked.take_step(cpu, Action::Unlock, Answer::Done);
 }
 
-// Serves the command under the lock. Reclaimed units are noted exactly if the command is explained.
+// Serves a command, whose CPU holds the lock: carries out its `Cmd`, or only settles the CPU.
+#[inline(always)]
+#[tactic(auto, using(crate::proofs::InRange::cmd_in_zone))]
+pub(crate) fn serve_locked<N: BootName>(
+    locked: &mut Locked<N>,
+    tables: &Tables<N>,
+    cpu: &mut Cpu<N>,
+    command: &Command<'_>,
+) -> AnswerValue
+    requires in_range { CommandInRange N.frames.frames command.now }
+    requires settles { cmd_of command.now ≡ None → OnlySettles command.now }
+    ensures answers { AnswersLocked N.frames command.now (answer_of locked.new.machine.ledger result)
+        (locked_state locked.old cpu.old) (locked_state locked.new cpu.new) }
+    ensures groups { NamesItsGroups locked.new.machine.ledger result }
+    ensures lent { LentIsBorrowed N.frames locked.new.machine.frame_seat cpu.new.part.frame_seat }
+{
+    match cmd_of(command) {
+        Some(cmd) => AnswerValue::Served(serve_outcome(locked, tables, cpu, &cmd)),
+        None => {
+            settle(locked, tables, cpu);
+            AnswerValue::Settled
+        }
+    }
+}
+
+// Serves a command under the lock. Reclaimed units are noted exactly if the command is explained.
 #[inline(always)]
 pub(crate) fn serve_under_lock<N: BootName>(
     locked: &mut Locked<N>,
     tables: &Tables<N>,
     cpu: &mut Cpu<N>,
-    cmd: &Cmd<'_>,
+    command: &Command<'_>,
     is_explained: bool,
-) -> Outcome
-    requires of_zone { IsOfZone N.frames cmd.now }
-    ensures served { ServesUnderLock N.frames is_explained cmd.now (reply_of locked.new.machine.ledger result)
+) -> AnswerValue
+    requires in_range { CommandInRange N.frames.frames command.now }
+    requires settles { cmd_of command.now ≡ None → OnlySettles command.now }
+    ensures served { ServesUnderLock N.frames is_explained command.now (answer_of locked.new.machine.ledger result)
         (locked_state locked.old cpu.old) (locked_state locked.new cpu.new) }
-    ensures groups { HasItsGroups locked.new.machine.ledger result }
+    ensures groups { NamesItsGroups locked.new.machine.ledger result }
 {
     let cpu_number = cpu.number();
     begin_command(locked, cpu_number, is_explained);
-    let outcome = serve_outcome(locked, tables, cpu, cmd);
+    let value = serve_locked(locked, tables, cpu, command);
     end_command(locked, cpu_number);
-    outcome
+    value
 }
 
 // Serves an Alloc of a single frame for this group under the lock. It doesn't look the group's path up again.
@@ -85,31 +115,16 @@ pub(crate) fn serve_frame_under_lock<N: BootName>(
     cpu: &mut Cpu<N>,
     group: GroupId,
     is_explained: bool,
-) -> Outcome
+) -> AnswerValue
     requires there { IsTrue (has_group locked.old.machine.ledger.groups group) }
     ensures served { (path : Bor (List ℕ)) → number_at locked.old.machine.ledger.groups path.now ≡ Some group
-        → ServesUnderLock N.frames is_explained (Alloc path 0) (reply_of locked.new.machine.ledger result)
+        → ServesUnderLock N.frames is_explained (Alloc path 0) (answer_of locked.new.machine.ledger result)
         (locked_state locked.old cpu.old) (locked_state locked.new cpu.new) }
-    ensures groups { HasItsGroups locked.new.machine.ledger result }
+    ensures groups { NamesItsGroups locked.new.machine.ledger result }
 {
     let cpu_number = cpu.number();
     begin_command(locked, cpu_number, is_explained);
     let outcome = serve_frame_outcome(locked, tables, cpu, group);
     end_command(locked, cpu_number);
-    outcome
-}
-
-// Settles the CPU under the lock.
-pub(crate) fn settle_under_lock<N: BootName>(
-    locked: &mut Locked<N>,
-    tables: &Tables<N>,
-    cpu: &mut Cpu<N>,
-)
-    ensures served { ServesUnderLock N.frames false Settle reply.Done
-        (locked_state locked.old cpu.old) (locked_state locked.new cpu.new) }
-{
-    let cpu_number = cpu.number();
-    begin_command(locked, cpu_number, false);
-    mem_system::settle(locked, tables, cpu);
-    end_command(locked, cpu_number);
+    AnswerValue::Served(outcome)
 }

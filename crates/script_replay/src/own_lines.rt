@@ -32,7 +32,8 @@ pub(crate) fn serve_own<N: BootName, R: Wait, G: Gate>(
     cpu: &mut Cpu<N>,
 ) -> Result<String, AllocError>
     requires { All (LineCommandInRange N.frames.frames) job.now.lines.now }
-    ensures { IfOk result (λ text. (told : Run) × ServesOwn (boot_tables N.frames N.stocks)
+    ensures { IfOk result (λ text. (told : Run)
+        × ServesOwn (boot_tables N.frames N.stocks job.now.visitor.system.now.sizes)
         (worker cpu_number cpu.old job.now.lines.now job.now.is_numbered) cpu.new told (string_bytes text)) }
 {
     let mut text = String::new(job.alloc);
@@ -51,7 +52,8 @@ fn serve_own_line<N: BootName, R: Wait, G: Gate>(
     text: &mut String,
 ) -> Result<(), AllocError>
     requires { LineCommandInRange N.frames.frames line.now }
-    ensures { AddsText result text.old text.new (ServesOwnBySteps (boot_tables N.frames N.stocks) job.now.is_numbered
+    ensures { AddsText result text.old text.new
+        (ServesOwnBySteps (boot_tables N.frames N.stocks job.now.visitor.system.now.sizes) job.now.is_numbered
         cpu_number line.now cpu.old cpu.new) }
 {
     match line {

@@ -201,7 +201,7 @@ fn serve_at_cpu<N: BootName>(
 }
 
 // Shows what always holds behind the lock. It does nothing.
-fn prove_sound<N: BootName>(locked: &Locked<N>)
+pub(crate) fn prove_sound<N: BootName>(locked: &Locked<N>)
     ensures { IsSound N.frames N.stocks locked.now }
 {
     locked.prove_quiet();

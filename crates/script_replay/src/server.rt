@@ -12,8 +12,8 @@ ghost use Rattle.script_replay.specs.Terms.{terms};
 ghost use Rattle.script_replay.specs.ValueAnswers.{NamesItsGroups, answer_of};
 
 use crate::answer_value::AnswerValue;
-use crate::commands::{cmd_of, frame_path};
-use crate::locked_calls::{serve_frame_under_lock, serve_under_lock, settle_under_lock};
+use crate::commands::frame_path;
+use crate::locked_calls::{serve_frame_under_lock, serve_under_lock};
 use crate::unlocked_calls::{alloc_in_order, try_in_order, watch_unlocked};
 use cpu_part::{BootName, Fast, Tables};
 use group_tree::fault::Fault;
@@ -45,7 +45,6 @@ pub(crate) fn serve_command<N: BootName>(
 
 // Serves another command than an Alloc of a single frame. It is tried without the lock first.
 #[inline(always)]
-#[tactic(auto, using(crate::proofs::InRange::cmd_in_zone))]
 fn serve_other<N: BootName>(
     locked: &mut Locked<N>,
     tables: &Tables<N>,
@@ -65,13 +64,7 @@ fn serve_other<N: BootName>(
         watch_unlocked(locked, cpu_number, command, &said);
         return AnswerValue::Unlocked(said);
     }
-    match cmd_of(command) {
-        Some(cmd) => AnswerValue::Served(serve_under_lock(locked, tables, cpu, &cmd, is_explained)),
-        None => {
-            settle_under_lock(locked, tables, cpu);
-            AnswerValue::Settled
-        }
-    }
+    serve_under_lock(locked, tables, cpu, command, is_explained)
 }
 
 // Takes a single frame for the group of this path.
@@ -118,6 +111,6 @@ pub(crate) fn serve_frame_of<N: BootName>(
             watch_unlocked(locked, cpu_number, &fast, &said);
             AnswerValue::Unlocked(said)
         }
-        _ => AnswerValue::Served(serve_frame_under_lock(locked, tables, cpu, group, is_explained)),
+        _ => serve_frame_under_lock(locked, tables, cpu, group, is_explained),
     }
 }

@@ -10,7 +10,7 @@ ghost use Rattle.script_replay.specs.Commands.{HasValueAnswer};
 ghost use Rattle.script_replay.specs.History.{HoldsOfPart};
 ghost use Rattle.script_replay.specs.Lines.{system_state};
 ghost use Rattle.script_replay.specs.Ranges.{CommandInRange, CpuCommandInRange};
-ghost use Rattle.script_replay.specs.Terms.{boot_tables, terms};
+ghost use Rattle.script_replay.specs.Terms.{terms};
 ghost use Rattle.script_replay.specs.ValueAnswers.{NamesItsGroups, SaysCommand, answer_of};
 
 use crate::answer_value::AnswerValue;
@@ -36,7 +36,7 @@ pub fn serve_value<N: BootName>(
 ) -> AnswerValue
     requires there { CpuCommandInRange N.frames.frames (length cpus.old) cpu command.now }
     requires has_value { HasValueAnswer command.now }
-    ensures answer { SaysCommand (boot_tables N.frames N.stocks) cpu command.now
+    ensures answer { SaysCommand N.frames N.stocks cpu command.now
         (system_state locked.old cpus.old) (system_state locked.new cpus.new)
         (answer_of locked.new.machine.ledger result) }
     ensures groups { NamesItsGroups locked.new.machine.ledger result }
@@ -59,7 +59,7 @@ pub fn alloc_value<N: BootName>(
     requires high { cpu ≤ length cpus.old }
     requires there { IsTrue (has_group locked.old.machine.ledger.groups group) }
     ensures answer { (path : Bor (List ℕ)) → number_at locked.old.machine.ledger.groups path.now ≡ Some group
-        → SaysCommand (boot_tables N.frames N.stocks) cpu (Alloc path 0)
+        → SaysCommand N.frames N.stocks cpu (Alloc path 0)
         (system_state locked.old cpus.old) (system_state locked.new cpus.new)
         (answer_of locked.new.machine.ledger result) }
     ensures groups { NamesItsGroups locked.new.machine.ledger result }

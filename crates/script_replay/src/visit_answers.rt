@@ -1,22 +1,25 @@
 //! Serving one command of a CPU by visits, each of which takes the zone's lock by itself.
 
-ghost use Rattle.std.specs.Prelude.{◌≡◌, None, true};
-ghost use Rattle.mem_system.specs.Commands.{IsOfZone};
-ghost use Rattle.script_lines.specs.declared.line.Command.TheVariants.{Alloc, Units};
+ghost use Rattle.std.specs.Prelude.{◌≡◌, IfNone, IfSome, None, true};
+ghost use Rattle.script_lines.specs.declared.line.Command.TheVariants.{Alloc};
+ghost use Rattle.step_rules.specs.After.{Run};
 ghost use Rattle.script_replay.specs.Answers.{AddsText};
-ghost use Rattle.script_replay.specs.Commands.{OnlySettles, frame_path};
+ghost use Rattle.script_replay.specs.Commands.{OnlySettles, cmd_of};
 ghost use Rattle.script_replay.specs.Numbers.{SaysNumbered};
 ghost use Rattle.script_replay.specs.Ranges.{CommandInRange};
 ghost use Rattle.script_replay.specs.Terms.{boot_tables};
-ghost use Rattle.script_replay.specs.Visits.{IsReplyVisited, ServesByVisits};
+ghost use Rattle.script_replay.specs.Visits.{AnswersAloneBySteps, NeedsVisit, ServesByVisits, WritesByVisit};
 
-use crate::commands::{cmd_of, frame_path};
+use crate::commands::frame_path;
 use crate::form::write_numbered;
+use crate::locked_calls::serve_locked;
+use crate::owned_replay::prove_sound;
 use crate::unlocked_calls::try_unlocked;
+use crate::writer::write_answer;
 use cpu_part::{BootName, Fast};
 use group_tree::fault::Fault;
-use mem_system::{Cmd, Cpu, Gate, Reply, System};
-use reply_texts::{write_fast, write_refusal, write_reply, write_settled, write_unlocked};
+use mem_system::{Cpu, Gate, System};
+use reply_texts::{UnlockedAnswer, write_unlocked};
 use script_lines::line::Command;
 use std::alloc::{AllocError, Global};
 use std::sync::Wait;
@@ -44,7 +47,7 @@ pub fn visit_line<N: BootName, R: Wait, G: Gate>(
 ) -> Result<(), AllocError>
     requires in_range { CommandInRange N.frames.frames command.now }
     ensures answered { AddsText result text.old text.new
-        (ServesByVisits (boot_tables N.frames N.stocks) command.now cpu.old cpu.new) }
+        (ServesByVisits (boot_tables N.frames N.stocks visitor.now.system.now.sizes) command.now cpu.old cpu.new) }
 {
     let cpu_number = cpu.number();
     visitor.gate.before(cpu_number, line);
@@ -65,7 +68,7 @@ pub fn visit_numbered_line<N: BootName, R: Wait, G: Gate>(
 ) -> Result<(), AllocError>
     requires in_range { CommandInRange N.frames.frames command.now }
     ensures answered { AddsText result text.old text.new (SaysNumbered true line
-        (ServesByVisits (boot_tables N.frames N.stocks) command.now cpu.old cpu.new)) }
+        (ServesByVisits (boot_tables N.frames N.stocks visitor.now.system.now.sizes) command.now cpu.old cpu.new)) }
 {
     let mut plain = String::new(alloc);
     visit_line(visitor, cpu, line, command, &mut plain)?;
@@ -81,111 +84,71 @@ pub(crate) fn visit_text<N: BootName, R: Wait, G: Gate>(
 ) -> Result<(), AllocError>
     requires in_range { CommandInRange N.frames.frames command.now }
     ensures answered { AddsText result text.old text.new
-        (ServesByVisits (boot_tables N.frames N.stocks) command.now cpu.old cpu.new) }
+        (ServesByVisits (boot_tables N.frames N.stocks visitor.now.system.now.sizes) command.now cpu.old cpu.new) }
 {
-    match frame_path(command) {
-        Some(path) => visit_frame(visitor, cpu, path, text),
-        None => visit_other(visitor, cpu, command, text),
+    match answer_alone(visitor, cpu, command) {
+        Some(said) => write_unlocked(&said, text),
+        None => write_by_visit(visitor, cpu, command, text),
     }
 }
 
-// Serves another command than an Alloc of a single frame. It is tried without a visit first.
-#[tactic(auto, using(crate::proofs::InRange::cmd_in_zone))]
-fn visit_other<N: BootName, R: Wait, G: Gate>(
+// Answers a command without a visit, if that is possible.
+#[inline(always)]
+fn answer_alone<N: BootName, R: Wait, G: Gate>(
+    visitor: &Visitor<'_, N, R, G>,
+    cpu: &mut Cpu<N>,
+    command: &Command<'_>,
+) -> Option<UnlockedAnswer>
+    requires in_range { CommandInRange N.frames.frames command.now }
+    ensures answers { IfSome result (AnswersAloneBySteps (boot_tables N.frames N.stocks visitor.now.system.now.sizes) command.now cpu.old cpu.new) }
+    ensures needs_visit { IfNone result (NeedsVisit (boot_tables N.frames N.stocks visitor.now.system.now.sizes) command.now cpu.old cpu.new) }
+{
+    match frame_path(command) {
+        Some(path) => take_listed(visitor, cpu, path),
+        None => try_unlocked(visitor.system.tables(), cpu, command),
+    }
+}
+
+// Takes a frame of the CPU's list for the group of this path, if that is possible. The group is found under the lock.
+fn take_listed<N: BootName, R: Wait, G: Gate>(
+    visitor: &Visitor<'_, N, R, G>,
+    cpu: &mut Cpu<N>,
+    path: &[u8],
+) -> Option<UnlockedAnswer>
+    ensures answers { IfSome result
+        (AnswersAloneBySteps (boot_tables N.frames N.stocks visitor.now.system.now.sizes) (Alloc path.entry 0) cpu.old cpu.new) }
+    ensures needs_visit { IfNone result
+        (NeedsVisit (boot_tables N.frames N.stocks visitor.now.system.now.sizes) (Alloc path.entry 0) cpu.old cpu.new) }
+{
+    let Some(group) = visitor.system.find(visitor.rt, cpu, path) else {
+        return Some(UnlockedAnswer::Refused(Fault::NoGroup));
+    };
+    match cpu.alloc_fast(visitor.system.tables(), group.number()) {
+        Fast::Got(frame) => Some(UnlockedAnswer::Fast(Fast::Got(frame))),
+        _ => None,
+    }
+}
+
+// Serves a command by a visit, and adds its answer before the lock is free again.
+fn write_by_visit<N: BootName, R: Wait, G: Gate>(
     visitor: &Visitor<'_, N, R, G>,
     cpu: &mut Cpu<N>,
     command: &Command<'_>,
     text: &mut String,
 ) -> Result<(), AllocError>
     requires in_range { CommandInRange N.frames.frames command.now }
-    requires other { frame_path command.now ≡ None }
-    ensures answered { AddsText result text.old text.new
-        (ServesByVisits (boot_tables N.frames N.stocks) command.now cpu.old cpu.new) }
+    requires settles { cmd_of command.now ≡ None → OnlySettles command.now }
+    ensures answered { AddsText result text.old text.new (λ told. (steps : Run)
+        × WritesByVisit (boot_tables N.frames N.stocks visitor.now.system.now.sizes) command.now steps cpu.old cpu.new told) }
 {
-    if let Some(said) = try_unlocked(visitor.system.tables(), cpu, command) {
-        return write_unlocked(&said, text);
-    }
-    match cmd_of(command) {
-        Some(cmd) => visit_and_reply(visitor, cpu, &cmd, text),
-        None => visit_settling(visitor, cpu, command, text),
-    }
-}
-
-// Serves the command by a visit, and adds its reply.
-fn visit_and_reply<N: BootName, R: Wait, G: Gate>(
-    visitor: &Visitor<'_, N, R, G>,
-    cpu: &mut Cpu<N>,
-    cmd: &Cmd<'_>,
-    text: &mut String,
-) -> Result<(), AllocError>
-    requires of_zone { IsOfZone N.frames cmd.now }
-    ensures answered { AddsText result text.old text.new
-        (IsReplyVisited (boot_tables N.frames N.stocks) cmd.now cpu.old cpu.new) }
-{
-    let mut reply = Reply::Done;
-    visitor
-        .system
-        .visit_into(visitor.rt, cpu, cmd, visitor.gate, &mut reply);
-    write_reply(&reply, text)
-}
-
-// Settles the CPU by a visit, and adds what the command writes of it.
-fn visit_settling<N: BootName, R: Wait, G: Gate>(
-    visitor: &Visitor<'_, N, R, G>,
-    cpu: &mut Cpu<N>,
-    command: &Command<'_>,
-    text: &mut String,
-) -> Result<(), AllocError>
-    requires settles { OnlySettles command.now }
-    ensures answered { AddsText result text.old text.new
-        (ServesByVisits (boot_tables N.frames N.stocks) command.now cpu.old cpu.new) }
-{
-    match *command {
-        Command::Blocks => visitor.system.blocks_into(visitor.rt, cpu, text),
-        Command::Show => visitor.system.show_into(visitor.rt, cpu, text),
-        Command::Stock => visitor.system.stock_into(visitor.rt, cpu, text),
-        Command::Units { path } => visit_units(visitor, cpu, path, text),
-        _ => {
-            let _done = visitor
-                .system
-                .visit_with(visitor.rt, cpu, &Cmd::Settle, visitor.gate);
-            write_settled(text)
-        }
-    }
-}
-
-// Takes a frame, if possible without the lock, and adds the answer.
-fn visit_frame<N: BootName, R: Wait, G: Gate>(
-    visitor: &Visitor<'_, N, R, G>,
-    cpu: &mut Cpu<N>,
-    path: &[u8],
-    text: &mut String,
-) -> Result<(), AllocError>
-    ensures { AddsText result text.old text.new
-        (ServesByVisits (boot_tables N.frames N.stocks) (Alloc path.entry 0) cpu.old cpu.new) }
-{
-    let Some(group) = visitor.system.find(visitor.rt, path) else {
-        return write_refusal(&Fault::NoGroup, text);
-    };
-    match cpu.alloc_fast(visitor.system.tables(), group.number()) {
-        Fast::Got(frame) => write_fast(&Fast::Got(frame), text),
-        _ => visit_and_reply(visitor, cpu, &Cmd::Alloc { path, order: 0 }, text),
-    }
-}
-
-// Settles the CPU, and adds the kept units of the group of this path.
-fn visit_units<N: BootName, R: Wait, G: Gate>(
-    visitor: &Visitor<'_, N, R, G>,
-    cpu: &mut Cpu<N>,
-    path: &[u8],
-    text: &mut String,
-) -> Result<(), AllocError>
-    ensures { AddsText result text.old text.new
-        (ServesByVisits (boot_tables N.frames N.stocks) (Units path.entry) cpu.old cpu.new) }
-{
-    let is_there = visitor.system.units_into(visitor.rt, cpu, path, text)?;
-    if is_there {
-        return Ok(());
-    }
-    write_refusal(&Fault::NoGroup, text)
+    let mut guard = visitor.system.lock(visitor.rt);
+    visitor.gate.inside(cpu.number());
+    let tables = visitor.system.tables();
+    let locked = &mut *guard;
+    prove_sound(locked);
+    let value = serve_locked(locked, tables, cpu, command);
+    prove_sound(locked);
+    let written = write_answer(locked, tables, cpu, command, &value, false, text);
+    prove_sound(locked);
+    written
 }

@@ -9,7 +9,6 @@ use Rattle.group_tree.proofs.GroupLemmas.{group_at-contains, number_at-there, pa
 use Rattle.group_charge.specs.Charges.{AreCharges, Ledger}
 use Rattle.script_lines.specs.declared.line.Command.TheVariants as cmd
 use Rattle.script_replay.specs.declared.answer_value.AnswerValue.{AnswerValue}
-use Rattle.script_replay.specs.Terms.{boot_tables}
 use Rattle.script_replay.specs.ValueAnswers.{NamesItsGroups, SaysCommand, answer_of}
 use Rattle.tempolemon_c.specs.HandleCalls.{CallsLive, IsCpu}
 use Rattle.tempolemon_c.specs.Commands.{SameButState}
@@ -33,7 +32,7 @@ module _ (frames : KnownTable) (stock_table : KnownStockTable) (cpu group : ℕ)
 
   pub frame_taken : (path : Bor (List ℕ)) → IsCpu from.sizes.cpus cpu → AreCharges from.state.locked.machine.ledger → path_of groups group ≡ Some path.now
       → ((named : Bor (List ℕ)) → number_at groups named.now ≡ Some group
-      → SaysCommand (boot_tables frames stock_table) cpu (cmd.Alloc named 0) from.state to.state (answer_of after value))
+      → SaysCommand frames stock_table cpu (cmd.Alloc named 0) from.state to.state (answer_of after value))
       → NamesItsGroups after value → SameButState from to → CallsLive frames stock_table cpu (call.Alloc group 0) from to (returned.Served value)
   frame_taken path exists legal is says there rest = record {
     command = cmd.Alloc path 0;

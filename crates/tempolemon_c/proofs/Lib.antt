@@ -4,3 +4,4 @@ pub mod Refusing
 pub mod Showing
 pub mod Finding
 pub mod Lives
+pub mod Naming

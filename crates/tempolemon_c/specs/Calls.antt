@@ -1,5 +1,6 @@
 -- What a typed call does to the boot behind a handle, and what it gives the host.
 use Rattle.std.specs.Prelude.{◌≡◌, ◌⊎◌, ◌↔◌, ℕ, ◌<◌, ◌≤◌, List, [], ◌++◌, Option, None, drop, length}
+use Rattle.std.specs.Borrow.{Bor}
 use Rattle.frame_word.specs.Seats.{KnownTable}
 use Rattle.stock_word.specs.Stock.{KnownStockTable}
 use Rattle.mem_system.specs.declared.command.Reply.{Reply}
@@ -10,6 +11,7 @@ use Rattle.reply_texts.specs.LineAnswer.{LineAnswer}
 use Rattle.reply_texts.specs.LineAnswer as answer
 use Rattle.control_files.specs.Text.{longest_text}
 use Rattle.script_lines.specs.declared.line.Command.{Command}
+use Rattle.script_lines.specs.declared.line.Command.TheVariants as cmd
 use Rattle.tempolemon_c.specs.declared.calls.Call.{Call}
 use Rattle.tempolemon_c.specs.declared.calls.Call.TheVariants as call
 use Rattle.control_files.specs.declared.file.File.{File}
@@ -115,41 +117,6 @@ pub record CallsInto (cpu : ℕ) (asked : Call) (before after : Option LiveBoot)
 abbrev pub CallsBehind : (cpu : ℕ) → Call → (before after : Option LiveBoot) (status : ℕ) (out : TypedResult) → Type 0
 CallsBehind cpu asked before after status out = CallsInto cpu asked before after status out [] []
 
--- the call makes the group of this path
-abbrev pub IsMkdir : (path : List ℕ) → Call → Type 0
-IsMkdir path (call.Mkdir named) = named.now ≡ path
-IsMkdir path other = ⊥
-
--- the call removes the group of this path
-abbrev pub IsRmdir : (path : List ℕ) → Call → Type 0
-IsRmdir path (call.Rmdir named) = named.now ≡ path
-IsRmdir path other = ⊥
-
--- the call writes this value to this file of the group of this path
-abbrev pub IsWrite : (path file value : List ℕ) → Call → Type 0
-IsWrite path file value (call.Write named in_file text) =
-    (named.now ≡ path) × ((in_file.now ≡ file) × (text.now ≡ value))
-IsWrite path file value other = ⊥
-
--- the call reads this file of the group of this path
-abbrev pub IsRead : (path file : List ℕ) → Call → Type 0
-IsRead path file (call.Read named in_file) = (named.now ≡ path) × (in_file.now ≡ file)
-IsRead path file other = ⊥
-
--- a call with these texts was made
-pub record CallsPath (is_asked : Call → Type 0) (cpu : ℕ) (before after : Option LiveBoot) (status : ℕ)
-    (out : TypedResult) : Type 0 where
-  pub asked : Call
-  pub is : is_asked asked
-  pub calls : CallsBehind cpu asked before after status out
-
--- a read with these texts was made, and the buffer gets the text
-pub record ReadsBehind (is_asked : Call → Type 0) (cpu : ℕ) (before after : Option LiveBoot) (status : ℕ)
-    (out : TypedResult) (old new : List ℕ) : Type 0 where
-  pub asked : Call
-  pub is : is_asked asked
-  pub calls : CallsInto cpu asked before after status out old new
-
 -- the buffer is refused as too small, and nothing was done
 pub record IsTooSmall (before after : Option LiveBoot) (status : ℕ) (out : TypedResult) (old new : List ℕ)
     : Type 0 where
@@ -160,8 +127,8 @@ pub record IsTooSmall (before after : Option LiveBoot) (status : ℕ) (out : Typ
 
 -- What a read of a file does. Whether the buffer has room for the longest text of a file is looked at first, whatever
 -- the handle and the call
-pub record ReadsIntoBuffer (path file : List ℕ) (cpu : ℕ) (before after : Option LiveBoot) (status : ℕ)
+pub record ReadsIntoBuffer (path file : Bor (List ℕ)) (cpu : ℕ) (before after : Option LiveBoot) (status : ℕ)
     (out : TypedResult)
     (old new : List ℕ) : Type 0 where
   pub refused : length old < longest_text → IsTooSmall before after status out old new
-  pub read : longest_text ≤ length old → ReadsBehind (IsRead path file) cpu before after status out old new
+  pub read : longest_text ≤ length old → CallsInto cpu (call.Script (cmd.Read path file)) before after status out old new

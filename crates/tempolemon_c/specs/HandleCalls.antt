@@ -1,5 +1,5 @@
 -- What a call means, and what it does to a live boot.
-use Rattle.std.specs.Prelude.{◌≡◌, ◌⊎◌, ℕ, ◌<◌, ◌≤◌, List, Some, false}
+use Rattle.std.specs.Prelude.{◌≡◌, ◌⊎◌, ℕ, ◌≤◌, List, Some, false}
 use Rattle.frame_word.specs.Seats.{KnownTable}
 use Rattle.stock_word.specs.Stock.{KnownStockTable}
 use Rattle.group_tree.specs.Bounds.{most_groups}
@@ -14,13 +14,11 @@ use Rattle.mem_system.specs.Outcomes.{HasItsGroups, reply_of}
 use Rattle.reply_texts.specs.LineAnswer.{LineAnswer}
 use Rattle.script_lines.specs.declared.line.Command.{Command}
 use Rattle.script_lines.specs.declared.line.Command.TheVariants as cmd
-use Rattle.script_replay.specs.Ranges.{CpuCommandInRange}
-use Rattle.script_replay.specs.Terms.{boot_tables}
+use Rattle.script_replay.specs.Commands.{HasValueAnswer}
+use Rattle.script_replay.specs.Ranges.{CommandInRange, CpuCommandInRange}
 use Rattle.script_replay.specs.ValueAnswers.{NamesItsGroups, SaysCommand, answer_of}
 use Rattle.tempolemon_c.specs.Known.{KnownLive}
 use Rattle.tempolemon_c.specs.Commands.{SameButState}
-use Rattle.tempolemon_c.specs.declared.calls.FrameCall.{FrameCall}
-use Rattle.tempolemon_c.specs.declared.calls.FrameCall.TheVariants as at
 use Rattle.tempolemon_c.specs.declared.calls.Call.{Call}
 use Rattle.tempolemon_c.specs.declared.calls.Call.TheVariants as call
 use Rattle.tempolemon_c.specs.declared.calls.CallAnswer.{CallAnswer}
@@ -28,29 +26,20 @@ use Rattle.tempolemon_c.specs.declared.calls.CallAnswer.TheVariants as returned
 use Rattle.tempolemon_c.specs.declared.calls.FileText.{FileText}
 use Rattle.tempolemon_c.specs.declared.calls.FileText.TheVariants as file_text
 
--- the script's command that does this at a frame
-abbrev pub frame_command : FrameCall → ℕ → Command
-frame_command at.Release frame = cmd.Release frame
-frame_command at.Get frame = cmd.Get frame
-frame_command at.Put frame = cmd.Put frame
-frame_command at.Touch frame = cmd.Touch frame
-frame_command at.Dirty frame = cmd.Dirty frame
-frame_command at.Clean frame = cmd.Clean frame
-frame_command at.Owner frame = cmd.Owner frame
+-- what a typed call asks: a command of a script which names no group by its number, and whose answer is a value; or a
+-- block for the group of a number
+abbrev pub IsTypedCall : Call → Type 0
+IsTypedCall (call.Script (cmd.Fast group)) = ⊥
+IsTypedCall (call.Script command) = HasValueAnswer command
+IsTypedCall (call.Alloc group order) = Unit {0}
 
 -- The call means this command of a script, if these are the groups. A group that a call names by its number is named by
 -- its path in a script
 abbrev pub Means : List Group → Call → Command → Type 0
-Means groups (call.Mkdir path) (cmd.Mkdir named) = named.now ≡ path.now
-Means groups (call.Rmdir path) (cmd.Rmdir named) = named.now ≡ path.now
-Means groups (call.Write path file value) (cmd.Write named in_file text) =
-    (named.now ≡ path.now) × ((in_file.now ≡ file.now) × (text.now ≡ value.now))
-Means groups (call.Read path file) (cmd.Read named in_file) = (named.now ≡ path.now) × (in_file.now ≡ file.now)
+Means groups (call.Script asked) command = command ≡ asked
 Means groups (call.Alloc group order) (cmd.Alloc named as_order) =
     (path_of groups group ≡ Some named.now) × (as_order ≡ order)
-Means groups (call.AtFrame frame what) command = command ≡ frame_command what frame
-Means groups call.Settle cmd.Settle = Unit {0}
-Means groups other command = ⊥
+Means groups (call.Alloc group order) other = ⊥
 
 -- there is a CPU of this number
 pub record IsCpu (cpus cpu : ℕ) : Type 0 where
@@ -59,7 +48,7 @@ pub record IsCpu (cpus cpu : ℕ) : Type 0 where
 
 -- the frame that the call names isn't in the zone
 abbrev pub NamesMissingFrame : (frames : ℕ) → Call → Type 0
-NamesMissingFrame frames (call.AtFrame frame what) = ¬ (frame < frames)
+NamesMissingFrame frames (call.Script command) = ¬ CommandInRange frames command
 NamesMissingFrame frames other = ⊥
 
 -- no group has this number; those of groups are below 64
@@ -80,7 +69,7 @@ IsReturnedAnswer ledger answer other = ⊥
 pub record ServesLiveCommand (frames : KnownTable) (stock_table : KnownStockTable) (cpu : ℕ) (command : Command)
     (from to : KnownLive) (answer : LineAnswer) : Type 0 where
   pub there : CpuCommandInRange from.sizes.frames from.sizes.cpus cpu command
-  pub says : SaysCommand (boot_tables frames stock_table) cpu command from.state to.state answer
+  pub says : SaysCommand frames stock_table cpu command from.state to.state answer
   pub rest : SameButState from to
 
 -- the command was served, and this is returned of its answer

@@ -4,6 +4,7 @@ ghost use Rattle.std.specs.Prelude.{◌≡◌, IfSome, IsSomeAnd};
 ghost use Rattle.mem_system.specs.declared.outcome.Outcome.TheVariants.{Text};
 ghost use Rattle.script_replay.specs.declared.answer_value.AnswerValue.TheVariants.{Served};
 ghost use Rattle.tempolemon_c.specs.Behind.{behind};
+ghost use Rattle.tempolemon_c.specs.HandleCalls.{IsTypedCall};
 ghost use Rattle.tempolemon_c.specs.Calls.{CallsBehind, CallsInto, HasFileBehind, HasGroupsBehind, ReturnsValue};
 
 use crate::calls::{Call, CallAnswer, FileText};
@@ -29,6 +30,7 @@ pub(crate) fn serve_call(
     call: &Call<'_>,
     out: &mut TypedResult,
 ) -> u8
+    requires { IsTypedCall call.now }
     ensures { CallsBehind cpu call.now (behind handle.old) (behind handle.new) result out.new }
 {
     serve_into(alloc, handle, cpu, call, &mut [], out)
@@ -45,6 +47,7 @@ pub(crate) fn serve_into(
     buffer: &mut [u8],
     out: &mut TypedResult,
 ) -> u8
+    requires { IsTypedCall call.now }
     ensures { CallsInto cpu call.now (behind handle.old) (behind handle.new) result out.new buffer.old buffer.new }
 {
     *out = TypedResult {

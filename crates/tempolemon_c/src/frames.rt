@@ -1,14 +1,15 @@
 //! The calls that allocate, release, pin and note frames. None of them takes memory.
 
-ghost use Rattle.tempolemon_c.specs.declared.calls.Call.TheVariants.{Alloc, AtFrame, Settle};
-ghost use Rattle.tempolemon_c.specs.declared.calls.FrameCall.TheVariants as at;
+ghost use Rattle.script_lines.specs.declared.line.Command.TheVariants as cmd;
+ghost use Rattle.tempolemon_c.specs.declared.calls.Call.TheVariants.{Alloc, Script};
 ghost use Rattle.tempolemon_c.specs.Behind.{behind};
 ghost use Rattle.tempolemon_c.specs.Calls.{CallsBehind};
 
 use crate::calling::serve_call;
-use crate::calls::{Call, FrameCall};
+use crate::calls::Call;
 use crate::handle::Handle;
 use crate::typed_result::TypedResult;
+use script_lines::line::Command;
 use std::alloc::Global;
 
 /// Takes a block of 2^order frames, charged to the group of this number.
@@ -35,10 +36,10 @@ pub extern "C" fn tempolemon_release(
     frame: u32,
     out: &mut TypedResult,
 ) -> u8
-    ensures { CallsBehind cpu (AtFrame frame at.Release) (behind handle.old) (behind handle.new) result out.new }
+    ensures { CallsBehind cpu (Script (cmd.Release frame)) (behind handle.old) (behind handle.new) result out.new }
 {
-    let what = FrameCall::Release;
-    serve_call(alloc, handle, cpu, &Call::AtFrame { frame, what }, out)
+    let call = Call::Script(Command::Release { frame });
+    serve_call(alloc, handle, cpu, &call, out)
 }
 
 /// Pins this frame for the CPU, without the lock.
@@ -50,10 +51,10 @@ pub extern "C" fn tempolemon_get(
     frame: u32,
     out: &mut TypedResult,
 ) -> u8
-    ensures { CallsBehind cpu (AtFrame frame at.Get) (behind handle.old) (behind handle.new) result out.new }
+    ensures { CallsBehind cpu (Script (cmd.Get frame)) (behind handle.old) (behind handle.new) result out.new }
 {
-    let what = FrameCall::Get;
-    serve_call(alloc, handle, cpu, &Call::AtFrame { frame, what }, out)
+    let call = Call::Script(Command::Get { frame });
+    serve_call(alloc, handle, cpu, &call, out)
 }
 
 /// Puts a pin of the CPU on this frame, without the lock.
@@ -65,10 +66,10 @@ pub extern "C" fn tempolemon_put(
     frame: u32,
     out: &mut TypedResult,
 ) -> u8
-    ensures { CallsBehind cpu (AtFrame frame at.Put) (behind handle.old) (behind handle.new) result out.new }
+    ensures { CallsBehind cpu (Script (cmd.Put frame)) (behind handle.old) (behind handle.new) result out.new }
 {
-    let what = FrameCall::Put;
-    serve_call(alloc, handle, cpu, &Call::AtFrame { frame, what }, out)
+    let call = Call::Script(Command::Put { frame });
+    serve_call(alloc, handle, cpu, &call, out)
 }
 
 /// Notes that the unit that this frame heads was used.
@@ -80,10 +81,10 @@ pub extern "C" fn tempolemon_touch(
     frame: u32,
     out: &mut TypedResult,
 ) -> u8
-    ensures { CallsBehind cpu (AtFrame frame at.Touch) (behind handle.old) (behind handle.new) result out.new }
+    ensures { CallsBehind cpu (Script (cmd.Touch frame)) (behind handle.old) (behind handle.new) result out.new }
 {
-    let what = FrameCall::Touch;
-    serve_call(alloc, handle, cpu, &Call::AtFrame { frame, what }, out)
+    let call = Call::Script(Command::Touch { frame });
+    serve_call(alloc, handle, cpu, &call, out)
 }
 
 /// Notes that the unit that this frame heads is dirty.
@@ -95,10 +96,10 @@ pub extern "C" fn tempolemon_dirty(
     frame: u32,
     out: &mut TypedResult,
 ) -> u8
-    ensures { CallsBehind cpu (AtFrame frame at.Dirty) (behind handle.old) (behind handle.new) result out.new }
+    ensures { CallsBehind cpu (Script (cmd.Dirty frame)) (behind handle.old) (behind handle.new) result out.new }
 {
-    let what = FrameCall::Dirty;
-    serve_call(alloc, handle, cpu, &Call::AtFrame { frame, what }, out)
+    let call = Call::Script(Command::Dirty { frame });
+    serve_call(alloc, handle, cpu, &call, out)
 }
 
 /// Notes that the unit that this frame heads is clean.
@@ -110,10 +111,10 @@ pub extern "C" fn tempolemon_clean(
     frame: u32,
     out: &mut TypedResult,
 ) -> u8
-    ensures { CallsBehind cpu (AtFrame frame at.Clean) (behind handle.old) (behind handle.new) result out.new }
+    ensures { CallsBehind cpu (Script (cmd.Clean frame)) (behind handle.old) (behind handle.new) result out.new }
 {
-    let what = FrameCall::Clean;
-    serve_call(alloc, handle, cpu, &Call::AtFrame { frame, what }, out)
+    let call = Call::Script(Command::Clean { frame });
+    serve_call(alloc, handle, cpu, &call, out)
 }
 
 /// Tells the place of this frame.
@@ -125,10 +126,10 @@ pub extern "C" fn tempolemon_owner(
     frame: u32,
     out: &mut TypedResult,
 ) -> u8
-    ensures { CallsBehind cpu (AtFrame frame at.Owner) (behind handle.old) (behind handle.new) result out.new }
+    ensures { CallsBehind cpu (Script (cmd.Owner frame)) (behind handle.old) (behind handle.new) result out.new }
 {
-    let what = FrameCall::Owner;
-    serve_call(alloc, handle, cpu, &Call::AtFrame { frame, what }, out)
+    let call = Call::Script(Command::Owner { frame });
+    serve_call(alloc, handle, cpu, &call, out)
 }
 
 /// Settles the CPU.
@@ -139,7 +140,7 @@ pub extern "C" fn tempolemon_settle(
     cpu: u32,
     out: &mut TypedResult,
 ) -> u8
-    ensures { CallsBehind cpu Settle (behind handle.old) (behind handle.new) result out.new }
+    ensures { CallsBehind cpu (Script cmd.Settle) (behind handle.old) (behind handle.new) result out.new }
 {
-    serve_call(alloc, handle, cpu, &Call::Settle, out)
+    serve_call(alloc, handle, cpu, &Call::Script(Command::Settle), out)
 }

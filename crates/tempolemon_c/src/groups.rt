@@ -1,7 +1,9 @@
 //! The calls that make and remove groups, and write and read their files. None of them takes memory.
 
+ghost use Rattle.script_lines.specs.declared.line.Command.TheVariants.{Mkdir, Rmdir, Write};
 ghost use Rattle.tempolemon_c.specs.Behind.{behind};
-ghost use Rattle.tempolemon_c.specs.Calls.{CallsPath, IsMkdir, IsRead, IsRmdir, IsWrite, ReadsIntoBuffer};
+ghost use Rattle.tempolemon_c.specs.Calls.{CallsBehind, ReadsIntoBuffer};
+ghost use Rattle.tempolemon_c.specs.declared.calls.Call.TheVariants.{Script};
 
 use crate::calling::{serve_call, serve_into};
 use crate::calls::Call;
@@ -10,6 +12,7 @@ use crate::kinds::NOTHING;
 use crate::status::SMALL_BUFFER;
 use crate::typed_result::TypedResult;
 use control_files::text::MAX_TEXT;
+use script_lines::line::Command;
 use std::alloc::Global;
 
 /// Makes the group of this path.
@@ -21,9 +24,10 @@ pub extern "C" fn tempolemon_mkdir(
     path: &[u8],
     out: &mut TypedResult,
 ) -> u8
-    ensures { CallsPath (IsMkdir path.now) cpu (behind handle.old) (behind handle.new) result out.new }
+    ensures { CallsBehind cpu (Script (Mkdir path.entry)) (behind handle.old) (behind handle.new) result out.new }
 {
-    serve_call(alloc, handle, cpu, &Call::Mkdir { path }, out)
+    let call = Call::Script(Command::Mkdir { path });
+    serve_call(alloc, handle, cpu, &call, out)
 }
 
 /// Removes the group of this path.
@@ -35,9 +39,10 @@ pub extern "C" fn tempolemon_rmdir(
     path: &[u8],
     out: &mut TypedResult,
 ) -> u8
-    ensures { CallsPath (IsRmdir path.now) cpu (behind handle.old) (behind handle.new) result out.new }
+    ensures { CallsBehind cpu (Script (Rmdir path.entry)) (behind handle.old) (behind handle.new) result out.new }
 {
-    serve_call(alloc, handle, cpu, &Call::Rmdir { path }, out)
+    let call = Call::Script(Command::Rmdir { path });
+    serve_call(alloc, handle, cpu, &call, out)
 }
 
 /// Writes a value to a file of the group of this path.
@@ -51,10 +56,10 @@ pub extern "C" fn tempolemon_write(
     value: &[u8],
     out: &mut TypedResult,
 ) -> u8
-    ensures { CallsPath (IsWrite path.now file.now value.now) cpu
+    ensures { CallsBehind cpu (Script (Write path.entry file.entry value.entry))
         (behind handle.old) (behind handle.new) result out.new }
 {
-    let call = Call::Write { path, file, value };
+    let call = Call::Script(Command::Write { path, file, value });
     serve_call(alloc, handle, cpu, &call, out)
 }
 
@@ -70,7 +75,7 @@ pub extern "C" fn tempolemon_read(
     text: &mut [u8],
     out: &mut TypedResult,
 ) -> u8
-    ensures { ReadsIntoBuffer path.now file.now cpu (behind handle.old) (behind handle.new)
+    ensures { ReadsIntoBuffer path.entry file.entry cpu (behind handle.old) (behind handle.new)
         result out.new text.old text.new }
 {
     if text.len() < MAX_TEXT {
@@ -80,5 +85,6 @@ pub extern "C" fn tempolemon_read(
         };
         return SMALL_BUFFER;
     }
-    serve_into(alloc, handle, cpu, &Call::Read { path, file }, text, out)
+    let call = Call::Script(Command::Read { path, file });
+    serve_into(alloc, handle, cpu, &call, text, out)
 }

@@ -2,7 +2,7 @@
 
 ghost use Rattle.std.specs.Prelude.{◌≡◌, ◌↔◌, IsSome, IsSomeAnd, IsTrue, MatchBool, None, Some};
 ghost use Rattle.zone_blocks.specs.Config.{IsValidConfig};
-ghost use Rattle.tempolemon_c.specs.HandleCalls.{CallsLive, ShowsFile};
+ghost use Rattle.tempolemon_c.specs.HandleCalls.{CallsLive, IsTypedCall, ShowsFile};
 ghost use Rattle.tempolemon_c.specs.Behind.{behind};
 ghost use Rattle.tempolemon_c.specs.Asking.{AsksBehind, IsBetween};
 ghost use Rattle.tempolemon_c.specs.Calls.{HasFileBehind};
@@ -59,6 +59,7 @@ impl Handle {
     #[tactic(auto, using(crate::proofs::Crossing::crossed, crate::proofs::Crossing::some_behind))]
     pub(crate) fn call(&mut self, alloc: Global, cpu: u32, call: &Call<'_>) -> CallAnswer
         requires live { IsSome (behind self.old) }
+        requires asked { IsTypedCall call.now }
         ensures { OnBoot (λ frames stocks from to. CallsLive frames stocks cpu call.now from to result)
             (behind self.old) (behind self.new) }
     {

@@ -11,12 +11,13 @@ ghost use Rattle.script_replay.specs.Terms.{terms};
 ghost use Rattle.script_replay.specs.Commands.{HasValueAnswer};
 ghost use Rattle.load_run.specs.Answers.{IsNewBootState};
 ghost use Rattle.load_run.specs.Ending.{EndsHeld};
-ghost use Rattle.tempolemon_c.specs.HandleCalls.{CallsLive, HasNoGroup, IsCpu, ReturnsCommandAnswer, file_reply};
-ghost use Rattle.tempolemon_c.specs.declared.calls.Call.TheVariants.{Alloc, AtFrame};
+ghost use Rattle.tempolemon_c.specs.HandleCalls.{CallsLive, HasNoGroup, IsCpu, IsTypedCall, ReturnsCommandAnswer};
+ghost use Rattle.tempolemon_c.specs.HandleCalls.{file_reply};
+ghost use Rattle.tempolemon_c.specs.declared.calls.Call.TheVariants.{Alloc, Script};
 ghost use Rattle.tempolemon_c.specs.Commands.{AnswersScript, FailsScript, FailsText, ReplaysText, TakesUnreadAnswer};
 ghost use Rattle.tempolemon_c.specs.Commands.{with_unread_answer};
 
-use crate::calls::{Call, CallAnswer, FileText, FrameCall};
+use crate::calls::{Call, CallAnswer, FileText, frame_named};
 use control_files::file::{File, file_text};
 use cpu_part::{BootName, Tables};
 use group_charge::charges::Charges;
@@ -106,21 +107,34 @@ impl<N: BootName> Live<N> {
     /// nothing is done. No memory is taken.
     #[inline(always)]
     pub fn call(&mut self, cpu: u32, call: &Call<'_>) -> CallAnswer
+        requires { IsTypedCall call.now }
         ensures { CallsLive N.frames N.stocks cpu call.now self.old self.new result }
     {
         if cpu == 0 || cpu as usize > self.cpus.len() {
             return CallAnswer::NoCpu;
         }
-        match *call {
-            Call::Mkdir { path } => self.serve(cpu, &Command::Mkdir { path }),
-            Call::Rmdir { path } => self.serve(cpu, &Command::Rmdir { path }),
-            Call::Write { path, file, value } => {
-                self.serve(cpu, &Command::Write { path, file, value })
+        match call {
+            Call::Script(command) => self.serve_command(cpu, command),
+            Call::Alloc { group, order } => self.allocate(cpu, *group, *order),
+        }
+    }
+
+    // Serves a command of a CPU that is there, if the frame that it names is one of the zone.
+    #[inline(always)]
+    #[tactic(auto, using(crate::proofs::Naming::has_value))]
+    fn serve_command(&mut self, cpu: u32, command: &Command<'_>) -> CallAnswer
+        requires there { IsCpu (length self.old.state.cpus) cpu }
+        requires asked { IsTypedCall (Script command.now) }
+        ensures { CallsLive N.frames N.stocks cpu (Script command.now) self.old self.new result }
+    {
+        match frame_named(command) {
+            Some(frame) => {
+                if frame >= self.sizes.frames {
+                    return CallAnswer::NoFrame;
+                }
+                self.serve_inlined(cpu, command)
             }
-            Call::Read { path, file } => self.serve(cpu, &Command::Read { path, file }),
-            Call::Alloc { group, order } => self.allocate(cpu, group, order),
-            Call::AtFrame { frame, what } => self.serve_at(cpu, frame, what),
-            Call::Settle => self.serve(cpu, &Command::Settle),
+            None => self.serve(cpu, command),
         }
     }
 
@@ -149,18 +163,6 @@ impl<N: BootName> Live<N> {
             cpu,
             command,
         ))
-    }
-
-    // Serves a call that names a frame, of a CPU that is there.
-    #[inline(always)]
-    fn serve_at(&mut self, cpu: u32, frame: u32, what: FrameCall) -> CallAnswer
-        requires there { IsCpu (length self.old.state.cpus) cpu }
-        ensures { CallsLive N.frames N.stocks cpu (AtFrame frame what) self.old self.new result }
-    {
-        if frame >= self.sizes.frames {
-            return CallAnswer::NoFrame;
-        }
-        self.serve_inlined(cpu, &what.command(frame))
     }
 
     // Takes a block for the group of this number, at a CPU that is there.

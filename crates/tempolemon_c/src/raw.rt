@@ -3,7 +3,7 @@
 ghost use Rattle.std.specs.Prelude.{◌≡◌, IsSome, IsSomeAnd, None, Option};
 ghost use Rattle.frame_word.specs.Seats.{KnownTable};
 ghost use Rattle.stock_word.specs.Stock.{KnownStockTable};
-ghost use Rattle.tempolemon_c.specs.HandleCalls.{CallsLive, GroupHasFiles, ShowsFile};
+ghost use Rattle.tempolemon_c.specs.HandleCalls.{CallsLive, GroupHasFiles, IsTypedCall, ShowsFile};
 ghost use Rattle.tempolemon_c.specs.Known.{KnownLive};
 ghost use Rattle.tempolemon_c.specs.Owned.{brand, frames_coded, known_coded, live_owns, stocks_coded};
 ghost use Rattle.tempolemon_c.specs.Serving.{IsFit, OnRaw, ServesRaw};
@@ -83,6 +83,7 @@ pub fn serve_raw(raw: RawBoot, request: Request) -> (RawBoot, RequestAnswer)
 #[inline(always)]
 pub fn call_raw(raw: RawBoot, cpu: u32, call: &Call<'_>) -> (RawBoot, CallAnswer)
     requires some { IsSome raw.live }
+    requires asked { IsTypedCall call.now }
     ensures serves { OnRaw (λ from to. CallsLive raw.frames raw.stocks cpu call.now from to result.1)
         raw.frames raw.stocks raw.live result.0.frames result.0.stocks result.0.live }
 {

@@ -1,7 +1,7 @@
 //! Serving requests under the name of a boot's tables.
 
 ghost use Rattle.std.specs.Prelude.{◌≡◌, IsSome, IsSomeAnd, None};
-ghost use Rattle.tempolemon_c.specs.HandleCalls.{CallsLive, GroupHasFiles, ShowsFile};
+ghost use Rattle.tempolemon_c.specs.HandleCalls.{CallsLive, GroupHasFiles, IsTypedCall, ShowsFile};
 ghost use Rattle.tempolemon_c.specs.Serving.{IsFit, OnLive, ServesRequest, frames_after_request, stocks_after_request};
 ghost use Rattle.tempolemon_c.specs.declared.requests.Request.TheVariants.{End, Lines, Start, StoreUnread, TakeUnread};
 
@@ -51,6 +51,7 @@ pub fn serve_call<N: BootName>(
 ) -> (LivePointer<N>, CallAnswer)
     requires some { IsSome pointer.live }
     requires named { (pointer.frames ≡ N.frames) × (pointer.stocks ≡ N.stocks) }
+    requires asked { IsTypedCall call.now }
     ensures named { (result.0.frames ≡ N.frames) × (result.0.stocks ≡ N.stocks) }
     ensures serves { OnLive (λ from to. CallsLive N.frames N.stocks cpu call.now from to result.1)
         pointer.live result.0.live }

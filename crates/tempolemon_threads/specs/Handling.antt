@@ -20,11 +20,13 @@ pub record ForksTo (zone : Option Led) (frames : KnownTable) (stocks : KnownStoc
   pub zone_is : zone ≡ Some (led frames stocks first)
   pub home_is : home ≡ Some second
   pub no_cpu : HasNoCpu second
+  pub sizes : second.sizes ≡ first.sizes
 
--- what a fork returns
-abbrev pub ForksAs : Forked → (zone : Option Led) → KnownTable → KnownStockTable → Option KnownHome → Type 0
-ForksAs forked.Done zone frames stocks home = ForksTo zone frames stocks home
-ForksAs forked.NoMemory from frames stocks home = home ≡ None
+-- Done: the second handle leads to the same zone and has no CPU. NoMemory: there is no second handle.
+abbrev pub ForksAs : Forked → (zone : Option Led) → (frames : KnownTable) → (stocks : KnownStockTable)
+    → (second : Option KnownHome) → Type 0
+ForksAs forked.Done zone frames stocks second = ForksTo zone frames stocks second
+ForksAs forked.NoMemory _ frames stocks second = second ≡ None
 
 -- what is so, if an entry by a pointer to these tables took no CPU
 abbrev pub EntersNone : (number : ℕ) → NotEntered → KnownTable → (after : Option Led) → Type 0

@@ -2,6 +2,7 @@
 use Rattle.std.specs.Prelude.{◌≡◌, Option, None, Some}
 use Rattle.frame_word.specs.Seats.{KnownTable}
 use Rattle.stock_word.specs.Stock.{KnownStockTable}
+use Rattle.zone_blocks.specs.declared.config.Config.{Config}
 use Rattle.mem_system.specs.Ending.{HasEnded}
 use Rattle.zone_threads.specs.Homes.{GetsCpu, HasCpu, HasNoCpu, IfNotEntered, KnownHome}
 use Rattle.zone_threads.specs.Shown.{ReadsText}
@@ -59,11 +60,12 @@ pub record OnRawHome (does : (from to : KnownHome) → Type 0) (old_frames : Kno
   pub stocks_are : stock_table ≡ old_stock_table
   pub on_home : OnHome does before after
 
--- there is a home now, without a CPU
-pub record StartsHome (after : Option KnownHome) : Type 0 where
+-- there is a home now, of a boot of these sizes, without a CPU
+pub record StartsHome (sizes : Config) (after : Option KnownHome) : Type 0 where
   pub home : KnownHome
   pub is : after ≡ Some home
   pub no_cpu : HasNoCpu home
+  pub sizes_are : home.sizes ≡ sizes
 
 -- the home had a CPU, and the pointer leads nowhere
 pub record LeavesHome (before after : Option KnownHome) : Type 0 where
@@ -82,7 +84,7 @@ pub record DropsHome (before after : Option KnownHome) : Type 0 where
 -- what a request does under the name of these tables, by its answer
 abbrev pub ServesHomeRequest : KnownTable → KnownStockTable → (before : Option KnownHome) (request : Request)
     (after : Option KnownHome) (answer : RequestAnswer) → Type 0
-ServesHomeRequest frames stock_table before (Start alloc boot) after returned.Started = StartsHome after
+ServesHomeRequest frames stock_table before (Start alloc boot) after returned.Started = StartsHome boot.sizes after
 ServesHomeRequest frames stock_table before (Start alloc boot) after returned.NoMemory = after ≡ None
 ServesHomeRequest frames stock_table before (Enter number) after returned.Entered = OnHome (GetsCpu number) before after
 ServesHomeRequest frames stock_table before (Enter number) after (returned.NotEntered reason) =
@@ -109,16 +111,23 @@ pub record ServesRawHome (old_frames : KnownTable) (old_stock_table : KnownStock
   pub stocks_are : stock_table ≡ home_stocks_after old_stock_table request
   pub serves : ServesHomeRequest frames stock_table before request after answer
 
--- there is a second home, without a CPU; or there is none
-abbrev pub IsForked : Option KnownHome → Forked → Type 0
-IsForked (Some home) forked.Done = HasNoCpu home
-IsForked None forked.NoMemory = Unit {0}
-IsForked home other = ⊥
+-- the home is of the same sizes as the first, without a CPU
+pub record IsSecond (first : Option KnownHome) (home : KnownHome) : Type 0 where
+  pub from : KnownHome
+  pub was : first ≡ Some from
+  pub no_cpu : HasNoCpu home
+  pub sizes : home.sizes ≡ from.sizes
+
+-- there is a second home; or there is none
+abbrev pub IsForked : (first second : Option KnownHome) → Forked → Type 0
+IsForked first (Some home) forked.Done = IsSecond first home
+IsForked first None forked.NoMemory = Unit {0}
+IsForked first home other = ⊥
 
 -- the first home stays, and a second is as answered
 pub record Forks (before first second : Option KnownHome) (answer : Forked) : Type 0 where
   pub first_stays : first ≡ before
-  pub second_is : IsForked second answer
+  pub second_is : IsForked before second answer
 
 -- the same, and both are of the tables
 pub record ForksRaw (old_frames : KnownTable) (old_stock_table : KnownStockTable) (before : Option KnownHome)

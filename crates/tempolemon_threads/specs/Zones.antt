@@ -78,12 +78,15 @@ pub record BootsZone (sizes : Config) (after : Option Led) : Type 0 where
   pub zone : Led
   pub is : after ≡ Some zone
   pub sized : IsSizedAs sizes zone.frames zone.stocks
+  pub sizes_are : zone.home.sizes ≡ sizes
 
--- the handle leads to this CPU of the zone of these tables
-pub record CpuIn (number : ℕ) (frames : KnownTable) (stocks : KnownStockTable) (part : Option Led) : Type 0 where
+-- the handle leads to this CPU of the zone of these tables and of these sizes
+pub record CpuIn (number : ℕ) (frames : KnownTable) (stocks : KnownStockTable) (sizes : Config) (part : Option Led)
+    : Type 0 where
   pub home : KnownHome
   pub cpu : CpuInRun
   pub part_is : part ≡ Some (led frames stocks home)
+  pub sizes_are : home.sizes ≡ sizes
   pub cpu_is : home.cpu ≡ Some cpu
   pub number_is : cpu.part.number ≡ number
 
@@ -91,7 +94,7 @@ pub record CpuIn (number : ℕ) (frames : KnownTable) (stocks : KnownStockTable)
 pub record TakesPart (number : ℕ) (zone part : Option Led) : Type 0 where
   pub zone_led : Led
   pub zone_is : zone ≡ Some zone_led
-  pub cpu_in : CpuIn number zone_led.frames zone_led.stocks part
+  pub cpu_in : CpuIn number zone_led.frames zone_led.stocks zone_led.home.sizes part
 
 -- the zone that the handle leads to has no CPU of this number
 pub record HasNoSuchCpu (number : ℕ) (zone : Option Led) : Type 0 where

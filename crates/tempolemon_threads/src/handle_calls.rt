@@ -7,7 +7,7 @@ ghost use Rattle.zone_threads.specs.Homes.{HasNoCpu};
 ghost use Rattle.zone_threads.specs.Shown.{ReadsText};
 ghost use Rattle.tempolemon_threads.specs.Behind.{part_behind, zone_behind};
 ghost use Rattle.tempolemon_threads.specs.Handling.{EndsAs, EntersNone, ForksAs};
-ghost use Rattle.tempolemon_threads.specs.Zones.{BootsZone, CpuIn, OnPart, ReturnsPart};
+ghost use Rattle.tempolemon_threads.specs.Zones.{BootsZone, OnPart, ReturnsPart, TakesPart, led_of};
 
 use crate::handles::{CpuPart, Zone};
 use crate::raw::{RawHome, call_raw, fork_raw, read_raw, serve_raw};
@@ -83,7 +83,7 @@ impl CpuPart {
         requires no_cpu { IsSomeAnd raw.home HasNoCpu }
         requires none { part_behind self.old ≡ None }
         ensures { MatchResult result
-            (λ _. CpuIn number raw.frames raw.stocks (part_behind self.new))
+            (λ _. TakesPart number (led_of raw.frames raw.stocks raw.home) (part_behind self.new))
             (λ reason. EntersNone number reason raw.frames (part_behind self.new)) }
     {
         let (raw, answer) = serve_raw(raw, Request::Enter { number });

@@ -1,5 +1,6 @@
-//! Races of two CPUs, each in a thread. CPU 1 asks 500 times for more than the limit of `/a`, so that all stocks are
-//! drained and the units of `/a` are tried. Meanwhile CPU 2 makes 500 rounds of its own.
+//! Races of two CPUs, each in a thread. In two of them CPU 1 asks 500 times for more than the limit of `/a`, so that
+//! all stocks are drained and the units of `/a` are tried. Meanwhile CPU 2 makes 500 rounds of its own. In the third
+//! both refer to one unit.
 
 use crate::gates::BothThreads;
 use crate::systems::{TWO_CPUS, ThreadAnswers, add, events_text, expect_true, run_script};
@@ -36,6 +37,26 @@ const FOUR_REFERENCES: &str = "\
 2 get 0
 2 put 0
 1 alloc /a 4
+2 get 0
+2 put 0
+";
+
+// Four rounds of both CPUs: each takes a reference on frame 0 if it can, and puts it.
+const FOUR_BY_BOTH: &str = "\
+1 get 0
+1 put 0
+1 get 0
+1 put 0
+1 get 0
+1 put 0
+1 get 0
+1 put 0
+2 get 0
+2 put 0
+2 get 0
+2 put 0
+2 get 0
+2 put 0
 2 get 0
 2 put 0
 ";
@@ -121,4 +142,18 @@ fn a_unit_is_referred_to_while_it_is_reclaimed(rt: HostRuntime) {
     expect_true(&rt, held.wrapping_add(unheld) == 500);
     expect_true(&rt, raced.audit.freezes == 1 && raced.audit.returns == 1);
     expect_true(&rt, raced.audit.last_puts == 0 && raced.audit.drops == 0);
+}
+
+// No put is the last, because the zone has a reference too. Once all are put, its freeze succeeds and returns the
+// unit.
+#[test]
+fn two_cpus_refer_to_one_unit(rt: HostRuntime) {
+    let first = "1 mkdir /a\n1 alloc /a 0\n1 settle\n";
+    let raced = race(&rt, first, FOUR_BY_BOTH, "1 write /a memory.max 0\n");
+    expect_true(&rt, raced.after_threads.as_slice() == b"ok\n".as_slice());
+    let held = answers_with(&rt, &raced, "held");
+    expect_true(&rt, answers_with(&rt, &raced, "left ") == held);
+    let unheld = answers_with(&rt, &raced, "refused 21 NotPinned");
+    expect_true(&rt, held.wrapping_add(unheld) == 1_000);
+    expect_true(&rt, raced.audit.freezes == 1 && raced.audit.returns == 1);
 }

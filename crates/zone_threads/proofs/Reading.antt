@@ -1,5 +1,6 @@
 -- A read under the lock is what the home's read answers. Serves `Home::read`.
-use Rattle.std.proofs.Common.{◌≡◌, Some}
+use Rattle.std.proofs.Common.{◌≡◌, Some, subst}
+use Rattle.zone_blocks.specs.declared.config.Config.{Config}
 use Rattle.frame_word.specs.Seats.{KnownTable}
 use Rattle.stock_word.specs.Stock.{KnownStockTable}
 use Rattle.mem_system.specs.Cpus.{CpuInRun}
@@ -9,8 +10,15 @@ use Rattle.zone_threads.specs.declared.calls.ReadAnswer.TheVariants as read
 use Rattle.zone_threads.specs.Homes.{KnownHome}
 use Rattle.zone_threads.specs.Calling.{AnswersRead, IsReadUnderLock}
 
-pub answers_read : (t : KnownTable) (w : KnownStockTable) (asked : ReadCall) (before after : KnownHome) (from to : CpuInRun) → before.cpu ≡ Some from → after.cpu ≡ Some to
-    → (answer : ReadAnswer) → IsReadUnderLock t w asked from to answer → AnswersRead t w asked before after answer
-answers_read t w asked before after from to was is read.Busy done = absurd done
-answers_read t w asked before after from to was is (read.Text text) done = record { from = from; to = to; was = was; is = is; done = done }
-answers_read t w asked before after from to was is (read.Refused fault) done = record { from = from; to = to; was = was; is = is; done = done }
+answers_read : (t : KnownTable) (w : KnownStockTable) (asked : ReadCall) (before after : KnownHome) (from to : CpuInRun) → before.cpu ≡ Some from → after.cpu ≡ Some to
+    → after.sizes ≡ before.sizes → (answer : ReadAnswer) → IsReadUnderLock t w before.sizes asked from to answer → AnswersRead t w asked before after answer
+answers_read t w asked before after from to was is stays read.Busy done = absurd done
+answers_read t w asked before after from to was is stays (read.Text text) done = record { from = from; to = to; sizes = stays; was = was; is = is; done = done }
+answers_read t w asked before after from to was is stays (read.Refused fault) done = record { from = from; to = to; sizes = stays; was = was; is = is; done = done }
+
+-- the sizes that were found are those of the zone
+pub answers_found : (t : KnownTable) (w : KnownStockTable) (asked : ReadCall) (before after : KnownHome) (from to : CpuInRun) → before.cpu ≡ Some from → after.cpu ≡ Some to
+    → after.sizes ≡ before.sizes → (sizes : Config) → sizes ≡ before.sizes → (answer : ReadAnswer) → IsReadUnderLock t w sizes asked from to answer
+    → AnswersRead t w asked before after answer
+answers_found t w asked before after from to was is stays sizes same answer done =
+    answers_read t w asked before after from to was is stays answer (subst (λ (s : Config). IsReadUnderLock t w s asked from to answer) same done)

@@ -5,6 +5,7 @@ use Rattle.frame_word.specs.Seats.{KnownTable}
 use Rattle.frame_word.specs.declared.answers.Get.{Get}
 use Rattle.frame_word.specs.declared.answers.Put.{Put}
 use Rattle.stock_word.specs.Stock.{KnownStockTable}
+use Rattle.zone_blocks.specs.declared.config.Config.{Config}
 use Rattle.group_tree.specs.Bounds.{most_groups}
 use Rattle.group_tree.specs.Groups.{has_group, path_of}
 use Rattle.group_tree.specs.declared.group.Group.{Group}
@@ -21,7 +22,7 @@ use Rattle.cpu_part.specs.declared.answers.Fast.{Fast}
 use Rattle.cpu_part.specs.declared.answers.Fast.TheVariants.{Got}
 use Rattle.mem_system.specs.Commands.{IsOfZone}
 use Rattle.mem_system.specs.Cpus.{CpuInRun}
-use Rattle.mem_system.specs.Locked.{BehindLock}
+use Rattle.mem_system.specs.Locked.{SeenBehindLock}
 use Rattle.mem_system.specs.Shown.{SettlesCaller}
 use Rattle.mem_system.specs.Visits.{IsServed, IsVisited, LockedState, ServesFrameOutcome, ServesOutcome}
 use Rattle.mem_system.specs.declared.command.Cmd.{Cmd}
@@ -101,46 +102,47 @@ pub record Then (first rest : (from to : CpuInRun) → Type 0) (from to : CpuInR
 abbrev pub IsMissingIn : List Group → ℕ → Type 0
 IsMissingIn groups number = (most_groups ≤ number) ⊎ (has_group groups number ≡ false)
 
--- behind the lock, no group had this number
-abbrev pub NoGroupBehindLock : KnownTable → KnownStockTable → ℕ → Type 0
-NoGroupBehindLock frames stock_table group =
-    BehindLock frames stock_table (λ found. IsMissingIn found.machine.ledger.groups group)
+-- behind the lock, no group had this number: the CPU has seen the run that led to this
+abbrev pub NoGroupBehindLock : KnownTable → KnownStockTable → ℕ → (from to : CpuInRun) → Type 0
+NoGroupBehindLock frames stock_table group from to =
+    SeenBehindLock frames stock_table (λ found. IsMissingIn found.machine.ledger.groups group) from to
 
 -- what is so, if nothing was allocated under the lock for this reason
-abbrev pub IfMissing : KnownTable → KnownStockTable → (group : ℕ) → Missed → Type 0
-IfMissing frames stock_table group missed.NoGroup = NoGroupBehindLock frames stock_table group
-IfMissing frames stock_table group missed.Busy = Unit {0}
+abbrev pub IfMissing : KnownTable → KnownStockTable → (group : ℕ) → Missed → (from to : KnownHome) → Type 0
+IfMissing frames stock_table group missed.NoGroup from to = OnCpu (NoGroupBehindLock frames stock_table group) from to
+IfMissing frames stock_table group missed.Busy from to = to ≡ from
 
 -- a frame was asked for a number that no group has
 abbrev pub MissesGroup : KnownTable → KnownStockTable → (group : ℕ) → (from to : KnownHome) → Type 0
 MissesGroup frames stock_table group from to =
     ((most_groups ≤ group) × (to ≡ from))
-    ⊎ (NoGroupBehindLock frames stock_table group × OnCpu (MissesFast group) from to)
+    ⊎ OnCpu (Then (MissesFast group) (NoGroupBehindLock frames stock_table group)) from to
 
 -- What each call does, by its answer. The CPU's past of the run grows by the steps of a fast call, then by those of a
--- visit (`IsServed.run`), and by no others of its own.
+-- visit (`IsServed.run`), and by no others of its own. Each visit finds the sizes of the zone's boot.
 abbrev pub Calls : KnownTable → KnownStockTable → Call → (from to : KnownHome) → CallAnswer → Type 0
 Calls frames stock_table (call.Visit cmd) from to answer.Busy = to ≡ from
 Calls frames stock_table (call.Visit cmd) from to answer.NoFrame = (¬ IsOfZone frames cmd) × (to ≡ from)
 Calls frames stock_table (call.Visit cmd) from to (answer.Served outcome) =
-    OnCpu (IsVisited frames stock_table (ServesOutcome frames cmd outcome)) from to
+    OnCpu (IsVisited frames stock_table from.sizes (ServesOutcome frames cmd outcome)) from to
 Calls frames stock_table (call.AllocFrame group) from to answer.Busy = OnCpu (MissesFast group) from to
 Calls frames stock_table (call.AllocFrame group) from to answer.NoGroup = MissesGroup frames stock_table group from to
 Calls frames stock_table (call.AllocFrame group) from to (answer.Taken frame) =
     OnCpu (AllocsFast group (Got frame)) from to
 Calls frames stock_table (call.AllocFrame group) from to (answer.Served outcome) =
-    OnCpu (Then (MissesFast group) (IsVisited frames stock_table (ServesFrameOutcome frames group outcome))) from to
+    OnCpu (Then (MissesFast group) (IsVisited frames stock_table from.sizes (ServesFrameOutcome frames group outcome)))
+    from to
 Calls frames stock_table (call.AllocBlock group order) from to answer.Busy = to ≡ from
 Calls frames stock_table (call.AllocBlock group order) from to answer.NoGroup =
-    NoGroupBehindLock frames stock_table group × (to ≡ from)
+    OnCpu (NoGroupBehindLock frames stock_table group) from to
 Calls frames stock_table (call.AllocBlock group order) from to (answer.Served outcome) =
-    OnCpu (IsVisited frames stock_table (ServesBlock frames group order outcome)) from to
+    OnCpu (IsVisited frames stock_table from.sizes (ServesBlock frames group order outcome)) from to
 Calls frames stock_table (call.Release frame) from to answer.Busy = OnCpu (MissesDrop frame) from to
 Calls frames stock_table (call.Release frame) from to answer.NoFrame = (frames.frames ≤ frame) × (to ≡ from)
 Calls frames stock_table (call.Release frame) from to answer.Listed = OnCpu (DropsFast frame Listed) from to
 Calls frames stock_table (call.Release frame) from to (answer.Served outcome) =
-    OnCpu (Then (MissesDrop frame) (IsVisited frames stock_table (ServesOutcome frames (cmd.Release frame) outcome)))
-    from to
+    OnCpu (Then (MissesDrop frame)
+    (IsVisited frames stock_table from.sizes (ServesOutcome frames (cmd.Release frame) outcome))) from to
 Calls frames stock_table (call.Get frame) from to answer.NoFrame = (frames.frames ≤ frame) × (to ≡ from)
 Calls frames stock_table (call.Get frame) from to (answer.Got got) = OnCpu (Pins frame got) from to
 Calls frames stock_table (call.Get frame) from to (answer.Refused fault) =
@@ -151,19 +153,20 @@ Calls frames stock_table (call.Put frame) from to (answer.Refused fault) =
     (fault ≡ NotPinned) × OnCpu (λ cpu left. (times frame cpu.part.pins ≡ 0) × (left ≡ cpu)) from to
 Calls frames stock_table call.Settle from to answer.Busy = to ≡ from
 Calls frames stock_table call.Settle from to answer.Settled =
-    OnCpu (IsVisited frames stock_table (SettlesCaller frames)) from to
+    OnCpu (IsVisited frames stock_table from.sizes (SettlesCaller frames)) from to
 Calls frames stock_table asked from to returned = ⊥
 
 -- what a read of a file does under the lock, by its answer
-abbrev pub IsReadUnderLock : KnownTable → KnownStockTable → ReadCall → (from to : CpuInRun) → ReadAnswer → Type 0
-IsReadUnderLock frames stock_table asked from to read.Busy = ⊥
-IsReadUnderLock frames stock_table asked from to (read.Text text) =
-    IsVisited frames stock_table (IsServed frames (cmd.Read asked.path asked.file) (reply.Text text)) from to
-IsReadUnderLock frames stock_table asked from to (read.Refused fault) =
-    IsVisited frames stock_table (IsServed frames (cmd.Read asked.path asked.file) (reply.Refused fault)) from to
+abbrev pub IsReadUnderLock : KnownTable → KnownStockTable → (sizes : Config) → ReadCall → (from to : CpuInRun)
+    → ReadAnswer → Type 0
+IsReadUnderLock frames stock_table sizes asked from to read.Busy = ⊥
+IsReadUnderLock frames stock_table sizes asked from to (read.Text text) =
+    IsVisited frames stock_table sizes (IsServed frames (cmd.Read asked.path asked.file) (reply.Text text)) from to
+IsReadUnderLock frames stock_table sizes asked from to (read.Refused fault) =
+    IsVisited frames stock_table sizes (IsServed frames (cmd.Read asked.path asked.file) (reply.Refused fault)) from to
 
 -- what a read of a file does, by its answer
 abbrev pub AnswersRead : KnownTable → KnownStockTable → ReadCall → (from to : KnownHome) → ReadAnswer → Type 0
 AnswersRead frames stock_table asked from to read.Busy = to ≡ from
 AnswersRead frames stock_table asked from to answer =
-    OnCpu (λ cpu left. IsReadUnderLock frames stock_table asked cpu left answer) from to
+    OnCpu (λ cpu left. IsReadUnderLock frames stock_table from.sizes asked cpu left answer) from to

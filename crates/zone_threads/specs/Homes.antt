@@ -3,6 +3,7 @@ use Rattle.std.specs.Prelude.{◌≡◌, ◌≤◌, ◌<◌, ℕ, List, length, 
 use Rattle.std.specs.Global.{Box}
 use Rattle.std.specs.List.{HoldsAt, swap_remove}
 use Rattle.host_memory.specs.Cells.{KnownChange}
+use Rattle.zone_blocks.specs.declared.config.Config.{Config}
 use Rattle.mem_system.specs.Cpus.{CpuInRun}
 use Rattle.mem_system.specs.Locked.{KnownLocked}
 use Rattle.zone_threads.specs.declared.home.NotEntered.{NotEntered}
@@ -10,9 +11,10 @@ use Rattle.zone_threads.specs.declared.home.NotEntered.TheVariants as not_entere
 use Rattle.zone_threads.specs.declared.home.NotLeft.{NotLeft}
 use Rattle.zone_threads.specs.declared.home.NotLeft.TheVariants as not_left
 
--- what a thread has of a zone: a CPU, if it took one
+-- what a thread has of a zone: a CPU, if it took one, and the sizes of the zone's boot
 pub record KnownHome : Type 0 where
   pub cpu : Option CpuInRun
+  pub sizes : Config
 
 -- what lies behind the lock: the machine with its sizes, and the parked parts
 pub record KnownBehind : Type 0 where
@@ -31,10 +33,11 @@ HasNoCpu home = home.cpu ≡ None
 abbrev pub HasCpu : KnownHome → Type 0
 HasCpu home = IsSome home.cpu
 
--- there is a CPU before and after, and `does` leads from one to the other
+-- there is a CPU before and after, and `does` leads from one to the other; the zone's sizes stay
 pub record OnCpu (does : (from to : CpuInRun) → Type 0) (before after : KnownHome) : Type 0 where
   pub from : CpuInRun
   pub to : CpuInRun
+  pub sizes : after.sizes ≡ before.sizes
   pub was : before.cpu ≡ Some from
   pub is : after.cpu ≡ Some to
   pub done : does from to
@@ -58,6 +61,7 @@ pub record Unparks (cpu : CpuInRun) (found left : KnownBehind) : Type 0 where
 -- the home had no CPU, and has the one of this number now
 pub record GetsCpu (number : ℕ) (before after : KnownHome) : Type 0 where
   pub none : HasNoCpu before
+  pub sizes : after.sizes ≡ before.sizes
   pub cpu : CpuInRun
   pub is : after.cpu ≡ Some cpu
   pub number_is : cpu.part.number ≡ number
@@ -66,6 +70,7 @@ pub record GetsCpu (number : ℕ) (before after : KnownHome) : Type 0 where
 -- without this part.
 pub record TakesCpu (number : ℕ) (change : LockedChange) (before after : KnownHome) : Type 0 where
   pub none : HasNoCpu before
+  pub sizes : after.sizes ≡ before.sizes
   pub cpu : CpuInRun
   pub is : after.cpu ≡ Some cpu
   pub number_is : cpu.part.number ≡ number
@@ -85,6 +90,7 @@ IfNotEntered cpus number before not_entered.Busy after = after ≡ before
 -- The home's CPU was parked: what was put back behind the lock is what was taken out, with this part.
 pub record ParksCpu (change : LockedChange) (before after : KnownHome) : Type 0 where
   pub cpu : CpuInRun
+  pub sizes : after.sizes ≡ before.sizes
   pub was : before.cpu ≡ Some cpu
   pub none : HasNoCpu after
   pub found : Box KnownBehind

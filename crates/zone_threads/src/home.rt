@@ -21,11 +21,12 @@ pub struct Home<N: BootName> {
 }
 
 impl<N: BootName> Model for Home<N> {
+    ghost use Rattle.std.specs.Arc.{arc_value};
     ghost use Rattle.zone_threads.specs.Homes.{KnownHome};
 
     ghost Value = { KnownHome };
 
-    ghost view = { λ h. record { cpu = h.cpu } };
+    ghost view = { λ h. record { cpu = h.cpu; sizes = (arc_value h.zone).sizes } };
 }
 
 /// Why no CPU was taken.
@@ -56,7 +57,8 @@ impl<N: BootName> Home<N> {
     pub fn start(alloc: Global, boot: Boot) -> Result<Home<N>, AllocError>
         requires frames { boot.frames ≡ N.frames }
         requires stocks { boot.stocks ≡ N.stocks }
-        ensures { IfOk result HasNoCpu }
+        ensures no_cpu { IfOk result HasNoCpu }
+        ensures sizes { IfOk result (λ home. home.sizes ≡ boot.sizes) }
     {
         let zone = Zone::<N>::start(alloc, boot)?;
         let zone = Arc::new(alloc, zone)?;
@@ -65,7 +67,8 @@ impl<N: BootName> Home<N> {
 
     /// Another home of the same zone, without a CPU.
     pub fn fork(&self) -> Result<Home<N>, AllocError>
-        ensures { IfOk result HasNoCpu }
+        ensures no_cpu { IfOk result HasNoCpu }
+        ensures sizes { IfOk result (λ home. home.sizes ≡ self.now.sizes) }
     {
         let zone = Arc::try_clone(&self.zone)?;
         Ok(Home { zone, cpu: None })

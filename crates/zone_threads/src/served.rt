@@ -29,7 +29,8 @@ impl<N: BootName> Behind<N> {
     #[inline(always)]
     pub fn serve(&mut self, tables: &Tables<N>, cpu: &mut Cpu<N>, cmd: &Cmd<'_>) -> Outcome
         requires { IsOfZone N.frames cmd.now }
-        ensures { IsVisited N.frames N.stocks (ServesOutcome N.frames cmd.now result) cpu.old cpu.new }
+        ensures { IsVisited N.frames N.stocks self.old.locked.sizes (ServesOutcome N.frames cmd.now result)
+            cpu.old cpu.new }
     {
         self.locked.prove_quiet();
         let outcome = serve_outcome(&mut self.locked, tables, cpu, cmd);
@@ -46,11 +47,14 @@ impl<N: BootName> Behind<N> {
         group: u32,
     ) -> Option<Outcome>
         ensures served { IfSome result (λ outcome.
-            IsVisited N.frames N.stocks (ServesFrameOutcome N.frames group outcome) cpu.old cpu.new) }
-        ensures none { IfNone result (NoGroupBehindLock N.frames N.stocks group × (cpu.new ≡ cpu.old)) }
+            IsVisited N.frames N.stocks self.old.locked.sizes (ServesFrameOutcome N.frames group outcome)
+            cpu.old cpu.new) }
+        ensures none { IfNone result (NoGroupBehindLock N.frames N.stocks group cpu.old cpu.new) }
     {
         self.locked.prove_quiet();
         let Some(group) = find_group(self.locked.charges(), group) else {
+            self.locked.meet(tables, cpu);
+            self.locked.prove_quiet();
             return None;
         };
         let outcome = serve_frame_outcome(&mut self.locked, tables, cpu, group);
@@ -67,11 +71,14 @@ impl<N: BootName> Behind<N> {
         order: u32,
     ) -> Option<Outcome>
         ensures served { IfSome result (λ outcome.
-            IsVisited N.frames N.stocks (ServesBlock N.frames group order outcome) cpu.old cpu.new) }
-        ensures none { IfNone result (NoGroupBehindLock N.frames N.stocks group × (cpu.new ≡ cpu.old)) }
+            IsVisited N.frames N.stocks self.old.locked.sizes (ServesBlock N.frames group order outcome)
+            cpu.old cpu.new) }
+        ensures none { IfNone result (NoGroupBehindLock N.frames N.stocks group cpu.old cpu.new) }
     {
         self.locked.prove_quiet();
         let Some(group) = find_group(self.locked.charges(), group) else {
+            self.locked.meet(tables, cpu);
+            self.locked.prove_quiet();
             return None;
         };
         let path = *self.locked.charges().tree().path_of(group);
@@ -84,7 +91,7 @@ impl<N: BootName> Behind<N> {
     /// Settles a CPU.
     #[inline(always)]
     pub fn settle(&mut self, tables: &Tables<N>, cpu: &mut Cpu<N>)
-        ensures { IsVisited N.frames N.stocks (SettlesCaller N.frames) cpu.old cpu.new }
+        ensures { IsVisited N.frames N.stocks self.old.locked.sizes (SettlesCaller N.frames) cpu.old cpu.new }
     {
         self.locked.prove_quiet();
         settle(&mut self.locked, tables, cpu);
@@ -93,7 +100,7 @@ impl<N: BootName> Behind<N> {
 
     /// Reads a file of a group, with its text.
     pub fn read(&mut self, tables: &Tables<N>, cpu: &mut Cpu<N>, asked: &ReadCall<'_>) -> ReadAnswer
-        ensures { IsReadUnderLock N.frames N.stocks asked.now cpu.old cpu.new result }
+        ensures { IsReadUnderLock N.frames N.stocks self.old.locked.sizes asked.now cpu.old cpu.new result }
     {
         let ReadCall { path, file } = *asked;
         self.locked.prove_quiet();

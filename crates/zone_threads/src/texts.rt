@@ -101,6 +101,7 @@ impl<N: BootName> Behind<N> {
     {
         self.locked.prove_quiet();
         settle(&mut self.locked, tables, cpu);
+        self.locked.prove_quiet();
         let mut text = String::new(alloc);
         let shown = write_own_stock(&mut self.locked, tables, cpu, &mut text);
         self.locked.prove_quiet();
@@ -121,6 +122,7 @@ impl<N: BootName> Behind<N> {
     {
         self.locked.prove_quiet();
         settle(&mut self.locked, tables, cpu);
+        self.locked.prove_quiet();
         let mut text = String::new(alloc);
         let shown = write_units_at(&mut self.locked, tables, path, &mut text);
         self.locked.prove_quiet();

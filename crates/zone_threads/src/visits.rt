@@ -66,7 +66,7 @@ impl<N: BootName> Home<N> {
         let Some(cpu) = &mut self.cpu else {
             unreachable!()
         };
-        let Some((mut behind, loan)) = zone.lock.take() else {
+        let Some((mut behind, loan)) = zone.take() else {
             return CallAnswer::Busy;
         };
         behind.settle(&zone.tables, cpu);
@@ -83,7 +83,7 @@ impl<N: BootName> Home<N> {
         let Some(cpu) = &mut self.cpu else {
             unreachable!()
         };
-        let Some((mut behind, loan)) = zone.lock.take() else {
+        let Some((mut behind, loan)) = zone.take() else {
             return ReadAnswer::Busy;
         };
         let answer = behind.read(&zone.tables, cpu, asked);
@@ -96,14 +96,15 @@ impl<N: BootName> Home<N> {
         requires some { IsSome self.old.cpu }
         requires of_zone { IsOfZone N.frames cmd.now }
         ensures served { IfSome result (λ outcome.
-            OnCpu (IsVisited N.frames N.stocks (ServesOutcome N.frames cmd.now outcome)) self.old self.new) }
+            OnCpu (IsVisited N.frames N.stocks self.old.sizes (ServesOutcome N.frames cmd.now outcome))
+            self.old self.new) }
         ensures busy { IfNone result (self.new ≡ self.old) }
     {
         let zone = &*self.zone;
         let Some(cpu) = &mut self.cpu else {
             unreachable!()
         };
-        let (mut behind, loan) = zone.lock.take()?;
+        let (mut behind, loan) = zone.take()?;
         let outcome = behind.serve(&zone.tables, cpu, cmd);
         zone.lock.put_back(behind, loan);
         Some(outcome)
@@ -113,14 +114,15 @@ impl<N: BootName> Home<N> {
     pub(crate) fn serve_frame(&mut self, group: u32) -> Result<Outcome, Missed>
         requires some { IsSome self.old.cpu }
         ensures { MatchResult result
-            (λ outcome. OnCpu (IsVisited N.frames N.stocks (ServesFrameOutcome N.frames group outcome)) self.old self.new)
-            (λ missed. IfMissing N.frames N.stocks group missed × (self.new ≡ self.old)) }
+            (λ outcome. OnCpu (IsVisited N.frames N.stocks self.old.sizes (ServesFrameOutcome N.frames group outcome))
+            self.old self.new)
+            (λ missed. IfMissing N.frames N.stocks group missed self.old self.new) }
     {
         let zone = &*self.zone;
         let Some(cpu) = &mut self.cpu else {
             unreachable!()
         };
-        let Some((mut behind, loan)) = zone.lock.take() else {
+        let Some((mut behind, loan)) = zone.take() else {
             return Err(Missed::Busy);
         };
         let served = behind.alloc_frame(&zone.tables, cpu, group);
@@ -135,14 +137,15 @@ impl<N: BootName> Home<N> {
     fn serve_block(&mut self, group: u32, order: u32) -> Result<Outcome, Missed>
         requires some { IsSome self.old.cpu }
         ensures { MatchResult result
-            (λ outcome. OnCpu (IsVisited N.frames N.stocks (ServesBlock N.frames group order outcome)) self.old self.new)
-            (λ missed. IfMissing N.frames N.stocks group missed × (self.new ≡ self.old)) }
+            (λ outcome. OnCpu (IsVisited N.frames N.stocks self.old.sizes (ServesBlock N.frames group order outcome))
+            self.old self.new)
+            (λ missed. IfMissing N.frames N.stocks group missed self.old self.new) }
     {
         let zone = &*self.zone;
         let Some(cpu) = &mut self.cpu else {
             unreachable!()
         };
-        let Some((mut behind, loan)) = zone.lock.take() else {
+        let Some((mut behind, loan)) = zone.take() else {
             return Err(Missed::Busy);
         };
         let served = behind.alloc_block(&zone.tables, cpu, group, order);

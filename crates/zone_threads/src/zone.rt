@@ -1,19 +1,26 @@
 //! What all threads share: the tables, and what lies behind a lock that is only tried.
 
-ghost use Rattle.std.specs.Prelude.{◌≡◌, IfSome};
+ghost use Rattle.std.specs.Prelude.{◌≡◌, IfOk, IfSome};
+ghost use Rattle.mem_system.specs.Boots.{IsSizedAs};
 ghost use Rattle.mem_system.specs.Ending.{HasEnded};
+ghost use Rattle.zone_blocks.specs.Config.{IsValidConfig};
 
 use crate::behind::Behind;
 use crate::zone_end::end_parts;
 use cpu_part::{BootName, Tables};
-use host_memory::try_cell::TryCell;
+use host_memory::try_cell::{Loan, TryCell};
 use mem_system::{Boot, SystemEnd};
 use std::alloc::{AllocError, Global};
+use zone_blocks::config::Config;
 
 /// What all threads share.
 pub struct Zone<N: BootName> {
     pub(crate) tables: Tables<N>,
     pub(crate) lock: TryCell<Box<Behind<N>, Global>>,
+    // No clause can look through the lock: those of calls speak of these sizes.
+    pub(crate) sizes: Config,
+    ghost valid: { IsValidConfig sizes },
+    ghost sized: { IsSizedAs sizes N.frames N.stocks },
 }
 
 impl<N: BootName> Zone<N> {
@@ -21,8 +28,10 @@ impl<N: BootName> Zone<N> {
     pub fn start(alloc: Global, boot: Boot) -> Result<Zone<N>, AllocError>
         requires frames { boot.frames ≡ N.frames }
         requires stocks { boot.stocks ≡ N.stocks }
+        ensures { IfOk result (λ zone. zone.sizes ≡ boot.sizes) }
     {
         let (locked, tables, parked) = boot.into_parts::<N>(alloc)?;
+        let sizes = locked.sizes();
         let behind = match Box::new(alloc, Behind { locked, parked }) {
             Ok(behind) => behind,
             Err(failed) => {
@@ -31,7 +40,11 @@ impl<N: BootName> Zone<N> {
             }
         };
         match TryCell::new(alloc, behind) {
-            Ok(lock) => Ok(Zone { tables, lock }),
+            Ok(lock) => Ok(Zone {
+                tables,
+                lock,
+                sizes,
+            }),
             Err(behind) => {
                 let _ended = end_parts(tables, Box::into_inner(behind));
                 Err(AllocError)
@@ -39,12 +52,27 @@ impl<N: BootName> Zone<N> {
         }
     }
 
+    // Tries the lock: what is found has the sizes of the zone.
+    #[inline(always)]
+    pub(crate) fn take(&self) -> Option<(Box<Behind<N>, Global>, Loan<Box<Behind<N>, Global>>)>
+        ensures fits { IfSome result (λ taken. taken.1.table_id ≡ self.now.lock.table.shared.table_id) }
+        ensures sizes { IfSome result (λ taken. taken.0.value.locked.sizes ≡ self.now.sizes) }
+    {
+        let (mut behind, loan) = self.lock.take()?;
+        behind.locked.set_sizes(self.sizes);
+        Some((behind, loan))
+    }
+
     /// Ends the zone. Pins that are still held are put first. `None` if the part of a CPU isn't there, which no call
     /// leaves so: the parts stay in memory then.
     pub fn end(self) -> Option<SystemEnd>
         ensures { IfSome result (HasEnded N.frames N.stocks) }
     {
-        let Zone { tables, lock } = self;
+        let Zone {
+            tables,
+            lock,
+            sizes: _,
+        } = self;
         let behind = lock.into_inner()?;
         end_parts(tables, Box::into_inner(behind))
     }

@@ -2,7 +2,9 @@
 -- look at all pasts, from that to the threads, to the second look, and ends.
 use Rattle.std.proofs.Common.{◌≡◌, ◌∙◌, ◌≤◌, ℕ, false, List, ◌++◌, refl, arith, length, ap, subst, sym, take, drop}
 use Rattle.std.proofs.lemmas.Result.{IfOk-at_ok, IfOk-weaker}
+use Rattle.zone_blocks.specs.declared.config.Config.{Config}
 use Rattle.mem_system.specs.Cpus.{CpuInRun}
+use Rattle.mem_system.specs.Locked.{KnownLocked}
 use Rattle.script_replay.specs.History.{Replays}
 use Rattle.script_replay.specs.Lines.{SystemState, system_state}
 use Rattle.script_replay.specs.Terms.{boot_tables, numbered_terms}
@@ -101,8 +103,10 @@ returns g c =
     c.replay-first.ensures.outcome.replayed in
     let sees = subst (λ (cpus : List CpuInRun). SeesAllPasts t (system_state c.replay-first.new.locked cpus) at_go) met c.survey.ensures.sees in
     let all = IfOk-at_ok _ c.in_ok-told.was c.serve_later-told.ensures.told in
-    let tells : AreAllAnswers (boot_tables t w) (workers_from 1 at_go.cpus c.split_at.result.1.now is_numbered) end.cpus all.0 later =
-    subst (λ (cpus : List CpuInRun). AreAllAnswers (boot_tables t w) (workers_from 1 cpus c.split_at.result.1.now is_numbered) end.cpus all.0 later) lent all.1 in
+    let kept = c.of-system.ensures.sizes ∙ ap (λ (l : KnownLocked). l.sizes) c.set_sizes.ensures ∙ c.sizes-sizes.ensures.are ∙ booted.sizes in
+    let tells : AreAllAnswers (boot_tables t w sizes) (workers_from 1 at_go.cpus c.split_at.result.1.now is_numbered) end.cpus all.0 later =
+    subst (λ (x : List CpuInRun × Config). AreAllAnswers (boot_tables t w x.1) (workers_from 1 x.0 c.split_at.result.1.now is_numbered) end.cpus all.0 later)
+    (λ i. (lent i, kept i)) all.1 in
     let long = c.serve_later-told.auto.cpus ∙ ap length lent ∙ c.survey.auto.cpus ∙ ap length met ∙ c.replay-first.auto.cpus ∙ ap length shown ∙ booted.count in
     let sees_end = subst (λ (cpus : List CpuInRun). SeesAllPasts t (system_state c.into_parts-locked.result.0 cpus) at_end) left c.survey-2.ensures.sees in
     let ends = subst (λ (cpus : List CpuInRun). EndsHeld t w (system_state c.survey-2.new.locked cpus) ended) again c.end_boot-ended.ensures.ends in

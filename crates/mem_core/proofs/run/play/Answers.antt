@@ -1,5 +1,5 @@
 -- Each step goes on the run, and in the end all steps were made.
-use Rattle.std.proofs.Common.{◌≡◌, ◌+◌, [], ◌∷◌, ◌++◌, length, take, sym, ◌∙◌, ap, subst, arith, length-append}
+use Rattle.std.proofs.Common.{◌≡◌, ◌+◌, ◌≤◌, [], ◌∷◌, ◌++◌, length, take, sym, ◌∙◌, ap, subst, arith, length-append}
 use Rattle.std.specs.List.{zip}
 use Rattle.step_rules.specs.declared.step.Step.{Step}
 use Rattle.step_rules.specs.State.{Zone}
@@ -13,6 +13,7 @@ use Rattle.mem_core.proofs.run.play.Goals as goal
 pub loop-step-init : goal.loop-step-init
 loop-step-init c = record {
   one_each = ap length c.in_ok-answers.ensures.items;
+  room = c.in_ok-answers.ensures.capacity;
   plays = PlaysOn-start (zone_of_config c.args.config) c.in_ok-core.core c.in_ok-core.ensures.zone c.in_ok-core.ensures.empty c.in_ok-core.ensures.areas;
 }
 
@@ -33,14 +34,15 @@ loop-step-preserved c =
     let step = c.step-item.result in
     let answer = c.step.result in
     let run : Run = zip (take i steps) answers in
-    let pushes : c.push.new.self.items ≡ answers ++ answer ∷ [] = c.in_ok-push.ensures.items in
-    let more : zip (take (i + 1) steps) c.push.new.self.items ≡ pushed run step answer =
+    let pushes : c.push_reserved.new.self.items ≡ answers ++ answer ∷ [] = c.push_reserved.ensures.items in
+    let more : zip (take (i + 1) steps) c.push_reserved.new.self.items ≡ pushed run step answer =
     ap (zip (take (i + 1) steps)) pushes
     ∙ zip-take_more steps answers i step answer c.loop-step-test.true so_far.one_each
     ∙ ap (λ (x : Step). pushed run x answer) (sym c.step-item.is) in
     let goes_on = PlaysOn-step (zone_of_config c.args.config) c.loop-step.core c.step.new.self run step answer so_far.plays
     c.step.ensures.first c.step.ensures.zone (c.step.ensures.shows run so_far.plays.shows) c.step.ensures.areas in
     record {
+      room = subst (λ n. length steps ≤ n) (sym c.push_reserved.ensures.capacity) so_far.room;
       one_each = ap length pushes ∙ length-append answers (answer ∷ []) ∙ ap (λ n. n + 1) so_far.one_each;
       plays = subst (PlaysOn (zone_of_config c.args.config) c.step.new.self) (sym more) goes_on;
     }

@@ -8,4 +8,4 @@ pub returns-then-marks-ne0 : goal.returns-then-marks-ne0
 returns-then-marks-ne0 c =
     let v = chunk 0 32 c.args.text.now in
     let long = length-chunk 0 32 c.args.text.now (omega arith) in
-    first_marked c.args.wanted c.args.text.now _ (omega arith) (bitmask_splat w8 eqb v 32 c.args.wanted long (omega arith)) c.if-marks-ne0.true
+    (first_marked 32 c.args.wanted c.args.text.now _ (omega arith) (omega arith) (bitmask_splat w8 eqb v 32 c.args.wanted long (omega arith)) c.if-marks-ne0.true).1

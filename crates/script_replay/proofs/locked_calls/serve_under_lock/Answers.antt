@@ -1,15 +1,15 @@
-use Rattle.script_replay.proofs.UnderLock.{groups_locked, outcome_locked}
+use Rattle.script_replay.proofs.UnderLock.{groups_locked, value_locked}
 use Rattle.script_replay.proofs.locked_calls.serve_under_lock.Goals as goal
 
 pub returns : goal.returns
 returns g c =
     let t = g.N.BootName.frames in
     let found = c.begin_command.new.locked in
-    let served = c.serve_outcome-outcome in
+    let served = c.serve_locked-value in
     let before = c.args.locked.now in
     let after = c.end_command.new.locked in record {
-      served = outcome_locked t c.args.is_explained c.args.cmd.now before found served.new.locked after c.args.cpu.now served.new.cpu c.number-cpu_number.result
-          c.number-cpu_number.ensures.number c.number-cpu_number.ensures.in_run c.begin_command.ensures.zone c.begin_command.ensures.watched c.end_command.ensures served.result served.ensures.served;
-      groups = groups_locked t c.args.is_explained c.args.cmd.now before found served.new.locked after c.args.cpu.now served.new.cpu c.number-cpu_number.result
+      served = value_locked t c.args.is_explained c.args.command.now before found served.new.locked after c.args.cpu.now served.new.cpu c.number-cpu_number.result
+          c.number-cpu_number.ensures.number c.number-cpu_number.ensures.in_run c.begin_command.ensures.zone c.begin_command.ensures.watched c.end_command.ensures served.result served.ensures.answers;
+      groups = groups_locked t c.args.is_explained c.args.command.now before found served.new.locked after c.args.cpu.now served.new.cpu c.number-cpu_number.result
           c.number-cpu_number.ensures.number c.number-cpu_number.ensures.in_run c.begin_command.ensures.zone c.begin_command.ensures.watched c.end_command.ensures served.result served.ensures.groups;
     }

@@ -3,11 +3,11 @@ use Rattle.cpu_part.specs.declared.answers.Fast.TheVariants.{Got}
 use Rattle.group_tree.specs.Groups.{number_at}
 use Rattle.mem_system.specs.Locked.{KnownLocked}
 use Rattle.mem_system.specs.Visits.{locked_state}
-use Rattle.mem_system.specs.declared.command.Cmd.TheVariants as cmd
 use Rattle.reply_texts.specs.declared.steps.UnlockedAnswer.TheVariants as unlocked
 use Rattle.script_lines.specs.declared.line.Command.TheVariants.{Alloc, Fast}
 use Rattle.script_replay.specs.Answers.{OnlyWatched, steps_alone}
 use Rattle.script_replay.specs.Terms.{terms}
+use Rattle.script_replay.specs.ValueAnswers.{answer_of}
 use Rattle.script_replay.proofs.Gaining.{watched_gains}
 use Rattle.script_replay.proofs.Serving.{lock_served, none_got, then_watched}
 use Rattle.script_replay.proofs.server.serve_frame_of.Goals as goal
@@ -44,12 +44,12 @@ returns-in_default-clause-answer g c path is =
     let tried = c.alloc_in_order in
     let served = c.serve_frame_under_lock in
     lock_served (terms g.N.BootName.frames g.N.BootName.stocks c.args.is_explained) (Alloc path 0) l served.new.locked c.args.cpu.now served.new.cpu
-    (cmd.Alloc path 0) (locked_state tried.new.locked tried.new.cpu) _ refl (record {
+    (locked_state tried.new.locked tried.new.cpu) (answer_of served.new.locked.machine.ledger served.result) (record {
       group = c.args.group;
       found = is;
       fast = tried.result;
       answers = tried.ensures.answer;
       none = c.in_default.not-Got;
     }) tried.ensures.only_saw (none_got c.args.cpu.now.part.number c.args.group tried.result (locked_state l c.args.cpu.now)
-    (locked_state tried.new.locked tried.new.cpu) c.in_default.not-Got tried.ensures.gains) (served.ensures.served path
+    (locked_state tried.new.locked tried.new.cpu) c.in_default.not-Got tried.ensures.gains) (λ settles. absurd settles) (served.ensures.served path
     (ap (λ (x : KnownLocked). number_at x.machine.ledger.groups path.now) tried.ensures.only_saw.locked ∙ is))

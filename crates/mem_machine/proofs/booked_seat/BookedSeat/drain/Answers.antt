@@ -6,23 +6,25 @@ use Rattle.stock_word.specs.Calls.{steps_of_drain, with_view}
 use Rattle.step_rules.specs.declared.step.Action.TheVariants.{DrainStock}
 use Rattle.mem_machine.proofs.AtTable.{held_at, made_at, may_at}
 use Rattle.mem_machine.proofs.Booking.{after_drain, within_count}
+use Rattle.mem_machine.proofs.Owning.{owners_stay}
 use Rattle.mem_machine.proofs.booked_seat.BookedSeat.drain.Goals as goal
 
 pub overflow_sub-self : goal.overflow_sub-self
 overflow_sub-self g c =
     let group : (account_of c.self.inside.seat.view c.args.cpu).group ≡ Some c.number-number.result =
     ap (λ (x : KnownStockSeat). (account_of x.view c.args.cpu).group) c.self.view_is ∙ c.requires.group ∙ ap Some (sym c.number-number.ensures.value) in
-    within_count g.N.BootName.frames g.N.BootName.stocks _ _ c.self.invariant c.args.cpu c.number-number.result _ c.requires.cpu.1
+    within_count g.N.BootName.frames g.N.BootName.stocks _ _ c.self.invariant.0 c.args.cpu c.number-number.result _ c.requires.cpu.1
     c.number-number.ensures.below group
     _ refl c.drain-pages.ensures.booked
 
 pub invariant_of-self : goal.invariant_of-self
 invariant_of-self g c =
     let group : (account_of c.self.inside.seat.view c.args.cpu).group ≡ Some c.number-number.result =
-    ap (λ (x : KnownStockSeat). (account_of x.view c.args.cpu).group) c.self.view_is ∙ c.requires.group ∙ ap Some (sym c.number-number.ensures.value) in
-    after_drain g.N.BootName.frames g.N.BootName.stocks _ _ c.self.invariant c.args.cpu c.number-number.result _ c.requires.cpu.1
-    c.number-number.ensures.below group
-    _ refl c.drain-pages.ensures.booked _ _ c.drain-pages.ensures.zone
+    ap (λ (x : KnownStockSeat). (account_of x.view c.args.cpu).group) c.self.view_is ∙ c.requires.group ∙ ap Some (sym c.number-number.ensures.value) in (
+      after_drain g.N.BootName.frames g.N.BootName.stocks _ _ c.self.invariant.0 c.args.cpu c.number-number.result _ c.requires.cpu.1
+          c.number-number.ensures.below group _ refl c.drain-pages.ensures.booked _ _ c.drain-pages.ensures.zone,
+      owners_stay _ _ _ c.self.invariant.1 c.args.cpu _ _ (ap (λ (x : KnownStockSeat). x.view.accounts) c.drain-pages.ensures.zone) refl (λ e. refl),
+    )
 
 pub returns-clause-seat : goal.returns-clause-seat
 returns-clause-seat g c =

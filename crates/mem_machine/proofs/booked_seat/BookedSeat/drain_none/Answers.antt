@@ -7,7 +7,8 @@ use Rattle.boot_words.specs.Pasts.{MakesStep}
 use Rattle.step_rules.specs.declared.step.Action.TheVariants as step
 use Rattle.step_rules.specs.declared.step.Answer.TheVariants.{Pages}
 use Rattle.mem_machine.proofs.AtTable.{held_at, made_at, may_at}
-use Rattle.mem_machine.proofs.Booking.{after_group}
+use Rattle.mem_machine.proofs.Booking.{after_drain_none}
+use Rattle.mem_machine.proofs.Owning.{owners_stay}
 use Rattle.mem_machine.proofs.booked_seat.BookedSeat.drain_none.Goals as goal
 
 pub returns-clause-run : goal.returns-clause-run
@@ -22,9 +23,11 @@ invariant_of-self g c =
     let none : c.drain.result ≡ 0 = c.drain.ensures.drained_before
     (ap (λ (x : KnownStockSeat). (account_of x.view c.args.cpu).filled) c.self.view_is ∙ c.requires.drained) in
     let group : (account_of c.self.inside.seat.view c.args.cpu).group ≡ None =
-    ap (λ (x : KnownStockSeat). (account_of x.view c.args.cpu).group) c.self.view_is ∙ c.requires.group in
-    after_group g.N.BootName.frames g.N.BootName.stocks _ _ c.self.invariant c.args.cpu c.requires.cpu.1 None _ (c.drain.ensures.zone
-    ∙ (λ i. with_view c.self.inside.seat (with_steps (steps_of_drain (group i)) (zone_after_drain c.self.inside.seat.view c.args.cpu (none i)))))
+    ap (λ (x : KnownStockSeat). (account_of x.view c.args.cpu).group) c.self.view_is ∙ c.requires.group in (
+      after_drain_none g.N.BootName.frames g.N.BootName.stocks _ _ c.self.invariant.0 c.args.cpu c.requires.cpu.1 _ (c.drain.ensures.zone
+          ∙ (λ i. with_view c.self.inside.seat (with_steps (steps_of_drain (group i)) (zone_after_drain c.self.inside.seat.view c.args.cpu (none i))))),
+      owners_stay _ _ _ c.self.invariant.1 c.args.cpu _ _ (ap (λ (x : KnownStockSeat). x.view.accounts) c.drain.ensures.zone) refl (λ e. refl),
+    )
 
 pub returns-clause-seat : goal.returns-clause-seat
 returns-clause-seat g c =

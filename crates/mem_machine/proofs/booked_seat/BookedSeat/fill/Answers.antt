@@ -1,9 +1,11 @@
-use Rattle.std.proofs.Common.{ℕ, ◌∙◌, ap, refl, sym, subst}
+use Rattle.std.proofs.Common.{◌≡◌, ℕ, ◌-◌, ◌∙◌, Some, ap, refl, rules, slice_set, sym, subst}
 use Rattle.stock_word.specs.Stock.{KnownStockSeat, account_of}
 use Rattle.step_rules.specs.declared.step.Action.TheVariants.{Fill}
 use Rattle.step_rules.specs.declared.step.Answer.TheVariants.{Done}
 use Rattle.boot_words.specs.Pasts.{MakesStep, MayMake}
+use Rattle.mem_machine.specs.Booked.{AreOwners}
 use Rattle.mem_machine.proofs.Booking.{after_fill}
+use Rattle.mem_machine.proofs.Owning.{owners_set}
 use Rattle.mem_machine.proofs.booked_seat.BookedSeat.fill.Goals as goal
 
 pub fill-requires-clause-held : goal.fill-requires-clause-held
@@ -34,5 +36,12 @@ returns-clause-nothing_booked g c =
 
 pub invariant_of-self : goal.invariant_of-self
 invariant_of-self g c =
-    after_fill g.N.BootName.frames g.N.BootName.stocks _ _ c.self.invariant c.args.cpu.now.number c.number-owner.result c.args.pages
-    c.prove_tied.ensures.seats.frame_cpus c.number-owner.ensures.below c.fill.ensures.nothing_booked _ refl _ c.fill.ensures.zone_stock
+    let number : c.number.result ≡ c.args.cpu.now.number = search rules in
+    let owners : c.set.new.self ≡ slice_set c.self.inside.owners (c.args.cpu.now.number - 1) (Some c.number-owner.result) =
+    c.set.ensures ∙ (λ i. slice_set c.self.inside.owners (number i - 1) (Some (sym c.number-owner.ensures.value i))) in (
+      after_fill g.N.BootName.frames g.N.BootName.stocks _ _ c.self.invariant.0 c.args.cpu.now.number c.number-owner.result c.args.pages
+          c.prove_tied.ensures.seats.frame_cpus c.number-owner.ensures.below c.fill.ensures.nothing_booked _ refl _ c.fill.ensures.zone_stock,
+      subst (AreOwners _ _) (sym owners) (owners_set _ _ _ c.self.invariant.1 c.args.cpu.now.number _ _
+          (ap (λ (x : KnownStockSeat). x.view.accounts) c.fill.ensures.zone_stock) c.number-owner.result c.prove_tied.ensures.seats.some_number
+          c.prove_tied.ensures.seats.frame_cpus refl),
+    )

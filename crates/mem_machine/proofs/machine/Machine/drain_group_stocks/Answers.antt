@@ -1,24 +1,19 @@
-use Rattle.std.proofs.Common.{◌≡◌, ◌+◌, ℕ, refl, sym, subst, rules, arith}
+use Rattle.std.proofs.Common.{refl}
 use Rattle.mem_machine.specs.Stocks.{of_group}
-use Rattle.mem_machine.proofs.DrainingAll.{DrainedSoFar, drained_end, drained_more}
-use Rattle.mem_machine.proofs.Reached.{shown_then}
+use Rattle.mem_machine.proofs.Choosing.{owned_chosen}
 use Rattle.mem_machine.proofs.machine.Machine.drain_group_stocks.Goals as goal
 
-pub loop-cpu_index-preserved : goal.loop-cpu_index-preserved
-loop-cpu_index-preserved g c =
-    let few = c.drain_if_own.type_inv in
-    subst (λ (n : ℕ). DrainedSoFar g.N.BootName.frames (of_group c.args.group) (c.loop-cpu_index.cpu_index + 1) (c.loop-cpu_index.pages + n) c.args.self.now c.drain_if_own.new.self)
-    (sym c.from-pages.ensures) (drained_more _ _ _ _ _ _ _ _ c.loop-cpu_index.invariant c.drain_if_own.ensures.drains
-    c.drain_if_own.ensures.visit (omega (arith, few)))
+pub drain_each-requires-clause-chosen : goal.drain_each-requires-clause-chosen
+drain_each-requires-clause-chosen g c = record {
+  test = of_group c.args.group;
+  filled = λ groups. refl;
+  chosen = owned_chosen g.N.BootName.frames _ _ c.self.view_is c.args.group _ c.stocks_of-stocks.ensures;
+}
 
 pub returns-clause-drains : goal.returns-clause-drains
 returns-clause-drains g c =
-    let all : c.loop-cpu_index.cpu_index ≡ g.N.BootName.frames.cpus = search rules in
-    drained_end g.N.BootName.frames (of_group c.args.group) _ _ _ _ c.loop-cpu_index.invariant all
+    c.drain_each.ensures.drains (of_group c.args.group) (owned_chosen g.N.BootName.frames _ _ c.self.view_is c.args.group _ c.stocks_of-stocks.ensures)
 
-pub returns-clause-visit : goal.returns-clause-visit
-returns-clause-visit g c = c.loop-cpu_index.invariant.visit
-
-pub drain_if_own-requires-clause-shown : goal.drain_if_own-requires-clause-shown
-drain_if_own-requires-clause-shown g c =
-    record { cpu = c.requires.shown.cpu; is = shown_then _ _ _ _ c.requires.shown.is (c.loop-cpu_index.invariant.steps c.requires.shown.cpu) refl }
+pub returns-clause-drained : goal.returns-clause-drained
+returns-clause-drained g c =
+    c.drain_each.ensures.drained (of_group c.args.group) (owned_chosen g.N.BootName.frames _ _ c.self.view_is c.args.group _ c.stocks_of-stocks.ensures)

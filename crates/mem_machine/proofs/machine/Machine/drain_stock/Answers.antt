@@ -1,7 +1,7 @@
-use Rattle.std.proofs.Common.{◌≡◌, ℕ, Option, None, ap, refl, ◌∙◌, subst}
+use Rattle.std.proofs.Common.{◌≡◌, ℕ, Option, None, Some, ap, refl, sym, ◌∙◌, subst}
 use Rattle.step_rules.specs.declared.step.Action.TheVariants.{DrainStock}
 use Rattle.step_rules.specs.declared.step.Answer.TheVariants.{Pages}
-use Rattle.mem_machine.proofs.Draining.{drain_may, drained_looked, drained_never, looked_consistent, looked_never_filled, looked_no_group, looked_shown, looked_twice, looked_visits, never_drained, runs_looked}
+use Rattle.mem_machine.proofs.Draining.{drain_may, drained_never, drained_some, never_drained}
 use Rattle.mem_machine.specs.Machines.{KnownMachine}
 use Rattle.cpu_part.specs.Cpus.{KnownCpu}
 use Rattle.mem_machine.specs.Kept.{machine_of}
@@ -23,24 +23,22 @@ drain_none-requires-clause-legal g c =
     drain_may g.N.BootName.frames _ _ c.self.view_is c.requires.shown.cpu c.requires.shown.is c.args.cpu c.requires.cpu.0 c.requires.cpu.1
 
 pub drain_none-requires-clause-group : goal.drain_none-requires-clause-group
-drain_none-requires-clause-group g c = looked_no_group _ _ _ c.in-None.ensures.seat c.in-None.ensures.group
+drain_none-requires-clause-group g c = sym c.in-None.ensures.group
 
 pub drain_none-requires-clause-drained : goal.drain_none-requires-clause-drained
-drain_none-requires-clause-drained g c = looked_never_filled _ _ _ c.in-None.ensures.seat
+drain_none-requires-clause-drained g c = c.in-None.ensures.unfilled refl
 
 pub invariant_of-self : goal.invariant_of-self
 invariant_of-self g c = record {
   consistent = consistent_still _ _ _ _ (never_drained g.N.BootName.frames g.N.BootName.stocks _ _ c.self.view_is c.self.invariant.consistent c.args.cpu c.requires.cpu.0
-      c.requires.cpu.1 c.in-None.ensures.group 2 _
-      (looked_twice _ _ _ _ c.in-None.ensures.seat c.drain_none.ensures.seat)).consistent;
+      c.requires.cpu.1 c.in-None.ensures.group 1 _ c.drain_none.ensures.seat).consistent;
   free = c.self.invariant.free;
 }
 
 pub returns-in-None : goal.returns-in-None
 returns-in-None g c =
     let all = never_drained g.N.BootName.frames g.N.BootName.stocks _ _ c.self.view_is c.self.invariant.consistent c.args.cpu c.requires.cpu.0
-    c.requires.cpu.1 c.in-None.ensures.group 2 _
-    (looked_twice _ _ _ _ c.in-None.ensures.seat c.drain_none.ensures.seat) in
+    c.requires.cpu.1 c.in-None.ensures.group 1 _ c.drain_none.ensures.seat in
     let none : None ≡ stock_group c.args.self.now c.args.cpu = c.in-None.ensures.group
     ∙ ap (λ (x : KnownMachine). stock_group x c.args.cpu) c.self.view_is in
     let first : KnownRun = record { past = c.self.inside.past; watch = c.self.inside.watch } in
@@ -51,25 +49,17 @@ returns-in-None g c =
     { stock_seat = c.drain_none.new.self; run = last }) cpu) = λ cpu. makes_noted _ _ _ _ c.self.view_is cpu cpu _ _ (all.steps cpu) _
     (subst (λ (o : Option ℕ). Notes g.N.BootName.frames first (drain_steps c.args.cpu o 0) last) none one) in
     record {
-      drains = drained_never _ _ _ c.self.view_is c.args.cpu c.in-None.ensures.group (drains_still _ _ _ _ _ _ all.drains);
+      drains = drained_never _ _ c.args.cpu none (drains_still _ _ _ _ _ _ all.drains);
       steps = steps;
       visit = stays_then g.N.BootName.frames _ _ c.self.view_is _ refl _ steps;
     }
 
-pub invariant_of-self-in-Some : goal.invariant_of-self-in-Some
-invariant_of-self-in-Some g c = record {
-  consistent = looked_consistent g.N.BootName.frames g.N.BootName.stocks _ c.self.invariant.consistent _ c.in-Some.ensures.seat;
-  free = c.self.invariant.free;
-}
-
-pub drain_of-requires-clause-shown : goal.drain_of-requires-clause-shown
-drain_of-requires-clause-shown g c = looked_shown g.N.BootName.frames _ _ c.self.view_is _ c.in-Some.ensures.seat c.requires.shown
-
 pub returns-in-Some : goal.returns-in-Some
-returns-in-Some g c = record {
-  drains = drained_looked _ _ c.self.view_is _ c.in-Some.ensures.seat c.args.cpu c.drain_of.result c.in-Some.group c.in-Some.ensures.group _
-      c.drain_of.ensures.drains;
-  steps = runs_looked _ _ c.self.view_is _ c.in-Some.ensures.seat c.args.cpu c.drain_of.result c.in-Some.group c.in-Some.ensures.group _
-      g.N.BootName.frames c.drain_of.ensures.steps;
-  visit = λ cpu visit. c.drain_of.ensures.visit cpu (looked_visits g.N.BootName.frames _ _ c.self.view_is _ c.in-Some.ensures.seat cpu visit);
-}
+returns-in-Some g c =
+    let of : Some c.in-Some.group ≡ stock_group c.args.self.now c.args.cpu = c.in-Some.ensures.group
+    ∙ ap (λ (x : KnownMachine). stock_group x c.args.cpu) c.self.view_is in
+    record {
+      drains = drained_some _ _ c.args.cpu c.drain_of.result c.in-Some.group of c.drain_of.ensures.drains;
+      steps = c.drain_of.ensures.steps;
+      visit = c.drain_of.ensures.visit;
+    }

@@ -13,11 +13,11 @@ invariant_of-result g c =
     let stock = ap (λ (s : OwnSeats). s.stocks) c.requires.seats
     ∙ (λ i. record { table = same_table i; view = first_zone_stock_view }) in
     let kept = starts g.N.BootName.frames g.N.BootName.stocks _ _ c.frames.result
-    (first_is g.N.BootName.frames g.N.BootName.stocks _ c.frames.result sized c.in_ok-parts.ensures.frame_states c.in_ok-parts.ensures.charges
-    c.in_ok-parts.ensures.nowhere
-    (ap (λ (s : OwnSeats). s.frames) c.requires.seats) (c.new.ensures ∙ stock) c.in_ok-parts.ensures.killed refl c.in_ok-parts.ensures.notes)
-    sized c.in_ok-parts.ensures.frames c.in_ok-parts.ensures.lists c.in_ok-parts.ensures.free
-    c.in_ok-parts.ensures.areas c.requires.cpus in
+    (first_is g.N.BootName.frames g.N.BootName.stocks _ c.frames.result sized c.in-Ok.ensures.frame_states c.in-Ok.ensures.charges
+    c.in-Ok.ensures.nowhere
+    (ap (λ (s : OwnSeats). s.frames) c.requires.seats) (c.new.ensures ∙ stock) c.in-Ok.ensures.killed refl c.in-Ok.ensures.notes)
+    sized c.in-Ok.ensures.frames c.in-Ok.ensures.lists c.in-Ok.ensures.free
+    c.in-Ok.ensures.areas c.requires.cpus in
     record { consistent = kept.0; free = kept.1 }
 
 pub returns-clause-first : goal.returns-clause-first
@@ -27,9 +27,9 @@ returns-clause-first g c =
     sym (ap (λ (u : KnownTable). u.table) c.args.tables.now.frames_are) ∙ ap (λ (u : KnownStockTable). u.table) c.args.tables.now.stocks_are in
     let stock = ap (λ (s : OwnSeats). s.stocks) c.requires.seats
     ∙ (λ i. record { table = same_table i; view = first_zone_stock_view }) in
-    first_is g.N.BootName.frames g.N.BootName.stocks _ c.frames.result sized c.in_ok-parts.ensures.frame_states c.in_ok-parts.ensures.charges
-    c.in_ok-parts.ensures.nowhere
-    (ap (λ (s : OwnSeats). s.frames) c.requires.seats) (c.new.ensures ∙ stock) c.in_ok-parts.ensures.killed refl c.in_ok-parts.ensures.notes
+    first_is g.N.BootName.frames g.N.BootName.stocks _ c.frames.result sized c.in-Ok.ensures.frame_states c.in-Ok.ensures.charges
+    c.in-Ok.ensures.nowhere
+    (ap (λ (s : OwnSeats). s.frames) c.requires.seats) (c.new.ensures ∙ stock) c.in-Ok.ensures.killed refl c.in-Ok.ensures.notes
 
 pub returns-clause-rests : goal.returns-clause-rests
 returns-clause-rests g c =
@@ -40,3 +40,6 @@ new-requires-clause-first g c = ap (λ (s : OwnSeats). s.stocks.view) c.requires
 
 pub new-requires-clause-cpus : goal.new-requires-clause-cpus
 new-requires-clause-cpus g c = c.requires.cpus
+
+pub new-requires-clause-few : goal.new-requires-clause-few
+new-requires-clause-few g c = c.prove_sizes.ensures.few

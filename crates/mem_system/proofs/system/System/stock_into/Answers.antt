@@ -23,10 +23,15 @@ returns-clause-text g c =
       };
       settles = subst (λ (x : CpuInRun). SettlesCaller g.N.BootName.frames (locked_state found c.args.cpu.now) (locked_state settled x))
           (sym line.ensures.cpu) c.settle.ensures.served;
-      sound_after = record {
+      sound_settled = record {
         quiet = c.prove_quiet-2.ensures.quiet;
         consistent = c.prove_quiet-2.ensures.consistent;
         charges = c.prove_quiet-2.ensures.charges;
+      };
+      sound_after = record {
+        quiet = c.prove_quiet-3.ensures.quiet;
+        consistent = c.prove_quiet-3.ensures.consistent;
+        charges = c.prove_quiet-3.ensures.charges;
       };
       told = (
         subst (λ (x : CpuInRun). IfOk line.result (λ _. string_bytes line.new.text ≡ string_bytes c.args.text.now

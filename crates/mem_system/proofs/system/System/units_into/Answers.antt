@@ -11,10 +11,15 @@ returns-clause-text g c = record {
     charges = c.prove_quiet.ensures.charges;
   };
   settles = c.settle.ensures.served;
-  sound_after = record {
+  sound_settled = record {
     quiet = c.prove_quiet-2.ensures.quiet;
     consistent = c.prove_quiet-2.ensures.consistent;
     charges = c.prove_quiet-2.ensures.charges;
+  };
+  sound_after = record {
+    quiet = c.prove_quiet-3.ensures.quiet;
+    consistent = c.prove_quiet-3.ensures.consistent;
+    charges = c.prove_quiet-3.ensures.charges;
   };
   told = c.write_units_at-told.ensures.units;
 }

@@ -1,3 +1,5 @@
+use Rattle.std.proofs.Common.{◌∙◌, ap}
+use Rattle.mem_system.specs.Locked.{KnownLocked}
 use Rattle.mem_system.proofs.system.System.visit_into.Goals as goal
 
 pub returns : goal.returns
@@ -5,6 +7,7 @@ returns g c = record {
   served = record {
     found = c.deref_mut-locked.result.now;
     left = c.serve_into.new.locked;
+    sizes_are = ap (λ (l : KnownLocked). l.sizes) c.deref_mut-locked.ensures.value ∙ c.lock-guard.ensures;
     sound_before = record {
       quiet = c.prove_quiet.ensures.quiet;
       consistent = c.prove_quiet.ensures.consistent;

@@ -4,7 +4,6 @@ use Rattle.mem_system.specs.Cpus.{CpuInRun}
 use Rattle.script_lines.specs.declared.line.Command.{Command}
 use Rattle.script_replay.specs.Lines.{system_state}
 use Rattle.script_replay.specs.Ranges.{CpuCommandInRange}
-use Rattle.script_replay.specs.Terms.{boot_tables}
 use Rattle.script_replay.specs.ValueAnswers.{SaysCommand, answer_of}
 use Rattle.tempolemon_c.specs.HandleCalls.{ReturnsCommandAnswer}
 use Rattle.tempolemon_c.specs.Known.{KnownLive}
@@ -31,8 +30,8 @@ returns g c =
       unread_answer = inside.unread_answer.items;
     } in
     let said = answer_of left.state.locked.machine.ledger value in
-    let says : SaysCommand (boot_tables frames stocks) cpu command live.state left.state said =
-    subst (λ l. SaysCommand (boot_tables frames stocks) cpu command (system_state inside.locked l) left.state said)
+    let says : SaysCommand frames stocks cpu command live.state left.state said =
+    subst (λ l. SaysCommand frames stocks cpu command (system_state inside.locked l) left.state said)
     c.deref_mut.ensures.value c.serve_value.ensures.answer in
     let there : CpuCommandInRange inside.sizes.frames inside.sizes.cpus cpu command = search rules in
     let short : inside.cpus.len ≤ length cpus = search rules in

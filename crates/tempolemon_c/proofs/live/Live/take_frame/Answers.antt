@@ -7,7 +7,6 @@ use Rattle.group_charge.specs.Charges.{AreCharges, Ledger}
 use Rattle.mem_system.specs.Cpus.{CpuInRun}
 use Rattle.script_lines.specs.declared.line.Command.TheVariants as cmd
 use Rattle.script_replay.specs.Lines.{system_state}
-use Rattle.script_replay.specs.Terms.{boot_tables}
 use Rattle.script_replay.specs.ValueAnswers.{SaysCommand, answer_of}
 use Rattle.tempolemon_c.specs.HandleCalls.{CallsLive, IsCpu}
 use Rattle.tempolemon_c.specs.Known.{KnownLive}
@@ -36,9 +35,9 @@ returns g c =
       unread_answer = c.self.inside.unread_answer.items;
     } in
     let says : (named : Bor (List ℕ)) → number_at live.state.locked.machine.ledger.groups named.now ≡ Some group
-    → SaysCommand (boot_tables g.N.BootName.frames g.N.BootName.stocks) c.args.cpu (cmd.Alloc named 0) live.state left.state
+    → SaysCommand g.N.BootName.frames g.N.BootName.stocks c.args.cpu (cmd.Alloc named 0) live.state left.state
     (answer_of left.state.locked.machine.ledger c.alloc_value.result) =
-    λ named found. subst (λ cpus. SaysCommand (boot_tables g.N.BootName.frames g.N.BootName.stocks) c.args.cpu (cmd.Alloc named 0)
+    λ named found. subst (λ cpus. SaysCommand g.N.BootName.frames g.N.BootName.stocks c.args.cpu (cmd.Alloc named 0)
     (system_state c.self.inside.locked cpus) left.state (answer_of left.state.locked.machine.ledger c.alloc_value.result))
     c.deref_mut.ensures.value (c.alloc_value.ensures.answer named found) in
     let most : c.args.cpu ≤ c.self.inside.sizes.cpus = search rules in

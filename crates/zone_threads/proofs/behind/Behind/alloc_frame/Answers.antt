@@ -1,6 +1,7 @@
 -- Serves `alloc_frame`: the visit serves the group that was found.
-use Rattle.std.proofs.Common.{ℕ, subst}
+use Rattle.std.proofs.Common.{ℕ, ap, subst}
 use Rattle.mem_system.specs.Visits.{ServesFrameOutcome, locked_state}
+use Rattle.zone_threads.specs.Homes.{KnownBehind}
 use Rattle.zone_threads.proofs.behind.Behind.alloc_frame.Goals as goal
 
 pub returns-clause-served : goal.returns-clause-served
@@ -9,6 +10,7 @@ returns-clause-served g c =
     let done = c.serve_frame_outcome-outcome in record {
       found = c.self.inside.locked;
       left = done.new.locked;
+      sizes_are = ap (λ (b : KnownBehind). b.locked.sizes) c.self.view_is;
       sound_before = record { quiet = c.prove_quiet.ensures.quiet; consistent = c.prove_quiet.ensures.consistent; charges = c.prove_quiet.ensures.charges };
       served = subst (λ (k : ℕ). ServesFrameOutcome t k done.result (locked_state c.self.inside.locked c.args.cpu.now) (locked_state done.new.locked done.new.cpu))
           c.in-Some.ensures.found.0 done.ensures.served;

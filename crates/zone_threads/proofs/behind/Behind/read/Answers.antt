@@ -10,6 +10,7 @@ use Rattle.mem_system.specs.Outcomes.{HasItsGroups, reply_of, text_reply}
 use Rattle.mem_system.specs.Visits.{IsServed, IsVisited, locked_state}
 use Rattle.zone_threads.specs.declared.calls.ReadAnswer.{ReadAnswer}
 use Rattle.zone_threads.specs.Calling.{IsReadUnderLock}
+use Rattle.zone_threads.specs.Homes.{KnownBehind}
 use Rattle.zone_threads.proofs.behind.Behind.read.Goals.{in-Ok, in-Err}
 use Rattle.zone_threads.proofs.behind.Behind.read.Goals as goal
 
@@ -17,14 +18,16 @@ pub returns : goal.returns
 returns g c =
     let t = g.N.BootName.frames in
     let w = g.N.BootName.stocks in
+    let sizes = c.args.self.now.locked.sizes in
     let ledger = c.serve_outcome-outcome.new.locked.machine.ledger in
     let group : c.in-Text.group ≢ 0 = (subst (HasItsGroups ledger) c.in-Text.is c.serve_outcome-outcome.ensures.groups).1 in
     let told = c.file_text.ensures.text group ∙ ap (λ (l : Ledger). files.file_text l c.in-Text.group c.in-Text.file) c.charges.ensures in
     let reply = ap (reply_of ledger) c.in-Text.is ∙ sym (ap text_reply told) in
-    let visited : IsVisited t w (IsServed t (cmd.Read c.args.asked.now.path c.args.asked.now.file) (text_reply c.file_text.result)) c.args.cpu.now c.serve_outcome-outcome.new.cpu =
+    let visited : IsVisited t w sizes (IsServed t (cmd.Read c.args.asked.now.path c.args.asked.now.file) (text_reply c.file_text.result)) c.args.cpu.now c.serve_outcome-outcome.new.cpu =
     record {
       found = c.self.inside.locked;
       left = c.serve_outcome-outcome.new.locked;
+      sizes_are = ap (λ (b : KnownBehind). b.locked.sizes) c.self.view_is;
       sound_before = record { quiet = c.prove_quiet.ensures.quiet; consistent = c.prove_quiet.ensures.consistent; charges = c.prove_quiet.ensures.charges };
       served = subst (λ (r : Reply). IsServed t (cmd.Read c.args.asked.now.path c.args.asked.now.file) r (locked_state c.self.inside.locked c.args.cpu.now)
           (locked_state c.serve_outcome-outcome.new.locked c.serve_outcome-outcome.new.cpu)) reply c.serve_outcome-outcome.ensures.served;
@@ -32,8 +35,8 @@ returns g c =
       lent = c.serve_outcome-outcome.ensures.ends.lent;
     } in
     elim c.match-file_text.branch [
-      | in-Ok x ↦ subst (λ (a : ReadAnswer). IsReadUnderLock t w c.args.asked.now c.args.cpu.now c.serve_outcome-outcome.new.cpu a) (sym x.result-is)
-          (subst (λ r. IsVisited t w (IsServed t (cmd.Read c.args.asked.now.path c.args.asked.now.file) (text_reply r)) c.args.cpu.now c.serve_outcome-outcome.new.cpu) x.in-Ok.is visited)
-      | in-Err x ↦ subst (λ (a : ReadAnswer). IsReadUnderLock t w c.args.asked.now c.args.cpu.now c.serve_outcome-outcome.new.cpu a) (sym x.result-is)
-          (subst (λ r. IsVisited t w (IsServed t (cmd.Read c.args.asked.now.path c.args.asked.now.file) (text_reply r)) c.args.cpu.now c.serve_outcome-outcome.new.cpu) x.in-Err.is visited)
+      | in-Ok x ↦ subst (λ (a : ReadAnswer). IsReadUnderLock t w sizes c.args.asked.now c.args.cpu.now c.serve_outcome-outcome.new.cpu a) (sym x.result-is)
+          (subst (λ r. IsVisited t w sizes (IsServed t (cmd.Read c.args.asked.now.path c.args.asked.now.file) (text_reply r)) c.args.cpu.now c.serve_outcome-outcome.new.cpu) x.in-Ok.is visited)
+      | in-Err x ↦ subst (λ (a : ReadAnswer). IsReadUnderLock t w sizes c.args.asked.now c.args.cpu.now c.serve_outcome-outcome.new.cpu a) (sym x.result-is)
+          (subst (λ r. IsVisited t w sizes (IsServed t (cmd.Read c.args.asked.now.path c.args.asked.now.file) (text_reply r)) c.args.cpu.now c.serve_outcome-outcome.new.cpu) x.in-Err.is visited)
     ]

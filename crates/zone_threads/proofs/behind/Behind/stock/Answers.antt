@@ -18,6 +18,7 @@ returns-in_default g c =
       left = c.write_own_stock-shown.new.locked;
       sound_before = search rules;
       settles = c.settle.ensures.served;
+      sound_settled = search rules;
       sound_after = search rules;
       told = tt;
     })
@@ -32,6 +33,7 @@ returns g c =
       left = c.write_own_stock-shown.new.locked;
       sound_before = search rules;
       settles = c.settle.ensures.served;
+      sound_settled = search rules;
       sound_after = search rules;
       told = record { text_is = search rules; stays = ap (λ (l : KnownLocked). l.machine) c.write_own_stock-shown.ensures.locked };
     })

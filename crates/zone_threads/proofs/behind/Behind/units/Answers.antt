@@ -12,6 +12,7 @@ returns-in_default g c =
       left = c.write_units_at-shown.new.locked;
       sound_before = search rules;
       settles = c.settle.ensures.served;
+      sound_settled = search rules;
       sound_after = search rules;
       told = tt;
     }
@@ -25,6 +26,7 @@ returns-then-not-is_there g c =
       left = c.write_units_at-shown.new.locked;
       sound_before = search rules;
       settles = c.settle.ensures.served;
+      sound_settled = search rules;
       sound_after = search rules;
       told = units_missing _ _ _ _ _ (λ shown told. true≢false (sym told.0 ∙ gone)) c.in-Ok.ensures.units;
     }
@@ -39,6 +41,7 @@ returns g c =
       left = c.write_units_at-shown.new.locked;
       sound_before = search rules;
       settles = c.settle.ensures.served;
+      sound_settled = search rules;
       sound_after = search rules;
       told = units_shown _ _ _ _ _ _ (λ missing. there_is c.in-Ok.is_there there missing.0)
           (λ shown told. same ∙ told.1 ∙ ap (λ (b : List ℕ). b ++ shown) c.new-text.ensures.bytes) c.in-Ok.ensures.units;
