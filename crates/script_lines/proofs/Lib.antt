@@ -1,5 +1,6 @@
 pub mod Codes
 pub mod Cuts
+pub mod Forms
 pub mod Fronts
 pub mod Numerals
 pub mod Places

@@ -1,5 +1,5 @@
 -- What a text says, once it is cut at its first space.
-use Rattle.std.proofs.Common.{◌≡◌, ℕ, List, ◌∷◌, ◌++◌, Option, None, Some, MatchOption, subst, sym, ap, ◌∙◌, codes, Bool, true, false, inl, inr, ◌<◌, [], arith, refl, length, nat_eq}
+use Rattle.std.proofs.Common.{◌≡◌, ◌≢◌, ℕ, List, ◌∷◌, ◌++◌, Option, None, Some, MatchOption, subst, sym, ap, ◌∙◌, codes, true, false, inl, inr, ◌<◌, [], arith, refl, length, nat_eq}
 use Rattle.std.proofs.lemmas.Bool.{eqb-true, ne_eqb}
 use Rattle.std.proofs.lemmas.Str.Parse.{digit_from_value}
 use Rattle.std.specs.Str.Parse.{AllDigits}
@@ -9,11 +9,10 @@ use Rattle.script_lines.specs.Script.{IsLineText, IsReadText, IsRequestText, IsW
 use Rattle.script_lines.specs.declared.line.Line.{Line}
 use Rattle.script_lines.specs.declared.line.Line.TheVariants.{Go, At}
 use Rattle.script_lines.specs.declared.line.Command.{Command}
-use Rattle.script_lines.specs.declared.line.Command.TheVariants.{Settle}
-use Rattle.script_lines.specs.declared.line.Command.TheVariants.{Blocks, Show, Stock}
-use Rattle.script_lines.specs.Verb.{its_verb, name_of_verb}
+use Rattle.script_lines.specs.Verb.{Alone, Arguments, IsArguments, IsNameWith, form_of_verb, its_verb, name_of_verb, words_of_command}
+use Rattle.script_lines.specs.declared.verb.Form.TheVariants as form
 use Rattle.script_lines.specs.declared.verb.Verb.{Verb}
-use Rattle.script_lines.specs.declared.verb.Verb.TheVariants as verb
+use Rattle.script_lines.proofs.Forms.{form_of, its_form}
 use Rattle.script_lines.proofs.Verbs.{name_no_space, same_verb}
 use Rattle.script_lines.proofs.Cuts.{cut_once, digits_no_space, no_cut, path_no_space}
 
@@ -73,47 +72,36 @@ request_parts sizes text w r cut cpu command is =
     let is_command : IsCommandText sizes command r = subst (IsCommandText sizes command) (sym same.1) is.command_text in
     (is_number, is_command)
 
--- the word before the first space is the name, and the rest of the text the arguments
-name_parts : (sizes : Config) (text w r : List ℕ) → IsCut text w r → (command : Command) (arguments : List ℕ)
-    → text ≡ name_of_verb (its_verb command) ++ 32 ∷ arguments → HasArguments sizes command arguments
-    → (w ≡ name_of_verb (its_verb command)) × HasArguments sizes command r
-name_parts sizes text w r cut command arguments is has =
-    let same = cut_once text w r (name_of_verb (its_verb command)) arguments cut (name_no_space (its_verb command)) is in
-    (same.0, subst (HasArguments sizes command) (sym same.1) has)
+-- what the word before the first space and the rest of the text are, if the text is a name with arguments
+name_parts : (sizes : Config) (text w r : List ℕ) → IsCut text w r → (v : Verb) (arguments : Arguments)
+    → IsNameWith sizes (name_of_verb v) arguments text → (w ≡ name_of_verb v) × IsArguments sizes arguments r
+name_parts sizes text w r cut v Alone is = absurd (no_cut (name_of_verb v) w r (name_no_space v) (sym is ∙ cut.parts))
+name_parts sizes text w r cut v arguments is =
+    let same = cut_once text w r (name_of_verb v) is.0 cut (name_no_space v) is.1 in
+    (same.0, subst (IsArguments sizes arguments) (sym same.1) is.2)
 
--- what the word before the first space and the rest of the text are, where the text is that of a command
 pub command_parts : (sizes : Config) (text w r : List ℕ) → IsCut text w r → (command : Command) → IsCommandText sizes command text
     → (w ≡ name_of_verb (its_verb command)) × HasArguments sizes command r
-command_parts sizes text w r cut Settle is = absurd (no_cut (codes "settle") w r (name_no_space verb.Settle) (sym is ∙ cut.parts))
-command_parts sizes text w r cut Blocks is = absurd (no_cut (codes "blocks") w r (name_no_space verb.Blocks) (sym is ∙ cut.parts))
-command_parts sizes text w r cut Show is = absurd (no_cut (codes "show") w r (name_no_space verb.Show) (sym is ∙ cut.parts))
-command_parts sizes text w r cut Stock is = absurd (no_cut (codes "stock") w r (name_no_space verb.Stock) (sym is ∙ cut.parts))
-command_parts sizes text w r cut command is = name_parts sizes text w r cut command is.0 is.1 is.2
+command_parts sizes text w r cut command is = name_parts sizes text w r cut (its_verb command) (words_of_command command).1 is
 
--- whether a command of this name stands alone
-abbrev pub stands_alone : Verb → Bool
-stands_alone verb.Settle = true
-stands_alone verb.Blocks = true
-stands_alone verb.Show = true
-stands_alone verb.Stock = true
-stands_alone v = false
+begins_with : (sizes : Config) (text : List ℕ) (v : Verb) (arguments : Arguments) → IsNameWith sizes (name_of_verb v) arguments text → BeginsWithName v text
+begins_with sizes text v Alone is = inl is
+begins_with sizes text v arguments is = inr (is.0, is.1)
 
 -- the text of a command begins with its name
 pub begins : (sizes : Config) (text : List ℕ) (command : Command) → IsCommandText sizes command text → BeginsWithName (its_verb command) text
-begins sizes text Settle is = inl is
-begins sizes text Blocks is = inl is
-begins sizes text Show is = inl is
-begins sizes text Stock is = inl is
-begins sizes text command is = inr (is.0, is.1)
+begins sizes text command is = begins_with sizes text (its_verb command) (words_of_command command).1 is
 
--- a name that isn't of a command that stands alone
-pub not_alone : (sizes : Config) (text : List ℕ) (v : Verb) → text ≡ name_of_verb v → stands_alone v ≡ false → (command : Command) → ¬ IsCommandText sizes command text
-not_alone sizes text v e other Settle is = let same : v ≡ verb.Settle = same_verb v verb.Settle (sym e ∙ is) in cc
-not_alone sizes text v e other Blocks is = let same : v ≡ verb.Blocks = same_verb v verb.Blocks (sym e ∙ is) in cc
-not_alone sizes text v e other Show is = let same : v ≡ verb.Show = same_verb v verb.Show (sym e ∙ is) in cc
-not_alone sizes text v e other Stock is = let same : v ≡ verb.Stock = same_verb v verb.Stock (sym e ∙ is) in cc
-not_alone sizes text v e other command is =
-    no_cut (name_of_verb v) (name_of_verb (its_verb command)) is.0 (name_no_space v) (sym e ∙ is.1)
+-- a name that doesn't stand alone is no text of a command
+not_whole : (sizes : Config) (text : List ℕ) (v w : Verb) (arguments : Arguments) → text ≡ name_of_verb v → form_of arguments ≡ form_of_verb w
+    → form_of_verb v ≢ form.Alone → ¬ IsNameWith sizes (name_of_verb w) arguments text
+not_whole sizes text v w Alone e its more is = let same : v ≡ w = same_verb v w (sym e ∙ is) in more (ap form_of_verb same ∙ sym its)
+not_whole sizes text v w arguments e its more is = no_cut (name_of_verb v) (name_of_verb w) is.0 (name_no_space v) (sym e ∙ is.1)
+
+pub not_alone : (sizes : Config) (text : List ℕ) (v : Verb) → text ≡ name_of_verb v → form_of_verb v ≢ form.Alone → (command : Command)
+    → ¬ IsCommandText sizes command text
+not_alone sizes text v e more command is =
+    not_whole sizes text v (its_verb command) (words_of_command command).1 e (its_form command) more is
 
 -- no command is that of the text where none has the arguments
 pub no_command : (sizes : Config) (text r : List ℕ) (v : Verb) → IsCut text (name_of_verb v) r
@@ -123,19 +111,17 @@ no_command sizes text r v cut none command is =
     none command (sym (same_verb v (its_verb command) parts.0)) parts.1
 
 -- a text of this name and these arguments
-named_parts : (sizes : Config) (text r : List ℕ) (v : Verb) → IsCut text (name_of_verb v) r → (command : Command)
-    → its_verb command ≡ v → HasArguments sizes command r
-    → (arguments : List ℕ) × (text ≡ name_of_verb (its_verb command) ++ 32 ∷ arguments) × HasArguments sizes command arguments
-named_parts sizes text r v cut command same has = (r, cut.parts ∙ ap (λ w. name_of_verb w ++ 32 ∷ r) (sym same), has)
+named_parts : (sizes : Config) (text r : List ℕ) (v : Verb) → IsCut text (name_of_verb v) r → (arguments : Arguments)
+    → IsArguments sizes arguments r → IsNameWith sizes (name_of_verb v) arguments text
+named_parts sizes text r v cut Alone has = absurd has
+named_parts sizes text r v cut arguments has = (r, cut.parts, has)
 
 -- the command of the text has this name and these arguments
 pub is_command : (sizes : Config) (text r : List ℕ) (v : Verb) → IsCut text (name_of_verb v) r → (command : Command)
     → its_verb command ≡ v → HasArguments sizes command r → IsCommandText sizes command text
-is_command sizes text r v cut Settle same has = absurd has
-is_command sizes text r v cut Blocks same has = absurd has
-is_command sizes text r v cut Show same has = absurd has
-is_command sizes text r v cut Stock same has = absurd has
-is_command sizes text r v cut command same has = named_parts sizes text r v cut command same has
+is_command sizes text r v cut command same has =
+    let arguments = (words_of_command command).1 in
+    subst (λ w. IsNameWith sizes (name_of_verb w) arguments text) (sym same) (named_parts sizes text r v cut arguments has)
 
 -- what the arguments say is what the text says
 pub from_arguments : (sizes : Config) (text r : List ℕ) (v : Verb) (found : Option Command) → IsCut text (name_of_verb v) r

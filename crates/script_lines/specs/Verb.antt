@@ -1,5 +1,5 @@
 -- The commands of a script: their names, and what follows each.
-use Rattle.std.specs.Prelude.{◌≡◌, ℕ, ◌^◌, ◌<◌, List, [], ◌∷◌, ◌++◌, All, Option, Some, None, codes, length, nat_eq}
+use Rattle.std.specs.Prelude.{◌≡◌, ℕ, ◌^◌, ◌<◌, Bool, List, [], ◌∷◌, ◌++◌, All, Option, codes, length, map, nat_eq}
 use Rattle.std.specs.HashMap.{HashMap, get_by}
 use Rattle.std.specs.Map.{lookup}
 use Rattle.std.specs.Str.Parse.{IsNumeral, digits_value}
@@ -8,64 +8,55 @@ use Rattle.zone_blocks.specs.declared.config.Config.{Config}
 use Rattle.script_lines.specs.Names.{code_of}
 use Rattle.script_lines.specs.declared.line.Command.{Command}
 use Rattle.script_lines.specs.declared.line.Command.TheVariants as command
+use Rattle.script_lines.specs.declared.verb.Form.{Form}
+use Rattle.script_lines.specs.declared.verb.Form.TheVariants as form
 use Rattle.script_lines.specs.declared.verb.Name.{Name}
 use Rattle.script_lines.specs.declared.verb.Verb.{Verb}
 use Rattle.script_lines.specs.declared.verb.Verb.TheVariants.{Mkdir, Rmdir, Write, Read, Alloc, Fast, Release, Get, Put}
 use Rattle.script_lines.specs.declared.verb.Verb.TheVariants.{Settle, Touch, Dirty, Clean, Owner, Blocks, Show, Stock}
 use Rattle.script_lines.specs.declared.verb.Verb.TheVariants.{Units}
 
--- which command it is
-abbrev pub its_verb : Command → Verb
-its_verb (command.Mkdir path) = Mkdir
-its_verb (command.Rmdir path) = Rmdir
-its_verb (command.Write path file value) = Write
-its_verb (command.Read path file) = Read
-its_verb (command.Alloc path order) = Alloc
-its_verb (command.Fast group) = Fast
-its_verb (command.Release frame) = Release
-its_verb (command.Get frame) = Get
-its_verb (command.Put frame) = Put
-its_verb command.Settle = Settle
-its_verb (command.Touch frame) = Touch
-its_verb (command.Dirty frame) = Dirty
-its_verb (command.Clean frame) = Clean
-its_verb (command.Owner frame) = Owner
-its_verb command.Blocks = Blocks
-its_verb command.Show = Show
-its_verb command.Stock = Stock
-its_verb (command.Units path) = Units
+-- ---- names
 
--- the command about this frame; None for a command that names no frame
-abbrev pub on_frame : Verb → ℕ → Option Command
-on_frame Release frame = Some (command.Release frame)
-on_frame Get frame = Some (command.Get frame)
-on_frame Put frame = Some (command.Put frame)
-on_frame Touch frame = Some (command.Touch frame)
-on_frame Dirty frame = Some (command.Dirty frame)
-on_frame Clean frame = Some (command.Clean frame)
-on_frame Owner frame = Some (command.Owner frame)
-on_frame verb frame = None
+-- all commands
+abbrev pub all_verbs : List Verb
+all_verbs =
+    Mkdir ∷ Rmdir ∷ Write ∷ Read ∷ Alloc ∷ Fast ∷ Release ∷ Get ∷ Put ∷ Settle ∷ Touch ∷ Dirty ∷ Clean ∷ Owner ∷ Blocks
+    ∷ Show ∷ Stock ∷ Units ∷ []
 
--- the name of a command, as a script writes it
+-- the name of a command, as a script writes it, and what follows it
+pub record VerbRow : Type 0 where
+  pub name : List ℕ
+  pub form : Form
+
+-- the table of commands
+abbrev pub row_of_verb : Verb → VerbRow
+row_of_verb Mkdir = record { name = codes "mkdir"; form = form.Path }
+row_of_verb Rmdir = record { name = codes "rmdir"; form = form.Path }
+row_of_verb Write = record { name = codes "write"; form = form.PathFileValue }
+row_of_verb Read = record { name = codes "read"; form = form.PathFile }
+row_of_verb Alloc = record { name = codes "alloc"; form = form.PathOrder }
+row_of_verb Fast = record { name = codes "fast"; form = form.Group }
+row_of_verb Release = record { name = codes "release"; form = form.Frame }
+row_of_verb Get = record { name = codes "get"; form = form.Frame }
+row_of_verb Put = record { name = codes "put"; form = form.Frame }
+row_of_verb Settle = record { name = codes "settle"; form = form.Alone }
+row_of_verb Touch = record { name = codes "touch"; form = form.Frame }
+row_of_verb Dirty = record { name = codes "dirty"; form = form.Frame }
+row_of_verb Clean = record { name = codes "clean"; form = form.Frame }
+row_of_verb Owner = record { name = codes "owner"; form = form.Frame }
+row_of_verb Blocks = record { name = codes "blocks"; form = form.Alone }
+row_of_verb Show = record { name = codes "show"; form = form.Alone }
+row_of_verb Stock = record { name = codes "stock"; form = form.Alone }
+row_of_verb Units = record { name = codes "units"; form = form.Path }
+
+-- the name of a command
 abbrev pub name_of_verb : Verb → List ℕ
-name_of_verb Mkdir = codes "mkdir"
-name_of_verb Rmdir = codes "rmdir"
-name_of_verb Write = codes "write"
-name_of_verb Read = codes "read"
-name_of_verb Alloc = codes "alloc"
-name_of_verb Fast = codes "fast"
-name_of_verb Release = codes "release"
-name_of_verb Get = codes "get"
-name_of_verb Put = codes "put"
-name_of_verb Settle = codes "settle"
-name_of_verb Touch = codes "touch"
-name_of_verb Dirty = codes "dirty"
-name_of_verb Clean = codes "clean"
-name_of_verb Owner = codes "owner"
-name_of_verb Blocks = codes "blocks"
-name_of_verb Show = codes "show"
-name_of_verb Stock = codes "stock"
-name_of_verb Units = codes "units"
+name_of_verb verb = (row_of_verb verb).name
+
+-- what follows the name of a command
+abbrev pub form_of_verb : Verb → Form
+form_of_verb verb = (row_of_verb verb).form
 
 -- ---- what follows a name
 
@@ -113,51 +104,79 @@ pub record IsGroupText (group : ℕ) (text : List ℕ) : Type 0 where
 abbrev pub IsPath : List ℕ → List ℕ → Type 0
 IsPath path text = IsPathText path × (path ≡ text)
 
--- what follows the name of a command and a space; nothing may follow `settle`, `blocks`, `show` and `stock`
+-- what follows the name of a command, in words and numbers
+pub data Arguments : Type 0 where
+  Alone : Arguments
+  Path : List ℕ → Arguments
+  PathFile : List ℕ → List ℕ → Arguments
+  PathFileValue : List ℕ → List ℕ → List ℕ → Arguments
+  PathOrder : List ℕ → ℕ → Arguments
+  Group : ℕ → Arguments
+  Frame : ℕ → Arguments
+
+-- the text says this; nothing may follow a name that stands alone
+abbrev pub IsArguments : Config → Arguments → List ℕ → Type 0
+IsArguments sizes Alone text = ⊥
+IsArguments sizes (Path path) text = IsPath path text
+IsArguments sizes (PathFile path file) text = IsReadText path file text
+IsArguments sizes (PathFileValue path file value) text = IsWriteText path file value text
+IsArguments sizes (PathOrder path order) text = IsAllocText path order text
+IsArguments sizes (Group group) text = IsGroupText group text
+IsArguments sizes (Frame frame) text = IsFrameText sizes frame text
+
+-- the text is this name, a space and these arguments; or the name alone
+abbrev pub IsNameWith : Config → List ℕ → Arguments → List ℕ → Type 0
+IsNameWith sizes name Alone text = text ≡ name
+IsNameWith sizes name arguments text = (rest : List ℕ) × (text ≡ name ++ 32 ∷ rest) × IsArguments sizes arguments rest
+
+-- ---- commands
+
+-- a command's name, and what follows it
+abbrev pub words_of_command : Command → Verb × Arguments
+words_of_command (command.Mkdir path) = (Mkdir, Path path.now)
+words_of_command (command.Rmdir path) = (Rmdir, Path path.now)
+words_of_command (command.Write path file value) = (Write, PathFileValue path.now file.now value.now)
+words_of_command (command.Read path file) = (Read, PathFile path.now file.now)
+words_of_command (command.Alloc path order) = (Alloc, PathOrder path.now order)
+words_of_command (command.Fast group) = (Fast, Group group)
+words_of_command (command.Release frame) = (Release, Frame frame)
+words_of_command (command.Get frame) = (Get, Frame frame)
+words_of_command (command.Put frame) = (Put, Frame frame)
+words_of_command command.Settle = (Settle, Alone)
+words_of_command (command.Touch frame) = (Touch, Frame frame)
+words_of_command (command.Dirty frame) = (Dirty, Frame frame)
+words_of_command (command.Clean frame) = (Clean, Frame frame)
+words_of_command (command.Owner frame) = (Owner, Frame frame)
+words_of_command command.Blocks = (Blocks, Alone)
+words_of_command command.Show = (Show, Alone)
+words_of_command command.Stock = (Stock, Alone)
+words_of_command (command.Units path) = (Units, Path path.now)
+
+-- which command it is
+abbrev pub its_verb : Command → Verb
+its_verb command = (words_of_command command).0
+
+-- what follows the name of a command and a space
 abbrev pub HasArguments : Config → Command → List ℕ → Type 0
-HasArguments sizes (command.Mkdir path) text = IsPath path.now text
-HasArguments sizes (command.Rmdir path) text = IsPath path.now text
-HasArguments sizes (command.Write path file value) text = IsWriteText path.now file.now value.now text
-HasArguments sizes (command.Read path file) text = IsReadText path.now file.now text
-HasArguments sizes (command.Alloc path order) text = IsAllocText path.now order text
-HasArguments sizes (command.Fast group) text = IsGroupText group text
-HasArguments sizes (command.Units path) text = IsPath path.now text
-HasArguments sizes (command.Release frame) text = IsFrameText sizes frame text
-HasArguments sizes (command.Get frame) text = IsFrameText sizes frame text
-HasArguments sizes (command.Put frame) text = IsFrameText sizes frame text
-HasArguments sizes (command.Touch frame) text = IsFrameText sizes frame text
-HasArguments sizes (command.Dirty frame) text = IsFrameText sizes frame text
-HasArguments sizes (command.Clean frame) text = IsFrameText sizes frame text
-HasArguments sizes (command.Owner frame) text = IsFrameText sizes frame text
-HasArguments sizes command.Settle text = ⊥
-HasArguments sizes command.Blocks text = ⊥
-HasArguments sizes command.Show text = ⊥
-HasArguments sizes command.Stock text = ⊥
+HasArguments sizes command text = IsArguments sizes (words_of_command command).1 text
 
 -- the name of a command, a space and its arguments; or the name alone
 abbrev pub IsCommandText : Config → Command → List ℕ → Type 0
-IsCommandText sizes command.Settle text = text ≡ codes "settle"
-IsCommandText sizes command.Blocks text = text ≡ codes "blocks"
-IsCommandText sizes command.Show text = text ≡ codes "show"
-IsCommandText sizes command.Stock text = text ≡ codes "stock"
-IsCommandText sizes other text = (arguments : List ℕ) × (text ≡ name_of_verb (its_verb other) ++ 32 ∷ arguments)
-    × HasArguments sizes other arguments
+IsCommandText sizes command text = IsNameWith sizes (name_of_verb (its_verb command)) (words_of_command command).1 text
 
 -- ---- the table
 
--- the numbers of the commands' names, each with its command, in the order of the table
-abbrev pub coded_commands : List (ℕ × Verb)
-coded_commands =
-    (code_of (codes "touch"), Touch) ∷ (code_of (codes "blocks"), Blocks) ∷ (code_of (codes "owner"), Owner)
-    ∷ (code_of (codes "clean"), Clean) ∷ (code_of (codes "write"), Write) ∷ (code_of (codes "settle"), Settle)
-    ∷ (code_of (codes "read"), Read) ∷ (code_of (codes "release"), Release) ∷ (code_of (codes "dirty"), Dirty)
-    ∷ (code_of (codes "rmdir"), Rmdir) ∷ (code_of (codes "get"), Get) ∷ (code_of (codes "alloc"), Alloc)
-    ∷ (code_of (codes "show"), Show) ∷ (code_of (codes "fast"), Fast) ∷ (code_of (codes "mkdir"), Mkdir)
-    ∷ (code_of (codes "put"), Put) ∷ (code_of (codes "stock"), Stock) ∷ (code_of (codes "units"), Units) ∷ []
+-- two names are one
+abbrev pub same_name : Name → Name → Bool
+same_name one other = nat_eq one.code other.code
+
+-- a command under its name
+abbrev pub by_name : Verb → Name × Verb
+by_name verb = (record { code = code_of (name_of_verb verb) }, verb)
 
 -- the command whose name has this number
 abbrev pub verb_coded : ℕ → Option Verb
-verb_coded code = lookup (λ key. nat_eq code key) coded_commands
+verb_coded code = lookup (λ (name : Name). nat_eq code name.code) (map by_name all_verbs)
 
 -- the table has each command under the number of its name, and no other number
 abbrev pub IsNames : {S : Type 0} → HashMap Name Verb S → Type 0

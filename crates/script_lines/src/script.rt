@@ -7,7 +7,7 @@ ghost use Rattle.script_lines.specs.Script.{HasArguments, IsAllocText, IsCommand
 ghost use Rattle.script_lines.specs.Script.{IsFrameText, IsGroupText, IsLineText, IsPathText, IsReadText};
 ghost use Rattle.script_lines.specs.Script.{IsRequestText, IsScript, IsWriteText, NamesFirstBadLine, ended_lines};
 ghost use Rattle.script_lines.specs.Script.{is_go, is_skipped, longest_script, texts_left, texts_of};
-ghost use Rattle.script_lines.specs.Verb.{IsNames, its_verb, on_frame};
+ghost use Rattle.script_lines.specs.Verb.{Frame, IsNames, form_of_verb, its_verb, words_of_command};
 ghost use Rattle.script_lines.specs.declared.line.Command.{Command};
 ghost use Rattle.script_lines.specs.declared.line.Line.{Line};
 
@@ -15,7 +15,7 @@ use crate::fault::ScriptFault;
 use crate::line::{Command, Line};
 use crate::number::{first_number, number};
 use crate::place::{path_end, place_by_one, place_of};
-use crate::verb::{Names, Verb, command_names, first_verb_within};
+use crate::verb::{Form, Names, Verb, command_names, first_verb_within};
 use group_tree::group::MAX_GROUPS;
 use std::alloc::Global;
 use zone_blocks::config::Config;
@@ -265,7 +265,7 @@ fn parse_arguments<'a>(verb: Verb, arguments: &'a [u8], sizes: &Config) -> Optio
 // The command about this frame. None for a command that names no frame.
 #[inline(always)]
 fn on_frame<'a>(verb: Verb, frame: u32) -> Option<Command<'a>>
-    ensures { result ≡ on_frame verb frame }
+    ensures { MatchOption result (form_of_verb verb ≢ Form.Frame) (λ command. words_of_command command ≡ (verb, Frame frame)) }
 {
     match verb {
         Verb::Release => Some(Command::Release { frame }),

@@ -1,10 +1,11 @@
 //! The names of the commands.
 
-ghost use Rattle.std.specs.Prelude.{◌≡◌, ◌<◌, ◌≤◌, IfOk, MatchOption, length, take, true};
+ghost use Rattle.std.specs.Prelude.{◌≡◌, ◌<◌, ◌≤◌, IfOk, MatchOption, length, map, take, true};
+ghost use Rattle.indexmap.specs.IndexMap.{insert_all};
 ghost use Rattle.script_lines.specs.Names.{IsWordEnd, bytes_at_once, code_of, is_word, longest_command_name};
 ghost use Rattle.script_lines.specs.Places.{IsFrontOf};
 ghost use Rattle.script_lines.specs.Script.{BeginsWithName, IsNamed};
-ghost use Rattle.script_lines.specs.Verb.{IsNames, verb_coded};
+ghost use Rattle.script_lines.specs.Verb.{IsNames, by_name, form_of_verb, name_of_verb, same_name, verb_coded};
 ghost use Rattle.script_lines.specs.declared.verb.Verb.{Verb};
 
 use crate::place::near_space;
@@ -14,7 +15,27 @@ use std::alloc::{AllocError, Global};
 /// How many bytes the longest name has.
 const LONGEST_NAME: usize = 7;
 
-/// Each of the first 16 names has a place of its own in the table: the upper four bits of its number times this one.
+/// Each of these commands has a place of its own in the table: the upper four bits of its name's number times `SPREAD`.
+const PLACED: [Verb; 16] = [
+    Verb::Touch,
+    Verb::Blocks,
+    Verb::Owner,
+    Verb::Clean,
+    Verb::Write,
+    Verb::Settle,
+    Verb::Read,
+    Verb::Release,
+    Verb::Dirty,
+    Verb::Rmdir,
+    Verb::Get,
+    Verb::Alloc,
+    Verb::Show,
+    Verb::Fast,
+    Verb::Mkdir,
+    Verb::Put,
+];
+
+/// It spreads the names' numbers over the places.
 const SPREAD: u64 = 7_351_189_111_781_068_673;
 
 /// The first bit of a number.
@@ -41,6 +62,90 @@ pub enum Verb {
     Show,
     Stock,
     Units,
+}
+
+/// What follows the name of a command.
+#[derive(Clone, Copy, PartialEq, Eq)]
+pub enum Form {
+    /// Nothing, not even a space.
+    Alone,
+    /// The path of a group.
+    Path,
+    /// The path of a group, and the name of a file.
+    PathFile,
+    /// The path of a group, the name of a file, and a value, which may be any bytes or none.
+    PathFileValue,
+    /// The path of a group, and an order.
+    PathOrder,
+    /// The number of a group.
+    Group,
+    /// The number of a frame.
+    Frame,
+}
+
+impl Verb {
+    /// All commands.
+    pub const ALL: [Verb; 18] = [
+        Verb::Mkdir,
+        Verb::Rmdir,
+        Verb::Write,
+        Verb::Read,
+        Verb::Alloc,
+        Verb::Fast,
+        Verb::Release,
+        Verb::Get,
+        Verb::Put,
+        Verb::Settle,
+        Verb::Touch,
+        Verb::Dirty,
+        Verb::Clean,
+        Verb::Owner,
+        Verb::Blocks,
+        Verb::Show,
+        Verb::Stock,
+        Verb::Units,
+    ];
+
+    // The table of commands: the name of each, and what follows it.
+    fn row(self) -> (&'static str, Form)
+        ensures name { result.0.now ≡ name_of_verb self }
+        ensures form { result.1 ≡ form_of_verb self }
+    {
+        match self {
+            Verb::Mkdir => ("mkdir", Form::Path),
+            Verb::Rmdir => ("rmdir", Form::Path),
+            Verb::Write => ("write", Form::PathFileValue),
+            Verb::Read => ("read", Form::PathFile),
+            Verb::Alloc => ("alloc", Form::PathOrder),
+            Verb::Fast => ("fast", Form::Group),
+            Verb::Release => ("release", Form::Frame),
+            Verb::Get => ("get", Form::Frame),
+            Verb::Put => ("put", Form::Frame),
+            Verb::Settle => ("settle", Form::Alone),
+            Verb::Touch => ("touch", Form::Frame),
+            Verb::Dirty => ("dirty", Form::Frame),
+            Verb::Clean => ("clean", Form::Frame),
+            Verb::Owner => ("owner", Form::Frame),
+            Verb::Blocks => ("blocks", Form::Alone),
+            Verb::Show => ("show", Form::Alone),
+            Verb::Stock => ("stock", Form::Alone),
+            Verb::Units => ("units", Form::Path),
+        }
+    }
+
+    /// The name of the command, as a script writes it.
+    pub fn name(self) -> &'static str
+        ensures { result.now ≡ name_of_verb self }
+    {
+        self.row().0
+    }
+
+    /// What follows the name.
+    pub fn form(self) -> Form
+        ensures { result ≡ form_of_verb self }
+    {
+        self.row().1
+    }
 }
 
 /// The name of a command, as the number that its bytes are behind a 1, to the base 256. So a map hashes and compares it
@@ -95,39 +200,29 @@ impl Name {
 /// The commands by their names.
 pub type Names = IndexMap<Name, Verb>;
 
-/// A new table of all commands by their names. The first 16 are each at the place that its number gives; the others
-/// follow, because their answers cost far more than a search. `AllocError` if memory runs out.
+/// A new table of all commands by their names: first `PLACED`, in its order. `AllocError` if memory runs out.
 pub fn command_names(alloc: Global) -> Result<Names, AllocError>
     ensures { IfOk result IsNames }
 {
-    IndexMap::from_array(
-        alloc,
-        [
-            (Name::of(b"touch"), Verb::Touch),
-            (Name::of(b"blocks"), Verb::Blocks),
-            (Name::of(b"owner"), Verb::Owner),
-            (Name::of(b"clean"), Verb::Clean),
-            (Name::of(b"write"), Verb::Write),
-            (Name::of(b"settle"), Verb::Settle),
-            (Name::of(b"read"), Verb::Read),
-            (Name::of(b"release"), Verb::Release),
-            (Name::of(b"dirty"), Verb::Dirty),
-            (Name::of(b"rmdir"), Verb::Rmdir),
-            (Name::of(b"get"), Verb::Get),
-            (Name::of(b"alloc"), Verb::Alloc),
-            (Name::of(b"show"), Verb::Show),
-            (Name::of(b"fast"), Verb::Fast),
-            (Name::of(b"mkdir"), Verb::Mkdir),
-            (Name::of(b"put"), Verb::Put),
-            (Name::of(b"stock"), Verb::Stock),
-            (Name::of(b"units"), Verb::Units),
-        ],
-    )
+    let mut names = IndexMap::with_capacity(alloc, Verb::ALL.len())?;
+    add_names(&mut names, &PLACED)?;
+    add_names(&mut names, &Verb::ALL)?;
+    Ok(names)
+}
+
+// Adds these commands, each under its name. A command that is there keeps its place.
+fn add_names(names: &mut Names, verbs: &[Verb]) -> Result<(), AllocError>
+    ensures { IfOk result (λ _. names.new.entries ≡ insert_all same_name names.old.entries (map by_name verbs.now)) }
+{
+    for verb in verbs {
+        names.insert(Name::of(verb.name().as_bytes()), *verb)?;
+    }
+    Ok(())
 }
 
 // The command of this name. The first look is at the place that the name's number gives. The map's own search costs
-// several times as much; it is for `stock`, `units` and words that name no command, and would serve any order of the
-// table.
+// several times as much; it is for commands without a place of their own, as `stock` and `units`, whose answers cost far
+// more than a search, and for words that name no command. It would serve any order of the table.
 fn verb_named(names: &Names, name: Name) -> Option<Verb>
     requires { IsNames names.now }
     ensures { result ≡ verb_coded name.code }

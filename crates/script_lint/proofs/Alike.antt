@@ -1,11 +1,10 @@
 -- How many bytes two texts begin with alike.
 use Rattle.std.proofs.Common.{◌≡◌, ℕ, ◌+◌, ◌<◌, ◌≤◌, List, [], ◌∷◌, ◌++◌, All, get_or, arith, refl, subst}
 use Rattle.std.proofs.lemmas.List.Elements.{All-push}
-use Rattle.script_lines.specs.Verb.{name_of_verb}
+use Rattle.script_lines.specs.Verb.{all_verbs, name_of_verb}
 use Rattle.script_lines.specs.declared.verb.Verb.{Verb}
-use Rattle.script_lines.specs.declared.verb.Verb.TheVariants.{Mkdir, Rmdir, Write, Read, Alloc, Fast, Release, Get, Put, Settle, Touch}
-use Rattle.script_lines.specs.declared.verb.Verb.TheVariants.{Dirty, Clean, Owner, Blocks, Show, Stock, Units}
-use Rattle.script_lint.specs.Causes.{all_verbs}
+use Rattle.script_lines.specs.declared.verb.Verb.TheVariants.{Mkdir}
+use Rattle.script_lines.proofs.Verbs.{in_all}
 use Rattle.script_lint.specs.Names.{BeginAlike, IsCommon, IsLongest}
 
 pub none_alike : (one other : List ℕ) → BeginAlike one other 0
@@ -41,27 +40,6 @@ no_more_of text verbs v most count so_far common less = record {
   alike = so_far.alike;
   most_of = All-push (IsMost text most) verbs v so_far.most_of (λ more is. let le = common.most more is in omega arith);
 }
-
--- each command is among all
-in_all : (v : Verb) → (k : ℕ) × (k < 18) × (get_or all_verbs k Mkdir ≡ v)
-in_all Mkdir = (0, omega arith, refl)
-in_all Rmdir = (1, omega arith, refl)
-in_all Write = (2, omega arith, refl)
-in_all Read = (3, omega arith, refl)
-in_all Alloc = (4, omega arith, refl)
-in_all Fast = (5, omega arith, refl)
-in_all Release = (6, omega arith, refl)
-in_all Get = (7, omega arith, refl)
-in_all Put = (8, omega arith, refl)
-in_all Settle = (9, omega arith, refl)
-in_all Touch = (10, omega arith, refl)
-in_all Dirty = (11, omega arith, refl)
-in_all Clean = (12, omega arith, refl)
-in_all Owner = (13, omega arith, refl)
-in_all Blocks = (14, omega arith, refl)
-in_all Show = (15, omega arith, refl)
-in_all Stock = (16, omega arith, refl)
-in_all Units = (17, omega arith, refl)
 
 -- what is the most of all commands is the longest
 pub longest_of : (text : List ℕ) (most : ℕ) → IsMostOf text all_verbs most → IsLongest text most

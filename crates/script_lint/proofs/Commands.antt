@@ -1,62 +1,48 @@
 -- Where a text that should be a command can't be continued.
-use Rattle.std.proofs.Common.{◌≡◌, ◌≢◌, ◌⊎◌, inl, inr, ℕ, zero, suc, ◌+◌, ◌<◌, ◌≤◌, List, [], ◌∷◌, ◌++◌, All, Bor, length, take, drop, arith, refl, sym, ap, subst, ◌∙◌, false}
+use Rattle.std.proofs.Common.{◌≡◌, ◌≢◌, ◌⊎◌, inl, inr, ℕ, zero, suc, ◌+◌, ◌<◌, ◌≤◌, List, [], ◌∷◌, ◌++◌, All, length, take, drop, arith, refl, sym, ap, subst, ◌∙◌}
 use Rattle.std.proofs.Math.Seq.{take-append-add, take-append_seam}
 use Rattle.std.proofs.lemmas.List.{append_assoc, append-nil, length-append, length-take-le, take-append-drop, take-append-le, take_all}
 use Rattle.zone_blocks.specs.declared.config.Config.{Config}
-use Rattle.script_lines.specs.Script.{BeginsWithName, HasArguments, IsCut, IsPathText, WritesNumber}
-use Rattle.script_lines.specs.Verb.{its_verb, name_of_verb}
-use Rattle.script_lines.specs.declared.line.Command.{Command}
-use Rattle.script_lines.specs.declared.line.Command.TheVariants as command
+use Rattle.script_lines.specs.Script.{BeginsWithName, IsCut, IsPathText, WritesNumber}
+use Rattle.script_lines.specs.Verb.{Alone, Arguments, Frame, Group, Path, PathFile, PathFileValue, PathOrder}
+use Rattle.script_lines.specs.Verb.{IsArguments, IsNameWith, form_of_verb, its_verb, name_of_verb, words_of_command}
+use Rattle.script_lines.specs.declared.verb.Form.{Form}
+use Rattle.script_lines.specs.declared.verb.Form.TheVariants as form
 use Rattle.script_lines.specs.declared.verb.Verb.{Verb}
-use Rattle.script_lines.specs.declared.verb.Verb.TheVariants.{Mkdir, Rmdir, Write, Read, Alloc, Fast, Release, Get, Put, Settle, Touch}
-use Rattle.script_lines.specs.declared.verb.Verb.TheVariants.{Dirty, Clean, Owner, Blocks, Show, Stock, Units}
 use Rattle.script_lines.proofs.Cuts.{cut_once, no_cut}
 use Rattle.std.proofs.lemmas.Bool.{cases_lt}
-use Rattle.script_lines.proofs.Readings.{begins, command_parts, is_command, not_alone, stands_alone}
+use Rattle.script_lines.proofs.Forms.{form_of, its_form, made}
+use Rattle.script_lines.proofs.Readings.{begins, command_parts, is_command, not_alone}
 use Rattle.script_lines.proofs.Verbs.{name_no_space, same_verb}
 use Rattle.script_lint.specs.Continuation.{GoesOn, IsFirstWord, IsStuck}
 use Rattle.script_lint.specs.Names.{BeginAlike, IsLongest}
 use Rattle.script_lint.specs.Shapes.{HasValidCounts, IsCommand, IsShape, shape_of}
-use Rattle.script_lint.specs.declared.shape.Shape.TheVariants.{Alone}
+use Rattle.script_lint.specs.declared.shape.Shape.TheVariants as shape
 use Rattle.script_lint.proofs.Splits.{behind_first, first_inside, front_of_first, front_of_word, no_space_front, stuck_behind}
 
--- what follows the name of a command has its shape
-to_shape : (sizes : Config) (c : Command) (r : List ℕ) → HasArguments sizes c r → IsShape (shape_of sizes (its_verb c)) r
-to_shape sizes (command.Mkdir path) r h = subst IsPathText h.1 h.0
-to_shape sizes (command.Rmdir path) r h = subst IsPathText h.1 h.0
-to_shape sizes (command.Write path file value) r h =
-    (path.now, file.now ++ 32 ∷ value.now, h.parts, h.path_text, (file.now, value.now, refl, h.file_text, tt))
-to_shape sizes (command.Read path file) r h = (path.now, file.now, h.parts, h.path_text, h.file_text)
-to_shape sizes (command.Alloc path order) r h =
-    let fits = h.writes.fits in (path.now, h.digits, h.parts, h.path_text, (order, h.writes, omega arith, omega arith))
-to_shape sizes (command.Fast group) r h = let low = h.low in (group, h.writes, omega arith, omega arith)
-to_shape sizes (command.Release frame) r h = let low = h.in_zone in (frame, h.writes, omega arith, omega arith)
-to_shape sizes (command.Get frame) r h = let low = h.in_zone in (frame, h.writes, omega arith, omega arith)
-to_shape sizes (command.Put frame) r h = let low = h.in_zone in (frame, h.writes, omega arith, omega arith)
-to_shape sizes (command.Touch frame) r h = let low = h.in_zone in (frame, h.writes, omega arith, omega arith)
-to_shape sizes (command.Dirty frame) r h = let low = h.in_zone in (frame, h.writes, omega arith, omega arith)
-to_shape sizes (command.Clean frame) r h = let low = h.in_zone in (frame, h.writes, omega arith, omega arith)
-to_shape sizes (command.Owner frame) r h = let low = h.in_zone in (frame, h.writes, omega arith, omega arith)
-to_shape sizes command.Settle r h = absurd h
-to_shape sizes command.Blocks r h = absurd h
-to_shape sizes command.Show r h = absurd h
-to_shape sizes command.Stock r h = absurd h
-to_shape sizes (command.Units path) r h = subst IsPathText h.1 h.0
+-- arguments have the shape of their form
+to_shape : (sizes : Config) (arguments : Arguments) (r : List ℕ) → IsArguments sizes arguments r → IsShape (shape_of sizes (form_of arguments)) r
+to_shape sizes Alone r h = absurd h
+to_shape sizes (Path path) r h = subst IsPathText h.1 h.0
+to_shape sizes (PathFile path file) r h = (path, file, h.parts, h.path_text, h.file_text)
+to_shape sizes (PathFileValue path file value) r h =
+    (path, file ++ 32 ∷ value, h.parts, h.path_text, (file, value, refl, h.file_text, tt))
+to_shape sizes (PathOrder path order) r h =
+    let fits = h.writes.fits in (path, h.digits, h.parts, h.path_text, (order, h.writes, omega arith, omega arith))
+to_shape sizes (Group group) r h = let low = h.low in (group, h.writes, omega arith, omega arith)
+to_shape sizes (Frame frame) r h = let low = h.in_zone in (frame, h.writes, omega arith, omega arith)
 
--- a text that is borrowed from nowhere
-abbrev lent : List ℕ → Bor (List ℕ)
-lent text = record { ref_ptr = (0, 0); now = text }
+-- the text says some arguments of this form
+abbrev SaysArguments : Config → Form → List ℕ → Type 0
+SaysArguments sizes f r = (arguments : Arguments) × (form_of arguments ≡ f) × IsArguments sizes arguments r
 
--- some command of this name has these arguments
-abbrev HasItsArguments : Config → Verb → List ℕ → Type 0
-HasItsArguments sizes v r = (c : Command) × (its_verb c ≡ v) × HasArguments sizes c r
-
-from_shape : (sizes : Config) → HasValidCounts sizes → (v : Verb) (r : List ℕ) → IsShape (shape_of sizes v) r → HasItsArguments sizes v r
-from_shape sizes counts Mkdir r is = (command.Mkdir (lent r), refl, (is, refl))
-from_shape sizes counts Rmdir r is = (command.Rmdir (lent r), refl, (is, refl))
-from_shape sizes counts Write r is =
+from_shape : (sizes : Config) → HasValidCounts sizes → (f : Form) (r : List ℕ) → IsShape (shape_of sizes f) r → SaysArguments sizes f r
+from_shape sizes counts form.Alone r is = absurd is
+from_shape sizes counts form.Path r is = (Path r, refl, (is, refl))
+from_shape sizes counts form.PathFile r is = (PathFile is.0 is.1, refl, record { parts = is.2; path_text = is.3; file_text = is.4 })
+from_shape sizes counts form.PathFileValue r is =
     let more = is.4 in (
-      command.Write (lent is.0) (lent more.0) (lent more.1),
+      PathFileValue is.0 more.0 more.1,
       refl,
       record {
         parts = is.2 ∙ ap (λ t. is.0 ++ 32 ∷ t) more.2;
@@ -64,58 +50,39 @@ from_shape sizes counts Write r is =
         file_text = more.3;
       },
     )
-from_shape sizes counts Read r is = (command.Read (lent is.0) (lent is.1), refl, record { parts = is.2; path_text = is.3; file_text = is.4 })
-from_shape sizes counts Alloc r is =
-    (command.Alloc (lent is.0) is.4.0, refl, record { digits = is.1; parts = is.2; path_text = is.3; writes = is.4.1 })
-from_shape sizes counts Fast r is = let high = is.3 in (command.Fast is.0, refl, record { writes = is.1; low = omega arith })
-from_shape sizes counts Release r is =
-    let high = is.3 in let some = counts.frames_low in (command.Release is.0, refl, record { writes = is.1; in_zone = omega arith })
-from_shape sizes counts Get r is =
-    let high = is.3 in let some = counts.frames_low in (command.Get is.0, refl, record { writes = is.1; in_zone = omega arith })
-from_shape sizes counts Put r is =
-    let high = is.3 in let some = counts.frames_low in (command.Put is.0, refl, record { writes = is.1; in_zone = omega arith })
-from_shape sizes counts Touch r is =
-    let high = is.3 in let some = counts.frames_low in (command.Touch is.0, refl, record { writes = is.1; in_zone = omega arith })
-from_shape sizes counts Dirty r is =
-    let high = is.3 in let some = counts.frames_low in (command.Dirty is.0, refl, record { writes = is.1; in_zone = omega arith })
-from_shape sizes counts Clean r is =
-    let high = is.3 in let some = counts.frames_low in (command.Clean is.0, refl, record { writes = is.1; in_zone = omega arith })
-from_shape sizes counts Owner r is =
-    let high = is.3 in let some = counts.frames_low in (command.Owner is.0, refl, record { writes = is.1; in_zone = omega arith })
-from_shape sizes counts Settle r is = absurd is
-from_shape sizes counts Blocks r is = absurd is
-from_shape sizes counts Show r is = absurd is
-from_shape sizes counts Stock r is = absurd is
-from_shape sizes counts Units r is = (command.Units (lent r), refl, (is, refl))
+from_shape sizes counts form.PathOrder r is =
+    (PathOrder is.0 is.4.0, refl, record { digits = is.1; parts = is.2; path_text = is.3; writes = is.4.1 })
+from_shape sizes counts form.Group r is = let high = is.3 in (Group is.0, refl, record { writes = is.1; low = omega arith })
+from_shape sizes counts form.Frame r is =
+    let high = is.3 in let some = counts.frames_low in (Frame is.0, refl, record { writes = is.1; in_zone = omega arith })
 
 -- a name, a space and what has the shape are a command, and nothing else behind the name is
 pub command_from : (sizes : Config) → HasValidCounts sizes → (text : List ℕ) (v : Verb) (r : List ℕ) → IsCut text (name_of_verb v) r
-    → IsShape (shape_of sizes v) r → IsCommand sizes text
+    → IsShape (shape_of sizes (form_of_verb v)) r → IsCommand sizes text
 command_from sizes counts text v r cut is =
-    let found = from_shape sizes counts v r is in
-    (found.0, is_command sizes text r v cut found.0 found.1 found.2)
+    let found = from_shape sizes counts (form_of_verb v) r is in
+    let command = made v found.0 found.1 in
+    let has = subst (λ (w : Verb × Arguments). IsArguments sizes w.1 r) (sym command.1) found.2 in
+    (command.0, is_command sizes text r v cut command.0 (ap (λ (w : Verb × Arguments). w.0) command.1) has)
 
 pub command_to : (sizes : Config) (text : List ℕ) (v : Verb) (r : List ℕ) → IsCut text (name_of_verb v) r → IsCommand sizes text
-    → IsShape (shape_of sizes v) r
+    → IsShape (shape_of sizes (form_of_verb v)) r
 command_to sizes text v r cut is =
     let parts = command_parts sizes text (name_of_verb v) r cut is.0 is.1 in
     let same = same_verb v (its_verb is.0) parts.0 in
-    subst (λ w. IsShape (shape_of sizes w) r) (sym same) (to_shape sizes is.0 r parts.1)
+    let its = its_form is.0 ∙ ap form_of_verb (sym same) in
+    subst (λ f. IsShape (shape_of sizes f) r) its (to_shape sizes (words_of_command is.0).1 r parts.1)
 
 -- the name of a command that stands alone is a command
-pub is_alone : (sizes : Config) (v : Verb) → shape_of sizes v ≡ Alone → IsCommand sizes (name_of_verb v)
-is_alone sizes Settle e = (command.Settle, refl)
-is_alone sizes Blocks e = (command.Blocks, refl)
-is_alone sizes Show e = (command.Show, refl)
-is_alone sizes Stock e = (command.Stock, refl)
-is_alone sizes other e = cc
+pub is_alone : (sizes : Config) (v : Verb) → form_of_verb v ≡ form.Alone → IsCommand sizes (name_of_verb v)
+is_alone sizes v e =
+    let command = made v Alone (sym e) in
+    (command.0, subst (λ (w : Verb × Arguments). IsNameWith sizes (name_of_verb w.0) w.1 (name_of_verb v)) (sym command.1) refl)
 
-not_standing : (sizes : Config) (v : Verb) → shape_of sizes v ≢ Alone → stands_alone v ≡ false
-not_standing sizes Settle n = absurd (n refl)
-not_standing sizes Blocks n = absurd (n refl)
-not_standing sizes Show n = absurd (n refl)
-not_standing sizes Stock n = absurd (n refl)
-not_standing sizes other n = refl
+-- only that form has no shape
+pub alone_form : (sizes : Config) (f : Form) → shape_of sizes f ≡ shape.Alone → f ≡ form.Alone
+alone_form sizes form.Alone e = refl
+alone_form sizes f e = cc
 
 slash : IsPathText (47 ∷ [])
 slash = record { some = omega arith; graphic = at }
@@ -128,29 +95,25 @@ nought : WritesNumber (48 ∷ []) 0
 nought = record { digits = (omega arith, (omega arith, tt)); value = refl; fits = omega arith }
 
 -- something has the shape, if it isn't alone
-some_shape : (sizes : Config) (v : Verb) → (shape_of sizes v ≡ Alone) ⊎ (r : List ℕ) × IsShape (shape_of sizes v) r
-some_shape sizes Settle = inl refl
-some_shape sizes Blocks = inl refl
-some_shape sizes Show = inl refl
-some_shape sizes Stock = inl refl
-some_shape sizes Units = inr (47 ∷ [], slash)
-some_shape sizes Mkdir = inr (47 ∷ [], slash)
-some_shape sizes Rmdir = inr (47 ∷ [], slash)
-some_shape sizes Write = inr (47 ∷ 32 ∷ 47 ∷ 32 ∷ [], (47 ∷ [], 47 ∷ 32 ∷ [], refl, slash, (47 ∷ [], [], refl, slash, tt)))
-some_shape sizes Read = inr (47 ∷ 32 ∷ 47 ∷ [], (47 ∷ [], 47 ∷ [], refl, slash, slash))
-some_shape sizes Alloc = inr (47 ∷ 32 ∷ 48 ∷ [], (47 ∷ [], 48 ∷ [], refl, slash, (0, nought, omega arith, omega arith)))
-some_shape sizes Fast = inr (48 ∷ [], (0, nought, omega arith, omega arith))
-some_shape sizes other = inr (48 ∷ [], (0, nought, omega arith, omega arith))
+some_shape : (sizes : Config) (f : Form) → (f ≡ form.Alone) ⊎ (r : List ℕ) × IsShape (shape_of sizes f) r
+some_shape sizes form.Alone = inl refl
+some_shape sizes form.Path = inr (47 ∷ [], slash)
+some_shape sizes form.PathFile = inr (47 ∷ 32 ∷ 47 ∷ [], (47 ∷ [], 47 ∷ [], refl, slash, slash))
+some_shape sizes form.PathFileValue =
+    inr (47 ∷ 32 ∷ 47 ∷ 32 ∷ [], (47 ∷ [], 47 ∷ 32 ∷ [], refl, slash, (47 ∷ [], [], refl, slash, tt)))
+some_shape sizes form.PathOrder = inr (47 ∷ 32 ∷ 48 ∷ [], (47 ∷ [], 48 ∷ [], refl, slash, (0, nought, omega arith, omega arith)))
+some_shape sizes form.Group = inr (48 ∷ [], (0, nought, omega arith, omega arith))
+some_shape sizes form.Frame = inr (48 ∷ [], (0, nought, omega arith, omega arith))
 
 -- every name begins a command
 complete : (sizes : Config) → HasValidCounts sizes → (v : Verb) → (rest : List ℕ) × IsCommand sizes (name_of_verb v ++ rest)
-complete sizes counts v = elim (some_shape sizes v) [
+complete sizes counts v = elim (some_shape sizes (form_of_verb v)) [
   | inl alone ↦ ([], subst (IsCommand sizes) (sym (append-nil (name_of_verb v))) (is_alone sizes v alone))
   | inr some ↦ (32 ∷ some.0, command_from sizes counts (name_of_verb v ++ 32 ∷ some.0) v some.0 (record { parts = refl; no_space = name_no_space v }) some.1)
 ]
 
 -- a name that lacks what should follow it
-pub stuck_behind_name : (sizes : Config) → HasValidCounts sizes → (text : List ℕ) (v : Verb) → text ≡ name_of_verb v → shape_of sizes v ≢ Alone
+pub stuck_behind_name : (sizes : Config) → HasValidCounts sizes → (text : List ℕ) (v : Verb) → text ≡ name_of_verb v → form_of_verb v ≢ form.Alone
     → IsStuck (IsCommand sizes) text (length text)
 stuck_behind_name sizes counts text v e more = record {
   inside = omega arith;
@@ -158,15 +121,15 @@ stuck_behind_name sizes counts text v e more = record {
       let whole : name_of_verb v ≡ take (length text) text = sym e ∙ sym (take_all (length text) text (omega arith)) in
       subst (GoesOn (IsCommand sizes)) whole (complete sizes counts v);
   stuck = λ h. absurd (omega arith);
-  bad = λ is. not_alone sizes text v e (not_standing sizes v more) is.0 is.1;
+  bad = λ is. not_alone sizes text v e more is.0 is.1;
 }
 
 -- a space behind the name of a command that stands alone
-pub stuck_at_space : (sizes : Config) (text : List ℕ) (v : Verb) (r : List ℕ) → IsCut text (name_of_verb v) r → shape_of sizes v ≡ Alone
+pub stuck_at_space : (sizes : Config) (text : List ℕ) (v : Verb) (r : List ℕ) → IsCut text (name_of_verb v) r → form_of_verb v ≡ form.Alone
     → IsStuck (IsCommand sizes) text (length (name_of_verb v))
 stuck_at_space sizes text v r cut alone =
     let long = ap length cut.parts ∙ length-append (name_of_verb v) (32 ∷ r) in
-    let nothing : (t : List ℕ) → IsShape (shape_of sizes v) t → ⊥ = λ t is. subst (λ s. IsShape s t) alone is in
+    let nothing : (t : List ℕ) → IsShape (shape_of sizes (form_of_verb v)) t → ⊥ = λ t is. subst (λ f. IsShape (shape_of sizes f) t) alone is in
     record {
       inside = omega arith;
       goes_on =
@@ -186,10 +149,10 @@ stuck_at_space sizes text v r cut alone =
 
 -- what follows a name and a space can't be continued
 pub stuck_in_arguments : (sizes : Config) → HasValidCounts sizes → (text : List ℕ) (v : Verb) (r : List ℕ) (place : ℕ) → IsCut text (name_of_verb v) r
-    → IsStuck (IsShape (shape_of sizes v)) r place → IsStuck (IsCommand sizes) text (length (name_of_verb v) + 1 + place)
+    → IsStuck (IsShape (shape_of sizes (form_of_verb v))) r place → IsStuck (IsCommand sizes) text (length (name_of_verb v) + 1 + place)
 stuck_in_arguments sizes counts text v r place cut is =
     let named : (t : List ℕ) → IsCut (name_of_verb v ++ 32 ∷ t) (name_of_verb v) t = λ t. record { parts = refl; no_space = name_no_space v } in
-    stuck_behind (IsCommand sizes) (IsShape (shape_of sizes v)) (name_of_verb v)
+    stuck_behind (IsCommand sizes) (IsShape (shape_of sizes (form_of_verb v))) (name_of_verb v)
     (λ t h. command_from sizes counts _ v t (named t) h) (λ t h. command_to sizes _ v t (named t) h) text r place cut.parts is
 
 -- the beginnings of a command's name that is no more than such

@@ -7,7 +7,7 @@ use Rattle.std.specs.Str.Parse.{AllDigits}
 use Rattle.std.specs.Cmp.Lexicographic.{same_text}
 use Rattle.zone_blocks.specs.declared.config.Config.{Config}
 use Rattle.script_lines.specs.Script.{IsCut, is_go}
-use Rattle.script_lines.specs.Verb.{name_of_verb}
+use Rattle.script_lines.specs.Verb.{form_of_verb, name_of_verb}
 use Rattle.script_lines.specs.declared.verb.Verb.{Verb}
 use Rattle.script_lines.specs.declared.line.Command.TheVariants as command
 use Rattle.script_lint.specs.Continuation.{GoesOn, IsSplit, IsStuck}
@@ -175,7 +175,7 @@ split_behind kind Rest some text word rest (Some place) cut is stuck =
 
 -- the same behind the name of a command
 pub command_behind : (sizes : Config) → HasValidCounts sizes → (text : List ℕ) (v : Verb) (rest : List ℕ) (found : Option ℕ) → IsCut text (name_of_verb v) rest
-    → MatchOption found (IsShape (shape_of sizes v) rest) (λ place. IsStuck (IsShape (shape_of sizes v)) rest place)
+    → MatchOption found (IsShape (shape_of sizes (form_of_verb v)) rest) (λ place. IsStuck (IsShape (shape_of sizes (form_of_verb v))) rest place)
     → MatchOption (behind_word (name_of_verb v) found) (IsCommand sizes text) (λ place. IsStuck (IsCommand sizes) text place)
 command_behind sizes counts text v rest None cut is = command_from sizes counts text v rest cut is
 command_behind sizes counts text v rest (Some place) cut is = stuck_in_arguments sizes counts text v rest place cut is

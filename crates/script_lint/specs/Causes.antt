@@ -1,14 +1,13 @@
 -- Why no good line goes on at some place of a line: each cause as a test of the line's text and the place.
-use Rattle.std.specs.Prelude.{ℕ, zero, suc, ◌+◌, ◌-◌, Bool, true, not, ◌&&◌, ◌||◌, ◌==◌, List, [], ◌∷◌, codes, count_by}
-use Rattle.std.specs.Prelude.{if◌then◌else◌, drop, nat_eq, nat_lt, slice_get, take, Option, None, Some}
-use Rattle.std.specs.List.{find, list_any}
-use Rattle.std.specs.Cmp.Lexicographic.{pointwise}
+use Rattle.std.specs.Prelude.{ℕ, zero, suc, ◌+◌, ◌-◌, Bool, true, false, not, ◌&&◌, ◌||◌, ◌==◌, List, [], ◌∷◌, count_by}
+use Rattle.std.specs.Prelude.{if◌then◌else◌, drop, is_some, nat_lt, slice_get, take, Option, None, Some}
+use Rattle.std.specs.List.{find}
+use Rattle.std.specs.Str.{bytes_eq}
 use Rattle.script_lines.specs.Script.{is_go}
-use Rattle.script_lines.specs.Verb.{name_of_verb}
+use Rattle.script_lines.specs.Verb.{all_verbs, form_of_verb, name_of_verb}
+use Rattle.script_lines.specs.declared.verb.Form.{Form}
+use Rattle.script_lines.specs.declared.verb.Form.TheVariants.{Group, PathOrder}
 use Rattle.script_lines.specs.declared.verb.Verb.{Verb}
-use Rattle.script_lines.specs.declared.verb.Verb.TheVariants.{Mkdir, Rmdir, Write, Read, Alloc, Fast, Release, Get, Put}
-use Rattle.script_lines.specs.declared.verb.Verb.TheVariants.{Settle, Touch, Dirty, Clean, Owner, Blocks, Show, Stock}
-use Rattle.script_lines.specs.declared.verb.Verb.TheVariants.{Units}
 use Rattle.script_lint.specs.declared.finding.Cause.{Cause}
 use Rattle.script_lint.specs.declared.finding.Cause.TheVariants.{LateComment, NoCpu, CpuOutOfRange, UnknownCommand}
 use Rattle.script_lint.specs.declared.finding.Cause.TheVariants.{TooFewWords, TooManyWords, TwoSpaces, SpaceAtEnd, Tab}
@@ -89,16 +88,14 @@ is_cpu_out_of_range text place =
     (spaces_before text place == 0)
     && (is_digit (byte_at text place) || ((byte_at text place == 32) && is_digit (byte_at text 0)))
 
--- all commands
-abbrev pub all_verbs : List Verb
-all_verbs =
-    Mkdir ∷ Rmdir ∷ Write ∷ Read ∷ Alloc ∷ Fast ∷ Release ∷ Get ∷ Put ∷ Settle ∷ Touch ∷ Dirty ∷ Clean ∷ Owner ∷ Blocks
-    ∷ Show ∷ Stock ∷ Units ∷ []
+-- the command of this name
+abbrev pub verb_named : List ℕ → Option Verb
+verb_named name = find (λ v. bytes_eq (name_of_verb v) name) all_verbs
 
 -- the name of a command, or no name at all
 abbrev pub is_known : List ℕ → Bool
 is_known [] = true
-is_known (b ∷ bs) = list_any (λ v. pointwise nat_eq (b ∷ bs) (name_of_verb v)) all_verbs
+is_known name = is_some (verb_named name)
 
 -- no command has the second word as its name: a byte leaves all names, or it ends before it is one
 abbrev pub is_unknown_command : List ℕ → ℕ → Bool
@@ -117,25 +114,45 @@ abbrev pub is_double_space : List ℕ → ℕ → Bool
 is_double_space text place = (byte_at text place == 32)
     && (byte_before text place == 32 || byte_at text (place + 1) == 32)
 
--- the line is that of this command
-abbrev pub is_line_of : List ℕ → List ℕ → Bool
-is_line_of name text = pointwise nat_eq (word_behind 1 text) name
+-- the command whose name is the line's second word
+abbrev pub verb_of : List ℕ → Option Verb
+verb_of text = verb_named (word_behind 1 text)
+
+-- a path and an order
+abbrev pub is_order : Form → Bool
+is_order PathOrder = true
+is_order other = false
+
+-- the number of a group
+abbrev pub is_group : Form → Bool
+is_group Group = true
+is_group other = false
+
+-- the command names an order
+abbrev pub takes_order : Option Verb → Bool
+takes_order None = false
+takes_order (Some verb) = is_order (form_of_verb verb)
+
+-- the command names a group by its number
+abbrev pub takes_group : Option Verb → Bool
+takes_group None = false
+takes_group (Some verb) = is_group (form_of_verb verb)
 
 -- an argument is no number of 32 bits: a byte of it is no digit, or a digit makes an order too great
 abbrev pub is_number_out_of_range : List ℕ → ℕ → Bool
 is_number_out_of_range text place =
     nat_lt 1 (spaces_before text place) && is_printable (byte_at text place)
-    && (not (is_digit (byte_at text place)) || is_line_of (codes "alloc") text)
+    && (not (is_digit (byte_at text place)) || takes_order (verb_of text))
 
 -- a digit makes the number of a group too great
 abbrev pub is_group_out_of_range : List ℕ → ℕ → Bool
 is_group_out_of_range text place =
-    nat_lt 1 (spaces_before text place) && is_digit (byte_at text place) && is_line_of (codes "fast") text
+    nat_lt 1 (spaces_before text place) && is_digit (byte_at text place) && takes_group (verb_of text)
 
 -- a digit makes the number of a frame too great
 abbrev pub is_frame_out_of_zone : List ℕ → ℕ → Bool
 is_frame_out_of_zone text place =
-    nat_lt 1 (spaces_before text place) && is_digit (byte_at text place) && not (is_line_of (codes "fast") text)
+    nat_lt 1 (spaces_before text place) && is_digit (byte_at text place) && not (takes_group (verb_of text))
 
 -- the first cause that holds at the place, of those that come late
 abbrev pub later_cause_at : List ℕ → ℕ → Cause

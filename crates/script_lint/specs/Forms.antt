@@ -1,36 +1,22 @@
 -- What a line has to be.
-use Rattle.std.specs.Prelude.{ℕ, Option, None, Some, List, codes}
-use Rattle.std.specs.List.{find}
-use Rattle.std.specs.Str.{bytes_eq}
-use Rattle.script_lines.specs.Verb.{name_of_verb}
+use Rattle.std.specs.Prelude.{ℕ, Option, None, Some, List, ◌++◌, codes}
+use Rattle.script_lines.specs.Verb.{form_of_verb, name_of_verb}
+use Rattle.script_lines.specs.declared.verb.Form.{Form}
+use Rattle.script_lines.specs.declared.verb.Form.TheVariants.{Alone, Path, PathFile, PathFileValue, PathOrder, Group}
+use Rattle.script_lines.specs.declared.verb.Form.TheVariants.{Frame}
 use Rattle.script_lines.specs.declared.verb.Verb.{Verb}
-use Rattle.script_lines.specs.declared.verb.Verb.TheVariants.{Mkdir, Rmdir, Write, Read, Alloc, Fast, Release, Get, Put}
-use Rattle.script_lines.specs.declared.verb.Verb.TheVariants.{Settle, Touch, Dirty, Clean, Owner, Blocks, Show, Stock}
-use Rattle.script_lines.specs.declared.verb.Verb.TheVariants.{Units}
-use Rattle.script_lint.specs.Causes.{all_verbs, word_behind}
 
--- the command whose name is the line's second word
-abbrev pub verb_of : List ℕ → Option Verb
-verb_of text = find (λ v. bytes_eq (name_of_verb v) (word_behind 1 text)) all_verbs
+-- the words behind the name of a command of this form
+abbrev pub words_text : Form → List ℕ
+words_text Alone = codes ""
+words_text Path = codes " PATH"
+words_text PathFile = codes " PATH FILE"
+words_text PathFileValue = codes " PATH FILE VALUE"
+words_text PathOrder = codes " PATH ORDER"
+words_text Group = codes " GROUP"
+words_text Frame = codes " FRAME"
 
 -- the form of this command behind the CPU's number; of a line, if there is no command
 abbrev pub form_text_of : Option Verb → List ℕ
 form_text_of None = codes "a line is P COMMAND or go"
-form_text_of (Some Mkdir) = codes "mkdir PATH"
-form_text_of (Some Rmdir) = codes "rmdir PATH"
-form_text_of (Some Write) = codes "write PATH FILE VALUE"
-form_text_of (Some Read) = codes "read PATH FILE"
-form_text_of (Some Alloc) = codes "alloc PATH ORDER"
-form_text_of (Some Fast) = codes "fast GROUP"
-form_text_of (Some Release) = codes "release FRAME"
-form_text_of (Some Get) = codes "get FRAME"
-form_text_of (Some Put) = codes "put FRAME"
-form_text_of (Some Settle) = codes "settle"
-form_text_of (Some Touch) = codes "touch FRAME"
-form_text_of (Some Dirty) = codes "dirty FRAME"
-form_text_of (Some Clean) = codes "clean FRAME"
-form_text_of (Some Owner) = codes "owner FRAME"
-form_text_of (Some Blocks) = codes "blocks"
-form_text_of (Some Show) = codes "show"
-form_text_of (Some Stock) = codes "stock"
-form_text_of (Some Units) = codes "units PATH"
+form_text_of (Some verb) = name_of_verb verb ++ words_text (form_of_verb verb)

@@ -5,9 +5,8 @@ use Rattle.zone_blocks.specs.declared.config.Config.{Config}
 use Rattle.zone_blocks.specs.Config.{most_cpus, most_frames}
 use Rattle.script_lines.specs.Script.{IsCommandText, IsCut, IsPathText, IsRequestText, WritesNumber, is_go, is_skipped}
 use Rattle.script_lines.specs.declared.line.Command.{Command}
-use Rattle.script_lines.specs.declared.verb.Verb.{Verb}
-use Rattle.script_lines.specs.declared.verb.Verb.TheVariants.{Mkdir, Rmdir, Write, Read, Alloc, Fast, Settle}
-use Rattle.script_lines.specs.declared.verb.Verb.TheVariants.{Blocks, Show, Stock, Units}
+use Rattle.script_lines.specs.declared.verb.Form.{Form}
+use Rattle.script_lines.specs.declared.verb.Form.TheVariants as form
 use Rattle.script_lint.specs.declared.shape.Kind.{Kind}
 use Rattle.script_lint.specs.declared.shape.Kind.TheVariants.{Number, Path}
 use Rattle.script_lint.specs.declared.shape.Shape.{Shape}
@@ -41,20 +40,15 @@ HasFullRange Path = ⊤
 abbrev pub up_to : ℕ → Kind
 up_to most = Number 0 most
 
--- what follows the name of a command
-abbrev pub shape_of : Config → Verb → Shape
-shape_of sizes Settle = Alone
-shape_of sizes Blocks = Alone
-shape_of sizes Show = Alone
-shape_of sizes Stock = Alone
-shape_of sizes Mkdir = One Path
-shape_of sizes Rmdir = One Path
-shape_of sizes Units = One Path
-shape_of sizes Write = Open Path Path
-shape_of sizes Read = Two Path Path
-shape_of sizes Alloc = Two Path (up_to 4294967295)
-shape_of sizes Fast = One (up_to 63)
-shape_of sizes other = One (up_to (sizes.frames - 1))
+-- the shape of what follows the name of a command
+abbrev pub shape_of : Config → Form → Shape
+shape_of sizes form.Alone = Alone
+shape_of sizes form.Path = One Path
+shape_of sizes form.PathFile = Two Path Path
+shape_of sizes form.PathFileValue = Open Path Path
+shape_of sizes form.PathOrder = Two Path (up_to 4294967295)
+shape_of sizes form.Group = One (up_to 63)
+shape_of sizes form.Frame = One (up_to (sizes.frames - 1))
 
 -- a word of this kind, a space, and any bytes
 abbrev pub BeginsWithWord : Kind → List ℕ → Type 0

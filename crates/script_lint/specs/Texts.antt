@@ -5,10 +5,10 @@ use Rattle.std.specs.Char.{encode_utf8}
 use Rattle.std.specs.Fmt.{decimal}
 use Rattle.std.specs.List.{flat_map}
 use Rattle.zone_blocks.specs.declared.config.Config.{Config}
-use Rattle.script_lines.specs.Verb.{name_of_verb}
+use Rattle.script_lines.specs.Verb.{all_verbs, name_of_verb}
 use Rattle.script_lines.specs.declared.verb.Verb.{Verb}
-use Rattle.script_lint.specs.Causes.{byte_at, is_printable, word_at}
-use Rattle.script_lint.specs.Forms.{form_text_of, verb_of}
+use Rattle.script_lint.specs.Causes.{byte_at, is_printable, verb_of, word_at}
+use Rattle.script_lint.specs.Forms.{form_text_of}
 use Rattle.script_lint.specs.declared.finding.Cause.{Cause}
 use Rattle.script_lint.specs.declared.finding.Cause.TheVariants.{LateComment, NoCpu, CpuOutOfRange, UnknownCommand}
 use Rattle.script_lint.specs.declared.finding.Cause.TheVariants.{TooFewWords, TooManyWords, TwoSpaces, SpaceAtEnd, Tab}
@@ -31,8 +31,8 @@ shown_word_text f = flat_map (λ b. encode_utf8 (shown b)) (word_at f.text.now f
 
 -- the command that may be meant, or all of them
 abbrev pub near_text : Option Verb → List ℕ
-near_text None = codes "; commands are mkdir, rmdir, write, read, alloc, fast, release, get, put, settle, touch, dirty, "
-    ++ codes "clean, owner, blocks, show, stock, units, and go without a CPU"
+near_text None = codes "; commands are "
+    ++ (flat_map (λ v. name_of_verb v ++ codes ", ") all_verbs ++ codes "and go without a CPU")
 near_text (Some v) = codes "; did you mean '" ++ name_of_verb v ++ codes "'?"
 
 -- what is said of a carriage return, at the end of the line or before

@@ -2,17 +2,19 @@
 
 ghost use Rattle.std.specs.Prelude.{◌≡◌, ◌≤◌, length, not};
 ghost use Rattle.std.specs.List.{find};
+ghost use Rattle.std.specs.Str.{bytes_eq};
+ghost use Rattle.script_lines.specs.Verb.{name_of_verb};
 ghost use Rattle.script_lint.specs.Causes.{after_space, byte_at, byte_before, cause_at, is_between_words};
 ghost use Rattle.script_lint.specs.Causes.{is_digit, is_double_space, is_gap};
-ghost use Rattle.script_lint.specs.Causes.{is_known, is_line_of, is_printable, later_cause_at};
+ghost use Rattle.script_lint.specs.Causes.{is_known, is_printable, later_cause_at, takes_group, takes_order, verb_of};
 ghost use Rattle.script_lint.specs.Causes.{is_unknown_command, is_number_out_of_range, is_no_cpu, is_frame_out_of_zone};
 ghost use Rattle.script_lint.specs.Causes.{is_group_out_of_range};
 ghost use Rattle.script_lint.specs.Causes.{is_cpu_out_of_range, spaces_before, until_space, word_at, word_behind};
 ghost use Rattle.script_lint.specs.Causes.{is_blank, is_late_comment};
 
-use crate::command::{VERBS, name_of};
 use crate::finding::Cause;
 use script_lines::script::{first_word, is_go};
+use script_lines::verb::{Form, Verb};
 
 // The first cause that holds at this place.
 pub(crate) fn cause_of(text: &[u8], place: usize) -> Cause
@@ -208,19 +210,21 @@ fn is_unknown_command(text: &[u8], place: usize) -> bool
         && (!is_gap(byte) || ((byte == 32 || byte == 10) && !is_known(after_space(&text[..place]))))
 }
 
+// The first of the commands that has this name.
+fn first_named(verbs: &[Verb], name: &[u8]) -> Option<Verb>
+    ensures { result ≡ find (λ v. bytes_eq (name_of_verb v) name.now) verbs.now }
+{
+    verbs
+        .iter()
+        .copied()
+        .find(|verb| verb.name().as_bytes() == name)
+}
+
 // Whether it is the name of a command, or no name at all.
 fn is_known(name: &[u8]) -> bool
     ensures { result ≡ is_known name.now }
 {
-    if name.is_empty() {
-        return true;
-    }
-    for verb in VERBS {
-        if name == name_of(verb).as_bytes() {
-            return true;
-        }
-    }
-    false
+    name.is_empty() || first_named(&Verb::ALL, name).is_some()
 }
 
 // Whether there is a space, and a word before and behind it.
@@ -241,11 +245,25 @@ fn is_double_space(text: &[u8], place: usize) -> bool
     byte_at(text, place) == 32 && (byte_before(text, place) == 32 || byte_at(text, place + 1) == 32)
 }
 
-// Whether the line is that of this command.
-fn is_line_of(name: &[u8], text: &[u8]) -> bool
-    ensures { result ≡ is_line_of name.now text.now }
+// The command whose name is the line's second word.
+pub(crate) fn verb_of(text: &[u8]) -> Option<Verb>
+    ensures { result ≡ verb_of text.now }
 {
-    word_behind(1, text) == name
+    first_named(&Verb::ALL, word_behind(1, text))
+}
+
+// Whether the line's command names an order.
+fn takes_order(text: &[u8]) -> bool
+    ensures { result ≡ takes_order (verb_of text.now) }
+{
+    verb_of(text).is_some_and(|verb| verb.form() == Form::PathOrder)
+}
+
+// Whether the line's command names a group by its number.
+fn takes_group(text: &[u8]) -> bool
+    ensures { result ≡ takes_group (verb_of text.now) }
+{
+    verb_of(text).is_some_and(|verb| verb.form() == Form::Group)
 }
 
 // Whether an argument is no number of 32 bits.
@@ -254,9 +272,7 @@ fn is_number_out_of_range(text: &[u8], place: usize) -> bool
     ensures { result ≡ is_number_out_of_range text.now place }
 {
     let byte = byte_at(text, place);
-    1 < spaces_before(text, place)
-        && is_printable(byte)
-        && (!is_digit(byte) || is_line_of(b"alloc", text))
+    1 < spaces_before(text, place) && is_printable(byte) && (!is_digit(byte) || takes_order(text))
 }
 
 // Whether a digit makes the number of a group too great.
@@ -264,7 +280,7 @@ fn is_group_out_of_range(text: &[u8], place: usize) -> bool
     requires { place ≤ length text.now }
     ensures { result ≡ is_group_out_of_range text.now place }
 {
-    1 < spaces_before(text, place) && is_digit(byte_at(text, place)) && is_line_of(b"fast", text)
+    1 < spaces_before(text, place) && is_digit(byte_at(text, place)) && takes_group(text)
 }
 
 // Whether a digit makes the number of a frame too great.
@@ -272,5 +288,5 @@ fn is_frame_out_of_zone(text: &[u8], place: usize) -> bool
     requires { place ≤ length text.now }
     ensures { result ≡ is_frame_out_of_zone text.now place }
 {
-    1 < spaces_before(text, place) && is_digit(byte_at(text, place)) && !is_line_of(b"fast", text)
+    1 < spaces_before(text, place) && is_digit(byte_at(text, place)) && !takes_group(text)
 }

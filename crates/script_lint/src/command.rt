@@ -15,56 +15,8 @@ ghost use Rattle.script_lint.specs.Shapes.{behind_word};
 use crate::shape::{Kind, Shape, shape_of};
 use crate::start::{Start, start_of, word_place};
 use script_lines::script::first_word;
-use script_lines::verb::{Names, Verb, first_verb};
+use script_lines::verb::{Form, Names, Verb, first_verb};
 use zone_blocks::config::Config;
-
-// All commands.
-pub(crate) const VERBS: [Verb; 18] = [
-    Verb::Mkdir,
-    Verb::Rmdir,
-    Verb::Write,
-    Verb::Read,
-    Verb::Alloc,
-    Verb::Fast,
-    Verb::Release,
-    Verb::Get,
-    Verb::Put,
-    Verb::Settle,
-    Verb::Touch,
-    Verb::Dirty,
-    Verb::Clean,
-    Verb::Owner,
-    Verb::Blocks,
-    Verb::Show,
-    Verb::Stock,
-    Verb::Units,
-];
-
-// The name of a command, as a script writes it.
-pub(crate) fn name_of(verb: Verb) -> &'static str
-    ensures { result.now ≡ name_of_verb verb }
-{
-    match verb {
-        Verb::Mkdir => "mkdir",
-        Verb::Rmdir => "rmdir",
-        Verb::Write => "write",
-        Verb::Read => "read",
-        Verb::Alloc => "alloc",
-        Verb::Fast => "fast",
-        Verb::Release => "release",
-        Verb::Get => "get",
-        Verb::Put => "put",
-        Verb::Settle => "settle",
-        Verb::Touch => "touch",
-        Verb::Dirty => "dirty",
-        Verb::Clean => "clean",
-        Verb::Owner => "owner",
-        Verb::Blocks => "blocks",
-        Verb::Show => "show",
-        Verb::Stock => "stock",
-        Verb::Units => "units",
-    }
-}
 
 // How many bytes two texts have in common at their beginnings.
 pub(crate) fn common(one: &[u8], other: &[u8]) -> usize
@@ -88,8 +40,8 @@ fn longest(text: &[u8]) -> usize
     ensures { IsLongest text.now result }
 {
     let mut most = 0;
-    for verb in VERBS {
-        let count = common(text, name_of(verb).as_bytes());
+    for verb in Verb::ALL {
+        let count = common(text, verb.name().as_bytes());
         if most < count {
             most = count;
         }
@@ -162,8 +114,8 @@ fn named_place(verb: Verb, text: &[u8], rest: Option<&[u8]>, sizes: &Config) -> 
         (λ place. IsStuck (IsCommand sizes.now) text.now place) }
 {
     match rest {
-        None => match shape_of(verb, sizes) {
-            Shape::Alone => None,
+        None => match verb.form() {
+            Form::Alone => None,
             _ => Some(text.len()),
         },
         Some(rest) => arguments_place(verb, text, rest, sizes),
@@ -188,8 +140,8 @@ fn arguments_place(verb: Verb, text: &[u8], rest: &[u8], sizes: &Config) -> Opti
     ensures { MatchOption result (IsCommand sizes.now text.now)
         (λ place. IsStuck (IsCommand sizes.now) text.now place) }
 {
-    let name = name_of(verb).as_bytes();
-    match shape_of(verb, sizes) {
+    let name = verb.name().as_bytes();
+    match shape_of(verb.form(), sizes) {
         Shape::Alone => Some(name.len()),
         shape => behind(name, rest, shape_place(shape, rest)),
     }

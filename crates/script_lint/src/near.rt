@@ -1,6 +1,5 @@
 //! The command whose name is near to a word.
 
-use crate::command::{VERBS, name_of};
 use script_lines::verb::Verb;
 use std::alloc::{AllocError, Global};
 use std::str;
@@ -12,11 +11,11 @@ use strsim::osa_distance;
 pub(crate) fn near_verb(alloc: Global, word: &[u8]) -> Result<Option<Verb>, AllocError> {
     let mut near = None;
     if let Ok(name) = str::from_utf8(word) {
-        for verb in VERBS {
-            if name.eq_ignore_ascii_case(name_of(verb)) {
+        for verb in Verb::ALL {
+            if name.eq_ignore_ascii_case(verb.name()) {
                 return Ok(Some(verb));
             }
-            if osa_distance(alloc, name, name_of(verb))? <= 1 && !is_another(word, name_of(verb)) {
+            if osa_distance(alloc, name, verb.name())? <= 1 && !is_another(word, verb.name()) {
                 if near.is_some() {
                     return Ok(None);
                 }

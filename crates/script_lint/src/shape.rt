@@ -4,7 +4,7 @@ ghost use Rattle.std.specs.Prelude.{◌≡◌, ◌≤◌};
 ghost use Rattle.script_lint.specs.Shapes.{shape_of, up_to};
 
 use group_tree::group::MAX_GROUPS;
-use script_lines::verb::Verb;
+use script_lines::verb::Form;
 use zone_blocks::config::Config;
 
 /// What a word has to be.
@@ -34,19 +34,19 @@ pub enum Shape {
     Open(Kind, Kind),
 }
 
-// What follows the name of this command.
-pub(crate) fn shape_of(verb: Verb, sizes: &Config) -> Shape
+// The shape of this form.
+pub(crate) fn shape_of(form: Form, sizes: &Config) -> Shape
     requires { 1 ≤ sizes.now.frames }
-    ensures { result ≡ shape_of sizes.now verb }
+    ensures { result ≡ shape_of sizes.now form }
 {
-    match verb {
-        Verb::Settle | Verb::Blocks | Verb::Show | Verb::Stock => Shape::Alone,
-        Verb::Mkdir | Verb::Rmdir | Verb::Units => Shape::One(Kind::Path),
-        Verb::Write => Shape::Open(Kind::Path, Kind::Path),
-        Verb::Read => Shape::Two(Kind::Path, Kind::Path),
-        Verb::Alloc => Shape::Two(Kind::Path, up_to(u32::MAX)),
-        Verb::Fast => Shape::One(up_to(MAX_GROUPS as u32 - 1)),
-        _ => Shape::One(up_to(sizes.frames - 1)),
+    match form {
+        Form::Alone => Shape::Alone,
+        Form::Path => Shape::One(Kind::Path),
+        Form::PathFile => Shape::Two(Kind::Path, Kind::Path),
+        Form::PathFileValue => Shape::Open(Kind::Path, Kind::Path),
+        Form::PathOrder => Shape::Two(Kind::Path, up_to(u32::MAX)),
+        Form::Group => Shape::One(up_to(MAX_GROUPS as u32 - 1)),
+        Form::Frame => Shape::One(up_to(sizes.frames - 1)),
     }
 }
 

@@ -12,9 +12,8 @@ ghost use Rattle.script_lint.specs.declared.finding.Cause.TheVariants.{TooFewWor
 ghost use Rattle.script_lint.specs.declared.finding.Cause.TheVariants.{UnknownCommand, UnprintableByte};
 
 use crate::cause::{byte_at, is_printable, word_at};
-use crate::command::name_of;
 use crate::finding::{Cause, Finding};
-use crate::form::form_of;
+use crate::form::write_form;
 use script_lines::verb::Verb;
 use std::alloc::AllocError;
 use zone_blocks::config::Config;
@@ -169,10 +168,12 @@ fn write_unknown(finding: &Finding<'_>, text: &mut String) -> Result<(), AllocEr
 fn write_commands(text: &mut String) -> Result<(), AllocError>
     ensures { IfOk result (λ _. string_bytes text.new ≡ string_bytes text.old ++ near_text None) }
 {
-    text.push_str(
-        "; commands are mkdir, rmdir, write, read, alloc, fast, release, get, put, settle, touch, dirty, \
-        clean, owner, blocks, show, stock, units, and go without a CPU",
-    )
+    text.push_str("; commands are ")?;
+    for verb in Verb::ALL {
+        let name = verb.name();
+        write!(text, "{name}, ")?;
+    }
+    text.push_str("and go without a CPU")
 }
 
 fn write_few(finding: &Finding<'_>, text: &mut String) -> Result<(), AllocError>
@@ -180,7 +181,7 @@ fn write_few(finding: &Finding<'_>, text: &mut String) -> Result<(), AllocError>
         ≡ string_bytes text.old ++ cause_text sizes finding.now TooFewWords) }
 {
     text.push_str("too few words: ")?;
-    text.push_str(form_of(finding.text))
+    write_form(finding.text, text)
 }
 
 fn write_many(finding: &Finding<'_>, text: &mut String) -> Result<(), AllocError>
@@ -188,7 +189,7 @@ fn write_many(finding: &Finding<'_>, text: &mut String) -> Result<(), AllocError
         ≡ string_bytes text.old ++ cause_text sizes finding.now TooManyWords) }
 {
     text.push_str("too many words: ")?;
-    text.push_str(form_of(finding.text))
+    write_form(finding.text, text)
 }
 
 // The command that may be meant.
@@ -196,7 +197,7 @@ fn write_near(verb: Verb, text: &mut String) -> Result<(), AllocError>
     ensures { IfOk result (λ _. string_bytes text.new ≡ string_bytes text.old ++ near_text (Some verb)) }
 {
     text.push_str("; did you mean '")?;
-    text.push_str(name_of(verb))?;
+    text.push_str(verb.name())?;
     text.push_str("'?")
 }
 
@@ -220,7 +221,7 @@ fn write_number(finding: &Finding<'_>, text: &mut String) -> Result<(), AllocErr
     text.push_str("'")?;
     push_word(finding, text)?;
     text.push_str("' isn't a number from 0 to 4294967295: ")?;
-    text.push_str(form_of(finding.text))
+    write_form(finding.text, text)
 }
 
 fn write_frame(finding: &Finding<'_>, sizes: &Config, text: &mut String) -> Result<(), AllocError>

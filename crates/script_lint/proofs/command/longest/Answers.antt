@@ -1,9 +1,8 @@
 use Rattle.std.proofs.Common.{◌≡◌, ◌∙◌, ℕ, List, arith, get_or, subst, take}
 use Rattle.std.proofs.lemmas.List.{take_all, take_more}
-use Rattle.script_lines.specs.Verb.{name_of_verb}
+use Rattle.script_lines.specs.Verb.{all_verbs, name_of_verb}
 use Rattle.script_lines.specs.declared.verb.Verb.{Verb}
 use Rattle.script_lines.specs.declared.verb.Verb.TheVariants.{Mkdir}
-use Rattle.script_lint.specs.Causes.{all_verbs}
 use Rattle.script_lint.specs.Names.{IsCommon}
 use Rattle.script_lint.proofs.Alike.{IsMostOf, longest_of, more_of, no_more_of, none_of}
 use Rattle.script_lint.proofs.command.longest.Goals as goal
@@ -18,7 +17,7 @@ loop-verb-preserved c =
     let index = c.loop-verb.verb-index in
     let v : Verb = get_or all_verbs index Mkdir in
     let common : IsCommon text (name_of_verb v) c.common-count.result
-    = subst (λ (t : List ℕ). IsCommon text t c.common-count.result) (c.as_bytes.ensures.value ∙ c.name_of.ensures) c.common-count.ensures in
+    = subst (λ (t : List ℕ). IsCommon text t c.common-count.result) (c.as_bytes.ensures.value ∙ c.name.ensures) c.common-count.ensures in
     let next = take_more all_verbs index Mkdir c.loop-verb-test.true in
     elim c.if-most-count.branch [
       | then-most-count w ↦
