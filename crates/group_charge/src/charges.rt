@@ -83,7 +83,7 @@ impl Charges {
     pub fn fits(&self, pages: u32) -> bool
         ensures { IsTrue result ↔ (current_of self.now 0 + pages < 2 ^ 32) }
     {
-        let _ = self.tree();
+        let _tree = self.tree(); // Called for its contract: the root is there.
         self.current(GroupId::root()) <= u32::MAX - pages
     }
 
