@@ -210,7 +210,7 @@ impl Checker {
         ensures denied { OnErr result (¬ Allows (state_shown self.old) step.now.seat step.now.action answer.now) }
         ensures unchanged { OnErr result (self.new ≡ self.old) }
     {
-        let _pages = pages_asked(&step.action); // Called for its contract: fewer than 2^32 pages.
+        let _ = pages_asked(&step.action); // Called for its contract: fewer than 2^32 pages.
         let taken = take(
             &mut self.rows,
             &mut self.free,

@@ -84,7 +84,7 @@ impl Core {
         ensures illegal { result ≡ Illegal → self.new ≡ record self.old { steps = self.old.steps + 1 } }
         ensures usage { UsageMoves (state_shown self.old) step.seat step.action result }
     {
-        let _pages = pages_asked(&step.action); // Called for its contract: fewer than 2^32 pages.
+        let _ = pages_asked(&step.action); // Called for its contract: fewer than 2^32 pages.
         let answer = serve(&mut self.rows, &self.areas, &step);
         self.steps += 1;
         if let Answer::Illegal = answer {
