@@ -7,7 +7,6 @@ mod answers;
 mod boot_name;
 mod cpu;
 mod fast;
-mod lists;
 mod moves;
 mod pins;
 mod readers;

@@ -169,21 +169,14 @@ pub record CountsEvent (key : EventKey) (l k : Ledger) (g : ℕ) : Type 0 where
   pub events : (m : ℕ) → events_of k m ≡ on_path l.groups g (with_one_more key) m (events_of l m)
   pub events_local : (m : ℕ) → events_local_of k m ≡ at_group g (with_one_more key) m (events_local_of l m)
 
--- one `max` more
-abbrev pub CountsMax : Ledger → Ledger → ℕ → Type 0
-CountsMax l k g = CountsEvent Max l k g
-
--- one `oom` more
-abbrev pub CountsOom : Ledger → Ledger → ℕ → Type 0
-CountsOom l k g = CountsEvent Oom l k g
-
--- one `oom_kill` more
-abbrev pub CountsKill : Ledger → Ledger → ℕ → Type 0
-CountsKill l k g = CountsEvent OomKill l k g
-
--- one `oom_group_kill` more
-abbrev pub CountsGroupKill : Ledger → Ledger → ℕ → Type 0
-CountsGroupKill l k g = CountsEvent OomGroupKill l k g
+-- One more event of this key is counted at g, and nothing else changes: each group has the same limit, usage, own pages
+-- and peak.
+pub record CountsOnly (key : EventKey) (l k : Ledger) (g : ℕ) : Type 0 where
+  pub counts : CountsEvent key l k g
+  pub groups : k.groups ≡ l.groups
+  pub usage : SameUsage l k
+  pub pages : SamePages l k
+  pub peaks : SamePeaks l k
 
 -- What holds of every ledger: the groups form a tree, each has an account, all pages together fit 32 bits, and no
 -- peak is below the usage.

@@ -6,9 +6,9 @@ ghost use Rattle.std.specs.Option.{option_copied};
 ghost use Rattle.std.specs.Result.{result_err};
 ghost use Rattle.group_tree.specs.Groups.{IsLeastFreeNumber, has_child, has_group, is_oom_group, limit_of, make_fault};
 ghost use Rattle.group_tree.specs.Room.{IsLowestOver, PathHasRoom};
-ghost use Rattle.group_charge.specs.Charges.{AreCharges, CountsEvent, CountsGroupKill, CountsKill, CountsMax};
-ghost use Rattle.group_charge.specs.Charges.{CountsOom, PagesRise, PeaksRise, SameEvents, SamePages, SamePeaks};
-ghost use Rattle.group_charge.specs.Charges.{SameUsage, UsageRises, account_at, current_of, empty_account};
+ghost use Rattle.group_charge.specs.Charges.{AreCharges, CountsOnly, PagesRise};
+ghost use Rattle.group_charge.specs.Charges.{PeaksRise, SameEvents, SamePages, SamePeaks};
+ghost use Rattle.group_charge.specs.Charges.{UsageRises, account_at, current_of, empty_account};
 ghost use Rattle.group_charge.specs.Charges.{events_local_of, events_of, initial_ledger, pages_of, peak_of};
 ghost use Rattle.group_charge.specs.Charges.{total_pages, with_charge, with_group_kill_noted, with_group_limit};
 ghost use Rattle.group_charge.specs.Charges.{with_group_removed, with_kill_noted, with_max_noted, with_new_group};
@@ -83,7 +83,7 @@ impl Charges {
     pub fn fits(&self, pages: u32) -> bool
         ensures { IsTrue result ↔ (current_of self.now 0 + pages < 2 ^ 32) }
     {
-        let _ = self.tree();
+        let _tree = self.tree(); // Called for its contract: the root is there.
         self.current(GroupId::root()) <= u32::MAX - pages
     }
 
@@ -247,11 +247,7 @@ impl Charges {
     fn note(&mut self, key: EventKey, group: GroupId)
         requires { IsTrue (has_group self.old.groups group) }
         ensures noted { self.new ≡ with_noted key self.old group }
-        ensures groups { self.new.groups ≡ self.old.groups }
-        ensures counts { CountsEvent key self.old self.new group }
-        ensures usage { SameUsage self.old self.new }
-        ensures pages { SamePages self.old self.new }
-        ensures peaks { SamePeaks self.old self.new }
+        ensures only { CountsOnly key self.old self.new group }
     {
         walks::count_event(&self.tree, &mut self.accounts, key, group);
         walks::count_local_event(&mut self.accounts, key, group);
@@ -262,11 +258,7 @@ impl Charges {
     pub fn note_max(&mut self, group: GroupId)
         requires { IsTrue (has_group self.old.groups group) }
         ensures noted { self.new ≡ with_max_noted self.old group }
-        ensures groups { self.new.groups ≡ self.old.groups }
-        ensures counts { CountsMax self.old self.new group }
-        ensures usage { SameUsage self.old self.new }
-        ensures pages { SamePages self.old self.new }
-        ensures peaks { SamePeaks self.old self.new }
+        ensures only { CountsOnly EventKey.Max self.old self.new group }
     {
         self.note(EventKey::Max, group);
     }
@@ -276,11 +268,7 @@ impl Charges {
     pub fn note_oom(&mut self, group: GroupId)
         requires { IsTrue (has_group self.old.groups group) }
         ensures noted { self.new ≡ with_oom_noted self.old group }
-        ensures groups { self.new.groups ≡ self.old.groups }
-        ensures counts { CountsOom self.old self.new group }
-        ensures usage { SameUsage self.old self.new }
-        ensures pages { SamePages self.old self.new }
-        ensures peaks { SamePeaks self.old self.new }
+        ensures only { CountsOnly EventKey.Oom self.old self.new group }
     {
         self.note(EventKey::Oom, group);
     }
@@ -289,11 +277,7 @@ impl Charges {
     pub fn note_kill(&mut self, group: GroupId)
         requires { IsTrue (has_group self.old.groups group) }
         ensures noted { self.new ≡ with_kill_noted self.old group }
-        ensures groups { self.new.groups ≡ self.old.groups }
-        ensures counts { CountsKill self.old self.new group }
-        ensures usage { SameUsage self.old self.new }
-        ensures pages { SamePages self.old self.new }
-        ensures peaks { SamePeaks self.old self.new }
+        ensures only { CountsOnly EventKey.OomKill self.old self.new group }
     {
         self.note(EventKey::OomKill, group);
     }
@@ -304,11 +288,7 @@ impl Charges {
         requires there { IsTrue (has_group self.old.groups group) }
         requires below_root { group ≢ 0 }
         ensures noted { self.new ≡ with_group_kill_noted self.old group }
-        ensures groups { self.new.groups ≡ self.old.groups }
-        ensures counts { CountsGroupKill self.old self.new group }
-        ensures usage { SameUsage self.old self.new }
-        ensures pages { SamePages self.old self.new }
-        ensures peaks { SamePeaks self.old self.new }
+        ensures only { CountsOnly EventKey.OomGroupKill self.old self.new group }
     {
         self.note(EventKey::OomGroupKill, group);
     }

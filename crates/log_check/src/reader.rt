@@ -11,11 +11,8 @@ use crate::left_out::LeftOut;
 use crate::line_fault::LineFault;
 use crate::progress::{Progress, Taken};
 use crate::verdict::{IllegalStep, LogFault, LogVerdict};
-use log_lines::parse_line;
+use log_lines::{MAX_LINE, parse_line};
 use std::alloc::Global;
-
-// The most bytes of a line, without its line feed.
-const MAX_LINE: usize = 1_024;
 
 /// A log as far as it was read: the unfinished line, the number of finished ones, what these led to, and which of their
 /// steps aren't legal.

@@ -15,8 +15,8 @@ use step_rules::step::{Action, Answer, Step};
 use zone_blocks::block::Block;
 use zone_blocks::config::Config;
 
-// The most bytes of a line, without its line feed.
-const MAX_LINE: usize = 1_024;
+/// The most bytes of a line, without its line feed.
+pub const MAX_LINE: usize = 1_024;
 
 /// The line that has this text, which has no line feed. None exactly if no line has it. That includes a text of more
 /// than 1,024 bytes, and a number with a sign, with a leading zero or out of its range.

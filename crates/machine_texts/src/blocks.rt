@@ -1,8 +1,7 @@
 //! The free blocks.
 
-ghost use Rattle.std.specs.Prelude.{◌≡◌, ◌++◌, IfOk};
 ghost use Rattle.std.specs.List.{flat_map};
-ghost use Rattle.std.specs.String.{string_bytes};
+ghost use Rattle.control_files.specs.Strings.{AddsBytes};
 ghost use Rattle.machine_texts.specs.Blocks.{block_text, blocks_text, spaced_block};
 
 use cpu_part::BootName;
@@ -14,7 +13,7 @@ use zone_blocks::walk::Walk;
 /// Adds a line with each free block, its order and its first frame, by order and then by address; `none` if there is
 /// none. It fails only if memory runs out.
 pub fn write_blocks<N: BootName>(machine: &Machine<N>, text: &mut String) -> Result<(), AllocError>
-    ensures { IfOk result (λ _. string_bytes text.new ≡ string_bytes text.old ++ blocks_text machine.now.blocks) }
+    ensures { AddsBytes result text.old text.new (blocks_text machine.now.blocks) }
 {
     let mut blocks = machine.blocks();
     let Some(first) = blocks.next() else {
@@ -27,7 +26,7 @@ pub fn write_blocks<N: BootName>(machine: &Machine<N>, text: &mut String) -> Res
 
 // A free block: its order and its first frame.
 fn write_block(block: Block, text: &mut String) -> Result<(), AllocError>
-    ensures { IfOk result (λ _. string_bytes text.new ≡ string_bytes text.old ++ block_text block) }
+    ensures { AddsBytes result text.old text.new (block_text block) }
 {
     let order = block.order.exponent();
     let at = block.at;
@@ -36,7 +35,7 @@ fn write_block(block: Block, text: &mut String) -> Result<(), AllocError>
 
 // More free blocks, each after a space.
 fn write_others(blocks: Walk<'_>, text: &mut String) -> Result<(), AllocError>
-    ensures { IfOk result (λ _. string_bytes text.new ≡ string_bytes text.old ++ flat_map spaced_block blocks.entry) }
+    ensures { AddsBytes result text.old text.new (flat_map spaced_block blocks.entry) }
 {
     for block in blocks {
         text.push_str(" ")?;

@@ -1,16 +1,16 @@
 //! Characters by their codes.
 
-ghost use Rattle.std.specs.Prelude.{◌≡◌, ◌++◌, IfOk};
+ghost use Rattle.std.specs.Prelude.{◌≡◌};
 ghost use Rattle.std.specs.Char.{is_ascii};
 ghost use Rattle.std.specs.List.{list_all};
-ghost use Rattle.std.specs.String.{string_bytes};
+ghost use Rattle.control_files.specs.Strings.{AddsBytes};
 ghost use Rattle.machine_texts.specs.Characters.{characters};
 
 use std::alloc::AllocError;
 
 /// Adds the characters that have these codes to a text. It fails only if memory runs out.
 pub fn push_characters(codes: &[u8], text: &mut String) -> Result<(), AllocError>
-    ensures { IfOk result (λ _. string_bytes text.new ≡ string_bytes text.old ++ characters codes.now) }
+    ensures { AddsBytes result text.old text.new (characters codes.now) }
 {
     match str::from_utf8(codes) {
         Ok(told) if are_ascii(codes) => text.push_str(told),
@@ -27,7 +27,7 @@ fn are_ascii(codes: &[u8]) -> bool
 
 // Adds one character after the other.
 fn push_each(text: &mut String, codes: &[u8]) -> Result<(), AllocError>
-    ensures { IfOk result (λ _. string_bytes text.new ≡ string_bytes text.old ++ characters codes.now) }
+    ensures { AddsBytes result text.old text.new (characters codes.now) }
 {
     for code in codes {
         text.push(char::from(*code))?;

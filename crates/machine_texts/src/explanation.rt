@@ -1,8 +1,8 @@
 //! The explanation of what a command drained, reclaimed and killed.
 
-ghost use Rattle.std.specs.Prelude.{◌≡◌, ◌++◌, IfOk, None};
+ghost use Rattle.std.specs.Prelude.{◌≡◌, None};
 ghost use Rattle.std.specs.List.{list_any};
-ghost use Rattle.std.specs.String.{string_bytes};
+ghost use Rattle.control_files.specs.Strings.{AddsBytes};
 ghost use Rattle.machine_texts.specs.Explanation.{explanation_text, is_attempt, left_out_text, notes_text, usage_after};
 
 use crate::lines::write_line;
@@ -22,8 +22,7 @@ pub fn write_explanation(
     left_out: u64,
     text: &mut String,
 ) -> Result<(), AllocError>
-    ensures { IfOk result (λ _. string_bytes text.new
-        ≡ string_bytes text.old ++ explanation_text tree.now gone.now notes.now left_out) }
+    ensures { AddsBytes result text.old text.new (explanation_text tree.now gone.now notes.now left_out) }
 {
     if has_attempt(notes) {
         write_lines(tree, gone, notes, text)?;
@@ -56,8 +55,7 @@ fn write_lines(
     notes: &[Note],
     text: &mut String,
 ) -> Result<(), AllocError>
-    ensures { IfOk result (λ _. string_bytes text.new
-        ≡ string_bytes text.old ++ notes_text tree.now gone.now None notes.now) }
+    ensures { AddsBytes result text.old text.new (notes_text tree.now gone.now None notes.now) }
 {
     let mut usage = None;
     for note in notes {
@@ -70,7 +68,7 @@ fn write_lines(
 // How many frames were reclaimed of which no note tells.
 #[tactic(auto, unfolding(crate::specs::Explanation::left_out_text))]
 fn write_left_out(frames: u64, text: &mut String) -> Result<(), AllocError>
-    ensures { IfOk result (λ _. string_bytes text.new ≡ string_bytes text.old ++ left_out_text frames) }
+    ensures { AddsBytes result text.old text.new (left_out_text frames) }
 {
     if frames == 0 {
         return Ok(());

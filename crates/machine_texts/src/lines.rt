@@ -1,7 +1,6 @@
 //! The line of each note.
 
-ghost use Rattle.std.specs.Prelude.{◌≡◌, ◌++◌, IfOk};
-ghost use Rattle.std.specs.String.{string_bytes};
+ghost use Rattle.control_files.specs.Strings.{AddsBytes};
 ghost use Rattle.machine_texts.specs.Lines.{asked_text, group_kill_text, killed_text, limit_line, line_text, oom_text};
 ghost use Rattle.machine_texts.specs.Lines.{reclaimed_text, round_text, stock_line, victim_text, zone_line};
 
@@ -22,8 +21,7 @@ pub(crate) fn write_line(
     note: &Note,
     text: &mut String,
 ) -> Result<(), AllocError>
-    ensures { IfOk result (λ _. string_bytes text.new
-        ≡ string_bytes text.old ++ line_text tree.now gone.now usage note.now) }
+    ensures { AddsBytes result text.old text.new (line_text tree.now gone.now usage note.now) }
 {
     match *note {
         Note::Limit {
@@ -75,8 +73,7 @@ fn write_limit(
     need: u32,
     text: &mut String,
 ) -> Result<(), AllocError>
-    ensures { IfOk result (λ _. string_bytes text.new
-        ≡ string_bytes text.old ++ limit_line tree.now gone.now group max usage need) }
+    ensures { AddsBytes result text.old text.new (limit_line tree.now gone.now group max usage need) }
 {
     push_group("# limit ", tree, gone, group, text)?;
     push_bytes(" ", u64::from(max), text)?;
@@ -87,7 +84,7 @@ fn write_limit(
 
 // That no block of this order was free.
 fn write_zone(order: u32, text: &mut String) -> Result<(), AllocError>
-    ensures { IfOk result (λ _. string_bytes text.new ≡ string_bytes text.old ++ zone_line order) }
+    ensures { AddsBytes result text.old text.new (zone_line order) }
 {
     push_count("# zone order ", u128::from(order), text)?;
     text.push_str("\n")
@@ -101,8 +98,7 @@ fn write_asked(
     pages: u64,
     text: &mut String,
 ) -> Result<(), AllocError>
-    ensures { IfOk result (λ _. string_bytes text.new
-        ≡ string_bytes text.old ++ asked_text tree.now gone.now group pages) }
+    ensures { AddsBytes result text.old text.new (asked_text tree.now gone.now group pages) }
 {
     push_group("# asked ", tree, gone, group, text)?;
     push_bytes(" ", pages, text)?;
@@ -118,8 +114,7 @@ fn write_reclaimed(
     last: u64,
     text: &mut String,
 ) -> Result<(), AllocError>
-    ensures { IfOk result (λ _. string_bytes text.new
-        ≡ string_bytes text.old ++ reclaimed_text tree.now gone.now group first last) }
+    ensures { AddsBytes result text.old text.new (reclaimed_text tree.now gone.now group first last) }
 {
     push_group("# reclaimed ", tree, gone, group, text)?;
     push_span(" ", first, last, text)?;
@@ -133,7 +128,7 @@ fn write_stock(
     pages: u32,
     text: &mut String,
 ) -> Result<(), AllocError>
-    ensures { IfOk result (λ _. string_bytes text.new ≡ string_bytes text.old ++ stock_line usage cpu pages) }
+    ensures { AddsBytes result text.old text.new (stock_line usage cpu pages) }
 {
     let Some(usage) = usage else {
         return Ok(());
@@ -151,8 +146,7 @@ fn write_round(
     usage: u32,
     text: &mut String,
 ) -> Result<(), AllocError>
-    ensures { IfOk result (λ _. string_bytes text.new
-        ≡ string_bytes text.old ++ round_text number returned missed pages usage) }
+    ensures { AddsBytes result text.old text.new (round_text number returned missed pages usage) }
 {
     push_count("# round ", u128::from(number), text)?;
     push_count(" tried ", u128::from(returned) + u128::from(missed), text)?;
@@ -163,7 +157,7 @@ fn write_round(
 
 // A limit that couldn't be kept.
 fn write_oom(tree: &Tree, gone: &[u8], group: GroupId, text: &mut String) -> Result<(), AllocError>
-    ensures { IfOk result (λ _. string_bytes text.new ≡ string_bytes text.old ++ oom_text tree.now gone.now group) }
+    ensures { AddsBytes result text.old text.new (oom_text tree.now gone.now group) }
 {
     push_group("# oom ", tree, gone, group, text)?;
     text.push_str("\n")
@@ -178,8 +172,7 @@ fn write_victim(
     next: Candidate,
     text: &mut String,
 ) -> Result<(), AllocError>
-    ensures { IfOk result (λ _. string_bytes text.new
-        ≡ string_bytes text.old ++ victim_text tree.now gone.now victim candidates next) }
+    ensures { AddsBytes result text.old text.new (victim_text tree.now gone.now victim candidates next) }
 {
     push_candidate("# victim ", tree, gone, victim, text)?;
     push_others(tree, gone, candidates, next, text)?;
@@ -194,8 +187,7 @@ fn write_group_kill(
     groups: u32,
     text: &mut String,
 ) -> Result<(), AllocError>
-    ensures { IfOk result (λ _. string_bytes text.new
-        ≡ string_bytes text.old ++ group_kill_text tree.now gone.now group groups) }
+    ensures { AddsBytes result text.old text.new (group_kill_text tree.now gone.now group groups) }
 {
     push_group("# group ", tree, gone, group, text)?;
     push_count(" groups ", u128::from(groups), text)?;
@@ -214,8 +206,8 @@ fn write_killed(
     usage: u32,
     text: &mut String,
 ) -> Result<(), AllocError>
-    ensures { IfOk result (λ _. string_bytes text.new
-        ≡ string_bytes text.old ++ killed_text tree.now gone.now group returned pages pinned left usage) }
+    ensures { AddsBytes result text.old text.new
+        (killed_text tree.now gone.now group returned pages pinned left usage) }
 {
     push_group("# killed ", tree, gone, group, text)?;
     push_count(" returned ", u128::from(returned), text)?;

@@ -1,8 +1,8 @@
 //! The parts of lines.
 
-ghost use Rattle.std.specs.Prelude.{◌≡◌, ◌++◌, IfOk};
+ghost use Rattle.std.specs.Prelude.{◌++◌};
 ghost use Rattle.std.specs.Fmt.{decimal};
-ghost use Rattle.std.specs.String.{string_bytes};
+ghost use Rattle.control_files.specs.Strings.{AddsBytes};
 ghost use Rattle.machine_texts.specs.Lines.{bytes_text, candidate_text, ending_text, group_text, next_text, others_text};
 ghost use Rattle.machine_texts.specs.Lines.{range_text};
 
@@ -16,7 +16,7 @@ use std::alloc::AllocError;
 
 // Adds a word and a count.
 pub(crate) fn push_count(word: &str, count: u128, text: &mut String) -> Result<(), AllocError>
-    ensures { IfOk result (λ _. string_bytes text.new ≡ string_bytes text.old ++ (word.now ++ decimal count)) }
+    ensures { AddsBytes result text.old text.new (word.now ++ decimal count) }
 {
     text.push_str(word)?;
     push_number(count, text)
@@ -25,7 +25,7 @@ pub(crate) fn push_count(word: &str, count: u128, text: &mut String) -> Result<(
 // Adds a word and the bytes of this many pages.
 #[tactic(auto, unfolding(crate::specs::Lines::bytes_text))]
 pub(crate) fn push_bytes(word: &str, pages: u64, text: &mut String) -> Result<(), AllocError>
-    ensures { IfOk result (λ _. string_bytes text.new ≡ string_bytes text.old ++ (word.now ++ bytes_text pages)) }
+    ensures { AddsBytes result text.old text.new (word.now ++ bytes_text pages) }
 {
     push_count(word, u128::from(pages) * u128::from(PAGE_BYTES), text)
 }
@@ -39,8 +39,7 @@ pub(crate) fn push_group(
     group: GroupId,
     text: &mut String,
 ) -> Result<(), AllocError>
-    ensures { IfOk result (λ _. string_bytes text.new
-        ≡ string_bytes text.old ++ (word.now ++ group_text tree.now gone.now group)) }
+    ensures { AddsBytes result text.old text.new (word.now ++ group_text tree.now gone.now group) }
 {
     text.push_str(word)?;
     if tree.contains(group) {
@@ -59,8 +58,7 @@ pub(crate) fn push_candidate(
     candidate: Candidate,
     text: &mut String,
 ) -> Result<(), AllocError>
-    ensures { IfOk result (λ _. string_bytes text.new
-        ≡ string_bytes text.old ++ (word.now ++ candidate_text tree.now gone.now candidate)) }
+    ensures { AddsBytes result text.old text.new (word.now ++ candidate_text tree.now gone.now candidate) }
 {
     push_group(word, tree, gone, candidate.group, text)?;
     push_count(" frames ", u128::from(candidate.frames), text)
@@ -75,8 +73,7 @@ pub(crate) fn push_others(
     next: Candidate,
     text: &mut String,
 ) -> Result<(), AllocError>
-    ensures { IfOk result (λ _. string_bytes text.new
-        ≡ string_bytes text.old ++ others_text tree.now gone.now candidates next) }
+    ensures { AddsBytes result text.old text.new (others_text tree.now gone.now candidates next) }
 {
     write!(text, " of {candidates} candidates")?;
     push_next(tree, gone, candidates, next, text)
@@ -91,8 +88,7 @@ fn push_next(
     next: Candidate,
     text: &mut String,
 ) -> Result<(), AllocError>
-    ensures { IfOk result (λ _. string_bytes text.new
-        ≡ string_bytes text.old ++ next_text tree.now gone.now candidates next) }
+    ensures { AddsBytes result text.old text.new (next_text tree.now gone.now candidates next) }
 {
     if candidates <= 1 {
         return Ok(());
@@ -103,7 +99,7 @@ fn push_next(
 // Adds the end of a line: the bytes of this many pages, and of the usage under the limit.
 #[tactic(auto, unfolding(crate::specs::Lines::ending_text))]
 pub(crate) fn push_ending(pages: u64, usage: u32, text: &mut String) -> Result<(), AllocError>
-    ensures { IfOk result (λ _. string_bytes text.new ≡ string_bytes text.old ++ ending_text pages usage) }
+    ensures { AddsBytes result text.old text.new (ending_text pages usage) }
 {
     push_bytes(" bytes ", pages, text)?;
     push_bytes(" usage ", u64::from(usage), text)?;
@@ -118,7 +114,7 @@ pub(crate) fn push_span(
     last: u64,
     text: &mut String,
 ) -> Result<(), AllocError>
-    ensures { IfOk result (λ _. string_bytes text.new ≡ string_bytes text.old ++ (word.now ++ range_text first last)) }
+    ensures { AddsBytes result text.old text.new (word.now ++ range_text first last) }
 {
     push_count(word, u128::from(first), text)?;
     if first == last {

@@ -1,7 +1,7 @@
 //! The places of the frames.
 
-ghost use Rattle.std.specs.Prelude.{◌≡◌, ◌++◌, All, IfOk, MatchOption};
-ghost use Rattle.std.specs.String.{string_bytes};
+ghost use Rattle.std.specs.Prelude.{◌≡◌, All, MatchOption};
+ghost use Rattle.control_files.specs.Strings.{AddsBytes};
 ghost use Rattle.mem_machine.specs.declared.frame_state.Place.TheVariants as place;
 ghost use Rattle.mem_machine.specs.FrameStates.{place_of};
 ghost use Rattle.machine_texts.specs.Places.{FrameGroupExists, PlaceGroupExists, frames_text, is_same_place};
@@ -21,8 +21,7 @@ pub(crate) fn write_places(
     text: &mut String,
 ) -> Result<(), AllocError>
     requires { All (FrameGroupExists tree.now) frame_states.now }
-    ensures { IfOk result (λ _. string_bytes text.new
-        ≡ string_bytes text.old ++ places_text tree.now frame_states.now) }
+    ensures { AddsBytes result text.old text.new (places_text tree.now frame_states.now) }
 {
     let mut first = 0;
     while first < frame_states.len() {
@@ -99,8 +98,7 @@ fn write_span(
     text: &mut String,
 ) -> Result<(), AllocError>
     requires { PlaceGroupExists tree.now place.now }
-    ensures { IfOk result (λ _. string_bytes text.new
-        ≡ string_bytes text.old ++ span_text tree.now first last place.now) }
+    ensures { AddsBytes result text.old text.new (span_text tree.now first last place.now) }
 {
     write_frames(first, last, text)?;
     write_place(place, tree, text)?;
@@ -109,7 +107,7 @@ fn write_span(
 
 // The numbers of the frames from the first to the last.
 fn write_frames(first: usize, last: usize, text: &mut String) -> Result<(), AllocError>
-    ensures { IfOk result (λ _. string_bytes text.new ≡ string_bytes text.old ++ frames_text first last) }
+    ensures { AddsBytes result text.old text.new (frames_text first last) }
 {
     if first == last {
         write!(text, "{first} ")
@@ -121,7 +119,7 @@ fn write_frames(first: usize, last: usize, text: &mut String) -> Result<(), Allo
 // The place itself. For frames that are charged it is the path of their group, which exists.
 fn write_place(place: &Place, tree: &Tree, text: &mut String) -> Result<(), AllocError>
     requires { PlaceGroupExists tree.now place.now }
-    ensures { IfOk result (λ _. string_bytes text.new ≡ string_bytes text.old ++ place_text tree.now place.now) }
+    ensures { AddsBytes result text.old text.new (place_text tree.now place.now) }
 {
     match *place {
         Place::Free => text.push_str("free"),

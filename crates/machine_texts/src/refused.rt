@@ -1,7 +1,7 @@
 //! The line that says why a command is refused.
 
-ghost use Rattle.std.specs.Prelude.{◌≡◌, ◌++◌, IfOk};
-ghost use Rattle.std.specs.String.{string_bytes};
+ghost use Rattle.std.specs.Prelude.{◌≡◌};
+ghost use Rattle.control_files.specs.Strings.{AddsBytes};
 ghost use Rattle.machine_texts.specs.Refused.{lent_text, refused_text, sentence_of};
 
 use crate::parts::push_count;
@@ -11,7 +11,7 @@ use std::alloc::AllocError;
 /// Adds the line of a refusal: its number and its sentence. If the refused command names a frame that is lent to a CPU,
 /// that CPU is `lent`, and the line names it. It fails only if memory runs out.
 pub fn write_refused(fault: &Fault, lent: Option<u32>, text: &mut String) -> Result<(), AllocError>
-    ensures { IfOk result (λ _. string_bytes text.new ≡ string_bytes text.old ++ refused_text fault.now lent) }
+    ensures { AddsBytes result text.old text.new (refused_text fault.now lent) }
 {
     push_count("# refused ", u128::from(fault.number()), text)?;
     text.push_str(": ")?;
@@ -23,7 +23,7 @@ pub fn write_refused(fault: &Fault, lent: Option<u32>, text: &mut String) -> Res
 // Adds where a lent frame is.
 #[tactic(auto, unfolding(crate::specs::Refused::lent_text))]
 fn push_lent(lent: Option<u32>, text: &mut String) -> Result<(), AllocError>
-    ensures { IfOk result (λ _. string_bytes text.new ≡ string_bytes text.old ++ lent_text lent) }
+    ensures { AddsBytes result text.old text.new (lent_text lent) }
 {
     let Some(cpu) = lent else {
         return Ok(());

@@ -1,7 +1,7 @@
 //! The places of the frames, and what the groups use.
 
-ghost use Rattle.std.specs.Prelude.{◌≡◌, ◌*◌, ◌++◌, IfOk, IsTrue};
-ghost use Rattle.std.specs.String.{string_bytes};
+ghost use Rattle.std.specs.Prelude.{◌≡◌, ◌*◌, IsTrue};
+ghost use Rattle.control_files.specs.Strings.{AddsBytes};
 ghost use Rattle.group_tree.specs.Groups.{has_group};
 ghost use Rattle.group_charge.specs.Charges.{current_of};
 ghost use Rattle.control_files.specs.Limit.{page_bytes};
@@ -19,7 +19,7 @@ use std::alloc::AllocError;
 /// Adds a line for each longest span of frames with equal place, by ascending frame. Then it adds one for each group
 /// except the root, in order of making, with its usage in bytes. It fails only if memory runs out.
 pub fn write_show<N: BootName>(machine: &Machine<N>, text: &mut String) -> Result<(), AllocError>
-    ensures { IfOk result (λ _. string_bytes text.new ≡ string_bytes text.old ++ show_text machine.now) }
+    ensures { AddsBytes result text.old text.new (show_text machine.now) }
 {
     let charges = machine.charges();
     write_places(machine.frame_states(), charges.tree(), text)?;
@@ -32,7 +32,7 @@ pub fn write_show<N: BootName>(machine: &Machine<N>, text: &mut String) -> Resul
 // A line with the usage of a group in bytes; none for the root.
 fn write_usage(charges: &Charges, group: &Group, text: &mut String) -> Result<(), AllocError>
     requires { IsTrue (has_group charges.now.groups group.now.number) }
-    ensures { IfOk result (λ _. string_bytes text.new ≡ string_bytes text.old ++ usage_text charges.now group.now) }
+    ensures { AddsBytes result text.old text.new (usage_text charges.now group.now) }
 {
     if group.number == GroupId::root() {
         return Ok(());

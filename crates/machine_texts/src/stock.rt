@@ -1,7 +1,7 @@
 //! One CPU's stock, and how many frames and pins it has.
 
-ghost use Rattle.std.specs.Prelude.{◌≡◌, ◌++◌, None, IfOk, IsTrue, MatchOption};
-ghost use Rattle.std.specs.String.{string_bytes};
+ghost use Rattle.std.specs.Prelude.{◌≡◌, None, IsTrue, MatchOption};
+ghost use Rattle.control_files.specs.Strings.{AddsBytes};
 ghost use Rattle.group_tree.specs.Groups.{has_group, path_of};
 ghost use Rattle.machine_texts.specs.Stock.{counts_text, cpu_text, owner_text, stock_text};
 
@@ -24,7 +24,7 @@ pub fn write_stock<N: BootName>(
     stock: Stock,
     text: &mut String,
 ) -> Result<(), AllocError>
-    ensures { IfOk result (λ _. string_bytes text.new ≡ string_bytes text.old ++ cpu_text tree.now cpu.now stock) }
+    ensures { AddsBytes result text.old text.new (cpu_text tree.now cpu.now stock) }
 {
     let number = cpu.number();
     write!(text, "cpu {number} stock ")?;
@@ -35,7 +35,7 @@ pub fn write_stock<N: BootName>(
 
 // The stock alone.
 fn write_stock_state(tree: &Tree, stock: Stock, text: &mut String) -> Result<(), AllocError>
-    ensures { IfOk result (λ _. string_bytes text.new ≡ string_bytes text.old ++ stock_text tree.now stock) }
+    ensures { AddsBytes result text.old text.new (stock_text tree.now stock) }
 {
     match stock {
         Stock::NoGroup => text.push_str("none"),
@@ -53,7 +53,7 @@ fn write_stock_state(tree: &Tree, stock: Stock, text: &mut String) -> Result<(),
 
 // The path of the group of this number; a hyphen if there is no such group.
 fn write_owner(tree: &Tree, number: u32, text: &mut String) -> Result<(), AllocError>
-    ensures { IfOk result (λ _. string_bytes text.new ≡ string_bytes text.old ++ owner_text tree.now number) }
+    ensures { AddsBytes result text.old text.new (owner_text tree.now number) }
 {
     match group_of(tree, number) {
         Some(group) => push_characters(tree.path_of(group).as_bytes(), text),
@@ -79,7 +79,7 @@ fn group_of(tree: &Tree, number: u32) -> Option<GroupId>
 
 // How many frames and pins the CPU has.
 fn write_counts<N: BootName>(cpu: &Cpu<N>, text: &mut String) -> Result<(), AllocError>
-    ensures { IfOk result (λ _. string_bytes text.new ≡ string_bytes text.old ++ counts_text cpu.now) }
+    ensures { AddsBytes result text.old text.new (counts_text cpu.now) }
 {
     let list = cpu.list_len();
     let fresh = cpu.fresh_len();

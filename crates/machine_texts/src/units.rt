@@ -1,7 +1,7 @@
 //! The kept units of a group.
 
-ghost use Rattle.std.specs.Prelude.{◌≡◌, ◌<◌, ◌++◌, [], false, true, IfOk, IsOk, length};
-ghost use Rattle.std.specs.String.{string_bytes};
+ghost use Rattle.std.specs.Prelude.{◌≡◌, ◌<◌, [], false, true, IfOk, IsOk, length};
+ghost use Rattle.control_files.specs.Strings.{AddsBytes};
 ghost use Rattle.mem_machine.specs.Showing.{listed, units_in};
 ghost use Rattle.machine_texts.specs.Units.{ReadsLines, ReadsUnits, list_text, order_at, pins_text, rest_text};
 ghost use Rattle.machine_texts.specs.Units.{text_if, unit_text};
@@ -24,7 +24,7 @@ pub fn write_units<N: BootName>(
     text: &mut String,
 ) -> Result<(), AllocError>
     ensures units { ReadsUnits group
-        (λ shown. IfOk result (λ _. string_bytes text.new ≡ string_bytes text.old ++ shown)) machine.old machine.new }
+        (λ shown. AddsBytes result text.old text.new shown) machine.old machine.new }
 {
     if keeps_none(machine, group) {
         return text.push_str("none\n");
@@ -54,7 +54,7 @@ fn write_list<N: BootName>(
     text: &mut String,
 ) -> Result<(), AllocError>
     ensures lines { ReadsLines group list
-        (λ shown. IfOk result (λ _. string_bytes text.new ≡ string_bytes text.old ++ shown)) machine.old machine.new }
+        (λ shown. AddsBytes result text.old text.new shown) machine.old machine.new }
 {
     let count = machine.list_len(group, list);
     let mut next = machine.oldest(group, list);
@@ -105,8 +105,7 @@ fn write_unit(
     pins: u32,
     text: &mut String,
 ) -> Result<(), AllocError>
-    ensures { IfOk result (λ _. string_bytes text.new
-        ≡ string_bytes text.old ++ unit_text order (listed list entry.now) pins) }
+    ensures { AddsBytes result text.old text.new (unit_text order (listed list entry.now) pins) }
 {
     let number = entry.number;
     write!(text, "{number} {order}")?;
@@ -116,7 +115,7 @@ fn write_unit(
 
 // What follows the list in the line of a unit.
 fn write_rest(entry: &Entry, pins: u32, text: &mut String) -> Result<(), AllocError>
-    ensures { IfOk result (λ _. string_bytes text.new ≡ string_bytes text.old ++ rest_text entry.now pins) }
+    ensures { AddsBytes result text.old text.new (rest_text entry.now pins) }
 {
     write_if(entry.is_dirty, " dirty", text)?;
     write_if(entry.is_marked, " marked", text)?;
@@ -126,7 +125,7 @@ fn write_rest(entry: &Entry, pins: u32, text: &mut String) -> Result<(), AllocEr
 
 // The name of the list.
 fn write_of_list(list: LruList, text: &mut String) -> Result<(), AllocError>
-    ensures { IfOk result (λ _. string_bytes text.new ≡ string_bytes text.old ++ list_text list) }
+    ensures { AddsBytes result text.old text.new (list_text list) }
 {
     match list {
         LruList::Inactive => text.push_str(" inactive"),
@@ -136,7 +135,7 @@ fn write_of_list(list: LruList, text: &mut String) -> Result<(), AllocError>
 
 // The word, if it is so.
 fn write_if(is_so: bool, word: &str, text: &mut String) -> Result<(), AllocError>
-    ensures { IfOk result (λ _. string_bytes text.new ≡ string_bytes text.old ++ text_if is_so word.now) }
+    ensures { AddsBytes result text.old text.new (text_if is_so word.now) }
 {
     if is_so {
         text.push_str(word)?;
@@ -146,7 +145,7 @@ fn write_if(is_so: bool, word: &str, text: &mut String) -> Result<(), AllocError
 
 // The number of pins; nothing for none.
 fn write_pins(pins: u32, text: &mut String) -> Result<(), AllocError>
-    ensures { IfOk result (λ _. string_bytes text.new ≡ string_bytes text.old ++ pins_text pins) }
+    ensures { AddsBytes result text.old text.new (pins_text pins) }
 {
     if pins == 0 {
         return Ok(());

@@ -210,8 +210,7 @@ impl Checker {
         ensures denied { OnErr result (¬ Allows (state_shown self.old) step.now.seat step.now.action answer.now) }
         ensures unchanged { OnErr result (self.new ≡ self.old) }
     {
-        // This call brings in the bound on the pages that a step can ask for.
-        let _ = pages_asked(&step.action);
+        let _ = pages_asked(&step.action); // Called for its contract: fewer than 2^32 pages.
         let taken = take(
             &mut self.rows,
             &mut self.free,

@@ -84,8 +84,7 @@ impl Core {
         ensures illegal { result ≡ Illegal → self.new ≡ record self.old { steps = self.old.steps + 1 } }
         ensures usage { UsageMoves (state_shown self.old) step.seat step.action result }
     {
-        // This call brings in the bound on the pages that a step can ask for.
-        let _ = pages_asked(&step.action);
+        let _ = pages_asked(&step.action); // Called for its contract: fewer than 2^32 pages.
         let answer = serve(&mut self.rows, &self.areas, &step);
         self.steps += 1;
         if let Answer::Illegal = answer {

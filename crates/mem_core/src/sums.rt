@@ -259,8 +259,7 @@ impl Rows {
         ensures none { IfNone result (PathHasRoom self.now.tree (usage_of (state_in self.now)) group pages) }
         ensures some { IfSome result (IsLowestOver self.now.tree (usage_of (state_in self.now)) group pages) }
     {
-        // This shows that they are the groups of a tree.
-        let _ = self.tree.groups();
+        let _ = self.tree.groups(); // Called for its contract: they are those of a tree.
         for above in self.tree.ancestors(group) {
             if !self.has_room(above, pages) {
                 return Some(above);

@@ -10,7 +10,7 @@ use Rattle.group_tree.specs.Groups.{has_group, has_child, with_group, make_fault
 use Rattle.group_tree.specs.declared.event.EventKey.{EventKey}
 use Rattle.group_tree.specs.declared.event.EventKey.TheVariants.{Max, Oom, OomKill, OomGroupKill}
 use Rattle.group_tree.specs.declared.fault.Fault.{Fault}
-use Rattle.group_charge.specs.Charges.{AreCharges, CountsEvent, CountsMax, CountsOom, CountsKill, CountsGroupKill, SamePeaks}
+use Rattle.group_charge.specs.Charges.{AreCharges, CountsEvent, SamePeaks}
 use Rattle.group_charge.specs.Charges.{Ledger, current_of, with_noted, with_kill_noted, with_max_noted, with_oom_noted, with_group_kill_noted}
 use Rattle.group_charge.specs.Charges.{with_group_limit, with_oom_flag, with_new_group, with_group_removed}
 use Rattle.cpu_part.specs.Cpus.{KnownCpu}
@@ -79,21 +79,21 @@ module _ (t : KnownTable) (m now : KnownMachine) (same : m ≡ now) (g : ℕ) (t
       ((λ i. record m { ledger = is i }) ∙ ap (λ (k : KnownMachine). record k { ledger = with_noted kind k.ledger g }) same)
       (subst (λ (k : KnownMachine). CountsEvent kind k.ledger l g) same counts) (subst (λ (k : KnownMachine). SamePeaks k.ledger l) same peaks) c run
 
-  pub notes_max : (l : Ledger) → l ≡ with_max_noted m.ledger g → CountsMax m.ledger l g → SamePeaks m.ledger l → (c : KnownCpu)
+  pub notes_max : (l : Ledger) → l ≡ with_max_noted m.ledger g → CountsEvent Max m.ledger l g → SamePeaks m.ledger l → (c : KnownCpu)
       → LeadsAs t c.number (visit_state now c) (note_max_steps g) (visit_state (record m { ledger = l }) c)
   notes_max l is counts peaks c =
       let s = local_of t now c in
       notes Max (NoteMax g) refl (λ k x. refl) l is counts peaks c (run_one c.number s s 0 (NoteMax g) Done
       (zone_step s c.number (NoteMax g) Done refl (and_from _ _ (zone_may_act now.frame_seat c.number) there) tt) refl)
 
-  pub notes_oom : (l : Ledger) → l ≡ with_oom_noted m.ledger g → CountsOom m.ledger l g → SamePeaks m.ledger l → (c : KnownCpu)
+  pub notes_oom : (l : Ledger) → l ≡ with_oom_noted m.ledger g → CountsEvent Oom m.ledger l g → SamePeaks m.ledger l → (c : KnownCpu)
       → LeadsAs t c.number (visit_state now c) (note_oom_steps g) (visit_state (record m { ledger = l }) c)
   notes_oom l is counts peaks c =
       let s = local_of t now c in
       notes Oom (NoteOom g) refl (λ k x. refl) l is counts peaks c (run_one c.number s s 0 (NoteOom g) Done
       (zone_step s c.number (NoteOom g) Done refl (and_from _ _ (zone_may_act now.frame_seat c.number) there) tt) refl)
 
-  pub notes_group_kill : g ≢ 0 → (l : Ledger) → l ≡ with_group_kill_noted m.ledger g → CountsGroupKill m.ledger l g → SamePeaks m.ledger l → (c : KnownCpu)
+  pub notes_group_kill : g ≢ 0 → (l : Ledger) → l ≡ with_group_kill_noted m.ledger g → CountsEvent OomGroupKill m.ledger l g → SamePeaks m.ledger l → (c : KnownCpu)
       → LeadsAs t c.number (visit_state now c) (note_group_kill_steps g) (visit_state (record m { ledger = l }) c)
   notes_group_kill below l is counts peaks c =
       let s = local_of t now c in
@@ -118,7 +118,7 @@ marks_set marks g b inside = λ i. λ k. (at_each (is_killed marks) g b (λ (h :
 
 -- a group is killed
 pub kill_runs : (t : KnownTable) (m n : KnownMachine) (g : ℕ) → g < length m.killed → has_group m.ledger.groups g ≡ true → is_killed m.killed g ≡ false
-    → n ≡ record m { ledger = with_kill_noted m.ledger g; killed = slice_set m.killed g true } → CountsKill m.ledger n.ledger g
+    → n ≡ record m { ledger = with_kill_noted m.ledger g; killed = slice_set m.killed g true } → CountsEvent OomKill m.ledger n.ledger g
     → SamePeaks m.ledger n.ledger → (c : KnownCpu) → LeadsAs t c.number (visit_state m c) (kill_steps g) (visit_state n c)
 kill_runs t m n g inside there alive is counts peaks c =
     let s = local_of t m c in
@@ -133,14 +133,14 @@ kill_runs t m n g inside there alive is counts peaks c =
 
 -- the same, of the machine as it was seen before
 pub kills : (t : KnownTable) (m now : KnownMachine) → m ≡ now → (g : ℕ) → g < length m.killed → has_group now.ledger.groups g ≡ true
-    → is_killed now.killed g ≡ false → (l : Ledger) → l ≡ with_kill_noted m.ledger g → CountsKill m.ledger l g
+    → is_killed now.killed g ≡ false → (l : Ledger) → l ≡ with_kill_noted m.ledger g → CountsEvent OomKill m.ledger l g
     → SamePeaks m.ledger l → (marks : List Bool) → marks ≡ slice_set m.killed g true
     → (c : KnownCpu) → LeadsAs t c.number (visit_state now c) (kill_steps g) (visit_state (record m { ledger = l; killed = marks }) c)
 kills t m now same g inside there alive l is counts peaks marks set =
     kill_runs t now (record m { ledger = l; killed = marks }) g (subst (λ (k : KnownMachine). g < length k.killed) same inside) there alive
     ((λ i. record m { ledger = is i; killed = set i })
     ∙ ap (λ (k : KnownMachine). record k { ledger = with_kill_noted k.ledger g; killed = slice_set k.killed g true }) same)
-    (subst (λ (k : KnownMachine). CountsKill k.ledger l g) same counts) (subst (λ (k : KnownMachine). SamePeaks k.ledger l) same peaks)
+    (subst (λ (k : KnownMachine). CountsEvent OomKill k.ledger l g) same counts) (subst (λ (k : KnownMachine). SamePeaks k.ledger l) same peaks)
 
 make_runs : (t : KnownTable) (m n : KnownMachine) (g : ℕ) (path : List ℕ) → g < length m.killed → is_none (make_fault m.ledger.groups path) ≡ true
     → AreCharges m.ledger → AddsGroup g path m n → (c : KnownCpu) → LeadsAs t c.number (visit_state m c) (make_steps path g) (visit_state n c)

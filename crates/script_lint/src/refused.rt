@@ -2,7 +2,7 @@
 
 ghost use Rattle.std.specs.Prelude.{◌≡◌, ◌∷◌, ◌++◌, [], IfOk, OnOk};
 ghost use Rattle.std.specs.List.{flat_map};
-ghost use Rattle.std.specs.String.{string_bytes};
+ghost use Rattle.control_files.specs.Strings.{AddsBytes};
 ghost use Rattle.script_lines.specs.Verb.{IsNames};
 ghost use Rattle.script_lint.specs.Refusals.{IsJudgedText};
 ghost use Rattle.script_lint.specs.Refused.{AreRefused, numbered, refused_line_text};
@@ -107,8 +107,7 @@ pub fn write_refused(
     refused: &[RefusedLine],
     text: &mut String,
 ) -> Result<(), AllocError>
-    ensures { IfOk result (λ _. string_bytes text.new
-        ≡ string_bytes text.old ++ flat_map (refused_line_text name.now) refused.now) }
+    ensures { AddsBytes result text.old text.new (flat_map (refused_line_text name.now) refused.now) }
 {
     for line in refused {
         write_line(name, *line, text)?;
@@ -117,7 +116,7 @@ pub fn write_refused(
 }
 
 fn write_line(name: &str, refused: RefusedLine, text: &mut String) -> Result<(), AllocError>
-    ensures { IfOk result (λ _. string_bytes text.new ≡ string_bytes text.old ++ refused_line_text name.now refused) }
+    ensures { AddsBytes result text.old text.new (refused_line_text name.now refused) }
 {
     let line = refused.line;
     let why = refused.refusal.sentence();

@@ -1,8 +1,8 @@
 //! What is written for what is found.
 
-ghost use Rattle.std.specs.Prelude.{◌≡◌, ◌++◌, All, IfOk, None, Some};
+ghost use Rattle.std.specs.Prelude.{◌≡◌, All, None, Some};
 ghost use Rattle.std.specs.List.{flat_map};
-ghost use Rattle.std.specs.String.{string_bytes};
+ghost use Rattle.control_files.specs.Strings.{AddsBytes};
 ghost use Rattle.zone_blocks.specs.declared.config.Config.{Config};
 ghost use Rattle.script_lint.specs.Texts.{IsInside, cause_text, cpus_text, default_text, finding_text, zone_range_text};
 ghost use Rattle.script_lint.specs.Texts.{given_text, near_text, shown, sizes_text, shown_word_text};
@@ -29,8 +29,7 @@ pub fn write_findings(
     text: &mut String,
 ) -> Result<(), AllocError>
     requires { All IsInside findings.now }
-    ensures { IfOk result (λ _. string_bytes text.new
-        ≡ string_bytes text.old ++ flat_map (finding_text name.now sizes.now) findings.now) }
+    ensures { AddsBytes result text.old text.new (flat_map (finding_text name.now sizes.now) findings.now) }
 {
     for finding in findings {
         write_finding(name, finding, sizes, text)?;
@@ -40,7 +39,7 @@ pub fn write_findings(
 
 /// Adds the line that says why the sizes are refused, if they are. It fails only if memory runs out.
 pub fn write_sizes(sizes: &Config, text: &mut String) -> Result<(), AllocError>
-    ensures { IfOk result (λ _. string_bytes text.new ≡ string_bytes text.old ++ sizes_text sizes.now) }
+    ensures { AddsBytes result text.old text.new (sizes_text sizes.now) }
 {
     if sizes.high < sizes.batch {
         if sizes.high == DEFAULT_HIGH {
@@ -54,7 +53,7 @@ pub fn write_sizes(sizes: &Config, text: &mut String) -> Result<(), AllocError>
 }
 
 fn write_default(high: u32, batch: u32, text: &mut String) -> Result<(), AllocError>
-    ensures { IfOk result (λ _. string_bytes text.new ≡ string_bytes text.old ++ default_text high batch) }
+    ensures { AddsBytes result text.old text.new (default_text high batch) }
 {
     writeln!(
         text,
@@ -63,7 +62,7 @@ fn write_default(high: u32, batch: u32, text: &mut String) -> Result<(), AllocEr
 }
 
 fn write_given(high: u32, batch: u32, text: &mut String) -> Result<(), AllocError>
-    ensures { IfOk result (λ _. string_bytes text.new ≡ string_bytes text.old ++ given_text high batch) }
+    ensures { AddsBytes result text.old text.new (given_text high batch) }
 {
     writeln!(text, "sizes: --high {high} is below --batch {batch}")
 }
@@ -76,8 +75,7 @@ fn write_finding(
     text: &mut String,
 ) -> Result<(), AllocError>
     requires { IsInside finding.now }
-    ensures { IfOk result (λ _. string_bytes text.new
-        ≡ string_bytes text.old ++ finding_text name.now sizes.now finding.now) }
+    ensures { AddsBytes result text.old text.new (finding_text name.now sizes.now finding.now) }
 {
     let line = finding.line;
     let column = finding.spot.place + 1;
@@ -93,8 +91,7 @@ pub fn write_cause(
     text: &mut String,
 ) -> Result<(), AllocError>
     requires { IsInside finding.now }
-    ensures { IfOk result (λ _. string_bytes text.new
-        ≡ string_bytes text.old ++ cause_text sizes.now finding.now finding.now.spot.cause) }
+    ensures { AddsBytes result text.old text.new (cause_text sizes.now finding.now finding.now.spot.cause) }
 {
     match finding.spot.cause {
         Cause::LateComment => text.push_str("a comment is a line that begins with #"),
@@ -120,7 +117,7 @@ pub fn write_cause(
 // The word that goes wrong, as it is shown.
 fn push_word(finding: &Finding<'_>, text: &mut String) -> Result<(), AllocError>
     requires { IsInside finding.now }
-    ensures { IfOk result (λ _. string_bytes text.new ≡ string_bytes text.old ++ shown_word_text finding.now) }
+    ensures { AddsBytes result text.old text.new (shown_word_text finding.now) }
 {
     for byte in word_at(finding.text, finding.spot.place) {
         text.push(char::from(shown(*byte)))?;
@@ -137,8 +134,7 @@ fn shown(byte: u8) -> u8
 
 fn write_cpu(finding: &Finding<'_>, sizes: &Config, text: &mut String) -> Result<(), AllocError>
     requires { IsInside finding.now }
-    ensures { IfOk result (λ _. string_bytes text.new
-        ≡ string_bytes text.old ++ cause_text sizes.now finding.now CpuOutOfRange) }
+    ensures { AddsBytes result text.old text.new (cause_text sizes.now finding.now CpuOutOfRange) }
 {
     text.push_str("CPU ")?;
     push_word(finding, text)?;
@@ -146,15 +142,14 @@ fn write_cpu(finding: &Finding<'_>, sizes: &Config, text: &mut String) -> Result
 }
 
 fn write_cpus(cpus: u32, text: &mut String) -> Result<(), AllocError>
-    ensures { IfOk result (λ _. string_bytes text.new ≡ string_bytes text.old ++ cpus_text cpus) }
+    ensures { AddsBytes result text.old text.new (cpus_text cpus) }
 {
     write!(text, " doesn't exist (CPUs 1 to {cpus} with --cpus {cpus})")
 }
 
 fn write_unknown(finding: &Finding<'_>, text: &mut String) -> Result<(), AllocError>
     requires { IsInside finding.now }
-    ensures { (sizes : Config) → IfOk result (λ _. string_bytes text.new
-        ≡ string_bytes text.old ++ cause_text sizes finding.now UnknownCommand) }
+    ensures { (sizes : Config) → AddsBytes result text.old text.new (cause_text sizes finding.now UnknownCommand) }
 {
     text.push_str("no command '")?;
     push_word(finding, text)?;
@@ -166,7 +161,7 @@ fn write_unknown(finding: &Finding<'_>, text: &mut String) -> Result<(), AllocEr
 }
 
 fn write_commands(text: &mut String) -> Result<(), AllocError>
-    ensures { IfOk result (λ _. string_bytes text.new ≡ string_bytes text.old ++ near_text None) }
+    ensures { AddsBytes result text.old text.new (near_text None) }
 {
     text.push_str("; commands are ")?;
     for verb in Verb::ALL {
@@ -177,16 +172,14 @@ fn write_commands(text: &mut String) -> Result<(), AllocError>
 }
 
 fn write_few(finding: &Finding<'_>, text: &mut String) -> Result<(), AllocError>
-    ensures { (sizes : Config) → IfOk result (λ _. string_bytes text.new
-        ≡ string_bytes text.old ++ cause_text sizes finding.now TooFewWords) }
+    ensures { (sizes : Config) → AddsBytes result text.old text.new (cause_text sizes finding.now TooFewWords) }
 {
     text.push_str("too few words: ")?;
     write_form(finding.text, text)
 }
 
 fn write_many(finding: &Finding<'_>, text: &mut String) -> Result<(), AllocError>
-    ensures { (sizes : Config) → IfOk result (λ _. string_bytes text.new
-        ≡ string_bytes text.old ++ cause_text sizes finding.now TooManyWords) }
+    ensures { (sizes : Config) → AddsBytes result text.old text.new (cause_text sizes finding.now TooManyWords) }
 {
     text.push_str("too many words: ")?;
     write_form(finding.text, text)
@@ -194,7 +187,7 @@ fn write_many(finding: &Finding<'_>, text: &mut String) -> Result<(), AllocError
 
 // The command that may be meant.
 fn write_near(verb: Verb, text: &mut String) -> Result<(), AllocError>
-    ensures { IfOk result (λ _. string_bytes text.new ≡ string_bytes text.old ++ near_text (Some verb)) }
+    ensures { AddsBytes result text.old text.new (near_text (Some verb)) }
 {
     text.push_str("; did you mean '")?;
     text.push_str(verb.name())?;
@@ -203,8 +196,7 @@ fn write_near(verb: Verb, text: &mut String) -> Result<(), AllocError>
 
 fn write_return(finding: &Finding<'_>, text: &mut String) -> Result<(), AllocError>
     requires { IsInside finding.now }
-    ensures { (sizes : Config) → IfOk result (λ _. string_bytes text.new
-        ≡ string_bytes text.old ++ cause_text sizes finding.now CarriageReturn) }
+    ensures { (sizes : Config) → AddsBytes result text.old text.new (cause_text sizes finding.now CarriageReturn) }
 {
     text.push_str(if finding.spot.place + 1 == finding.text.len() {
         "carriage return at the end of the line: the script has Windows line ends"
@@ -215,8 +207,7 @@ fn write_return(finding: &Finding<'_>, text: &mut String) -> Result<(), AllocErr
 
 fn write_number(finding: &Finding<'_>, text: &mut String) -> Result<(), AllocError>
     requires { IsInside finding.now }
-    ensures { (sizes : Config) → IfOk result (λ _. string_bytes text.new
-        ≡ string_bytes text.old ++ cause_text sizes finding.now NumberOutOfRange) }
+    ensures { (sizes : Config) → AddsBytes result text.old text.new (cause_text sizes finding.now NumberOutOfRange) }
 {
     text.push_str("'")?;
     push_word(finding, text)?;
@@ -226,8 +217,7 @@ fn write_number(finding: &Finding<'_>, text: &mut String) -> Result<(), AllocErr
 
 fn write_frame(finding: &Finding<'_>, sizes: &Config, text: &mut String) -> Result<(), AllocError>
     requires { IsInside finding.now }
-    ensures { IfOk result (λ _. string_bytes text.new
-        ≡ string_bytes text.old ++ cause_text sizes.now finding.now FrameOutOfZone) }
+    ensures { AddsBytes result text.old text.new (cause_text sizes.now finding.now FrameOutOfZone) }
 {
     text.push_str("frame ")?;
     push_word(finding, text)?;
@@ -235,7 +225,7 @@ fn write_frame(finding: &Finding<'_>, sizes: &Config, text: &mut String) -> Resu
 }
 
 fn write_frames(frames: u32, text: &mut String) -> Result<(), AllocError>
-    ensures { IfOk result (λ _. string_bytes text.new ≡ string_bytes text.old ++ zone_range_text frames) }
+    ensures { AddsBytes result text.old text.new (zone_range_text frames) }
 {
     let last = frames.saturating_sub(1);
     write!(
@@ -246,8 +236,7 @@ fn write_frames(frames: u32, text: &mut String) -> Result<(), AllocError>
 
 fn write_group(finding: &Finding<'_>, text: &mut String) -> Result<(), AllocError>
     requires { IsInside finding.now }
-    ensures { (sizes : Config) → IfOk result (λ _. string_bytes text.new
-        ≡ string_bytes text.old ++ cause_text sizes finding.now GroupOutOfRange) }
+    ensures { (sizes : Config) → AddsBytes result text.old text.new (cause_text sizes finding.now GroupOutOfRange) }
 {
     text.push_str("group ")?;
     push_word(finding, text)?;
@@ -255,8 +244,7 @@ fn write_group(finding: &Finding<'_>, text: &mut String) -> Result<(), AllocErro
 }
 
 fn write_byte(finding: &Finding<'_>, text: &mut String) -> Result<(), AllocError>
-    ensures { (sizes : Config) → IfOk result (λ _. string_bytes text.new
-        ≡ string_bytes text.old ++ cause_text sizes finding.now UnprintableByte) }
+    ensures { (sizes : Config) → AddsBytes result text.old text.new (cause_text sizes finding.now UnprintableByte) }
 {
     let byte = byte_at(finding.text, finding.spot.place);
     write!(text, "byte {byte} isn't printable ASCII")

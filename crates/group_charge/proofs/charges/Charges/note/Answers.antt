@@ -32,18 +32,14 @@ invariant_of-self c =
     (AreCharges-noted c.args.key l c.args.group c.self.invariant.charges) size
     (stored_noted c.args.key l c.self.inside.usages c.args.group c.self.invariant.usages_are)
 
-pub returns-clause-counts : goal.returns-clause-counts
-returns-clause-counts c =
-    subst (λ l. CountsEvent c.args.key c.args.self.now l c.args.group) (sym (returns-clause-noted c))
-    (note_counts c.args.key c.args.self.now c.args.group (subst AreCharges c.self.view_is c.self.invariant.charges) c.requires)
-
-pub returns-clause-usage : goal.returns-clause-usage
-returns-clause-usage c =
-    subst (SameUsage c.args.self.now) (sym (returns-clause-noted c))
-    (λ m. usage-noted c.args.key c.args.self.now.groups c.args.self.now.accounts c.args.group m)
-
-pub returns-clause-pages : goal.returns-clause-pages
-returns-clause-pages c = subst (SamePages c.args.self.now) (sym (returns-clause-noted c)) (note_pages c.args.key c.args.self.now c.args.group)
-
-pub returns-clause-peaks : goal.returns-clause-peaks
-returns-clause-peaks c = subst (SamePeaks c.args.self.now) (sym (returns-clause-noted c)) (note_peaks c.args.key c.args.self.now c.args.group)
+pub returns-clause-only : goal.returns-clause-only
+returns-clause-only c =
+    let before = c.args.self.now in
+    let same = sym (returns-clause-noted c) in record {
+      counts = subst (λ l. CountsEvent c.args.key before l c.args.group) same
+          (note_counts c.args.key before c.args.group (subst AreCharges c.self.view_is c.self.invariant.charges) c.requires);
+      groups = ap (λ l. l.groups) (returns-clause-noted c);
+      usage = subst (SameUsage before) same (λ m. usage-noted c.args.key before.groups before.accounts c.args.group m);
+      pages = subst (SamePages before) same (note_pages c.args.key before c.args.group);
+      peaks = subst (SamePeaks before) same (note_peaks c.args.key before c.args.group);
+    }

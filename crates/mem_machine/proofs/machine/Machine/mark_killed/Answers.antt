@@ -20,7 +20,7 @@ make_step-requires-clause-legal g c =
     let inside : c.args.group < length c.self.inside.killed.items = omega (arith, value, below, sized) in
     may_lead g.N.BootName.frames _ _ c.self.view_is c.requires.shown.cpu c.requires.shown.is _ _ _
     (kills g.N.BootName.frames _ _ c.self.view_is c.args.group inside c.requires.there c.requires.alive _ c.note_kill.ensures.noted
-    c.note_kill.ensures.counts c.note_kill.ensures.peaks _ (ap (λ (n : ℕ). slice_set c.self.inside.killed.items n true) value) c.requires.shown.cpu)
+    c.note_kill.ensures.only.counts c.note_kill.ensures.only.peaks _ (ap (λ (n : ℕ). slice_set c.self.inside.killed.items n true) value) c.requires.shown.cpu)
 
 pub returns-clause-steps : goal.returns-clause-steps
 returns-clause-steps g c =
@@ -30,7 +30,7 @@ returns-clause-steps g c =
     let inside : c.args.group < length c.self.inside.killed.items = omega (arith, value, below, sized) in
     λ cpu. makes_noted _ _ _ _ c.self.view_is cpu cpu _ _
     (kills g.N.BootName.frames _ _ c.self.view_is c.args.group inside c.requires.there c.requires.alive _ c.note_kill.ensures.noted
-    c.note_kill.ensures.counts c.note_kill.ensures.peaks _ (ap (λ (n : ℕ). slice_set c.self.inside.killed.items n true) value) cpu) _ c.make_step.ensures.notes
+    c.note_kill.ensures.only.counts c.note_kill.ensures.only.peaks _ (ap (λ (n : ℕ). slice_set c.self.inside.killed.items n true) value) cpu) _ c.make_step.ensures.notes
 
 pub returns-clause-visit : goal.returns-clause-visit
 returns-clause-visit g c = stays_then g.N.BootName.frames _ _ c.self.view_is _ refl _ (returns-clause-steps g c)

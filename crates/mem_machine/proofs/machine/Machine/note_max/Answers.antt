@@ -11,12 +11,12 @@ make_step-requires-clause-held g c = held_here g.N.BootName.frames _ _ c.self.vi
 
 pub make_step-requires-clause-legal : goal.make_step-requires-clause-legal
 make_step-requires-clause-legal g c = may_lead g.N.BootName.frames _ _ c.self.view_is c.requires.shown.cpu c.requires.shown.is _ _ _
-    (notes_max g.N.BootName.frames _ _ c.self.view_is c.args.group c.requires.there _ c.note_max.ensures.noted c.note_max.ensures.counts c.note_max.ensures.peaks c.requires.shown.cpu)
+    (notes_max g.N.BootName.frames _ _ c.self.view_is c.args.group c.requires.there _ c.note_max.ensures.noted c.note_max.ensures.only.counts c.note_max.ensures.only.peaks c.requires.shown.cpu)
 
 pub returns-clause-steps : goal.returns-clause-steps
 returns-clause-steps g c =
     λ cpu. makes_noted _ _ _ _ c.self.view_is cpu cpu _ _
-    (notes_max g.N.BootName.frames _ _ c.self.view_is c.args.group c.requires.there _ c.note_max.ensures.noted c.note_max.ensures.counts c.note_max.ensures.peaks cpu) _ c.make_step.ensures.notes
+    (notes_max g.N.BootName.frames _ _ c.self.view_is c.args.group c.requires.there _ c.note_max.ensures.noted c.note_max.ensures.only.counts c.note_max.ensures.only.peaks cpu) _ c.make_step.ensures.notes
 
 pub returns-clause-visit : goal.returns-clause-visit
 returns-clause-visit g c = stays_then g.N.BootName.frames _ _ c.self.view_is _ refl _ (returns-clause-steps g c)
