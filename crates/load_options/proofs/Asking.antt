@@ -91,20 +91,20 @@ pub asked_version : (words : List (List ℕ)) → asks_version words ≡ true �
 unfolding options_of
 asked_version words version = ap (λ (b : Bool). cond b (Some (bare_options Version)) (parsed_options words)) version
 
--- the options are those that clap found, if they don't ask for the version and it found no fault
-pub asked_found : (words : List (List ℕ)) → asks_version words ≡ false → fault_of program words ≡ []
-    → options_of words ≡ option_and_then (λ (p : List ℕ × List Row). options_under p.0 p.1) (subcommand_of program words)
+-- or for what a parse finds
+pub asked_parsed : (words : List (List ℕ)) → asks_version words ≡ false → options_of words ≡ parsed_options words
 unfolding options_of
-asked_found words other none =
-    ap (λ (b : Bool). cond b (Some (bare_options Version)) (parsed_options words)) other
-    ∙ ap (λ (kinds : Kinds). if_none kinds (option_and_then (λ (p : List ℕ × List Row). options_under p.0 p.1) (subcommand_of program words))) none
+asked_parsed words other = ap (λ (b : Bool). cond b (Some (bare_options Version)) (parsed_options words)) other
+
+-- the options are those that clap found, if it found no fault
+pub asked_found : (words : List (List ℕ)) → fault_of program words ≡ []
+    → parsed_options words ≡ option_and_then (λ (p : List ℕ × List Row). options_under p.0 p.1) (subcommand_of program words)
+asked_found words none =
+    ap (λ (kinds : Kinds). if_none kinds (option_and_then (λ (p : List ℕ × List Row). options_under p.0 p.1) (subcommand_of program words))) none
 
 -- and there are none if it found one
-pub asked_nothing : (words : List (List ℕ)) (kind : ErrorKind) → asks_version words ≡ false → IsAmong kind (fault_of program words)
-    → options_of words ≡ None
-unfolding options_of
-asked_nothing words kind other among =
-    ap (λ (b : Bool). cond b (Some (bare_options Version)) (parsed_options words)) other ∙ go (fault_of program words) among
+pub asked_nothing : (words : List (List ℕ)) (kind : ErrorKind) → IsAmong kind (fault_of program words) → parsed_options words ≡ None
+asked_nothing words kind among = go (fault_of program words) among
   where
     go : (kinds : Kinds) → IsAmong kind kinds
         → if_none kinds (option_and_then (λ (p : List ℕ × List Row). options_under p.0 p.1) (subcommand_of program words)) ≡ None

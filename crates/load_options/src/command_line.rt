@@ -1,14 +1,15 @@
 //! Parses the words of the command line.
 
-ghost use Rattle.std.specs.Prelude.{◌≡◌, IfOk, codes, false, map, pos};
-ghost use Rattle.clap.specs.Words.{app_of, kind_of, new_app};
+ghost use Rattle.std.specs.Prelude.{◌≡◌, IfOk, codes, false, map, option_and_then, pos};
+ghost use Rattle.clap.specs.Simple.{Shape, with_subcommand};
+ghost use Rattle.clap.specs.Words.{app_of, kind_of, new_app, subcommand_rows_of};
 ghost use Rattle.clap.specs.declared.builder.command.Command.TheViews.{out-Command as fields_of};
 ghost use Rattle.clap.specs.declared.builder.value_parser.ValueParser.TheVariants.{Signed};
 ghost use Rattle.load_options.specs.Fault.{IsNoMemory};
 ghost use Rattle.load_options.specs.Sizes.{HasSizesInRange};
 ghost use Rattle.load_options.specs.Words.{GivesOptions, asks_version, bare_program, check_shape, command_shape};
-ghost use Rattle.load_options.specs.Words.{flag_rule, options_of, program, replay_shape, serve_shape, size_rule};
-ghost use Rattle.load_options.specs.Words.{sized_shape, with_option, with_options};
+ghost use Rattle.load_options.specs.Words.{flag_rule, options_of, options_under, parsed_options, program, replay_shape};
+ghost use Rattle.load_options.specs.Words.{serve_shape, size_rule, sized_shape, with_option, with_options};
 
 use crate::fault::WordsFault;
 use crate::task::{Options, VERSION_OPTIONS, read_options};
@@ -135,20 +136,49 @@ pub fn options<S: AsStr>(alloc: Global, words: &[S]) -> Result<Options, WordsFau
         return Ok(VERSION_OPTIONS);
     }
     let mut command = memcg(alloc).map_err(WordsFault::NoMemory)?;
-    let found = match command.try_get_matches_from_mut(words) {
-        Ok(found) => found,
-        Err(error) => return Err(fault_of(alloc, &error)),
-    };
-    match read_options(&found) {
+    let asked = parse(alloc, &mut command, words);
+    drop(command); // A call, because the drop of so large a value is long to check in each place.
+    asked
+}
+
+// The options that clap reads from the words.
+fn parse<'a, S: AsStr>(
+    alloc: Global,
+    command: &mut Command<'a>,
+    words: &'a [S],
+) -> Result<Options, WordsFault>
+    requires { app_of command.old ≡ program }
+    ensures asked { GivesOptions (parsed_options (map S.text words.entry.now)) result }
+    ensures in_range { IfOk result (λ o. HasSizesInRange o.sizes) }
+{
+    match command.try_get_matches_from_mut(words) {
+        Ok(found) => {
+            let asked = options_found(alloc, command, &found);
+            drop(found);
+            asked
+        }
+        Err(error) => Err(fault_of(alloc, &error)),
+    }
+}
+
+// The options that clap's matches ask for.
+fn options_found(
+    alloc: Global,
+    command: &mut Command<'_>,
+    found: &ArgMatches<'_>,
+) -> Result<Options, WordsFault>
+    ensures asked { GivesOptions
+        (option_and_then (λ p. options_under p.0 p.1) (subcommand_rows_of found.now)) result }
+    ensures in_range { IfOk result (λ o. HasSizesInRange o.sizes) }
+{
+    match read_options(found) {
         Some(options) => Ok(options),
         // Clap takes `--steps` with any other option. Nothing else leads here: clap refuses words without a subcommand
         // and values out of range, and every size has a default. But its contract says none of that.
-        None => {
-            let error = command
-                .error(ErrorKind::ArgumentConflict, steps_alone(&found))
-                .map_err(WordsFault::NoMemory)?;
-            Err(fault_of(alloc, &error))
-        }
+        None => match command.error(ErrorKind::ArgumentConflict, steps_alone(found)) {
+            Ok(error) => Err(fault_of(alloc, &error)),
+            Err(error) => Err(WordsFault::NoMemory(error)),
+        },
     }
 }
 
@@ -186,12 +216,30 @@ fn fault_of(alloc: Global, error: &Error) -> WordsFault
 fn memcg<'a>(alloc: Global) -> Result<Command<'a>, AllocError>
     ensures app { IfOk result (λ command. app_of command ≡ program) }
 {
-    bare_command(alloc)?
-        .subcommand(replay_command(alloc)?)?
-        .subcommand(subcommand(alloc, "run", RUN_HELP)?)?
-        .subcommand(check_command(alloc)?)?
-        .subcommand(sized(alloc, "lint", LINT_HELP)?)?
-        .subcommand(serve_command(alloc)?)
+    let program = bare_command(alloc)?;
+    let program = with_command(program, replay_command(alloc))?;
+    let program = with_command(program, subcommand(alloc, "run", RUN_HELP))?;
+    let program = with_command(program, check_command(alloc))?;
+    let program = with_command(program, sized(alloc, "lint", LINT_HELP))?;
+    with_command(program, serve_command(alloc))
+}
+
+// The program with one more subcommand, if that was made.
+fn with_command<'a>(
+    program: Command<'a>,
+    made: Result<Command<'a>, AllocError>,
+) -> Result<Command<'a>, AllocError>
+    requires local { IfOk made (λ command. (fields_of command).has_globals ≡ false) }
+    ensures { (shape : Shape) → IfOk made.entry (λ command. (app_of command).top ≡ shape)
+        → IfOk result (λ more. app_of more ≡ with_subcommand (app_of program.entry) shape) }
+{
+    match made {
+        Ok(command) => program.subcommand(command),
+        Err(error) => {
+            drop(program); // As in `options`.
+            Err(error)
+        }
+    }
 }
 
 // The program without its subcommands.

@@ -12,7 +12,7 @@ use clap::ArgMatches;
 use zone_blocks::config::Config;
 
 /// What the program does with its input, with the options of this task alone.
-#[derive(Clone, Copy, Debug, PartialEq, Eq)]
+#[derive(Clone, Copy, PartialEq, Eq)]
 pub enum Task {
     /// The lines run one after another.
     Replay {
@@ -45,7 +45,7 @@ pub enum Task {
 }
 
 /// What the words of the command line ask for.
-#[derive(Clone, Copy, Debug, PartialEq, Eq)]
+#[derive(Clone, Copy, PartialEq, Eq)]
 pub struct Options {
     /// What to do with the input.
     pub task: Task,

@@ -1,20 +1,21 @@
 -- Serves the contract of `memcg`: the program's own settings, and its subcommands, one after the other.
-use Rattle.std.proofs.Common.{◌∙◌, ap₂}
+use Rattle.std.proofs.Common.{◌∙◌, ap, codes}
 use Rattle.std.proofs.lemmas.Result.{IfOk-weaker}
-use Rattle.clap.specs.Simple.{with_subcommand}
+use Rattle.clap.specs.Simple.{App, with_subcommand}
+use Rattle.load_options.specs.Words.{check_shape, command_shape, replay_shape, serve_shape, sized_shape}
 use Rattle.load_options.proofs.command_line.memcg.Goals as goal
 
 pub returns : goal.returns
 returns c =
-    let replay = c.in_ok-subcommand.ensures.shape c.in_ok-replay_command.ensures.local
-    ∙ ap₂ with_subcommand c.in_ok-bare_command.ensures.app c.in_ok-replay_command.ensures.shape in
-    let run = c.in_ok-subcommand-3.ensures.shape c.in_ok-subcommand-2.ensures.local
-    ∙ ap₂ with_subcommand replay c.in_ok-subcommand-2.ensures.shape in
-    let check = c.in_ok-subcommand-4.ensures.shape c.in_ok-check_command.ensures.local
-    ∙ ap₂ with_subcommand run c.in_ok-check_command.ensures.shape in
-    let lint = c.in_ok-subcommand-5.ensures.shape c.in_ok-sized.ensures.local
-    ∙ ap₂ with_subcommand check c.in_ok-sized.ensures.shape in
+    let replay = c.in_ok-program-2.ensures replay_shape c.replay_command.ensures.shape
+    ∙ ap (λ (app : App). with_subcommand app replay_shape) c.in_ok-program.ensures.app in
+    let run = c.in_ok-program-3.ensures (command_shape (codes "run")) c.subcommand.ensures.shape
+    ∙ ap (λ (app : App). with_subcommand app (command_shape (codes "run"))) replay in
+    let check = c.in_ok-program-4.ensures check_shape c.check_command.ensures.shape
+    ∙ ap (λ (app : App). with_subcommand app check_shape) run in
+    let lint = c.in_ok-program-5.ensures (sized_shape (codes "lint")) c.sized.ensures.shape
+    ∙ ap (λ (app : App). with_subcommand app (sized_shape (codes "lint"))) check in
     record {
-      app = IfOk-weaker c.subcommand-6.result _ _ (λ command added.
-          added.shape c.in_ok-serve_command.ensures.local ∙ ap₂ with_subcommand lint c.in_ok-serve_command.ensures.shape) c.subcommand-6.ensures;
+      app = IfOk-weaker c.with_command-5.result _ _ (λ command serve. serve ∙ ap (λ (app : App). with_subcommand app serve_shape) lint)
+          (c.with_command-5.ensures serve_shape c.serve_command.ensures.shape);
     }
