@@ -1,5 +1,5 @@
 -- How many bytes two texts begin with alike.
-use Rattle.std.proofs.Common.{◌≡◌, ℕ, ◌<◌, ◌≤◌, List, [], ◌∷◌, ◌++◌, All, get_or, arith, refl, subst}
+use Rattle.std.proofs.Common.{ℕ, ◌<◌, ◌≤◌, List, [], ◌∷◌, ◌++◌, All, get_or, arith, refl, subst}
 use Rattle.std.proofs.lemmas.List.Elements.{All-push}
 use Rattle.script_lines.specs.Verb.{all_verbs, name_of_verb}
 use Rattle.script_lines.specs.declared.verb.Verb.{Verb}

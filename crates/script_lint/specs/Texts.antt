@@ -29,10 +29,13 @@ shown b = if is_printable b then b else 63
 abbrev pub shown_word_text : Finding → List ℕ
 shown_word_text f = flat_map (λ b. encode_utf8 (shown b)) (word_at f.text.now f.spot.place)
 
+-- the names of commands
+abbrev pub names_text : List Verb → List ℕ
+names_text verbs = flat_map (λ v. name_of_verb v ++ codes ", ") verbs
+
 -- the command that may be meant, or all of them
 abbrev pub near_text : Option Verb → List ℕ
-near_text None = codes "; commands are "
-    ++ (flat_map (λ v. name_of_verb v ++ codes ", ") all_verbs ++ codes "and go without a CPU")
+near_text None = codes "; commands are " ++ (names_text all_verbs ++ codes "and go without a CPU")
 near_text (Some v) = codes "; did you mean '" ++ name_of_verb v ++ codes "'?"
 
 -- what is said of a carriage return, at the end of the line or before

@@ -2,11 +2,9 @@
 
 ghost use Rattle.std.specs.Prelude.{◌≡◌, ◌≤◌, length, not};
 ghost use Rattle.std.specs.List.{find};
-ghost use Rattle.std.specs.Str.{bytes_eq};
-ghost use Rattle.script_lines.specs.Verb.{name_of_verb};
 ghost use Rattle.script_lint.specs.Causes.{after_space, byte_at, byte_before, cause_at, is_between_words};
 ghost use Rattle.script_lint.specs.Causes.{is_digit, is_double_space, is_gap};
-ghost use Rattle.script_lint.specs.Causes.{is_known, is_printable, later_cause_at, takes_group, takes_order, verb_of};
+ghost use Rattle.script_lint.specs.Causes.{is_known, is_printable, later_cause_at, takes_group, takes_order, verb_named, verb_of};
 ghost use Rattle.script_lint.specs.Causes.{is_unknown_command, is_number_out_of_range, is_no_cpu, is_frame_out_of_zone};
 ghost use Rattle.script_lint.specs.Causes.{is_group_out_of_range};
 ghost use Rattle.script_lint.specs.Causes.{is_cpu_out_of_range, spaces_before, until_space, word_at, word_behind};
@@ -210,11 +208,11 @@ fn is_unknown_command(text: &[u8], place: usize) -> bool
         && (!is_gap(byte) || ((byte == 32 || byte == 10) && !is_known(after_space(&text[..place]))))
 }
 
-// The first of the commands that has this name.
-fn first_named(verbs: &[Verb], name: &[u8]) -> Option<Verb>
-    ensures { result ≡ find (λ v. bytes_eq (name_of_verb v) name.now) verbs.now }
+// The command of this name.
+fn verb_named(name: &[u8]) -> Option<Verb>
+    ensures { result ≡ verb_named name.now }
 {
-    verbs
+    Verb::ALL
         .iter()
         .copied()
         .find(|verb| verb.name().as_bytes() == name)
@@ -224,7 +222,7 @@ fn first_named(verbs: &[Verb], name: &[u8]) -> Option<Verb>
 fn is_known(name: &[u8]) -> bool
     ensures { result ≡ is_known name.now }
 {
-    name.is_empty() || first_named(&Verb::ALL, name).is_some()
+    name.is_empty() || verb_named(name).is_some()
 }
 
 // Whether there is a space, and a word before and behind it.
@@ -249,7 +247,7 @@ fn is_double_space(text: &[u8], place: usize) -> bool
 pub(crate) fn verb_of(text: &[u8]) -> Option<Verb>
     ensures { result ≡ verb_of text.now }
 {
-    first_named(&Verb::ALL, word_behind(1, text))
+    verb_named(word_behind(1, text))
 }
 
 // Whether the line's command names an order.

@@ -1,7 +1,7 @@
 //! What a line has to be.
 
-ghost use Rattle.std.specs.Prelude.{◌≡◌, ◌++◌, IfOk};
-ghost use Rattle.std.specs.String.{string_bytes};
+ghost use Rattle.std.specs.Prelude.{◌≡◌};
+ghost use Rattle.control_files.specs.Strings.{AddsBytes};
 ghost use Rattle.script_lint.specs.Causes.{verb_of};
 ghost use Rattle.script_lint.specs.Forms.{form_text_of, words_text};
 
@@ -11,7 +11,7 @@ use std::alloc::AllocError;
 
 // Adds the form of the line's command, or of a line if none has the second word as its name.
 pub(crate) fn write_form(line: &[u8], text: &mut String) -> Result<(), AllocError>
-    ensures { IfOk result (λ _. string_bytes text.new ≡ string_bytes text.old ++ form_text_of (verb_of line.now)) }
+    ensures { AddsBytes result text.old text.new (form_text_of (verb_of line.now)) }
 {
     match verb_of(line) {
         Some(verb) => {

@@ -1,14 +1,15 @@
 //! What is written for what is found.
 
-ghost use Rattle.std.specs.Prelude.{◌≡◌, All, None, Some};
+ghost use Rattle.std.specs.Prelude.{◌≡◌, ◌++◌, All, None, Some};
 ghost use Rattle.std.specs.List.{flat_map};
 ghost use Rattle.control_files.specs.Strings.{AddsBytes};
 ghost use Rattle.zone_blocks.specs.declared.config.Config.{Config};
+ghost use Rattle.script_lint.specs.Causes.{verb_of};
+ghost use Rattle.script_lint.specs.Forms.{form_text_of};
 ghost use Rattle.script_lint.specs.Texts.{IsInside, cause_text, cpus_text, default_text, finding_text, zone_range_text};
-ghost use Rattle.script_lint.specs.Texts.{given_text, near_text, shown, sizes_text, shown_word_text};
+ghost use Rattle.script_lint.specs.Texts.{given_text, names_text, near_text, shown, sizes_text, shown_word_text};
 ghost use Rattle.script_lint.specs.declared.finding.Cause.TheVariants.{CarriageReturn, FrameOutOfZone, GroupOutOfRange};
 ghost use Rattle.script_lint.specs.declared.finding.Cause.TheVariants.{NumberOutOfRange, CpuOutOfRange};
-ghost use Rattle.script_lint.specs.declared.finding.Cause.TheVariants.{TooFewWords, TooManyWords};
 ghost use Rattle.script_lint.specs.declared.finding.Cause.TheVariants.{UnknownCommand, UnprintableByte};
 
 use crate::cause::{byte_at, is_printable, word_at};
@@ -98,8 +99,8 @@ pub fn write_cause(
         Cause::NoCpu => text.push_str("no CPU's number: a line is P COMMAND or go"),
         Cause::CpuOutOfRange => write_cpu(finding, sizes, text),
         Cause::UnknownCommand => write_unknown(finding, text),
-        Cause::TooFewWords => write_few(finding, text),
-        Cause::TooManyWords => write_many(finding, text),
+        Cause::TooFewWords => write_misfit("too few words: ", finding, text),
+        Cause::TooManyWords => write_misfit("too many words: ", finding, text),
         Cause::TwoSpaces => text.push_str("two spaces"),
         Cause::SpaceAtEnd => text.push_str("space at an end of the line"),
         Cause::Tab => text.push_str("tab"),
@@ -164,24 +165,26 @@ fn write_commands(text: &mut String) -> Result<(), AllocError>
     ensures { AddsBytes result text.old text.new (near_text None) }
 {
     text.push_str("; commands are ")?;
-    for verb in Verb::ALL {
-        let name = verb.name();
-        write!(text, "{name}, ")?;
-    }
+    write_names(&Verb::ALL, text)?;
     text.push_str("and go without a CPU")
 }
 
-fn write_few(finding: &Finding<'_>, text: &mut String) -> Result<(), AllocError>
-    ensures { (sizes : Config) → AddsBytes result text.old text.new (cause_text sizes finding.now TooFewWords) }
+// The names of these commands.
+fn write_names(verbs: &[Verb], text: &mut String) -> Result<(), AllocError>
+    ensures { AddsBytes result text.old text.new (names_text verbs.now) }
 {
-    text.push_str("too few words: ")?;
-    write_form(finding.text, text)
+    for verb in verbs {
+        let name = verb.name();
+        write!(text, "{name}, ")?;
+    }
+    Ok(())
 }
 
-fn write_many(finding: &Finding<'_>, text: &mut String) -> Result<(), AllocError>
-    ensures { (sizes : Config) → AddsBytes result text.old text.new (cause_text sizes finding.now TooManyWords) }
+// Adds why, and the form that the line should have.
+fn write_misfit(why: &str, finding: &Finding<'_>, text: &mut String) -> Result<(), AllocError>
+    ensures { AddsBytes result text.old text.new (why.now ++ form_text_of (verb_of finding.now.text.now)) }
 {
-    text.push_str("too many words: ")?;
+    text.push_str(why)?;
     write_form(finding.text, text)
 }
 
@@ -211,8 +214,7 @@ fn write_number(finding: &Finding<'_>, text: &mut String) -> Result<(), AllocErr
 {
     text.push_str("'")?;
     push_word(finding, text)?;
-    text.push_str("' isn't a number from 0 to 4294967295: ")?;
-    write_form(finding.text, text)
+    write_misfit("' isn't a number from 0 to 4294967295: ", finding, text)
 }
 
 fn write_frame(finding: &Finding<'_>, sizes: &Config, text: &mut String) -> Result<(), AllocError>

@@ -19,10 +19,10 @@ pub returns-in-UnprintableByte : goal.returns-in-UnprintableByte
 returns-in-UnprintableByte c = rw c.in-UnprintableByte.is (c.write_byte.ensures c.args.sizes.now)
 
 pub returns-in-TooFewWords : goal.returns-in-TooFewWords
-returns-in-TooFewWords c = rw c.in-TooFewWords.is (c.write_few.ensures c.args.sizes.now)
+returns-in-TooFewWords c = rw c.in-TooFewWords.is c.write_misfit.ensures
 
 pub returns-in-TooManyWords : goal.returns-in-TooManyWords
-returns-in-TooManyWords c = rw c.in-TooManyWords.is (c.write_many.ensures c.args.sizes.now)
+returns-in-TooManyWords c = rw c.in-TooManyWords.is c.write_misfit-in-TooManyWords.ensures
 
 pub returns-in-LateComment : goal.returns-in-LateComment
 returns-in-LateComment c = rw c.in-LateComment.is (told c.push_str.result (string_bytes c.args.text.now) (codes "a comment is a line that begins with #") _ c.push_str.ensures.bytes)

@@ -2,12 +2,11 @@ use Rattle.std.proofs.Common.{◌++◌, codes}
 use Rattle.script_lint.specs.Causes.{verb_of}
 use Rattle.script_lint.specs.Forms.{form_text_of}
 use Rattle.script_lint.specs.Texts.{shown_word_text}
-use Rattle.script_lint.proofs.Pieces.{behind, follow}
+use Rattle.script_lint.proofs.Pieces.{follow}
 use Rattle.script_lint.proofs.text.write_number.Goals as goal
 
 pub returns : goal.returns
 returns c sizes =
-    let form = form_text_of (verb_of c.args.finding.now.text.now) in
-    follow c.write_form.result _ (codes "'") (shown_word_text c.args.finding.now) (codes "' isn't a number from 0 to 4294967295: " ++ form) _ _ _
-    c.in_ok-push_str.ensures.bytes c.in_ok-push_word.ensures
-    (behind c.write_form.result _ (codes "' isn't a number from 0 to 4294967295: ") form _ _ c.in_ok-push_str-2.ensures.bytes c.write_form.ensures)
+    follow c.write_misfit.result _ (codes "'") (shown_word_text c.args.finding.now)
+    (codes "' isn't a number from 0 to 4294967295: " ++ form_text_of (verb_of c.args.finding.now.text.now)) _ _ _
+    c.in_ok-push_str.ensures.bytes c.in_ok-push_word.ensures c.write_misfit.ensures
