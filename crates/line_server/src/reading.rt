@@ -5,9 +5,11 @@ ghost use Rattle.std.specs.Io.BufRead.{DropsThrough};
 ghost use Rattle.line_server.specs.Streams.{EndsLine, IsFound, TakesByte};
 ghost use Rattle.line_server.specs.declared.reading.ReadFault.TheVariants.{NoMemory};
 
-use script_lines::script::MAX_LINE;
 use std::alloc::{AllocError, AllocFailed};
 use std::io::{ErrorKind, Read};
+
+/// The most bytes that a line has, its line feed not counted.
+pub const MAX_LINE: usize = 1_024;
 
 /// What a reader held.
 #[derive(Clone, Copy, Debug, PartialEq, Eq)]

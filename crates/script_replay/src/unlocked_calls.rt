@@ -41,7 +41,7 @@ pub(crate) fn try_in_order<N: BootName>(
     if !is_tried(command) {
         return None;
     }
-    let _number = cpu.number(); // Called for its contract: the CPU's lists are what its seats know.
+    let _number = cpu.number();
     locked.meet(tables, cpu);
     let said = try_unlocked(tables, cpu, command);
     locked.meet(tables, cpu);
@@ -61,7 +61,7 @@ pub(crate) fn alloc_in_order<N: BootName>(
     ensures gains { Gains (steps_alone cpu.old.part.number (command.Fast group) (unlocked.Fast result))
         (locked_state locked.old cpu.old) (locked_state locked.new cpu.new) }
 {
-    let _number = cpu.number(); // Called for its contract: the CPU's lists are what its seats know.
+    let _number = cpu.number();
     locked.meet(tables, cpu);
     let answer = cpu.alloc_fast(tables, group.number());
     locked.meet(tables, cpu);
