@@ -1,6 +1,7 @@
 //! One CPU's stock, and how many frames and pins it has.
 
-ghost use Rattle.std.specs.Prelude.{◌≡◌, None, IsTrue, MatchOption};
+ghost use Rattle.std.specs.Prelude.{◌≡◌, ◌++◌, None, IfOk, IsTrue, MatchOption};
+ghost use Rattle.std.specs.String.{string_bytes};
 ghost use Rattle.control_files.specs.Strings.{AddsBytes};
 ghost use Rattle.group_tree.specs.Groups.{has_group, path_of};
 ghost use Rattle.machine_texts.specs.Stock.{counts_text, cpu_text, owner_text, stock_text};
@@ -24,7 +25,7 @@ pub fn write_stock<N: BootName>(
     stock: Stock,
     text: &mut String,
 ) -> Result<(), AllocError>
-    ensures { AddsBytes result text.old text.new (cpu_text tree.now cpu.now stock) }
+    ensures { IfOk result (λ _. string_bytes text.new ≡ string_bytes text.old ++ cpu_text tree.now cpu.now stock) }
 {
     let number = cpu.number();
     write!(text, "cpu {number} stock ")?;
