@@ -1,4 +1,4 @@
-//! What a stock word says, and what a seat at the stock table knows.
+//! What a stock word says, and what a seat knows of it.
 use std::collections::LinkedList;
 
 // This word and any above it is that of a drained stock.
