@@ -1,38 +1,32 @@
 -- What the lines of a script name is there, by the sizes that it was read with.
-use Rattle.std.proofs.Common.{◌≡◌, ℕ, zero, suc, List, [], ◌∷◌, All, Option, Some, ◌<◌, arith, subst}
+use Rattle.std.proofs.Common.{◌≡◌, ℕ, zero, suc, List, [], ◌∷◌, All, Option, Some, ◌<◌, arith, rules, subst}
 use Rattle.std.specs.Prelude.{IfSome}
 use Rattle.std.specs.List.{AllZip}
 use Rattle.zone_blocks.specs.declared.config.Config.{Config}
 use Rattle.mem_system.specs.Commands.{NamesFrameBelow}
 use Rattle.mem_system.specs.declared.command.Cmd.{Cmd}
 use Rattle.script_lines.specs.declared.line.Command.{Command}
-use Rattle.script_lines.specs.declared.line.Command.TheVariants.{Fast, Release, Get, Put, Touch}
-use Rattle.script_lines.specs.declared.line.Command.TheVariants.{Dirty, Clean, Owner}
+use Rattle.script_lines.specs.declared.line.Command.TheVariants.{Release}
 use Rattle.script_lines.specs.declared.line.Line.{Line}
 use Rattle.script_lines.specs.declared.line.Line.TheVariants.{Go, At}
 use Rattle.script_lines.specs.Script.{IsCommandText, IsLineText, IsScript, asking_texts, texts_of}
+use Rattle.script_lines.specs.Verb.{Arguments, Frame, Group, IsNameWith, its_verb, name_of_verb, words_of_command}
 use Rattle.script_replay.specs.Commands.{cmd_of, head_named}
-use Rattle.script_replay.specs.Ranges.{CommandInRange, LineInRange}
+use Rattle.script_replay.specs.Ranges.{ArgumentsInRange, CommandInRange, LineInRange}
 
 -- what the command's text names is in range
+said_in_range : (sizes : Config) (name : List ℕ) (arguments : Arguments) (text : List ℕ) → IsNameWith sizes name arguments text
+    → ArgumentsInRange sizes.frames arguments
+said_in_range sizes name (Group group) text is = is.2.low
+said_in_range sizes name (Frame frame) text is = is.2.in_zone
+said_in_range sizes name arguments text is = tt
+
 named_in_range : (sizes : Config) (command : Command) (text : List ℕ) → IsCommandText sizes command text → CommandInRange sizes.frames command
-named_in_range sizes (Fast group) text is = is.2.low
-named_in_range sizes (Release frame) text is = is.2.in_zone
-named_in_range sizes (Get frame) text is = is.2.in_zone
-named_in_range sizes (Put frame) text is = is.2.in_zone
-named_in_range sizes (Touch frame) text is = is.2.in_zone
-named_in_range sizes (Dirty frame) text is = is.2.in_zone
-named_in_range sizes (Clean frame) text is = is.2.in_zone
-named_in_range sizes (Owner frame) text is = is.2.in_zone
-named_in_range sizes command text is = tt
+named_in_range sizes command text is = said_in_range sizes (name_of_verb (its_verb command)) (words_of_command command).1 text is
 
 named_below : (frames : ℕ) (command : Command) → CommandInRange frames command → IfSome (cmd_of command) (NamesFrameBelow frames)
 named_below frames (Release frame) named = named
-named_below frames (Touch frame) named = named
-named_below frames (Dirty frame) named = named
-named_below frames (Clean frame) named = named
-named_below frames (Owner frame) named = named
-named_below frames command named = tt
+named_below frames command named = search rules
 
 -- and what the machine's command names is in the zone
 pub cmd_in_zone : (frames : ℕ) (command : Command) (cmd : Cmd) → cmd_of command ≡ Some cmd → CommandInRange frames command → NamesFrameBelow frames cmd
@@ -41,10 +35,7 @@ cmd_in_zone frames command cmd is named = subst (λ (found : Option Cmd). IfSome
 -- a frame that has to be the head of a kept unit is one of the zone
 pub head_in_zone : (frames : ℕ) (command : Command) → CommandInRange frames command → IfSome (head_named command) (λ frame. frame < frames)
 head_in_zone frames (Release frame) named = named
-head_in_zone frames (Touch frame) named = named
-head_in_zone frames (Dirty frame) named = named
-head_in_zone frames (Clean frame) named = named
-head_in_zone frames command named = tt
+head_in_zone frames command named = search rules
 
 -- the same of a line
 pub line_there : (sizes : Config) (n : ℕ) (line : Line) (text : List ℕ) → IsLineText sizes n line text → LineInRange sizes.frames sizes.cpus line
