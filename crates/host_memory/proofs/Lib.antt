@@ -1,3 +1,4 @@
+pub mod Moves
 pub mod Sends
 pub mod Walks
 mod Steps
