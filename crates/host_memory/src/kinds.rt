@@ -59,3 +59,6 @@ pub const LAST: u8 = 18;
 
 /// `refused`: the status is the refusal's number. Of 15 this is the group whose limit has no room.
 pub const REFUSED: u8 = 20;
+
+/// There was no frame without the lock. No call gives this.
+pub const NOT_FAST: u8 = 21;
