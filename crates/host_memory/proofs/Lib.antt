@@ -1,4 +1,5 @@
 pub mod Moves
+pub mod Numbers
 pub mod Sends
 pub mod Walks
 mod Steps

@@ -16,3 +16,8 @@ pub record ExceedsBuffer (is_it : List ℕ → Type 0) (buffer : List ℕ) (need
   pub is : is_it text
   pub needed_is : needed ≡ length text
   pub exceeds : length buffer < needed
+
+-- a text was written at the start of a buffer that has room for it; one without room stays
+pub record PutsText (text : List ℕ) (old new : List ℕ) : Type 0 where
+  pub fits : length text ≤ length old → new ≡ text ++ drop (length text) old
+  pub exceeds : length old < length text → new ≡ old

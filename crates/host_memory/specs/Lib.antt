@@ -1,2 +1,5 @@
 pub mod Buffers
 pub mod Cells
+pub mod Kinds
+pub mod Sizes
+pub mod Statuses

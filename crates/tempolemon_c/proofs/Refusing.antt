@@ -7,8 +7,8 @@ use Rattle.tempolemon_c.specs.HandleCalls.{IsCpu, NamesMissingFrame}
 use Rattle.tempolemon_c.specs.Known.{KnownLive}
 use Rattle.tempolemon_c.specs.Calls.{CallsInto, RefusesBehind}
 use Rattle.tempolemon_c.specs.Handles.{LiveBoot, live_boot}
-use Rattle.tempolemon_c.specs.Statuses.{bad_cpu, bad_frame, not_live}
-use Rattle.tempolemon_c.specs.Kinds.{no_result}
+use Rattle.host_memory.specs.Statuses.{bad_cpu, bad_frame, not_live}
+use Rattle.host_memory.specs.Kinds.{no_result}
 
 module _ (cpu : ℕ) (asked : Call) (buffer : List ℕ) where
   -- there is no boot

@@ -16,7 +16,7 @@ use Rattle.tempolemon_c.specs.declared.calls.CallAnswer.TheVariants as call
 use Rattle.tempolemon_c.specs.declared.calls.FileText.{FileText}
 use Rattle.tempolemon_c.specs.HandleCalls.{CallsLive, ShowsFile, file_reply}
 use Rattle.tempolemon_c.specs.Known.{KnownLive}
-use Rattle.tempolemon_c.specs.declared.typed_result.TypedResult.{TypedResult}
+use Rattle.host_memory.specs.declared.typed_result.TypedResult.{TypedResult}
 use Rattle.tempolemon_c.specs.Calls.{CallsInto, HasGroupsBehind, PutsAnswer, ReturnsAnswer, ReturnsValue}
 use Rattle.tempolemon_c.specs.Handles.{LiveBoot, OnBoot, live_boot}
 use Rattle.tempolemon_c.specs.Statuses.{most_refusal}

@@ -1,5 +1,5 @@
 -- What a typed call does to the boot behind a handle, and what it gives the host.
-use Rattle.std.specs.Prelude.{◌≡◌, ◌⊎◌, ◌↔◌, ℕ, ◌<◌, ◌≤◌, List, [], ◌++◌, Option, None, drop, length}
+use Rattle.std.specs.Prelude.{◌≡◌, ◌⊎◌, ◌↔◌, ℕ, ◌<◌, ◌≤◌, List, [], Option, None, length}
 use Rattle.std.specs.Borrow.{Bor}
 use Rattle.frame_word.specs.Seats.{KnownTable}
 use Rattle.stock_word.specs.Stock.{KnownStockTable}
@@ -20,11 +20,13 @@ use Rattle.tempolemon_c.specs.Known.{KnownLive}
 use Rattle.script_replay.specs.ValueAnswers.{NamesItsGroups, answer_of}
 use Rattle.script_replay.specs.declared.answer_value.AnswerValue.{AnswerValue}
 use Rattle.script_replay.specs.declared.answer_value.AnswerValue.TheVariants as value
-use Rattle.tempolemon_c.specs.declared.typed_result.TypedResult.{TypedResult}
 use Rattle.tempolemon_c.specs.Handles.{LiveBoot, OnBoot}
-use Rattle.tempolemon_c.specs.Kinds.{no_result, result_of, status_of}
-use Rattle.tempolemon_c.specs.Statuses.{IsNotServedStatus, bad_cpu, bad_frame, bad_group, most_refusal}
-use Rattle.tempolemon_c.specs.Statuses.{not_live, small_buffer}
+use Rattle.host_memory.specs.Buffers.{PutsText}
+use Rattle.host_memory.specs.Kinds.{no_result}
+use Rattle.host_memory.specs.Statuses.{bad_cpu, bad_frame, bad_group, not_live, small_buffer}
+use Rattle.host_memory.specs.declared.typed_result.TypedResult.{TypedResult}
+use Rattle.tempolemon_c.specs.Kinds.{result_of, status_of}
+use Rattle.tempolemon_c.specs.Statuses.{IsNotServedStatus, most_refusal}
 
 -- the call was served as the command of a script that it means, with this answer
 pub record AnswersCall (frames : KnownTable) (stock_table : KnownStockTable) (cpu : ℕ) (asked : Call)
@@ -48,11 +50,6 @@ IsPlainOutcome other = Unit {0}
 abbrev pub HasNoText : AnswerValue → Type 0
 HasNoText (value.Served outcome) = IsPlainOutcome outcome
 HasNoText other = Unit {0}
-
--- a text was written at the start of a buffer that has room for it; one without room stays
-pub record PutsText (text : List ℕ) (old new : List ℕ) : Type 0 where
-  pub fits : length text ≤ length old → new ≡ text ++ drop (length text) old
-  pub exceeds : length old < length text → new ≡ old
 
 -- what a buffer gets of a reply: the text of a file, and of all else nothing
 abbrev pub PutsReply : Reply → (old new : List ℕ) → Type 0

@@ -9,7 +9,7 @@ use Rattle.load_run.specs.Ending.{EndsHeld}
 use Rattle.load_run.specs.declared.boot_end.BootEnd.{BootEnd}
 use Rattle.tempolemon_c.specs.Known.{KnownLive}
 use Rattle.tempolemon_c.specs.Commands.{AnswersScript, RefusesScript, RunsOut, TakesUnreadAnswer, with_unread_answer}
-use Rattle.tempolemon_c.specs.declared.report.Report.{Report}
+use Rattle.host_memory.specs.declared.report.Report.{Report}
 
 -- a boot behind a handle: its tables, and what stands between the calls
 pub record LiveBoot : Type 0 where

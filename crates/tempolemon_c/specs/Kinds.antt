@@ -3,26 +3,15 @@ use Rattle.std.specs.Prelude.{ℕ, length}
 use Rattle.group_tree.specs.Faults.{number_of}
 use Rattle.cpu_part.specs.declared.answers.Fast as fast
 use Rattle.cpu_part.specs.declared.answers.Fast.TheVariants.{Got, FreshFull, ListEmpty, OtherGroup, Drained, NoStock}
-use Rattle.frame_word.specs.declared.answers.Get.{Get}
-use Rattle.frame_word.specs.declared.answers.Get.TheVariants.{Held, Zero, Raced, Full}
-use Rattle.frame_word.specs.declared.answers.Put as word
-use Rattle.frame_word.specs.declared.answers.Put.TheVariants as put
 use Rattle.mem_system.specs.declared.command.Reply.{Reply}
 use Rattle.mem_system.specs.declared.command.Reply.TheVariants as reply
 use Rattle.reply_texts.specs.LineAnswer.{LineAnswer}
 use Rattle.reply_texts.specs.LineAnswer as answer
 use Rattle.reply_texts.specs.declared.steps.UnlockedAnswer.{UnlockedAnswer}
 use Rattle.reply_texts.specs.declared.steps.UnlockedAnswer.TheVariants as unlocked
-use Rattle.tempolemon_c.specs.Statuses.{done, over_limit}
-use Rattle.tempolemon_c.specs.declared.typed_result.TypedResult.{TypedResult}
-
--- a kind with a number
-abbrev pub result_with : (kind number : ℕ) → TypedResult
-result_with kind number = record { number = number; kind = kind }
-
--- the result of a call that wasn't served
-abbrev pub no_result : TypedResult
-no_result = result_with 0 0
+use Rattle.host_memory.specs.Kinds.{get_result, put_result, result_with}
+use Rattle.host_memory.specs.Statuses.{done, over_limit}
+use Rattle.host_memory.specs.declared.typed_result.TypedResult.{TypedResult}
 
 -- the result of a reply
 abbrev pub reply_result : Reply → TypedResult
@@ -48,18 +37,6 @@ fast_result ListEmpty = result_with 21 0
 fast_result OtherGroup = result_with 21 0
 fast_result Drained = result_with 21 0
 fast_result NoStock = result_with 21 0
-
--- the result of a pin that was asked for
-abbrev pub get_result : Get → TypedResult
-get_result Held = result_with 14 0
-get_result Zero = result_with 15 0
-get_result (Raced found) = result_with 16 0
-get_result Full = result_with 17 0
-
--- the result of a pin that was put
-abbrev pub put_result : word.Put → TypedResult
-put_result (put.Left references) = result_with 10 references
-put_result put.Last = result_with 18 0
 
 -- the result of an answer that needed no lock
 abbrev pub unlocked_result : UnlockedAnswer → TypedResult

@@ -18,8 +18,8 @@ use Rattle.tempolemon_c.specs.Commands.{StopsText}
 use Rattle.tempolemon_c.specs.Handles.{AnswersAndStoresUnread, AnswersLines, BootsNew, EndsBoot, LinesRunOut, LiveBoot}
 use Rattle.tempolemon_c.specs.Handles.{RefusesLines, TakesUnread}
 use Rattle.tempolemon_c.specs.declared.calls.Call.{Call}
-use Rattle.tempolemon_c.specs.declared.report.Report.{Report}
-use Rattle.tempolemon_c.specs.declared.typed_result.TypedResult.{TypedResult}
+use Rattle.host_memory.specs.declared.report.Report.{Report}
+use Rattle.host_memory.specs.declared.typed_result.TypedResult.{TypedResult}
 
 -- What a call between the boot and the end did to the boot behind the handle, as the calls' contracts say. Nothing was
 -- done; a typed call was served; lines were answered; their answers were stored too; a bad line was refused; memory ran

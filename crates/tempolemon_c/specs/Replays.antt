@@ -7,17 +7,6 @@ use Rattle.script_lines.specs.Script.{IsFirstBadLine, IsScript}
 use Rattle.load_run.specs.Answers.{AreReplayAnswers}
 use Rattle.tempolemon_c.specs.declared.fault.ReplayFault.{ReplayFault}
 use Rattle.tempolemon_c.specs.declared.fault.ReplayFault.TheVariants.{BadConfig, BadLine, NoMemory}
-use Rattle.tempolemon_c.specs.declared.sizes.Sizes.{Sizes}
-
--- the sizes that a host passes, as those of a boot
-abbrev pub config_of : Sizes → Config
-config_of sizes = record {
-  frames = sizes.frames;
-  cpus = sizes.cpus;
-  batch = sizes.batch;
-  high = sizes.high;
-  stock = sizes.stock;
-}
 
 -- the sizes are in their ranges, and the text is what the program's `replay` answers to the script: what a new boot of
 -- these sizes answers to its lines, with explanations and the report of the end if these are asked for

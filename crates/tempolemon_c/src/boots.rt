@@ -4,18 +4,19 @@ ghost use Rattle.std.specs.Prelude.{◌≡◌, ◌≢◌, ◌↔◌, None};
 ghost use Rattle.zone_blocks.specs.Config.{IsValidConfig};
 ghost use Rattle.tempolemon_c.specs.Behind.{behind};
 ghost use Rattle.host_memory.specs.Buffers.{ExceedsBuffer, FillsBuffer};
+ghost use Rattle.host_memory.specs.Sizes.{config_of};
+ghost use Rattle.host_memory.specs.Statuses.{bad_config, done, is_live, no_memory, not_live, small_buffer};
 ghost use Rattle.tempolemon_c.specs.Handles.{AnswersAndStoresUnread, AnswersLines, BootsNew, EndsBoot, HasUnread};
 ghost use Rattle.tempolemon_c.specs.Handles.{LinesRunOut, RefusesLines, TakesUnread};
-ghost use Rattle.tempolemon_c.specs.Replays.{config_of};
-ghost use Rattle.tempolemon_c.specs.Statuses.{IsAnswerStatus, IsBootStatus, IsEndStatus, IsLinesStatus};
-ghost use Rattle.tempolemon_c.specs.Statuses.{bad_config, bad_line, done, is_live, no_memory, not_live, small_buffer};
+ghost use Rattle.tempolemon_c.specs.Statuses.{IsAnswerStatus, IsBootStatus, IsEndStatus, IsLinesStatus, bad_line};
 
 use crate::handle::Handle;
-use crate::report::Report;
 use crate::requests::{Request, RequestAnswer};
-use crate::sizes::Sizes;
-use crate::status::{BAD_CONFIG, BAD_LINE, DONE, IS_LIVE, NO_MEMORY, NOT_LIVE, SMALL_BUFFER};
+use crate::status::BAD_LINE;
 use host_memory::buffers::copy_answers;
+use host_memory::report::Report;
+use host_memory::sizes::Sizes;
+use host_memory::status::{BAD_CONFIG, DONE, IS_LIVE, NO_MEMORY, NOT_LIVE, SMALL_BUFFER};
 use mem_system::{BootFault, boot};
 use std::alloc::Global;
 

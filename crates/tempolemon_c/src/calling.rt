@@ -9,12 +9,13 @@ ghost use Rattle.tempolemon_c.specs.Calls.{CallsBehind, CallsInto, HasFileBehind
 
 use crate::calls::{Call, CallAnswer, FileText};
 use crate::handle::Handle;
-use crate::kinds::{NOTHING, REFUSED, TEXT};
-use crate::status::{BAD_CPU, BAD_FRAME, BAD_GROUP, DONE, NOT_LIVE};
-use crate::typed_result::{TypedResult, typed_answer_of};
+use crate::typed_result::typed_answer_of;
 use control_files::file::File;
 use group_tree::group::GroupId;
 use host_memory::buffers::copy_answers;
+use host_memory::kinds::{NOTHING, REFUSED, TEXT};
+use host_memory::status::{BAD_CPU, BAD_FRAME, BAD_GROUP, DONE, NOT_LIVE};
+use host_memory::typed_result::TypedResult;
 use mem_system::Outcome;
 use script_replay::AnswerValue;
 use std::alloc::Global;
@@ -96,7 +97,7 @@ fn write_value(
 // Writes the kind of what a file shows, and its text into the buffer, if that has room for it. Here alone there is room
 // for a text, so that no other call clears that room.
 #[inline(never)]
-#[tactic(auto, using(crate::proofs::Numbers::number_low, crate::proofs::Showing::stays, crate::proofs::Showing::tells))]
+#[tactic(auto, using(host_memory::proofs::Numbers::number_low, crate::proofs::Showing::stays, crate::proofs::Showing::tells))]
 fn write_file(
     alloc: Global,
     handle: &mut Handle,

@@ -8,7 +8,7 @@ ghost use Rattle.tempolemon_c.specs.Calls.{CallsBehind};
 use crate::calling::serve_call;
 use crate::calls::Call;
 use crate::handle::Handle;
-use crate::typed_result::TypedResult;
+use host_memory::typed_result::TypedResult;
 use script_lines::line::Command;
 use std::alloc::Global;
 

@@ -8,10 +8,10 @@ ghost use Rattle.tempolemon_c.specs.declared.calls.Call.TheVariants.{Script};
 use crate::calling::{serve_call, serve_into};
 use crate::calls::Call;
 use crate::handle::Handle;
-use crate::kinds::NOTHING;
-use crate::status::SMALL_BUFFER;
-use crate::typed_result::TypedResult;
 use control_files::text::MAX_TEXT;
+use host_memory::kinds::NOTHING;
+use host_memory::status::SMALL_BUFFER;
+use host_memory::typed_result::TypedResult;
 use script_lines::line::Command;
 use std::alloc::Global;
 

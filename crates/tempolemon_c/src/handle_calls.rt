@@ -11,10 +11,11 @@ ghost use Rattle.tempolemon_c.specs.Handles.{BootsNew, EndsBoot, OnBoot};
 use crate::calls::{Call, CallAnswer, FileText};
 use crate::handle::Handle;
 use crate::raw::{RawBoot, call_raw, serve_raw, show_raw};
-use crate::report::Report;
+use crate::report::report_of;
 use crate::requests::{Request, RequestAnswer};
 use control_files::file::File;
 use group_tree::group::GroupId;
+use host_memory::report::Report;
 use mem_system::Boot;
 use std::alloc::Global;
 use zone_blocks::config::Config;
@@ -92,7 +93,7 @@ impl Handle {
         self.raw = raw;
         self.is_live = false;
         match answer {
-            RequestAnswer::Ended(ended) => Report::of(ended),
+            RequestAnswer::Ended(ended) => report_of(ended),
             _ => unreachable!(),
         }
     }

@@ -13,8 +13,10 @@ ghost use Rattle.std.specs.Prelude.{◌≡◌, ◌≢◌, ◌↔◌};
 ghost use Rattle.zone_blocks.specs.Config.{IsValidConfig};
 ghost use Rattle.script_lines.specs.Script.{IsFirstBadLine};
 ghost use Rattle.host_memory.specs.Buffers.{FillsBuffer, ExceedsBuffer};
-ghost use Rattle.tempolemon_c.specs.Replays.{IsReplayAnswer, config_of};
-ghost use Rattle.tempolemon_c.specs.Statuses.{IsReplayStatus, bad_config, bad_line, done, small_buffer};
+ghost use Rattle.host_memory.specs.Sizes.{config_of};
+ghost use Rattle.host_memory.specs.Statuses.{bad_config, done, small_buffer};
+ghost use Rattle.tempolemon_c.specs.Replays.{IsReplayAnswer};
+ghost use Rattle.tempolemon_c.specs.Statuses.{IsReplayStatus, bad_line};
 
 mod boots;
 mod calling;
@@ -24,7 +26,6 @@ mod frames;
 mod groups;
 mod handle;
 mod handle_calls;
-mod kinds;
 pub mod laws;
 pub mod live;
 pub mod live_pointer;
@@ -33,15 +34,15 @@ mod replaying;
 mod report;
 pub mod requests;
 pub mod serving;
-mod sizes;
 mod status;
 mod typed_result;
 
 use crate::fault::ReplayFault;
 use crate::replaying::answer_script;
-use crate::sizes::Sizes;
-use crate::status::{BAD_CONFIG, BAD_LINE, DONE, NO_MEMORY, SMALL_BUFFER};
+use crate::status::BAD_LINE;
 use host_memory::buffers::copy_answers;
+use host_memory::sizes::Sizes;
+use host_memory::status::{BAD_CONFIG, DONE, NO_MEMORY, SMALL_BUFFER};
 use std::alloc::Global;
 
 /// Boots a zone of these sizes, replays the script on it, and ends the boot. The answers are those of the program's

@@ -1,47 +1,23 @@
 //! What a host reads of the end of a boot.
 
 ghost use Rattle.std.specs.Prelude.{◌≡◌};
+ghost use Rattle.tempolemon_c.specs.Handles.{ended_of};
 
+use host_memory::report::Report;
 use load_run::boot_end::BootEnd;
 
-/// What a boot reports at its end, in the order and of the widths that the header gives.
-#[repr(C)]
-#[derive(Clone, Copy, Debug, PartialEq, Eq)]
-pub struct Report {
-    /// The pins that were still held, and were put at the end.
-    pub held: u64,
-    /// The units whose last reference the zone or a CPU put.
-    pub last_puts: u64,
-    /// The units that reclaim froze.
-    pub freezes: u64,
-    /// The fresh frames that were dropped.
-    pub drops: u64,
-    /// The units that were freed.
-    pub returns: u64,
-    /// The frames of the zone.
-    pub frames: u32,
-    /// The frames that are free.
-    pub free: u32,
-    /// The frames that are charged to a group.
-    pub charged: u32,
-}
-
-impl Report {
-    ghost use Rattle.tempolemon_c.specs.Handles.{ended_of};
-
-    /// The report of the end of a boot.
-    pub fn of(ended: BootEnd) -> Report
-        ensures { ended_of result ≡ ended }
-    {
-        Report {
-            held: ended.held,
-            last_puts: ended.audit.last_puts,
-            freezes: ended.audit.freezes,
-            drops: ended.audit.drops,
-            returns: ended.audit.returns,
-            frames: ended.audit.frames,
-            free: ended.audit.free,
-            charged: ended.audit.charged,
-        }
+/// The report of the end of a boot.
+pub(crate) fn report_of(ended: BootEnd) -> Report
+    ensures { ended_of result ≡ ended }
+{
+    Report {
+        held: ended.held,
+        last_puts: ended.audit.last_puts,
+        freezes: ended.audit.freezes,
+        drops: ended.audit.drops,
+        returns: ended.audit.returns,
+        frames: ended.audit.frames,
+        free: ended.audit.free,
+        charged: ended.audit.charged,
     }
 }

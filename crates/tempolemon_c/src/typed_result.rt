@@ -7,49 +7,21 @@ ghost use Rattle.mem_system.specs.Outcomes.{reply_of};
 ghost use Rattle.reply_texts.specs.LineAnswer as answer;
 ghost use Rattle.script_replay.specs.ValueAnswers.{answer_of};
 ghost use Rattle.tempolemon_c.specs.Calls.{HasNoText, IsPlainOutcome, PutsAnswer, PutsReply};
-ghost use Rattle.tempolemon_c.specs.Kinds.{fast_result, get_result, put_result, reply_result, reply_status};
-ghost use Rattle.tempolemon_c.specs.Kinds.{result_of, result_with, status_of, unlocked_result};
+ghost use Rattle.host_memory.specs.Kinds.{result_with};
+ghost use Rattle.tempolemon_c.specs.Kinds.{fast_result, reply_result, reply_status, result_of, status_of};
+ghost use Rattle.tempolemon_c.specs.Kinds.{unlocked_result};
 
-use crate::kinds::{
-    ACTIVE, CHARGED, CPU, FRAME, FREE, FULL, GROUP, HELD, LAST, LEFT, LISTED, MARKED, NOT_FAST, OK,
-    RACED, REFUSED, RETURNED, SETTLED, ZERO,
-};
-use crate::status::{DONE, OVER_LIMIT};
 use cpu_part::Fast;
-use frame_word::{Get, Put};
 use group_tree::fault::Fault;
+use host_memory::kinds::{
+    ACTIVE, CHARGED, CPU, FRAME, FREE, GROUP, LEFT, LISTED, MARKED, NOT_FAST, OK, REFUSED,
+    RETURNED, SETTLED,
+};
+use host_memory::status::{DONE, OVER_LIMIT};
+use host_memory::typed_result::{TypedAnswer, answer_of_get, answer_of_put, with_number};
 use mem_system::Outcome;
 use reply_texts::UnlockedAnswer;
 use script_replay::AnswerValue;
-
-/// What a typed call gives its host: a kind, and the number that goes with it.
-#[repr(C)]
-#[derive(Clone, Copy, Debug, PartialEq, Eq)]
-pub struct TypedResult {
-    /// The number that goes with the kind; 0 if none does.
-    pub number: u64,
-    /// The kind.
-    pub kind: u8,
-}
-
-/// The status of a call that was served, and its result.
-#[derive(Clone, Copy, Debug, PartialEq, Eq)]
-pub struct TypedAnswer {
-    /// A refusal's number, or 0.
-    pub status: u8,
-    /// The result.
-    pub typed: TypedResult,
-}
-
-fn with_number(kind: u8, number: u64) -> TypedAnswer
-    ensures status { result.status ≡ 0 }
-    ensures typed { result.typed ≡ result_with kind number }
-{
-    TypedAnswer {
-        status: DONE,
-        typed: TypedResult { number, kind },
-    }
-}
 
 /// The result of an answer that isn't a text. It is inlined with what it calls, so that the answer isn't built in
 /// memory.
@@ -62,7 +34,7 @@ pub(crate) fn typed_answer_of(value: &AnswerValue) -> TypedAnswer
 {
     match value {
         AnswerValue::Served(outcome) => answer_of_outcome(outcome),
-        AnswerValue::Settled => with_number(SETTLED, 0),
+        AnswerValue::Settled => with_number(DONE, SETTLED, 0),
         AnswerValue::Unlocked(said) => answer_of_unlocked(said),
     }
 }
@@ -77,25 +49,19 @@ fn answer_of_unlocked(said: &UnlockedAnswer) -> TypedAnswer
         UnlockedAnswer::Fast(fast) => answer_of_fast(fast),
         UnlockedAnswer::Got(got) => answer_of_get(got),
         UnlockedAnswer::Put(put) => answer_of_put(put),
-        UnlockedAnswer::Listed => with_number(LISTED, 0),
+        UnlockedAnswer::Listed => with_number(DONE, LISTED, 0),
         UnlockedAnswer::Refused(fault) => refused(fault),
     }
 }
 
 // The result of a refusal.
 #[inline(always)]
-#[tactic(auto, using(crate::proofs::Numbers::number_low))]
+#[tactic(auto, using(host_memory::proofs::Numbers::number_low))]
 fn refused(fault: &Fault) -> TypedAnswer
     ensures status { result.status ≡ number_of fault.now }
     ensures typed { result.typed ≡ result_with 20 0 }
 {
-    TypedAnswer {
-        status: fault.number() as u8,
-        typed: TypedResult {
-            number: 0,
-            kind: REFUSED,
-        },
-    }
+    with_number(fault.number() as u8, REFUSED, 0)
 }
 
 // The result of an outcome that isn't a text.
@@ -107,24 +73,18 @@ fn answer_of_outcome(outcome: &Outcome) -> TypedAnswer
     ensures no_text { (ledger : Ledger) (buffer : List ℕ) → PutsReply (reply_of ledger outcome.now) buffer buffer }
 {
     match *outcome {
-        Outcome::Group(group) => with_number(GROUP, u64::from(group.number())),
-        Outcome::Frame(frame) => with_number(FRAME, u64::from(frame)),
-        Outcome::Done => with_number(OK, 0),
+        Outcome::Group(group) => with_number(DONE, GROUP, u64::from(group.number())),
+        Outcome::Frame(frame) => with_number(DONE, FRAME, u64::from(frame)),
+        Outcome::Done => with_number(DONE, OK, 0),
         Outcome::Text(..) => unreachable!(),
-        Outcome::Free => with_number(FREE, 0),
-        Outcome::Lent(cpu) => with_number(CPU, u64::from(cpu)),
-        Outcome::Charged(group) => with_number(CHARGED, u64::from(group.number())),
-        Outcome::Marked => with_number(MARKED, 0),
-        Outcome::Active => with_number(ACTIVE, 0),
-        Outcome::Left(left) => with_number(LEFT, left),
-        Outcome::Returned => with_number(RETURNED, 0),
-        Outcome::OverLimit(group) => TypedAnswer {
-            status: OVER_LIMIT,
-            typed: TypedResult {
-                number: u64::from(group.number()),
-                kind: REFUSED,
-            },
-        },
+        Outcome::Free => with_number(DONE, FREE, 0),
+        Outcome::Lent(cpu) => with_number(DONE, CPU, u64::from(cpu)),
+        Outcome::Charged(group) => with_number(DONE, CHARGED, u64::from(group.number())),
+        Outcome::Marked => with_number(DONE, MARKED, 0),
+        Outcome::Active => with_number(DONE, ACTIVE, 0),
+        Outcome::Left(left) => with_number(DONE, LEFT, left),
+        Outcome::Returned => with_number(DONE, RETURNED, 0),
+        Outcome::OverLimit(group) => with_number(OVER_LIMIT, REFUSED, u64::from(group.number())),
         Outcome::Refused(fault) => refused(&fault),
     }
 }
@@ -136,37 +96,11 @@ fn answer_of_fast(fast: &Fast) -> TypedAnswer
     ensures typed { result.typed ≡ fast_result fast.now }
 {
     match *fast {
-        Fast::Got(frame) => with_number(FRAME, u64::from(frame.number())),
-        Fast::FreshFull => with_number(NOT_FAST, 0),
-        Fast::ListEmpty => with_number(NOT_FAST, 0),
-        Fast::OtherGroup => with_number(NOT_FAST, 0),
-        Fast::Drained => with_number(NOT_FAST, 0),
-        Fast::NoStock => with_number(NOT_FAST, 0),
-    }
-}
-
-// The result of a pin that was asked for.
-#[inline(always)]
-fn answer_of_get(got: &Get) -> TypedAnswer
-    ensures status { result.status ≡ 0 }
-    ensures typed { result.typed ≡ get_result got.now }
-{
-    match got {
-        Get::Held => with_number(HELD, 0),
-        Get::Zero => with_number(ZERO, 0),
-        Get::Raced(_) => with_number(RACED, 0),
-        Get::Full => with_number(FULL, 0),
-    }
-}
-
-// The result of a pin that was put.
-#[inline(always)]
-fn answer_of_put(put: &Put) -> TypedAnswer
-    ensures status { result.status ≡ 0 }
-    ensures typed { result.typed ≡ put_result put.now }
-{
-    match put {
-        Put::Left(left) => with_number(LEFT, *left),
-        Put::Last => with_number(LAST, 0),
+        Fast::Got(frame) => with_number(DONE, FRAME, u64::from(frame.number())),
+        Fast::FreshFull => with_number(DONE, NOT_FAST, 0),
+        Fast::ListEmpty => with_number(DONE, NOT_FAST, 0),
+        Fast::OtherGroup => with_number(DONE, NOT_FAST, 0),
+        Fast::Drained => with_number(DONE, NOT_FAST, 0),
+        Fast::NoStock => with_number(DONE, NOT_FAST, 0),
     }
 }

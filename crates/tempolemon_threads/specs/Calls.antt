@@ -1,5 +1,5 @@
 -- What the calls on a CPU's handle do, and what they give the host.
-use Rattle.std.specs.Prelude.{◌≡◌, ◌⊎◌, ℕ, zero, suc, ◌<◌, ◌≤◌, List, ◌++◌, Option, None, drop, length}
+use Rattle.std.specs.Prelude.{◌≡◌, ◌⊎◌, ℕ, zero, suc, ◌<◌, ◌≤◌, List, Option, None, length}
 use Rattle.group_tree.specs.Faults.{number_of}
 use Rattle.group_tree.specs.declared.fault.Fault.TheVariants.{NoGroup}
 use Rattle.control_files.specs.Text.{longest_text}
@@ -18,10 +18,13 @@ use Rattle.zone_threads.specs.declared.texts.TextAnswer.TheVariants as text
 use Rattle.zone_threads.specs.declared.texts.TextCall.{TextCall}
 use Rattle.zone_threads.specs.declared.texts.TextCall.TheVariants.{Units}
 use Rattle.host_memory.specs.Buffers.{ExceedsBuffer, FillsBuffer}
-use Rattle.tempolemon_threads.specs.Kinds.{no_result, read_result, read_status, call_result_of, call_status_of}
-use Rattle.tempolemon_threads.specs.Statuses.{busy, done, no_memory, not_live, small_buffer}
+use Rattle.host_memory.specs.Buffers.{PutsText}
+use Rattle.host_memory.specs.Kinds.{no_result}
+use Rattle.host_memory.specs.Statuses.{done, no_memory, not_live, small_buffer}
+use Rattle.host_memory.specs.declared.typed_result.TypedResult.{TypedResult}
+use Rattle.tempolemon_threads.specs.Kinds.{read_result, read_status, call_result_of, call_status_of}
+use Rattle.tempolemon_threads.specs.Statuses.{busy}
 use Rattle.tempolemon_threads.specs.Zones.{Led, OnPart}
-use Rattle.tempolemon_threads.specs.declared.typed_result.TypedResult.{TypedResult}
 
 -- the handle leads nowhere, and nothing was done
 pub record IsNotLive (before after : Option Led) (status : ℕ) (out : TypedResult) : Type 0 where
@@ -70,11 +73,6 @@ abbrev pub IsWriteCmd : (path file value : List ℕ) → Cmd → Type 0
 IsWriteCmd path file value (cmd.Write named in_file text) =
     (named.now ≡ path) × ((in_file.now ≡ file) × (text.now ≡ value))
 IsWriteCmd path file value other = ⊥
-
--- a text was written at the start of a buffer that has room for it; one without room stays
-pub record PutsText (text : List ℕ) (old new : List ℕ) : Type 0 where
-  pub fits : length text ≤ length old → new ≡ text ++ drop (length text) old
-  pub exceeds : length old < length text → new ≡ old
 
 -- what a buffer gets of a read
 abbrev pub PutsRead : ReadAnswer → (old new : List ℕ) → Type 0

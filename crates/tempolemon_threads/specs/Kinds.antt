@@ -1,26 +1,16 @@
 -- The statuses and the results of typed calls, with their kinds as the header numbers them.
 use Rattle.std.specs.Prelude.{ℕ, length}
 use Rattle.group_tree.specs.Faults.{number_of}
-use Rattle.frame_word.specs.declared.answers.Get.{Get}
-use Rattle.frame_word.specs.declared.answers.Get.TheVariants.{Held, Zero, Raced, Full}
-use Rattle.frame_word.specs.declared.answers.Put as word
-use Rattle.frame_word.specs.declared.answers.Put.TheVariants as put
 use Rattle.mem_system.specs.declared.outcome.Outcome.{Outcome}
 use Rattle.mem_system.specs.declared.outcome.Outcome.TheVariants as outcome
 use Rattle.zone_threads.specs.declared.calls.CallAnswer.{CallAnswer}
 use Rattle.zone_threads.specs.declared.calls.CallAnswer.TheVariants as answer
 use Rattle.zone_threads.specs.declared.calls.ReadAnswer.{ReadAnswer}
 use Rattle.zone_threads.specs.declared.calls.ReadAnswer.TheVariants as read
-use Rattle.tempolemon_threads.specs.Statuses.{bad_frame, bad_group, busy, done, over_limit}
-use Rattle.tempolemon_threads.specs.declared.typed_result.TypedResult.{TypedResult}
-
--- a kind with a number
-abbrev pub result_with : (kind number : ℕ) → TypedResult
-result_with kind number = record { number = number; kind = kind }
-
--- the result of a call that wasn't served
-abbrev pub no_result : TypedResult
-no_result = result_with 0 0
+use Rattle.host_memory.specs.Kinds.{get_result, no_result, put_result, result_with}
+use Rattle.host_memory.specs.Statuses.{bad_frame, bad_group, done, over_limit}
+use Rattle.host_memory.specs.declared.typed_result.TypedResult.{TypedResult}
+use Rattle.tempolemon_threads.specs.Statuses.{busy}
 
 -- the result of an outcome; a text has its length from the read that returns it
 abbrev pub outcome_result : Outcome → TypedResult
@@ -43,18 +33,6 @@ abbrev pub outcome_status : Outcome → ℕ
 outcome_status (outcome.OverLimit group) = over_limit
 outcome_status (outcome.Refused fault) = number_of fault
 outcome_status other = done
-
--- the result of a pin that was asked for
-abbrev pub get_result : Get → TypedResult
-get_result Held = result_with 14 0
-get_result Zero = result_with 15 0
-get_result (Raced found) = result_with 16 0
-get_result Full = result_with 17 0
-
--- the result of a pin that was put
-abbrev pub put_result : word.Put → TypedResult
-put_result (put.Left references) = result_with 10 references
-put_result put.Last = result_with 18 0
 
 -- the result of an answer
 abbrev pub call_result_of : CallAnswer → TypedResult

@@ -8,18 +8,7 @@ use Rattle.mem_system.specs.Boots.{IsSizedAs}
 use Rattle.mem_system.specs.Ending.{HasEnded}
 use Rattle.zone_threads.specs.Homes.{HasCpu, HasNoCpu, IsCpu, KnownHome}
 use Rattle.mem_system.specs.declared.ending.SystemEnd.{SystemEnd}
-use Rattle.tempolemon_threads.specs.declared.report.Report.{Report}
-use Rattle.tempolemon_threads.specs.declared.sizes.Sizes.{Sizes}
-
--- the sizes that a host passes, as those of a boot
-abbrev pub config_of : Sizes → Config
-config_of sizes = record {
-  frames = sizes.frames;
-  cpus = sizes.cpus;
-  batch = sizes.batch;
-  high = sizes.high;
-  stock = sizes.stock;
-}
+use Rattle.host_memory.specs.declared.report.Report.{Report}
 
 -- what a host reads of the end of a zone, as the zone reported it
 abbrev pub zone_end_of : Report → SystemEnd

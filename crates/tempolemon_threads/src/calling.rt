@@ -4,9 +4,10 @@ ghost use Rattle.tempolemon_threads.specs.Behind.{part_behind};
 ghost use Rattle.tempolemon_threads.specs.Calls.{CallsPart};
 
 use crate::handles::CpuPart;
-use crate::kinds::NOTHING;
-use crate::status::NOT_LIVE;
-use crate::typed_result::{TypedResult, typed_answer_of};
+use crate::typed_result::typed_answer_of;
+use host_memory::kinds::NOTHING;
+use host_memory::status::NOT_LIVE;
+use host_memory::typed_result::TypedResult;
 use std::alloc::Global;
 use zone_threads::calls::Call;
 

@@ -7,7 +7,7 @@ ghost use Rattle.tempolemon_threads.specs.Calls.{AllocsPart, CallsPart};
 
 use crate::calling::serve_call;
 use crate::handles::CpuPart;
-use crate::typed_result::TypedResult;
+use host_memory::typed_result::TypedResult;
 use mem_system::Cmd;
 use std::alloc::Global;
 use zone_threads::calls::Call;

@@ -6,11 +6,12 @@ ghost use Rattle.tempolemon_threads.specs.Calls.{IsMkdirCmd, IsRmdirCmd, IsWrite
 
 use crate::calling::serve_call;
 use crate::handles::CpuPart;
-use crate::kinds::{NOTHING, REFUSED, TEXT};
-use crate::status::{BUSY, DONE, NOT_LIVE, SMALL_BUFFER};
-use crate::typed_result::TypedResult;
+use crate::status::BUSY;
 use control_files::text::MAX_TEXT;
 use host_memory::buffers::copy_answers;
+use host_memory::kinds::{NOTHING, REFUSED, TEXT};
+use host_memory::status::{DONE, NOT_LIVE, SMALL_BUFFER};
+use host_memory::typed_result::TypedResult;
 use mem_system::Cmd;
 use std::alloc::Global;
 use zone_threads::calls::{Call, ReadAnswer, ReadCall};
@@ -60,7 +61,7 @@ pub extern "C" fn tempolemon_try_write(
 
 /// Reads a file of the group of this path, and writes its text at the start of the buffer, which has room for at least
 /// 160 bytes.
-#[tactic(auto, using(crate::proofs::Numbers::number_low))]
+#[tactic(auto, using(host_memory::proofs::Numbers::number_low))]
 #[unsafe(no_mangle)]
 pub extern "C" fn tempolemon_try_read(
     alloc: Global,

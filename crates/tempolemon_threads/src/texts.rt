@@ -5,9 +5,10 @@ ghost use Rattle.tempolemon_threads.specs.Behind.{part_behind};
 ghost use Rattle.tempolemon_threads.specs.Calls.{ShowsInto, ShowsUnits};
 
 use crate::handles::CpuPart;
-use crate::status::{BUSY, DONE, NO_MEMORY, NOT_LIVE, SMALL_BUFFER};
+use crate::status::BUSY;
 use group_tree::fault::Fault;
 use host_memory::buffers::copy_answers;
+use host_memory::status::{DONE, NO_MEMORY, NOT_LIVE, SMALL_BUFFER};
 use std::alloc::Global;
 use zone_threads::texts::{TextAnswer, TextCall};
 

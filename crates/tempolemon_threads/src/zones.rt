@@ -2,18 +2,20 @@
 
 ghost use Rattle.std.specs.Prelude.{◌≡◌, ◌≢◌, ◌↔◌, IsSome, None};
 ghost use Rattle.zone_blocks.specs.Config.{IsValidConfig};
+ghost use Rattle.host_memory.specs.Sizes.{config_of};
+ghost use Rattle.host_memory.specs.Statuses.{bad_config, bad_cpu, done, is_live, not_live};
 ghost use Rattle.tempolemon_threads.specs.Behind.{part_behind, zone_behind};
 ghost use Rattle.tempolemon_threads.specs.Statuses.{IsZoneBootStatus, IsZoneEndStatus, IsReturnStatus, IsTakeStatus};
-ghost use Rattle.tempolemon_threads.specs.Statuses.{bad_config, bad_cpu, cpus_out, done, is_live, not_live};
-ghost use Rattle.tempolemon_threads.specs.Zones.{BootsZone, EndsWith, HasNoSuchCpu, ReturnsPart, TakesPart, config_of};
+ghost use Rattle.tempolemon_threads.specs.Statuses.{cpus_out};
+ghost use Rattle.tempolemon_threads.specs.Zones.{BootsZone, EndsWith, HasNoSuchCpu, ReturnsPart, TakesPart};
 
 use crate::handles::{CpuPart, Zone};
-use crate::report::Report;
+use crate::report::report_of;
 use crate::requests::{Forked, RequestAnswer};
-use crate::sizes::Sizes;
-use crate::status::{
-    BAD_CONFIG, BAD_CPU, BUSY, CPU_OUT, CPUS_OUT, DONE, IS_LIVE, LOST, NO_MEMORY, NOT_LIVE,
-};
+use crate::status::{BUSY, CPU_OUT, CPUS_OUT, LOST};
+use host_memory::report::Report;
+use host_memory::sizes::Sizes;
+use host_memory::status::{BAD_CONFIG, BAD_CPU, DONE, IS_LIVE, NO_MEMORY, NOT_LIVE};
 use mem_system::{BootFault, boot};
 use std::alloc::Global;
 use zone_threads::home::NotEntered;
@@ -64,7 +66,7 @@ pub extern "C" fn tempolemon_zone_end(alloc: Global, zone: &mut Zone, report: &m
         RequestAnswer::NoMemory => return NO_MEMORY,
         _ => return LOST,
     };
-    *report = Report::of(ended);
+    *report = report_of(ended);
     DONE
 }
 

@@ -22,7 +22,7 @@ pub struct Sizes {
 }
 
 impl Sizes {
-    ghost use Rattle.tempolemon_c.specs.Replays.{config_of};
+    ghost use Rattle.host_memory.specs.Sizes.{config_of};
 
     /// The same sizes for a boot.
     pub fn config(&self) -> Config

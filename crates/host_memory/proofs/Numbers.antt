@@ -1,5 +1,5 @@
 -- The number of a refusal is at most 22.
-use Rattle.std.proofs.Common.{ℕ, ◌≤◌, arith}
+use Rattle.std.proofs.Common.{◌≤◌, arith}
 use Rattle.group_tree.specs.declared.fault.Fault.{Fault}
 use Rattle.group_tree.specs.declared.fault.Fault.TheVariants.{NoParent, Exists, BadName, TreeFull, TooDeep, NoGroup, HasChildren, Busy, PinsFull, NoFile, ReadOnly}
 use Rattle.group_tree.specs.declared.fault.Fault.TheVariants.{BadLimit, BadNumber, BadConfig, OverLimit, NoFrames, Again, Killed, BadOrder, NotKept, NotPinned, WriteOnly}
