@@ -15,8 +15,9 @@ use std::alloc::{AllocError, Global};
 /// How many bytes the longest name has.
 const LONGEST_NAME: usize = 7;
 
-/// Each of these commands has a place of its own in the table: the upper four bits of its name's number times `SPREAD`.
-const PLACED: [Verb; 16] = [
+/// All commands in the order of the table. Each of the first 16 is at the place that the upper four bits of its name's
+/// number times `SPREAD` give.
+const TABLE: [Verb; 18] = [
     Verb::Touch,
     Verb::Blocks,
     Verb::Owner,
@@ -33,6 +34,8 @@ const PLACED: [Verb; 16] = [
     Verb::Fast,
     Verb::Mkdir,
     Verb::Put,
+    Verb::Stock,
+    Verb::Units,
 ];
 
 /// It spreads the names' numbers over the places.
@@ -200,17 +203,16 @@ impl Name {
 /// The commands by their names.
 pub type Names = IndexMap<Name, Verb>;
 
-/// A new table of all commands by their names: first `PLACED`, in its order. `AllocError` if memory runs out.
+/// A new table of all commands by their names, in the order of `TABLE`. `AllocError` if memory runs out.
 pub fn command_names(alloc: Global) -> Result<Names, AllocError>
     ensures { IfOk result IsNames }
 {
-    let mut names = IndexMap::with_capacity(alloc, Verb::ALL.len())?;
-    add_names(&mut names, &PLACED)?;
-    add_names(&mut names, &Verb::ALL)?;
+    let mut names = IndexMap::with_capacity(alloc, TABLE.len())?;
+    add_names(&mut names, &TABLE)?;
     Ok(names)
 }
 
-// Adds these commands, each under its name. A command that is there keeps its place.
+// Adds these commands, each under its name.
 fn add_names(names: &mut Names, verbs: &[Verb]) -> Result<(), AllocError>
     ensures { IfOk result (λ _. names.new.entries ≡ insert_all same_name names.old.entries (map by_name verbs.now)) }
 {
