@@ -10,9 +10,9 @@ use Rattle.step_rules.specs.declared.step.Answer.TheVariants.{Held, Zero, Full}
 use Rattle.step_rules.specs.Phases.{is_live_phase}
 use Rattle.step_rules.specs.State.{State, live_references, sum_to}
 use Rattle.step_rules.specs.Legal.{get_answer}
+use Rattle.step_rules.specs.Invariant.{KeepsInvariant}
 use Rattle.step_rules.proofs.PhaseLemmas.{live_is}
 use Rattle.step_rules.proofs.Referring.{changed, changed_others}
-use Rattle.step_rules.proofs.Sound.{IsSound}
 use Rattle.step_rules.proofs.Sums.{sum_none, sum_same}
 use Rattle.boot_words.specs.Words.{word_in_phase, frame_word}
 
@@ -20,7 +20,7 @@ use Rattle.boot_words.specs.Words.{word_in_phase, frame_word}
 pub sum_others : (s : State) (k f n m : ℕ) → m ≢ f → sum_to (s.zone.cpus + 1) (λ seat. changed s.references k f n seat m) ≡ live_references s m
 sum_others s k f n m ne = sum_same (s.zone.cpus + 1) _ _ (λ seat below. changed_others s.references k f n m ne seat)
 
-pub none_live : (s : State) (f : ℕ) → IsSound s → is_live_phase (s.phases f) ≡ false → live_references s f ≡ 0
+pub none_live : (s : State) (f : ℕ) → KeepsInvariant s → is_live_phase (s.phases f) ≡ false → live_references s f ≡ 0
 none_live s f sound dead = sum_none (s.zone.cpus + 1) (λ seat. s.references seat f) (λ seat below. (sound.frames f).unreferred dead seat)
 
 -- a frame in a live phase has its number of references as its word
@@ -67,5 +67,5 @@ answer_in (Head u (BackPassing q)) live dead = high_answer (256 + q) (mark_high 
 answer_in x live dead = refl
 
 -- the word decides the answer of a get as the number of references does
-pub answer_by_word : (s : State) (f : ℕ) → IsSound s → get_answer (frame_word s f) ≡ get_answer (live_references s f)
+pub answer_by_word : (s : State) (f : ℕ) → KeepsInvariant s → get_answer (frame_word s f) ≡ get_answer (live_references s f)
 answer_by_word s f sound = answer_in (s.phases f) (live_references s f) (none_live s f sound)

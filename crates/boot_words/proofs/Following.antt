@@ -8,19 +8,18 @@ use Rattle.step_rules.specs.State.{Zone, State, Part, with_at, is_cpu, is_held_b
 use Rattle.step_rules.specs.Legal.{is_legal, IsAnswer, IsCounted}
 use Rattle.step_rules.specs.After.{Run, after, state_of}
 use Rattle.step_rules.specs.Laws.{pushed}
+use Rattle.step_rules.specs.Invariant.{KeepsInvariant, IsHomed}
 use Rattle.step_rules.proofs.Basics.{at_each}
-use Rattle.step_rules.proofs.Homes.{IsHomed}
 use Rattle.step_rules.proofs.Keeping.{homed_run}
 use Rattle.step_rules.proofs.LocalLaws.{made_allows}
 use Rattle.step_rules.proofs.Runs.{legal_more, sound_run, state_more}
-use Rattle.step_rules.proofs.Sound.{IsSound}
 use Rattle.step_rules.proofs.Stocked.{FitsStock, stocks_fit}
 use Rattle.boot_words.specs.Words.{Words, AreFrameWords, AreStockWords, IsRunOf}
 use Rattle.boot_words.proofs.WordLists.{HasSameStock}
 
 -- what holds of the state of a run and of its words
 pub record Stands (s : State) (words : Words) : Type 0 where
-  pub sound : IsSound s
+  pub sound : KeepsInvariant s
   pub homed : IsHomed s
   pub fits : (cpu : ℕ) → FitsStock (s.parts cpu)
   pub frames : AreFrameWords s words.frames

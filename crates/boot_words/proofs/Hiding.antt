@@ -11,18 +11,18 @@ use Rattle.step_rules.specs.declared.step.Action.TheVariants.{Get, Put, Consume,
 use Rattle.step_rules.specs.declared.step.Answer.{Answer}
 use Rattle.step_rules.specs.declared.step.Answer.TheVariants.{Held, Left, Last, Took, Stocked}
 use Rattle.step_rules.specs.Phases.{FreshFrame, has_as, at_stage, stage_after_last}
-use Rattle.step_rules.specs.State.{State, Part, with_at, one_if, front_of, without}
+use Rattle.step_rules.specs.State.{State, Part, with_at, one_if, front_of, without, times}
 use Rattle.step_rules.specs.Legal.{is_legal, IsAnswer}
 use Rattle.step_rules.specs.After.{after, after_last, state_of, paid, credited, with_back, consumed}
 use Rattle.step_rules.specs.Views.{seen_by, other_part_seen}
+use Rattle.step_rules.specs.Invariant.{KeepsInvariant}
 use Rattle.step_rules.proofs.Basics.{at_each, at_other, same_state}
 use Rattle.step_rules.proofs.LegalTests.{consume_tests, credit_tests, put_tests}
-use Rattle.step_rules.proofs.Lists.{times, length_last, length_without}
+use Rattle.step_rules.proofs.Lists.{length_last, length_without}
 use Rattle.step_rules.proofs.Passing.{front_listed}
 use Rattle.step_rules.proofs.PhaseLemmas.{live_is, listed_is, fresh_is}
 use Rattle.step_rules.proofs.Referring.{changed, live_from_one}
 use Rattle.step_rules.proofs.Runs.{after_illegal, allowed, legal_more, sound_run, state_more}
-use Rattle.step_rules.proofs.Sound.{IsSound}
 use Rattle.boot_words.specs.Runs.{IsFast}
 use Rattle.boot_words.specs.Hidden.{hide, hide_phase, show_own, zone_references}
 use Rattle.boot_words.specs.Sight.{FastIsHidden}
@@ -49,7 +49,7 @@ hidden_references references q f n ne = λ i. λ k. λ m. at k m i
       | inr other ↦ ap (λ (r : ℕ → ℕ). cond (k == 0) (r m) 0) (at_other references q (with_at (references q) f n) k other)
     ]
 
-last_hides : (s : State) (q f : ℕ) → IsSound s → q ≢ 0 → 1 ≤ s.references q f → hide (after_last s q f) ≡ hide s
+last_hides : (s : State) (q f : ℕ) → KeepsInvariant s → q ≢ 0 → 1 ≤ s.references q f → hide (after_last s q f) ≡ hide s
 last_hides s q f sound ne some =
     let is = live_is (s.phases f) (live_from_one s q f sound some) in
     let stage : stage_after_last q ≡ BackAt q = cond-false (q == 0) AwaitsReturn (BackAt q) (ne_eqb q 0 ne) in
@@ -60,7 +60,7 @@ last_hides s q f sound ne some =
     (ap (λ (parts : ℕ → Part). (λ (m : ℕ). other_part_seen (parts m))) (cond-false (q == 0) s.parts (with_at s.parts q (with_back (s.parts q) f)) (ne_eqb q 0 ne))
     ∙ hidden_parts s.parts q (with_back (s.parts q) f) refl)
 
-consume_hides : (s : State) (q g : ℕ) → IsSound s → 1 ≤ length (s.parts q).list → 1 ≤ (s.parts q).stock.pages → hide (after s q (Consume g) Took) ≡ hide s
+consume_hides : (s : State) (q g : ℕ) → KeepsInvariant s → 1 ≤ length (s.parts q).list → 1 ≤ (s.parts q).stock.pages → hide (after s q (Consume g) Took) ≡ hide s
 consume_hides s q g sound some pages =
     let f = front_of (s.parts q).list in
     let was = listed_is q (s.phases f) (front_listed s q sound some) in
@@ -70,7 +70,7 @@ consume_hides s q g sound some pages =
     ap (λ (k : ℕ). record (other_part_seen (s.parts q)) { stock = record ((s.parts q).stock) { pages = k } }) e in
     same_state s (hidden_phases s.phases f (consumed q g) (sym (ap hide_phase was))) refl (hidden_parts s.parts q (paid (s.parts q)) part)
 
-credit_hides : (s : State) (q f : ℕ) → IsSound s → has_as FreshFrame q (s.phases f) ≡ true → hide (after s q (Credit f) Stocked) ≡ hide s
+credit_hides : (s : State) (q f : ℕ) → KeepsInvariant s → has_as FreshFrame q (s.phases f) ≡ true → hide (after s q (Credit f) Stocked) ≡ hide s
 credit_hides s q f sound has =
     let is = fresh_is q (s.phases f) has in
     let c : times f (s.parts q).fresh ≡ one_if (has_as FreshFrame q (s.phases f)) = sound.lists q FreshFrame f in
@@ -82,7 +82,7 @@ credit_hides s q f sound has =
     same_state s (hidden_phases s.phases f (Lent q OnList) (sym (ap hide_phase is.1))) refl
     (hidden_parts s.parts q (credited (s.parts q) f) part)
 
-fast_hides : (s : State) (q : ℕ) (action : Action) (answer : Answer) → IsSound s → q ≢ 0 → IsFast action
+fast_hides : (s : State) (q : ℕ) (action : Action) (answer : Answer) → KeepsInvariant s → q ≢ 0 → IsFast action
     → is_legal s q action ≡ true → IsAnswer s q action answer → hide (after s q action answer) ≡ hide s
 fast_hides s q (Get f) Held sound ne fast legal ok = same_state s refl (hidden_references s.references q f (s.references q f + 1) ne) refl
 fast_hides s q (Put f) (Left n) sound ne fast legal ok = same_state s refl (hidden_references s.references q f (s.references q f - 1) ne) refl
@@ -126,7 +126,7 @@ fast_is_hidden zone run cpu step answer legal ne other fast ok =
     let t = after s q step.action answer in
     let sound = sound_run zone run legal in
     let more = state_more zone run step answer in
-    let later : IsSound t = subst IsSound more (sound_run zone _ (legal_more zone run step answer legal ok)) in
+    let later : KeepsInvariant t = subst KeepsInvariant more (sound_run zone _ (legal_more zone run step answer legal ok)) in
     let hidden : hide t ≡ hide s = elim (allowed s q step.action answer ok) [
       | inl illegal ↦ ap hide (ap (after s q step.action) illegal ∙ after_illegal s q step.action)
       | inr made ↦ fast_hides s q step.action answer sound ne fast made.legal made.answered

@@ -5,13 +5,12 @@ use Rattle.std.proofs.lemmas.Bool.{ne_eqb}
 use Rattle.step_rules.specs.declared.step.Action.{Action}
 use Rattle.step_rules.specs.declared.step.Action.TheVariants.{Get, Put, Consume, Credit}
 use Rattle.step_rules.specs.Phases.{FreshFrame, has_as}
-use Rattle.step_rules.specs.State.{Zone, State, is_cpu, is_frame, is_unheld, may_zone_act, one_if, sum_to}
+use Rattle.step_rules.specs.State.{Zone, State, is_cpu, is_frame, is_unheld, may_zone_act, one_if, sum_to, times}
 use Rattle.step_rules.specs.Legal.{is_legal}
 use Rattle.step_rules.specs.After.{Run, state_of, IsLegalRun}
+use Rattle.step_rules.specs.Invariant.{KeepsInvariant}
 use Rattle.step_rules.proofs.Freeing.{zone_of_run}
-use Rattle.step_rules.proofs.Lists.{times}
 use Rattle.step_rules.proofs.Runs.{legal_from, sound_run}
-use Rattle.step_rules.proofs.Sound.{IsSound}
 use Rattle.boot_words.specs.Runs.{OthersFollow, IsFast}
 use Rattle.boot_words.specs.Sight.{HasSameLists, FastLegalityLasts}
 use Rattle.boot_words.proofs.Holding.{take_length}
@@ -30,7 +29,7 @@ same_one false false e = refl
 no_zone : (s : State) (cpu : ℕ) → cpu ≢ 0 → may_zone_act s.hold cpu ≡ false
 no_zone s cpu ne = ap (λ b. b && not (is_unheld s.hold)) (ne_eqb cpu 0 ne)
 
-fast_lasts : (s t : State) (cpu : ℕ) (action : Action) → cpu ≢ 0 → t.zone ≡ s.zone → IsSound s → IsSound t → HasSameLists cpu s t → IsFast action
+fast_lasts : (s t : State) (cpu : ℕ) (action : Action) → cpu ≢ 0 → t.zone ≡ s.zone → KeepsInvariant s → KeepsInvariant t → HasSameLists cpu s t → IsFast action
     → is_legal t cpu action ≡ is_legal s cpu action
 fast_lasts s t cpu (Get f) ne zone was is same fast =
     λ i. is_cpu (zone i) cpu && is_frame (zone i) f && nat_lt (sum_to ((zone i).frames) (λ m. same.references i m) + length (same.back i)) 256

@@ -19,11 +19,11 @@ use Rattle.step_rules.specs.Phases.{is_free, unit_of}
 use Rattle.step_rules.specs.State.{State, Part, free_in, is_unheld, is_held_by, live_references, one_if, visits}
 use Rattle.step_rules.specs.Legal.{is_legal, IsAnswer}
 use Rattle.step_rules.specs.After.{after, placed_phase, state_of, unit_size, with_block, without_unit}
+use Rattle.step_rules.specs.Invariant.{KeepsInvariant}
 use Rattle.step_rules.proofs.LegalTests.{lock_tests, unlock_tests, return_tests}
 use Rattle.step_rules.proofs.PhaseLemmas.{is_quiet, is_quiet_stage, returning_is, Returns, AsEnded, AsKilled}
 use Rattle.step_rules.proofs.Placing.{block_free, in_block, in_unit, off_block, off_unit, within_cases}
 use Rattle.step_rules.proofs.Runs.{after_illegal, allowed, legal_more, state_more}
-use Rattle.step_rules.proofs.Sound.{IsSound}
 use Rattle.boot_words.specs.Words.{Words, AreFrameWords, AreStockWords, word_in_phase, frame_word}
 use Rattle.boot_words.specs.Steps.{IsPlain, PlainStepsKeepWords}
 use Rattle.boot_words.proofs.WordLists.{HasSameFrameWords, frames_same, stocks_same}
@@ -75,7 +75,7 @@ block_words s g b free m =
 behind : (f m : ℕ) → f ≤ m → m ≢ f → f < m
 behind f m low ne = omega (arith, low, ne)
 
-unit_words : (s : State) (f : ℕ) (u : ChargedUnit) (stage : Stage) → IsSound s → s.phases f ≡ Head u stage → is_quiet_stage stage ≡ true
+unit_words : (s : State) (f : ℕ) (u : ChargedUnit) (stage : Stage) → KeepsInvariant s → s.phases f ≡ Head u stage → is_quiet_stage stage ≡ true
     → (m : ℕ) → word_in_phase (without_unit s.phases f m) (live_references s m) ≡ frame_word s m
 unit_words s f u stage sound was quiet m =
     let live = live_references s m in
@@ -90,7 +90,7 @@ unit_words s f u stage sound was quiet m =
       | inr outside ↦ ap (λ x. word_in_phase x live) (off_unit s.phases f m outside.0)
     ]
 
-returned_words : (s : State) (f : ℕ) → IsSound s → Returns s.killed (s.phases f)
+returned_words : (s : State) (f : ℕ) → KeepsInvariant s → Returns s.killed (s.phases f)
     → (m : ℕ) → word_in_phase (without_unit s.phases f m) (live_references s m) ≡ frame_word s m
 returned_words s f sound (AsEnded u was) = unit_words s f u AwaitsReturn sound was refl
 returned_words s f sound (AsKilled u was killed) = unit_words s f u Collected sound was refl

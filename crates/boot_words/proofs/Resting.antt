@@ -13,12 +13,12 @@ use Rattle.step_rules.specs.State.{Zone, State, is_unheld, may_zone_act, visits}
 use Rattle.step_rules.specs.Legal.{is_legal, Allows}
 use Rattle.step_rules.specs.After.{Run, after, state_of, IsLegalRun}
 use Rattle.step_rules.specs.Laws.{is_of_lock}
+use Rattle.step_rules.specs.Invariant.{KeepsInvariant}
 use Rattle.step_rules.proofs.LegalTests.{open_visit_tests, shut_visit_tests, freeze_tests, unfreeze_tests, pass_out_tests, take_in_tests, pass_back_tests, collect_tests}
 use Rattle.step_rules.proofs.LegalTests.{report_tests, absorb_tests, fill_tests, drain_stock_tests, grant_tests, ungrant_tests, place_block_tests, publish_tests, return_tests}
 use Rattle.step_rules.proofs.LegalTests.{set_max_tests, set_flag_tests, make_tests, remove_tests, kill_tests}
 use Rattle.step_rules.proofs.PhaseLemmas.{unheld_visit, visited}
 use Rattle.step_rules.proofs.Runs.{after_illegal, allowed, legal_from, sound_run, state_more}
-use Rattle.step_rules.proofs.Sound.{IsSound}
 use Rattle.boot_words.specs.Runs.{HasNoStepOf, IsFast}
 use Rattle.boot_words.specs.Hidden.{hide}
 use Rattle.boot_words.proofs.Hiding.{fast_is_hidden}
@@ -32,7 +32,7 @@ no_zone hold q free may = false≢true (sym (ap not free) ∙ (and_parts (q == 0
 no_visit : (hold : Hold) (q : ℕ) → is_unheld hold ≡ true → visits q hold ≡ true → ⊥
 no_visit hold q free visit = unheld_visit hold q free (visited q hold visit)
 
-only_fast : (s : State) (q : ℕ) (action : Action) → IsSound s → is_unheld s.hold ≡ true → is_of_lock action ≡ false → is_legal s q action ≡ true → IsFast action
+only_fast : (s : State) (q : ℕ) (action : Action) → KeepsInvariant s → is_unheld s.hold ≡ true → is_of_lock action ≡ false → is_legal s q action ≡ true → IsFast action
 only_fast s q Lock sound free inside legal = absurd (true≢false inside)
 only_fast s q Unlock sound free inside legal = absurd (true≢false inside)
 only_fast s q (Get f) sound free inside legal = tt

@@ -7,15 +7,14 @@ use Rattle.step_rules.specs.Phases as kinds
 use Rattle.step_rules.specs.State.{State, Part, front_of, is_cpu, is_frame, is_held_by, visits}
 use Rattle.step_rules.specs.Legal.{is_legal, is_passable}
 use Rattle.step_rules.specs.After.{state_of}
+use Rattle.step_rules.specs.Invariant.{KeepsInvariant, IsHomed}
 use Rattle.step_rules.proofs.CoverParts.{own_part}
-use Rattle.step_rules.proofs.Homes.{IsHomed}
 use Rattle.step_rules.proofs.Keeping.{homed_run}
 use Rattle.step_rules.proofs.Lists.{one_if_true}
 use Rattle.step_rules.proofs.Own.{own_legal}
 use Rattle.step_rules.proofs.Passing.{front_listed, in_zone}
 use Rattle.step_rules.proofs.PhaseLemmas.{back_is, fresh_is, listed_is}
 use Rattle.step_rules.proofs.Runs.{sound_run}
-use Rattle.step_rules.proofs.Sound.{IsSound}
 use Rattle.step_rules.proofs.Stocked.{stocks_fit}
 use Rattle.boot_words.specs.Sight.{MayPassBack, FromList, FromFresh, FromBack, FrontsPassBack, NoneBooked}
 
@@ -24,7 +23,7 @@ record IsHad (s : State) (cpu f : ℕ) : Type 0 where
   pub passable : is_passable s cpu f ≡ true
   pub taken : is_free (s.phases f) ≡ false
 
-had : (s : State) (cpu f : ℕ) → IsSound s → MayPassBack (s.parts cpu) f → IsHad s cpu f
+had : (s : State) (cpu f : ℕ) → KeepsInvariant s → MayPassBack (s.parts cpu) f → IsHad s cpu f
 had s cpu f sound (FromList some is) =
     let at = front_of (s.parts cpu).list in
     let listed : has_as ListFrame cpu (s.phases f) ≡ true = subst (λ (k : ℕ). has_as ListFrame cpu (s.phases k) ≡ true) (sym is) (front_listed s cpu sound some) in
@@ -46,7 +45,7 @@ had s cpu f sound (FromBack some) =
       taken = ap is_free (back_is cpu (s.phases f) back).1;
     }
 
-may_pass_back : (s : State) (cpu f : ℕ) → IsSound s → IsHomed s → visits cpu s.hold ≡ true → MayPassBack (s.parts cpu) f → is_legal s cpu (PassBack f) ≡ true
+may_pass_back : (s : State) (cpu f : ℕ) → KeepsInvariant s → IsHomed s → visits cpu s.hold ≡ true → MayPassBack (s.parts cpu) f → is_legal s cpu (PassBack f) ≡ true
 may_pass_back s cpu f sound homed visit may =
     let is = had s cpu f sound may in
     let cpu_is : is_cpu s.zone cpu ≡ true = homed.holder cpu (or_right (is_held_by cpu s.hold) (visits cpu s.hold) visit) in

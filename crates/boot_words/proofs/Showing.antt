@@ -10,13 +10,12 @@ use Rattle.step_rules.specs.declared.phase.Stage.TheVariants.{FreshAt, FreshPass
 use Rattle.step_rules.specs.declared.phase.Phase.{Phase}
 use Rattle.step_rules.specs.declared.phase.Phase.TheVariants.{InZone, Lent, Head, Tail}
 use Rattle.step_rules.specs.Phases.{FreshFrame, BackFrame, has_as}
-use Rattle.step_rules.specs.State.{State, Part, one_if, with_at}
+use Rattle.step_rules.specs.State.{State, Part, one_if, with_at, times}
 use Rattle.step_rules.specs.After.{state_of}
 use Rattle.step_rules.specs.Views.{seen_by, phase_seen_by, parts_seen_by, references_seen_by, other_part_seen}
+use Rattle.step_rules.specs.Invariant.{PhasePaid, groups_in, KeepsInvariant}
 use Rattle.step_rules.proofs.Basics.{at_each, same_state}
 use Rattle.step_rules.proofs.CoverParts.{own_part, other_part, own_reference}
-use Rattle.step_rules.proofs.Lists.{times}
-use Rattle.step_rules.proofs.Sound.{IsSound, PhasePaid, groups_in}
 use Rattle.step_rules.proofs.Runs.{sound_run}
 use Rattle.boot_words.specs.Hidden.{hide, hide_phase, show_own, show_phase, zone_references, group_or_0}
 use Rattle.boot_words.specs.Sight.{HolderSeesBoth}
@@ -68,7 +67,7 @@ both_at h f part groups cpus (Head u Bare) g paid fresh back = none_back h f par
 both_at h f part groups cpus (Head u Live) g paid fresh back = none_back h f part u Live back
 both_at h f part groups cpus (Head u AwaitsReturn) g paid fresh back = none_back h f part u AwaitsReturn back
 
-phases_both : (s : State) (h f : ℕ) → IsSound s → phase_seen_by h (s.phases f) ≡ show_phase h (s.parts h) f (hide_phase (s.phases f))
+phases_both : (s : State) (h f : ℕ) → KeepsInvariant s → phase_seen_by h (s.phases f) ≡ show_phase h (s.parts h) f (hide_phase (s.phases f))
 phases_both s h f sound =
     both_at h f (s.parts h) (groups_in s.parts) s.zone.cpus (s.phases f) refl ((sound.frames f).paid) (sound.lists h FreshFrame f) (sound.lists h BackFrame f)
 
@@ -88,7 +87,7 @@ parts_both : (parts : ℕ → Part) (h q : ℕ) → parts_seen_by h parts q ≡ 
 parts_both parts h q =
     at_each (λ cpu. other_part_seen (parts cpu)) h (parts h) (λ k x. parts_seen_by h parts k ≡ x) (own_part h parts h refl) (λ k ne. other_part h parts k ne) q
 
-pub sees_both : (s : State) (h : ℕ) → IsSound s → seen_by h s ≡ show_own h (s.parts h) (s.references h) (hide s)
+pub sees_both : (s : State) (h : ℕ) → KeepsInvariant s → seen_by h s ≡ show_own h (s.parts h) (s.references h) (hide s)
 sees_both s h sound =
     same_state s (λ i. λ f. phases_both s h f sound i) (λ i. λ q. λ f. references_both s.references h q f i) (λ i. λ q. parts_both s.parts h q i)
 

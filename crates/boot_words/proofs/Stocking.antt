@@ -15,11 +15,11 @@ use Rattle.step_rules.specs.declared.step.Answer.TheVariants.{Done, Took, Draine
 use Rattle.step_rules.specs.State.{State, Part, with_at, front_of, is_cpu, live_references}
 use Rattle.step_rules.specs.Legal.{is_legal}
 use Rattle.step_rules.specs.After.{after, paid, credited, consumed, with_report, absorbed, filled, drained}
+use Rattle.step_rules.specs.Invariant.{IsBooked}
 use Rattle.step_rules.proofs.Basics.{at_same, at_other, at_each}
 use Rattle.step_rules.proofs.LegalTests.{consume_tests, credit_tests, report_tests, absorb_tests, fill_tests, drain_stock_tests}
 use Rattle.step_rules.proofs.Passing.{front_listed}
 use Rattle.step_rules.proofs.PhaseLemmas.{listed_is, fresh_is}
-use Rattle.step_rules.proofs.Sound.{IsBooked}
 use Rattle.step_rules.proofs.SoundSteps.{cpu_range}
 use Rattle.step_rules.proofs.Stocked.{FitsStock}
 use Rattle.boot_words.specs.Words.{Words, AreStockWords, word_in_phase, frame_word, stock_said, stock_in, with_stock_word, with_report_word}

@@ -8,9 +8,8 @@ use Rattle.step_rules.specs.declared.phase.Stage.TheVariants.{FreshAt, FreshPass
 use Rattle.step_rules.specs.declared.phase.Stage.TheVariants.{AwaitsReturn, BackPassing}
 use Rattle.step_rules.specs.declared.phase.Phase.{Phase}
 use Rattle.step_rules.specs.declared.phase.Phase.TheVariants.{InZone, Lent, Head, Tail}
-use Rattle.step_rules.specs.State.{State, Part, with_at}
+use Rattle.step_rules.specs.State.{State, Part, with_at, times}
 use Rattle.step_rules.specs.Views.{other_part_seen}
-use Rattle.step_rules.proofs.Lists.{times}
 
 -- the head of a unit with every CPU's frames hidden: a fresh frame is on that CPU's list, and a back frame has
 -- references

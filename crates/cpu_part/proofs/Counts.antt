@@ -1,29 +1,19 @@
--- How often a frame stands in a list that grew, shrank or was parted.
-use Rattle.std.proofs.Common.{◌≡◌, ◌≢◌, ℕ, ◌+◌, ◌<◌, List, [], ◌∷◌, ◌++◌, length, get_or, cond, eqb, sym, refl, ap, ◌∙◌, subst, eq-eqb, ne_eqb, arith}
-use Rattle.std.proofs.lemmas.List.Sums.{sum_by-cons, sum_by_push}
+-- How often a frame stands in a list that was parted, and what is left of a list that shrank.
+use Rattle.std.proofs.Common.{◌≡◌, ℕ, ◌+◌, ◌<◌, ◌==◌, List, [], ◌∷◌, length, get_or, sym, refl, ap, ◌∙◌, subst, arith}
+use Rattle.std.proofs.lemmas.List.Sums.{sum_by-cons}
 use Rattle.std.proofs.lemmas.List.{get_or_default}
 use Rattle.std.proofs.lemmas.List.Sorted.{sum_by-IsPermutation, IsPermutation-remove, IsPermutation-swap_remove}
-use Rattle.std.specs.Prelude.{remove, IsPermutation}
+use Rattle.std.specs.Prelude.{remove, sum_by, IsPermutation}
 use Rattle.std.specs.List.{swap_remove}
-use Rattle.cpu_part.specs.Cpus.{times}
+use Rattle.step_rules.specs.State.{one_if, times}
 
-abbrev pub test : ℕ → ℕ → ℕ
-test g x = cond (eqb x g) 1 0
+times_sum : (g : ℕ) (xs : List ℕ) → times g xs ≡ sum_by (λ x. one_if (x == g)) xs
+times_sum g [] = refl
+times_sum g (x ∷ xs) = ap (λ n. one_if (x == g) + n) (times_sum g xs) ∙ sym (sum_by-cons (λ y. one_if (y == g)) x xs)
 
-pub test_here : (g : ℕ) → test g g ≡ 1
-test_here g = subst (λ b. ◌≡◌ {A = ℕ} (cond b 1 0) 1) (sym (eq-eqb g g refl)) refl
-
-pub test_other : (g x : ℕ) → x ≢ g → test g x ≡ 0
-test_other g x not = subst (λ b. ◌≡◌ {A = ℕ} (cond b 1 0) 0) (sym (ne_eqb x g not)) refl
-
-pub times_front : (g x : ℕ) (xs : List ℕ) → times g (x ∷ xs) ≡ test g x + times g xs
-times_front g x xs = sum_by-cons (test g) x xs
-
-pub times_end : (g x : ℕ) (xs : List ℕ) → times g (xs ++ x ∷ []) ≡ times g xs + test g x
-times_end g x xs = sum_by_push (test g) xs x
-
-pub times_parted : (g f : ℕ) (xs ys : List ℕ) → IsPermutation xs (f ∷ ys) → times g xs ≡ test g f + times g ys
-times_parted g f xs ys same = sym (sum_by-IsPermutation (test g) xs (f ∷ ys) same) ∙ times_front g f ys
+pub times_parted : (g f : ℕ) (xs ys : List ℕ) → IsPermutation xs (f ∷ ys) → times g xs ≡ one_if (f == g) + times g ys
+times_parted g f xs ys same =
+    times_sum g xs ∙ sym (sum_by-IsPermutation (λ x. one_if (x == g)) xs (f ∷ ys) same) ∙ sym (times_sum g (f ∷ ys))
 
 -- what is left where the entry at the place of f went
 pub parted_at : (f i x : ℕ) (xs s ys : List ℕ) → s ≡ xs → i < length s → get_or s i 0 ≡ f → x ≡ get_or xs i x → ys ≡ swap_remove xs i x

@@ -1,6 +1,6 @@
 -- What a CPU knows of its own part: which of its steps without the lock are legal, and its part after each.
-use Rattle.std.proofs.Common.{◌≡◌, ◌≢◌, ℕ, ◌+◌, ◌-◌, ◌<◌, ◌≤◌, ◌&&◌, ◌||◌, ◌==◌, Bool, true, false, List, [], ◌∷◌, ◌++◌, length, get_or, cond, eqb, leb, ltb, sym, refl, ap, ◌∙◌, subst, inl, inr, zero, suc, eq-eqb, arith}
-use Rattle.std.proofs.lemmas.Bool.{cases_eq, cond-false, le-leb, lt-ltb, ne_eqb}
+use Rattle.std.proofs.Common.{◌≡◌, ◌≢◌, ℕ, ◌+◌, ◌-◌, ◌<◌, ◌≤◌, ◌&&◌, ◌||◌, ◌==◌, Bool, true, false, List, [], ◌∷◌, ◌++◌, length, get_or, cond, leb, ltb, sym, refl, ap, ◌∙◌, subst, arith}
+use Rattle.std.proofs.lemmas.Bool.{cond-false, le-leb, lt-ltb, ne_eqb}
 use Rattle.std.specs.Prelude.{IsPermutation, MatchBool, remove}
 use Rattle.frame_word.specs.declared.answers.Get as gets
 use Rattle.frame_word.specs.declared.answers.Get.TheVariants as get
@@ -10,13 +10,13 @@ use Rattle.step_rules.specs.declared.step.Action.TheVariants.{Get, Put, Consume,
 use Rattle.step_rules.specs.declared.step.Answer.{Answer}
 use Rattle.step_rules.specs.declared.step.Answer.TheVariants.{Drained, Full, Held, Left, Last, Took, Stocked, Zero}
 use Rattle.step_rules.specs.Phases.{FreshFrame, has_as}
-use Rattle.step_rules.specs.State.{Part, State, Zone, front_of, is_cpu, is_frame, may_zone_act, one_if, pins_of, sum_to, with_at, with_last, without}
+use Rattle.step_rules.specs.State.{Part, State, Zone, front_of, is_cpu, is_frame, may_zone_act, pins_of, sum_to, with_at, with_last, without, times}
 use Rattle.step_rules.specs.Legal.{Allows}
 use Rattle.step_rules.specs.After.{Run, after, credited, paid, state_of, with_back, IsLegalRun}
 use Rattle.step_rules.specs.Views.{holds_lock}
 use Rattle.step_rules.proofs.Basics.{at_each, at_same}
 use Rattle.step_rules.proofs.Freeing.{zone_of_run}
-use Rattle.step_rules.proofs.Lists.{times as counted, count_length, one_if_true}
+use Rattle.step_rules.proofs.Lists.{count_length, one_if_true, removed_once, times_same, times_other, times_last, without_front}
 use Rattle.step_rules.proofs.Runs.{legal_from, sound_run, state_more}
 use Rattle.step_rules.proofs.Sums.{sum_same}
 use Rattle.boot_words.specs.Runs.{IsFast}
@@ -33,46 +33,10 @@ use Rattle.stock_word.specs.declared.words.Consume.TheVariants as consume
 use Rattle.stock_word.specs.declared.words.Credit.TheVariants as credit
 use Rattle.stock_word.specs.Stock.{KnownStockSeat, KnownStockTable, drained_of, group_of, is_held}
 use Rattle.stock_word.specs.Calls.{Consumed, Credited, told_drained}
-use Rattle.cpu_part.specs.Cpus.{KnownCpu, IsTied, times}
+use Rattle.cpu_part.specs.Cpus.{KnownCpu, IsTied}
 use Rattle.cpu_part.specs.Known.{KnowsItsPart, last_state}
 use Rattle.cpu_part.proofs.Notes.{frame_inside}
-use Rattle.cpu_part.proofs.Counts.{test_here, test_other, times_front, times_end, times_parted}
-
--- ---- lists
-
--- the rules count a frame alike
-pub same_times : (f : ℕ) (xs : List ℕ) → times f xs ≡ counted f xs
-same_times f [] = refl
-same_times f (x ∷ xs) = times_front f x xs ∙ (λ i. one (eqb x f) i + same_times f xs i)
-  where
-    one : (b : Bool) → cond b 1 0 ≡ one_if b
-    one true = refl
-    one false = refl
-
-without_absent : (f : ℕ) (xs : List ℕ) → counted f xs ≡ 0 → without f xs ≡ xs
-without_absent f [] none = refl
-without_absent f (x ∷ xs) none = elim (cases_eq x f) [
-  | inl e ↦ absurd (let a = ap one_if (eq-eqb x f e) in omega (arith, a, none))
-  | inr ne ↦ rw (ne_eqb x f ne) (ap (λ (l : List ℕ). x ∷ l) (without_absent f xs (omega (arith, none))))
-]
-
-front_gone : (f : ℕ) (rest : List ℕ) → counted f rest ≡ 0 → without f (f ∷ rest) ≡ rest
-front_gone f rest none = rw (eq-eqb f f refl) (without_absent f rest none)
-
-stands : (f i : ℕ) (xs : List ℕ) → i < length xs → get_or xs i 0 ≡ f → 1 ≤ counted f xs
-stands f i [] inside is = absurd (omega arith)
-stands f zero (x ∷ xs) inside is = let a = ap one_if (eq-eqb x f is) in omega (arith, a)
-stands f (suc i) (x ∷ xs) inside is = let a = stands f i xs (omega (arith, inside)) is in omega (arith, a)
-
-one_gone : (f i : ℕ) (xs : List ℕ) → i < length xs → get_or xs i 0 ≡ f → counted f xs ≤ 1 → without f xs ≡ remove xs i
-one_gone f i [] inside is once = absurd (omega arith)
-one_gone f zero (x ∷ xs) inside is once =
-    let a = ap one_if (eq-eqb x f is) in rw (eq-eqb x f is) (without_absent f xs (omega (arith, a, once)))
-one_gone f (suc i) (x ∷ xs) inside is once =
-    let some = stands f i xs (omega (arith, inside)) is in elim (cases_eq x f) [
-      | inl e ↦ absurd (let a = ap one_if (eq-eqb x f e) in omega (arith, a, some, once))
-      | inr ne ↦ rw (ne_eqb x f ne) (ap (λ (l : List ℕ). x ∷ l) (one_gone f i xs (omega (arith, inside)) is (omega (arith, once))))
-    ]
+use Rattle.cpu_part.proofs.Counts.{times_parted}
 
 -- ---- a CPU's lists in a state
 
@@ -96,10 +60,10 @@ module _ (s : State) (q : ℕ) (list fresh back pins : List ℕ) (has : HasLists
       → HasLists (after s q (Consume g) Took) q rest fresh' back pins
   has_took g f rest fresh' front end once =
       let here = at_same s.parts q (paid (s.parts q)) in
-      let count = ap (times f) front ∙ times_front f f rest in let t = test_here f in let both = same_times f rest in
-      let none : counted f rest ≡ 0 = omega (arith, count, t, both, once) in
+      let count = ap (times f) front in let t = times_same f in
+      let none : times f rest ≡ 0 = omega (arith, count, t, once) in
       record {
-        list_is = ap (λ (part : Part). part.list) here ∙ ap (λ (l : List ℕ). without (front_of l) l) (has.list_is ∙ front) ∙ front_gone f rest none;
+        list_is = ap (λ (part : Part). part.list) here ∙ ap (λ (l : List ℕ). without (front_of l) l) (has.list_is ∙ front) ∙ without_front f (f ∷ rest) rest refl none;
         fresh_is = ap (λ (part : Part). part.fresh) here ∙ (λ i. with_last (has.fresh_is i) (front_of ((has.list_is ∙ front) i))) ∙ sym end;
         back_is = ap (λ (part : Part). part.back) here ∙ has.back_is;
         references_are = has.references_are;
@@ -108,10 +72,10 @@ module _ (s : State) (q : ℕ) (list fresh back pins : List ℕ) (has : HasLists
   pub has_credited : (f i : ℕ) (list' fresh' : List ℕ) → i < length fresh → get_or fresh i 0 ≡ f → list' ≡ list ++ f ∷ [] → fresh' ≡ remove fresh i
       → times f fresh ≤ 1 → HasLists (after s q (Credit f) Stocked) q list' fresh' back pins
   has_credited f i list' fresh' inside is end left once =
-      let here = at_same s.parts q (credited (s.parts q) f) in let both = same_times f fresh in
+      let here = at_same s.parts q (credited (s.parts q) f) in
       record {
         list_is = ap (λ (part : Part). part.list) here ∙ ap (λ (l : List ℕ). with_last l f) has.list_is ∙ sym end;
-        fresh_is = ap (λ (part : Part). part.fresh) here ∙ ap (without f) has.fresh_is ∙ one_gone f i fresh inside is (omega (arith, both, once)) ∙ sym left;
+        fresh_is = ap (λ (part : Part). part.fresh) here ∙ ap (without f) has.fresh_is ∙ sym (removed_once f fresh i inside is once) ∙ sym left;
         back_is = ap (λ (part : Part). part.back) here ∙ has.back_is;
         references_are = has.references_are;
       }
@@ -129,14 +93,14 @@ module _ (s : State) (q : ℕ) (list fresh back pins : List ℕ) (has : HasLists
     fresh_is = has.fresh_is;
     back_is = has.back_is;
     references_are = changed_references f (s.references q f + 1) pins'
-        (let r = has.references_are f in let e = ap (times f) end ∙ times_end f f pins in let t = test_here f in omega (arith, r, e, t))
-        (λ m ne. let e = ap (times m) end ∙ times_end m f pins in let t = test_other m f ne in omega (arith, e, t));
+        (let r = has.references_are f in let e = ap (times f) end ∙ times_last f f pins in let t = times_same f in omega (arith, r, e, t))
+        (λ m ne. let e = ap (times m) end ∙ times_last m f pins in let t = times_other f m ne in omega (arith, e, t));
   }
 
   fewer : (f : ℕ) (pins' : List ℕ) → IsPermutation pins (f ∷ pins') → (m : ℕ) → with_at s.references q (with_at (s.references q) f (s.references q f - 1)) q m ≡ times m pins'
   fewer f pins' parts = changed_references f (s.references q f - 1) pins'
-      (let r = has.references_are f in let e = times_parted f f pins pins' parts in let t = test_here f in omega (arith, r, e, t))
-      (λ m ne. let e = times_parted m f pins pins' parts in let t = test_other m f ne in omega (arith, e, t))
+      (let r = has.references_are f in let e = times_parted f f pins pins' parts in let t = times_same f in omega (arith, r, e, t))
+      (λ m ne. let e = times_parted m f pins pins' parts in let t = times_other f m ne in omega (arith, e, t))
 
   pub has_left : (f n : ℕ) (pins' : List ℕ) → IsPermutation pins (f ∷ pins') → HasLists (after s q (Put f) (Left n)) q list fresh back pins'
   has_left f n pins' parts = record {
@@ -292,8 +256,8 @@ module _ (t : KnownTable) (w : KnownStockTable) (past : KnownPasts) (c : KnownCp
       let inside = frame_inside t.frames f c.list c.fresh c.back c.pins c.frame_seat.view tied.noted (omega (arith, some)) in
       let has = own_lists t past c knows in let q = (own_past past).number in
       let sound = sound_run (zone_of_boot t) (own_past past).seen knows.past_is.legal in
-      let told = sound.lists q FreshFrame f in let e = ap (counted f) has.fresh_is in let both = same_times f c.fresh in
-      let fresh = one_if_true (has_as FreshFrame q ((last_state t past).phases f)) (omega (arith, told, e, both, some)) in
+      let told = sound.lists q FreshFrame f in let e = ap (times f) has.fresh_is in
+      let fresh = one_if_true (has_as FreshFrame q ((last_state t past).phases f)) (omega (arith, told, e, some)) in
       λ i. a_cpu i && a_frame f inside i && fresh i
 
   pub may_put : (f : ℕ) → 1 ≤ times f c.pins → MayDo t past (Put f)
@@ -307,10 +271,10 @@ module _ (t : KnownTable) (w : KnownStockTable) (past : KnownPasts) (c : KnownCp
   may_get f inside room =
       let has = own_lists t past c knows in let q = (own_past past).number in
       let zone = zone_of_run (zone_of_boot t) (own_past past).seen in
-      let none : (m : ℕ) → t.frames ≤ m → counted m c.pins ≡ 0 = λ m past. let z = (tied.noted m).in_table past in let both = same_times m c.pins in omega (arith, z, both) in
+      let none : (m : ℕ) → t.frames ≤ m → times m c.pins ≡ 0 = λ m past. let z = (tied.noted m).in_table past in omega (arith, z) in
       let pins : pins_of (last_state t past) q ≡ length c.pins =
       ap (λ (z : Zone). sum_to z.frames ((last_state t past).references q)) zone
-      ∙ sum_same t.frames ((last_state t past).references q) (λ m. counted m c.pins) (λ m below. has.references_are m ∙ same_times m c.pins)
+      ∙ sum_same t.frames ((last_state t past).references q) (λ m. times m c.pins) (λ m below. has.references_are m)
       ∙ count_length t.frames c.pins none in
       let back = ap length has.back_is in
       λ i. a_cpu i && a_frame f inside i

@@ -7,8 +7,10 @@ use Rattle.frame_word.specs.declared.view.FrameNote.{FrameNote}
 use Rattle.frame_word.specs.declared.view.FrameView.{FrameView}
 use Rattle.frame_word.specs.Views.{note_of, changed, in_hands, looked, held, put_left, put_last, took_in, passed_back_by_cpu}
 use Rattle.frame_word.proofs.Notes.{note_here, note_else}
-use Rattle.cpu_part.specs.Cpus.{times, IsNoted, AreNoted}
-use Rattle.cpu_part.proofs.Counts.{test_here, test_other, times_front, times_end, times_parted}
+use Rattle.step_rules.specs.State.{times}
+use Rattle.step_rules.proofs.Lists.{times_same, times_other, times_last}
+use Rattle.cpu_part.specs.Cpus.{IsNoted, AreNoted}
+use Rattle.cpu_part.proofs.Counts.{times_parted}
 
 -- one frame's note and counts, along equations
 pub noted_along : (frames f b o r b' o' r' : ℕ) (k k' : FrameNote) → k' ≡ k → b' ≡ b → o' ≡ o → r' ≡ r → IsNoted frames f b o r k → IsNoted frames f b' o' r' k'
@@ -67,7 +69,7 @@ module _ (frames f : ℕ) (list fresh back pins : List ℕ) (v : FrameView) (not
   pub noted_accepted : (list' : List ℕ) → list' ≡ list ++ f ∷ [] → in_hands (note_of v f) ≡ 0 → f < frames
       → AreNoted frames list' fresh back pins (changed v f took_in)
   noted_accepted list' end none inside =
-      let n = noted f in let a = n.borrowed_is in let b = n.own_is in let e = ap (times f) end ∙ times_end f f list in let t = test_here f in
+      let n = noted f in let a = n.borrowed_is in let b = n.own_is in let e = ap (times f) end ∙ times_last f f list in let t = times_same f in
       noted_changed frames f list fresh back pins list' fresh back pins v noted took_in
       (record {
         borrowed_is = omega (arith, a, b, e, t, none);
@@ -77,13 +79,13 @@ module _ (frames f : ℕ) (list fresh back pins : List ℕ) (v : FrameView) (not
             omega (arith, a, b, e, t, none);
         in_table = λ past. absurd (omega arith);
       })
-      (λ g not. let s = ap (times g) end ∙ times_end g f list in let o = test_other g f not in
+      (λ g not. let s = ap (times g) end ∙ times_last g f list in let o = times_other f g not in
       record { borrowed = omega (arith, s, o); own = refl; references = refl })
 
   -- the frame went back to the zone from the list, from the fresh frames, or from the back frames
   pub noted_front_handed : (rest : List ℕ) → list ≡ f ∷ rest → AreNoted frames rest fresh back pins (changed v f passed_back_by_cpu)
   noted_front_handed rest front =
-      let n = noted f in let h = n.once in let e = ap (times f) front ∙ times_front f f rest in let t = test_here f in
+      let n = noted f in let h = n.once in let e = ap (times f) front in let t = times_same f in
       noted_changed frames f list fresh back pins rest fresh back pins v noted passed_back_by_cpu
       (record {
         borrowed_is = omega (arith, h, e, t);
@@ -93,12 +95,12 @@ module _ (frames f : ℕ) (list fresh back pins : List ℕ) (v : FrameView) (not
             omega (arith, h, e, t);
         in_table = λ past. let z = n.in_table past in omega (arith, z, e, t);
       })
-      (λ g not. let s = ap (times g) front ∙ times_front g f rest in let o = test_other g f not in
+      (λ g not. let s = ap (times g) front in let o = times_other f g not in
       record { borrowed = omega (arith, s, o); own = refl; references = refl })
 
   pub noted_fresh_handed : (rest : List ℕ) → fresh ≡ f ∷ rest → AreNoted frames list rest back pins (changed v f passed_back_by_cpu)
   noted_fresh_handed rest front =
-      let n = noted f in let h = n.once in let e = ap (times f) front ∙ times_front f f rest in let t = test_here f in
+      let n = noted f in let h = n.once in let e = ap (times f) front in let t = times_same f in
       noted_changed frames f list fresh back pins list rest back pins v noted passed_back_by_cpu
       (record {
         borrowed_is = omega (arith, h, e, t);
@@ -108,12 +110,12 @@ module _ (frames f : ℕ) (list fresh back pins : List ℕ) (v : FrameView) (not
             omega (arith, h, e, t);
         in_table = λ past. let z = n.in_table past in omega (arith, z, e, t);
       })
-      (λ g not. let s = ap (times g) front ∙ times_front g f rest in let o = test_other g f not in
+      (λ g not. let s = ap (times g) front in let o = times_other f g not in
       record { borrowed = omega (arith, s, o); own = refl; references = refl })
 
   pub noted_back_handed : (rest : List ℕ) → back ≡ f ∷ rest → AreNoted frames list fresh rest pins (changed v f passed_back_by_cpu)
   noted_back_handed rest front =
-      let n = noted f in let h = n.once in let e = ap (times f) front ∙ times_front f f rest in let t = test_here f in
+      let n = noted f in let h = n.once in let e = ap (times f) front in let t = times_same f in
       noted_changed frames f list fresh back pins list fresh rest pins v noted passed_back_by_cpu
       (record {
         borrowed_is = omega (arith, h, e, t);
@@ -123,14 +125,14 @@ module _ (frames f : ℕ) (list fresh back pins : List ℕ) (v : FrameView) (not
             omega (arith, h, e, t);
         in_table = λ past. let z = n.in_table past in omega (arith, z, e, t);
       })
-      (λ g not. let s = ap (times g) front ∙ times_front g f rest in let o = test_other g f not in
+      (λ g not. let s = ap (times g) front in let o = times_other f g not in
       record { borrowed = refl; own = omega (arith, s, o); references = refl })
 
   -- the frame was pinned
   pub noted_pinned : (pins' : List ℕ) (seen : ℕ) → pins' ≡ pins ++ f ∷ [] → f < frames
       → AreNoted frames list fresh back pins' (changed v f (λ (k : FrameNote). held (looked seen k)))
   noted_pinned pins' seen end inside =
-      let n = noted f in let r = n.references_are in let e = ap (times f) end ∙ times_end f f pins in let t = test_here f in
+      let n = noted f in let r = n.references_are in let e = ap (times f) end ∙ times_last f f pins in let t = times_same f in
       noted_changed frames f list fresh back pins list fresh back pins' v noted (λ (k : FrameNote). held (looked seen k))
       (record {
         borrowed_is = n.borrowed_is;
@@ -140,13 +142,13 @@ module _ (frames f : ℕ) (list fresh back pins : List ℕ) (v : FrameView) (not
         in_table =
             λ past. absurd (omega arith);
       })
-      (λ g not. let s = ap (times g) end ∙ times_end g f pins in let o = test_other g f not in
+      (λ g not. let s = ap (times g) end ∙ times_last g f pins in let o = times_other f g not in
       record { borrowed = refl; own = refl; references = omega (arith, s, o) })
 
   -- one pin went, and references of others are left
   pub noted_unpinned : (pins' : List ℕ) (left : ℕ) → IsPermutation pins (f ∷ pins') → AreNoted frames list fresh back pins' (changed v f (put_left left))
   noted_unpinned pins' left parts =
-      let n = noted f in let r = n.references_are in let e = times_parted f f pins pins' parts in let t = test_here f in
+      let n = noted f in let r = n.references_are in let e = times_parted f f pins pins' parts in let t = times_same f in
       noted_changed frames f list fresh back pins list fresh back pins' v noted (put_left left)
       (record {
         borrowed_is = n.borrowed_is;
@@ -156,7 +158,7 @@ module _ (frames f : ℕ) (list fresh back pins : List ℕ) (v : FrameView) (not
         in_table = λ past. let z =
             n.in_table past in omega (arith, z, e, t);
       })
-      (λ g not. let s = times_parted g f pins pins' parts in let o = test_other g f not in
+      (λ g not. let s = times_parted g f pins pins' parts in let o = times_other f g not in
       record { borrowed = refl; own = refl; references = omega (arith, s, o) })
 
   -- the last reference went, and the frame is a back frame
@@ -164,7 +166,7 @@ module _ (frames f : ℕ) (list fresh back pins : List ℕ) (v : FrameView) (not
       → AreNoted frames list fresh back' pins' (changed v f put_last)
   noted_last_unpinned pins' back' parts end none =
       let n = noted f in let a = n.borrowed_is in let b = n.own_is in let r = n.references_are in let e = times_parted f f pins pins' parts in
-      let u = ap (times f) end ∙ times_end f f back in let t = test_here f in
+      let u = ap (times f) end ∙ times_last f f back in let t = times_same f in
       noted_changed frames f list fresh back pins list fresh back' pins' v noted put_last
       (record {
         borrowed_is = n.borrowed_is;
@@ -174,5 +176,5 @@ module _ (frames f : ℕ) (list fresh back pins : List ℕ) (v : FrameView) (not
             omega (arith, a, b, u, t, none);
         in_table = λ past. let z = n.in_table past in absurd (omega (arith, z, e, t));
       })
-      (λ g not. let s = times_parted g f pins pins' parts in let w = ap (times g) end ∙ times_end g f back in
-      let o = test_other g f not in record { borrowed = refl; own = omega (arith, w, o); references = omega (arith, s, o) })
+      (λ g not. let s = times_parted g f pins pins' parts in let w = ap (times g) end ∙ times_last g f back in
+      let o = times_other f g not in record { borrowed = refl; own = omega (arith, w, o); references = omega (arith, s, o) })

@@ -11,8 +11,10 @@ use Rattle.frame_word.specs.Seats.{KnownTable, KnownSeat, seat_with, GetAnswers,
 use Rattle.stock_word.specs.Stock.{KnownStockTable, KnownStockSeat}
 use Rattle.stock_word.specs.Kinds.{after_report}
 use Rattle.stock_word.specs.Calls.{with_view}
-use Rattle.cpu_part.specs.Cpus.{KnownCpu, AreItsSeats, IsTied, times}
-use Rattle.cpu_part.proofs.Counts.{taken_out, test_here, times_end, times_front, times_parted}
+use Rattle.step_rules.specs.State.{times}
+use Rattle.step_rules.proofs.Lists.{times_same, times_last}
+use Rattle.cpu_part.specs.Cpus.{KnownCpu, AreItsSeats, IsTied}
+use Rattle.cpu_part.proofs.Counts.{taken_out, times_parted}
 use Rattle.cpu_part.proofs.Notes.{frame_inside, noted_along, noted_looked, noted_accepted, noted_front_handed, noted_fresh_handed, noted_back_handed, noted_pinned}
 use Rattle.cpu_part.proofs.Notes.{noted_unpinned, noted_last_unpinned}
 
@@ -169,7 +171,7 @@ module _ (t : KnownTable) (w : KnownStockTable) (c : KnownCpu) (tied : IsTied t 
   tied_took stock list fresh front end short table number pages =
       let l = length_front f c.list list front in let m = length_end f c.fresh fresh end in let p = tied.within.pages_are in
       tied_moved stock list fresh c.drops
-      (λ g. let a = ap (times g) front ∙ times_front g f list in let b = ap (times g) end ∙ times_end g f c.fresh in omega (arith, a, b))
+      (λ g. let a = ap (times g) front in let b = ap (times g) end ∙ times_last g f c.fresh in omega (arith, a, b))
       (omega (arith, l, m)) (omega (arith, m, short)) table number (omega (arith, m, p, pages))
 
   -- a fresh frame went to the end of the list
@@ -182,20 +184,20 @@ module _ (t : KnownTable) (w : KnownStockTable) (c : KnownCpu) (tied : IsTied t 
       let l = length_end f c.list list end in let m = length_parted f c.fresh fresh parts in let b = tied.within in
       let p = b.pages_are in let q = b.fresh_bound in
       tied_moved stock list fresh drops
-      (λ g. let a = ap (times g) end ∙ times_end g f c.list in let b = times_parted g f c.fresh fresh parts in omega (arith, a, b))
+      (λ g. let a = ap (times g) end ∙ times_last g f c.list in let b = times_parted g f c.fresh fresh parts in omega (arith, a, b))
       (omega (arith, l, m)) (omega (arith, m, q)) table number (omega (arith, m, p, pages))
 
   -- the front of a list is a frame of the table
   pub front_inside : (rest : List ℕ) → (c.list ≡ f ∷ rest) ⊎ ((c.fresh ≡ f ∷ rest) ⊎ (c.back ≡ f ∷ rest)) → f < t.frames
   front_inside rest front = frame_inside t.frames f c.list c.fresh c.back c.pins c.frame_seat.view tied.noted (elim front [
-    | inl a ↦ let e = ap (times f) a ∙ times_front f f rest in let h = test_here f in omega (arith, e, h)
-    | inr (inl b) ↦ let e = ap (times f) b ∙ times_front f f rest in let h = test_here f in omega (arith, e, h)
-    | inr (inr d) ↦ let e = ap (times f) d ∙ times_front f f rest in let h = test_here f in omega (arith, e, h)
+    | inl a ↦ let e = ap (times f) a in let h = times_same f in omega (arith, e, h)
+    | inr (inl b) ↦ let e = ap (times f) b in let h = times_same f in omega (arith, e, h)
+    | inr (inr d) ↦ let e = ap (times f) d in let h = times_same f in omega (arith, e, h)
   ])
 
   -- a listed or fresh frame is borrowed
   pub front_borrowed : (rest : List ℕ) → (c.list ≡ f ∷ rest) ⊎ (c.fresh ≡ f ∷ rest) → IsBorrowed c.frame_seat f
-  front_borrowed rest front = let n = tied.noted f in let b = n.borrowed_is in let o = n.once in let h = test_here f in elim front [
-    | inl a ↦ let e = ap (times f) a ∙ times_front f f rest in omega (arith, b, o, e, h)
-    | inr d ↦ let e = ap (times f) d ∙ times_front f f rest in omega (arith, b, o, e, h)
+  front_borrowed rest front = let n = tied.noted f in let b = n.borrowed_is in let o = n.once in let h = times_same f in elim front [
+    | inl a ↦ let e = ap (times f) a in omega (arith, b, o, e, h)
+    | inr d ↦ let e = ap (times f) d in omega (arith, b, o, e, h)
   ]

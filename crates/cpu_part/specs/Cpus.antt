@@ -1,11 +1,12 @@
 -- What a contract sees of a CPU's part, and what always holds of it.
-use Rattle.std.specs.Prelude.{◌≡◌, ℕ, ◌+◌, ◌≤◌, ◌==◌, if◌then◌else◌, List, [], length, sum_by}
+use Rattle.std.specs.Prelude.{◌≡◌, ℕ, ◌+◌, ◌≤◌, List, [], length}
 use Rattle.atomic_table.specs.Seated.{TableId}
 use Rattle.frame_word.specs.declared.view.FrameNote.{FrameNote}
 use Rattle.frame_word.specs.declared.view.FrameView.{FrameView}
 use Rattle.frame_word.specs.Views.{note_of}
 use Rattle.frame_word.specs.Seats.{KnownTable, KnownSeat, seat_number}
 use Rattle.stock_word.specs.Stock.{KnownStockTable, KnownStockSeat}
+use Rattle.step_rules.specs.State.{times}
 
 -- the table of no boot: it has no frame and no CPU
 abbrev pub no_table : TableId
@@ -26,10 +27,6 @@ pub record KnownCpu : Type 0 where
   pub frame_seat : KnownSeat
   pub stock_seat : KnownStockSeat
   pub drops : ℕ
-
--- how often x is in the list
-abbrev pub times : ℕ → List ℕ → ℕ
-times x xs = sum_by (λ y. if y == x then 1 else 0) xs
 
 -- The seat's note of one frame agrees with the lists. The lists have each frame at most once, and no frame that the
 -- table doesn't have.

@@ -2,12 +2,12 @@
 use Rattle.std.specs.Prelude.{◌≡◌, ◌≢◌, ℕ, false, []}
 use Rattle.frame_word.specs.Seats.{KnownTable}
 use Rattle.stock_word.specs.Stock.{group_of}
-use Rattle.step_rules.specs.State.{State}
+use Rattle.step_rules.specs.State.{State, times}
 use Rattle.step_rules.specs.After.{state_of}
 use Rattle.step_rules.specs.Views.{holds_lock}
 use Rattle.boot_words.specs.Pasts.{KnownPasts, own_past, IsCpuPast}
 use Rattle.boot_words.specs.Seats.{zone_of_boot}
-use Rattle.cpu_part.specs.Cpus.{KnownCpu, times}
+use Rattle.cpu_part.specs.Cpus.{KnownCpu}
 
 -- the state at the CPU's own last step
 abbrev pub last_state : KnownTable → KnownPasts → State

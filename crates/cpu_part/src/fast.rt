@@ -2,7 +2,7 @@
 ghost use Rattle.std.specs.Prelude.{◌<◌, ◌≤◌};
 ghost use Rattle.boot_words.specs.Growth.{GrewByAll};
 ghost use Rattle.boot_words.specs.Pasts.{own_past};
-ghost use Rattle.cpu_part.specs.Cpus.{times};
+ghost use Rattle.step_rules.specs.State.{times};
 ghost use Rattle.cpu_part.specs.Calls.{FastAnswers, IfGot, DropAnswers};
 ghost use Rattle.cpu_part.specs.Known.{KnowsItsPart};
 ghost use Rattle.cpu_part.specs.Told.{steps_of_fast, steps_of_drop};

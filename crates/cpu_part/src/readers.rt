@@ -2,7 +2,8 @@
 ghost use Rattle.std.specs.Prelude.{◌≡◌, ◌≤◌, ◌<◌, ◌+◌, ◌↔◌, [], length, IsTrue, MatchOption};
 ghost use Rattle.stock_word.specs.declared.view.Stock.TheVariants.{NoGroup};
 ghost use Rattle.stock_word.specs.Stock.{HasWord};
-ghost use Rattle.cpu_part.specs.Cpus.{IsTied, IsIdle, most_fresh, most_listed, most_pins, times};
+ghost use Rattle.step_rules.specs.State.{times};
+ghost use Rattle.cpu_part.specs.Cpus.{IsTied, IsIdle, most_fresh, most_listed, most_pins};
 
 use crate::boot_name::BootName;
 use crate::cpu::Cpu;

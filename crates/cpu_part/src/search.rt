@@ -1,6 +1,6 @@
 //! The place of a frame in a list.
 ghost use Rattle.std.specs.Prelude.{◌≡◌, ◌<◌, ◌≤◌, false, MatchOption, drop, length, slice_index};
-ghost use Rattle.cpu_part.specs.Cpus.{times};
+ghost use Rattle.step_rules.specs.State.{times};
 
 use frame_word::Frame;
 

@@ -17,12 +17,12 @@ use Rattle.step_rules.specs.State.{Zone, State, is_unheld, may_zone_act, visits}
 use Rattle.step_rules.specs.Legal.{Allows, IsAnswer, IsMade, is_legal}
 use Rattle.step_rules.specs.After.{IsLegalRun, Run, after, state_of}
 use Rattle.step_rules.specs.Reaches.{is_own, own_steps}
+use Rattle.step_rules.specs.Invariant.{KeepsInvariant}
 use Rattle.step_rules.proofs.LegalTests.{lock_tests, open_visit_tests, shut_visit_tests, freeze_tests, unfreeze_tests, pass_out_tests, take_in_tests, pass_back_tests, collect_tests}
 use Rattle.step_rules.proofs.LegalTests.{report_tests, absorb_tests, fill_tests, drain_stock_tests, grant_tests, ungrant_tests, place_block_tests, publish_tests, return_tests}
 use Rattle.step_rules.proofs.LegalTests.{set_max_tests, set_flag_tests, make_tests, remove_tests, kill_tests}
 use Rattle.step_rules.proofs.PhaseLemmas.{visited}
 use Rattle.step_rules.proofs.Runs.{after_illegal, allowed, sound_run, state_more}
-use Rattle.step_rules.proofs.Sound.{IsSound}
 use Rattle.boot_words.specs.Growth.{GrewByAll}
 use Rattle.boot_words.specs.Hidden.{hide}
 use Rattle.boot_words.specs.Pasts.{own_past}
@@ -131,7 +131,7 @@ no_visit : (hold : Hold) (q : ℕ) → NoVisit hold → visits q hold ≡ true �
 no_visit hold q closed visit = closed q (visited q hold visit)
 
 -- a CPU's step while no visit is open is a fast one, a Lock or an Unlock
-only_fast : (s : State) (q : ℕ) (action : Action) → IsSound s → NoVisit s.hold → q ≢ 0 → is_legal s q action ≡ true
+only_fast : (s : State) (q : ℕ) (action : Action) → KeepsInvariant s → NoVisit s.hold → q ≢ 0 → is_legal s q action ≡ true
     → IsFast action ⊎ ((action ≡ Lock) ⊎ (action ≡ Unlock))
 only_fast s q Lock sound closed ne legal = inr (inl refl)
 only_fast s q Unlock sound closed ne legal = inr (inr refl)

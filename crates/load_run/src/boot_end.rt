@@ -2,7 +2,7 @@
 
 ghost use Rattle.std.specs.Prelude.{◌≡◌, ◌++◌, ◌≤◌, OnOk, length};
 ghost use Rattle.std.specs.String.{string_bytes};
-ghost use Rattle.cpu_part.specs.Cpus.{times};
+ghost use Rattle.step_rules.specs.State.{times};
 ghost use Rattle.mem_system.specs.Ends.{ForEachCpu, machine_and_cpu};
 ghost use Rattle.script_replay.specs.Lines.{system_state};
 ghost use Rattle.load_run.specs.Ending.{EndsChecked, EndsHeld, LeavesNothing, PutsAllPins, PutsHeldPin};

@@ -13,9 +13,8 @@ use Rattle.step_rules.proofs.Sums.{sum_none}
 use Rattle.step_rules.specs.Legal.{Allows}
 use Rattle.step_rules.specs.After.{Run, after, state_of, IsLegalRun}
 use Rattle.step_rules.specs.Peaks.{UsageMoves}
-use Rattle.step_rules.proofs.Homes.{IsHomed}
+use Rattle.step_rules.specs.Invariant.{KeepsInvariant, IsHomed}
 use Rattle.step_rules.proofs.Moving.{usage_step, moves_illegal}
-use Rattle.step_rules.proofs.Sound.{IsSound}
 use Rattle.step_rules.proofs.Few.{pins_boot}
 use Rattle.step_rules.proofs.SoundSteps.{sound_step}
 use Rattle.step_rules.proofs.Runs.{after_illegal, allowed, state_more, legal_more}
@@ -28,15 +27,15 @@ use Rattle.mem_core.proofs.Accounting.{tell_more}
 use Rattle.mem_core.specs.Promise.{PlacesFrontIn}
 use Rattle.zone_blocks.proofs.Unique.{unique_blocks}
 
-pub sound_after : (s : State) (seat : ℕ) (action : Action) (answer : Answer) → IsSound s → Allows s seat action answer → IsSound (after s seat action answer)
+pub sound_after : (s : State) (seat : ℕ) (action : Action) (answer : Answer) → KeepsInvariant s → Allows s seat action answer → KeepsInvariant (after s seat action answer)
 sound_after s seat action answer sound ok =
     elim (allowed s seat action answer ok) [
-      | inl illegal ↦ subst IsSound (sym (ap (after s seat action) illegal ∙ after_illegal s seat action)) sound
+      | inl illegal ↦ subst KeepsInvariant (sym (ap (after s seat action) illegal ∙ after_illegal s seat action)) sound
       | inr made ↦ sound_step s seat action answer sound made.legal made.answered made.counted
     ]
 
 -- no step but a grant raises any usage
-pub usage_after : (s : State) (seat : ℕ) (action : Action) (answer : Answer) → IsSound s → IsHomed s
+pub usage_after : (s : State) (seat : ℕ) (action : Action) (answer : Answer) → KeepsInvariant s → IsHomed s
     → Allows s seat action answer → UsageMoves s seat action answer
 usage_after s seat action answer sound homed ok =
     elim (allowed s seat action answer ok) [
@@ -47,7 +46,7 @@ usage_after s seat action answer sound homed ok =
 pub widened : (n : ℕ) (s : State) → IsBounded n s → IsBounded (n + 2 ^ 32) s
 widened n s b = record { references = b.references; pages = let h = b.pages in omega arith; holder = b.holder; pins = b.pins }
 
-pub bounded_after : (n : ℕ) (s : State) (seat : ℕ) (action : Action) (answer : Answer) → IsSound s → IsBounded n s
+pub bounded_after : (n : ℕ) (s : State) (seat : ℕ) (action : Action) (answer : Answer) → KeepsInvariant s → IsBounded n s
     → Allows s seat action answer → pages_asked action < 2 ^ 32 → IsBounded (n + 2 ^ 32) (after s seat action answer)
 bounded_after n s seat action answer sound bounded ok small =
     elim (allowed s seat action answer ok) [

@@ -13,14 +13,14 @@ use Rattle.step_rules.specs.declared.step.Action.TheVariants.{Grant, Ungrant, Pl
 use Rattle.step_rules.specs.declared.step.Answer.{Answer}
 use Rattle.step_rules.specs.declared.step.Answer.TheVariants.{Done, Held, Left, Last, Took, Stocked, Pages, Granted, Placed, Number}
 use Rattle.step_rules.specs.Phases.{Kind, ListFrame, has_as, is_live_phase, is_head_in_hand}
-use Rattle.step_rules.specs.State.{Zone, State, Part, with_at, sum_to, one_if, is_cpu, is_held_by, visits, front_of, frames_of, live_references}
+use Rattle.step_rules.specs.State.{Zone, State, Part, with_at, sum_to, one_if, is_cpu, is_held_by, visits, front_of, frames_of, live_references, times}
 use Rattle.step_rules.specs.Legal.{is_legal, IsAnswer, IsCounted, get_answer}
 use Rattle.step_rules.specs.After.{after, with_back, filled, drained, with_more}
+use Rattle.step_rules.specs.Invariant.{KeepsInvariant}
 use Rattle.step_rules.proofs.Basics.{at_other, at_each, at_through}
 use Rattle.step_rules.proofs.Sums.{sum_same, sum_part, sum_change}
-use Rattle.step_rules.proofs.Lists.{times, count_length, front_stands, one_if_true}
+use Rattle.step_rules.proofs.Lists.{count_length, front_stands, one_if_true}
 use Rattle.step_rules.proofs.PhaseLemmas.{free_is, in_hand, WasCollected, WasBare, WasEnded}
-use Rattle.step_rules.proofs.Sound.{IsSound}
 use Rattle.step_rules.proofs.Few.{HaveFewPins, pins_made}
 use Rattle.step_rules.proofs.Placed.{zone_kept}
 use Rattle.mem_core.specs.Bounded.{IsBounded, pages_out, HolderIsThere}
@@ -59,35 +59,35 @@ pub one_most : (b : Bool) → one_if b ≤ 1
 one_most true = omega arith
 one_most false = omega arith
 
-pub list_sum : (s : State) (p : ℕ) (kind : Kind) → IsSound s
+pub list_sum : (s : State) (p : ℕ) (kind : Kind) → KeepsInvariant s
     → sum_to s.zone.frames (λ f. one_if (has_as kind p (s.phases f))) ≡ length (frames_of (s.parts p) kind)
 list_sum s p kind sound =
     sum_same s.zone.frames (λ f. one_if (has_as kind p (s.phases f))) (λ f. times f (frames_of (s.parts p) kind)) (λ f below. sym (sound.lists p kind f))
     ∙ count_length s.zone.frames (frames_of (s.parts p) kind) (λ f beyond. sound.lists p kind f
     ∙ ap (λ x. one_if (has_as kind p x)) (free_is (s.phases f) ((sound.frames f).inside beyond)))
 
-pub room_there : (s : State) (p : ℕ) (kind : Kind) (f : ℕ) → IsSound s → f < s.zone.frames
+pub room_there : (s : State) (p : ℕ) (kind : Kind) (f : ℕ) → KeepsInvariant s → f < s.zone.frames
     → has_as kind p (s.phases f) ≡ false → length (frames_of (s.parts p) kind) < s.zone.frames
 room_there s p kind f sound below other =
     let e = list_sum s p kind sound in
     let a = sum_room s.zone.frames (λ f. one_if (has_as kind p (s.phases f))) f (λ i. one_most (has_as kind p (s.phases i))) below (ap one_if other) in
     omega arith
 
-pub referred_live : (s : State) (seat f : ℕ) → IsSound s → 1 ≤ s.references seat f → is_live_phase (s.phases f) ≡ true
+pub referred_live : (s : State) (seat f : ℕ) → KeepsInvariant s → 1 ≤ s.references seat f → is_live_phase (s.phases f) ≡ true
 referred_live s seat f sound some = dec (is_live_phase (s.phases f)) refl
   where
     dec : (b : Bool) → is_live_phase (s.phases f) ≡ b → b ≡ true
     dec true e = refl
     dec false e = absurd (let none : s.references seat f ≡ 0 = (sound.frames f).unreferred e seat in omega arith)
 
-pub front_listed : (s : State) (p : ℕ) → IsSound s → 1 ≤ length (s.parts p).list → has_as ListFrame p (s.phases (front_of (s.parts p).list)) ≡ true
+pub front_listed : (s : State) (p : ℕ) → KeepsInvariant s → 1 ≤ length (s.parts p).list → has_as ListFrame p (s.phases (front_of (s.parts p).list)) ≡ true
 front_listed s p sound some =
     let f = front_of (s.parts p).list in
     let stands = front_stands (s.parts p).list some in
     let e : times f (s.parts p).list ≡ one_if (has_as ListFrame p (s.phases f)) = sound.lists p ListFrame f in
     one_if_true (has_as ListFrame p (s.phases f)) (omega arith)
 
-pub front_there : (s : State) (p : ℕ) → IsSound s → 1 ≤ length (s.parts p).list → front_of (s.parts p).list < s.zone.frames
+pub front_there : (s : State) (p : ℕ) → KeepsInvariant s → 1 ≤ length (s.parts p).list → front_of (s.parts p).list < s.zone.frames
 front_there s p sound some =
     let f = front_of (s.parts p).list in
     let listed = front_listed s p sound some in
@@ -108,7 +108,7 @@ holder_there cpus p (Visiting q) there e = absurd (false≢true e)
 
 -- rows of the zone's size whose state is sound and bounded are ready for a step
 pub few_from : (n : ℕ) (s : State) → n ≤ 2 ^ 96 → ((p : ℕ) → s.zone.cpus < p → (s.parts p).book ≡ 0)
-    → ((g : ℕ) → 64 ≤ g → s.pending g ≡ 0) → IsSound s → IsBounded n s → IsBelowBounds s
+    → ((g : ℕ) → 64 ≤ g → s.pending g ≡ 0) → KeepsInvariant s → IsBounded n s → IsBelowBounds s
 few_from n s small beyond absent sound bounded = record {
   references = bounded.references;
   booked = sound.booked;
@@ -162,7 +162,7 @@ held_few live e = grind arith
 cpu_high : (zone : Zone) (p : ℕ) → is_cpu zone p ≡ true → p ≤ zone.cpus
 cpu_high zone p e = leb-true p zone.cpus (and_parts (nat_le 1 p) (nat_le p zone.cpus) e).1
 
-small_step : (n : ℕ) (s : State) (seat : ℕ) (action : Action) (answer : Answer) → IsSound s → AreSmall n s → is_legal s seat action ≡ true →
+small_step : (n : ℕ) (s : State) (seat : ℕ) (action : Action) (answer : Answer) → KeepsInvariant s → AreSmall n s → is_legal s seat action ≡ true →
     IsAnswer s seat action answer → IsCounted s action answer → pages_asked action < 2 ^ 32 → AreSmall (n + 2 ^ 32) (after s seat action answer)
 small_step n s seat Lock Done sound b legal ok counted small =
     let cpu : is_cpu s.zone seat ≡ true = grind (arith, legal) in
@@ -288,7 +288,7 @@ small_step n s seat (Kill g) Done sound b legal ok counted small =
 small_step n s seat action answer sound b legal ok counted small =
     record { references = b.references; pages = wide n (pages_out s) b.pages; holder = b.holder }
 
-pub bounded_step : (n : ℕ) (s : State) (seat : ℕ) (action : Action) (answer : Answer) → IsSound s → IsBounded n s → is_legal s seat action ≡ true →
+pub bounded_step : (n : ℕ) (s : State) (seat : ℕ) (action : Action) (answer : Answer) → KeepsInvariant s → IsBounded n s → is_legal s seat action ≡ true →
     IsAnswer s seat action answer → IsCounted s action answer → pages_asked action < 2 ^ 32 → IsBounded (n + 2 ^ 32) (after s seat action answer)
 bounded_step n s seat action answer sound b legal ok counted small =
     let t : State = after s seat action answer in

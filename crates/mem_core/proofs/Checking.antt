@@ -10,8 +10,7 @@ use Rattle.step_rules.specs.declared.step.Answer.{Answer}
 use Rattle.step_rules.specs.State.{Zone, State}
 use Rattle.step_rules.specs.Legal.{Allows}
 use Rattle.step_rules.specs.After.{Run, after, state_of, IsLegalRun}
-use Rattle.step_rules.proofs.Sound.{IsSound}
-use Rattle.step_rules.proofs.Homes.{IsHomed}
+use Rattle.step_rules.specs.Invariant.{KeepsInvariant, IsHomed}
 use Rattle.step_rules.proofs.Keeping.{homes_allowed}
 use Rattle.step_rules.proofs.Placed.{zone_kept}
 use Rattle.step_rules.proofs.Runs.{one_more, state_more, legal_more}
@@ -25,15 +24,15 @@ use Rattle.mem_core.proofs.Advancing.{sound_after, bounded_after}
 
 -- what a step keeps of a sound state, bounded by n pages
 pub record Kept (n : ℕ) (s t : State) : Type 0 where
-  pub sound : IsSound t
+  pub sound : KeepsInvariant t
   pub homed : IsHomed t
   pub bounded : IsBounded (n + 2 ^ 32) t
   pub zone : t.zone ≡ s.zone
 
-pub kept : (n : ℕ) (s t : State) (step : Step) (made : Answer) → IsSound s → IsHomed s → IsBounded n s → pages_asked step.action < 2 ^ 32
+pub kept : (n : ℕ) (s t : State) (step : Step) (made : Answer) → KeepsInvariant s → IsHomed s → IsBounded n s → pages_asked step.action < 2 ^ 32
     → Leads s step made t → Kept n s t
 kept n s t step made sound homed bounded small leads = record {
-  sound = subst IsSound (sym leads.state) (sound_after s step.seat step.action made sound leads.allowed);
+  sound = subst KeepsInvariant (sym leads.state) (sound_after s step.seat step.action made sound leads.allowed);
   homed = subst IsHomed (sym leads.state) (homes_allowed s step.seat step.action made sound homed leads.allowed);
   bounded = subst (IsBounded (n + 2 ^ 32)) (sym leads.state) (bounded_after n s step.seat step.action made sound bounded leads.allowed small);
   zone = ap (λ (x : State). x.zone) leads.state ∙ zone_kept s step.seat step.action made;

@@ -3,7 +3,7 @@ use Rattle.std.proofs.Common.{◌≡◌, ℕ, ◌^◌, ◌≤◌, List, [], ◌�
 use Rattle.std.specs.List.{slice_get}
 use Rattle.std.proofs.lemmas.Option.{slice_get_past}
 use Rattle.zone_blocks.specs.declared.block.Block.{Block}
-use Rattle.step_rules.proofs.Sound.{IsSound}
+use Rattle.step_rules.specs.Invariant.{KeepsInvariant}
 use Rattle.mem_core.specs.declared.seat.SeatRow.{SeatRow}
 use Rattle.mem_core.specs.declared.rows.Rows.{Rows}
 use Rattle.mem_core.specs.Rows.{part_in_row, reference_of}
@@ -34,7 +34,7 @@ pub shown_is : (c : Inside) → state_shown (core_state c) ≡ rows.state_in c.r
 shown_is c = rows_are c.rows c.accounts.items c.areas.blocks c.steps
 
 -- rows that are sound and bounded are ready for a step
-pub ready : (r : Rows) (n : ℕ) → n ≤ 2 ^ 96 → FitsZone r → IsSound (rows.state_in r) → IsBounded n (rows.state_in r) → IsBelowBounds (rows.state_in r)
+pub ready : (r : Rows) (n : ℕ) → n ≤ 2 ^ 96 → FitsZone r → KeepsInvariant (rows.state_in r) → IsBounded n (rows.state_in r) → IsBelowBounds (rows.state_in r)
 ready r n small fits sound bounded =
     few_from n (rows.state_in r) small
     (λ p beyond. ap (λ o. (part_in_row o).book) (slice_get_past r.seats.items p (omega (arith, r.seats.ok.0, fits.seats, beyond))))

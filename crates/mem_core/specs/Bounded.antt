@@ -1,9 +1,8 @@
 -- How large the numbers of a state may be.
-use Rattle.std.specs.Prelude.{◌≡◌, ℕ, ◌+◌, ◌≤◌}
+use Rattle.std.specs.Prelude.{◌≡◌, ℕ, ◌+◌, ◌≤◌, true, length}
 use Rattle.step_rules.specs.declared.phase.Hold.{Hold}
 use Rattle.step_rules.specs.declared.phase.Hold.TheVariants.{Unheld, HeldBy, Visiting}
-use Rattle.step_rules.specs.State.{State, sum_to}
-use Rattle.step_rules.proofs.Few.{HaveFewPins}
+use Rattle.step_rules.specs.State.{State, is_cpu, pins_of, sum_to}
 
 -- only a CPU holds the lock
 abbrev pub HolderIsThere : ℕ → Hold → Type 0
@@ -20,4 +19,4 @@ pub record IsBounded (n : ℕ) (s : State) : Type 0 where
   pub references : (seat f : ℕ) → s.references seat f ≤ 255
   pub pages : pages_out s ≤ n
   pub holder : HolderIsThere s.zone.cpus s.hold
-  pub pins : HaveFewPins s.zone s.references s.parts
+  pub pins : (cpu : ℕ) → is_cpu s.zone cpu ≡ true → pins_of s cpu + length (s.parts cpu).back ≤ 256

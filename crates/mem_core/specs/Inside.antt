@@ -4,8 +4,7 @@ use Rattle.group_tree.specs.Bounds.{most_groups}
 use Rattle.zone_blocks.specs.declared.block.Block.{Block}
 use Rattle.zone_blocks.specs.Areas.{AreMaximalBlocks}
 use Rattle.step_rules.specs.State.{free_in}
-use Rattle.step_rules.proofs.Sound.{IsSound}
-use Rattle.step_rules.proofs.Homes.{IsHomed}
+use Rattle.step_rules.specs.Invariant.{KeepsInvariant, IsHomed}
 use Rattle.mem_core.specs.declared.seat.SeatRow.{SeatRow}
 use Rattle.mem_core.specs.declared.rows.Rows.{Rows}
 use Rattle.mem_core.specs.Rows.{state_in, part_in}
@@ -38,11 +37,11 @@ rows_shown rows accounts areas steps = record {
 abbrev pub core_state : Inside → CoreState
 core_state c = rows_shown c.rows c.accounts.items c.areas.blocks c.steps
 
--- The parts of a core agree. The rows have the zone's size, and their state is sound, names only existing groups, and
--- is bounded by the number of steps. The areas are the maximal blocks of the free frames.
+-- The parts of a core agree. The rows have the zone's size, and their state keeps the invariant, names only existing
+-- groups, and is bounded by the number of steps. The areas are the maximal blocks of the free frames.
 pub record IsWhole (c : Inside) : Type 0 where
   pub fits : FitsZone c.rows
-  pub sound : IsSound (state_in c.rows)
+  pub sound : KeepsInvariant (state_in c.rows)
   pub homed : IsHomed (state_in c.rows)
   pub bounded : IsBounded (c.steps * 2 ^ 32) (state_in c.rows)
   pub accounts : vec_len c.accounts ≡ most_groups

@@ -1,7 +1,6 @@
 -- What a checker stores, and how a contract sees it.
 use Rattle.std.specs.Prelude.{◌≡◌, ◌*◌, ◌^◌, ◌<◌, ◌≤◌, [], vec_capacity}
-use Rattle.step_rules.proofs.Sound.{IsSound}
-use Rattle.step_rules.proofs.Homes.{IsHomed}
+use Rattle.step_rules.specs.Invariant.{KeepsInvariant, IsHomed}
 use Rattle.mem_core.specs.Rows.{state_in}
 use Rattle.mem_core.specs.Rooms.{FitsZone}
 use Rattle.mem_core.specs.Bounded.{IsBounded}
@@ -13,11 +12,11 @@ use Rattle.mem_core.specs.Inside.{rows_shown}
 abbrev pub checker_state : Inside → CoreState
 checker_state c = rows_shown c.rows [] [] c.steps
 
--- The parts of a checker agree. The rows have the zone's size, and their state is sound, names only existing groups,
--- and is bounded by the number of steps. There is room for the areas.
+-- The parts of a checker agree. The rows have the zone's size, and their state keeps the invariant, names only existing
+-- groups, and is bounded by the number of steps. There is room for the areas.
 pub record IsReady (c : Inside) : Type 0 where
   pub fits : FitsZone c.rows
-  pub sound : IsSound (state_in c.rows)
+  pub sound : KeepsInvariant (state_in c.rows)
   pub homed : IsHomed (state_in c.rows)
   pub bounded : IsBounded (c.steps * 2 ^ 32) (state_in c.rows)
   pub few : c.steps < 2 ^ 64

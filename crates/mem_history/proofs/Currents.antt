@@ -7,7 +7,6 @@ use Rattle.frame_word.specs.Seats.{KnownTable, LentIsBorrowed}
 use Rattle.stock_word.specs.Stock.{KnownStockTable, account_of}
 use Rattle.stock_word.specs.Stock as stocks
 use Rattle.group_charge.specs.Charges.{AreCharges, current_of}
-use Rattle.cpu_part.specs.Cpus as parts
 use Rattle.cpu_part.specs.Cpus.{KnownCpu}
 use Rattle.step_rules.specs.declared.phase.ChargedUnit.{ChargedUnit}
 use Rattle.step_rules.specs.declared.phase.Hold.TheVariants.{HeldBy}
@@ -16,11 +15,11 @@ use Rattle.step_rules.specs.declared.phase.Stage.TheVariants.{FreshAt, BackAt}
 use Rattle.step_rules.specs.declared.phase.Phase.{Phase}
 use Rattle.step_rules.specs.declared.phase.Phase.TheVariants as phase
 use Rattle.step_rules.specs.Phases.{ListFrame, FreshFrame, has_as}
-use Rattle.step_rules.specs.State.{State, Part, one_if, front_of}
+use Rattle.step_rules.specs.State.{State, Part, one_if, front_of, times}
 use Rattle.step_rules.specs.Usage.{frames_kept, pages_prepaid, usage_of}
 use Rattle.step_rules.specs.After.{Run, state_of}
-use Rattle.step_rules.proofs.Lists.{times, one_if_true, front_stands}
-use Rattle.step_rules.proofs.Sound.{IsSound, PhasePaid, groups_in}
+use Rattle.step_rules.specs.Invariant.{PhasePaid, groups_in, KeepsInvariant}
+use Rattle.step_rules.proofs.Lists.{one_if_true, front_stands}
 use Rattle.step_rules.proofs.PhaseLemmas.{listed_is, fresh_is}
 use Rattle.step_rules.proofs.CoverParts.{own_part}
 use Rattle.step_rules.proofs.CoverUsage as covered
@@ -36,7 +35,7 @@ use Rattle.mem_machine.proofs.Records.{lent_frame_state}
 use Rattle.mem_machine.proofs.Usage.{IsBalanced, usage_is}
 use Rattle.mem_history.specs.Whole.{seen_by_holder, ShowsAll}
 use Rattle.mem_history.specs.Kept.{IsTiedPart, CurrentIsKept}
-use Rattle.mem_history.proofs.Covers.{cover, plain, cover_hidden, cover_shown, lent_plain, same_times}
+use Rattle.mem_history.proofs.Covers.{cover, plain, cover_hidden, cover_shown, lent_plain}
 use Rattle.mem_history.proofs.Others.{HasOwn, has_own, own_shown}
 use Rattle.mem_history.proofs.Together.{there}
 use Rattle.mem_history.proofs.Wholes.{not_zone, whole_sound, locked, locked_is, takes}
@@ -76,17 +75,17 @@ module _ (t : KnownTable) (w : KnownStockTable) (run : Run) (m : KnownMachine) (
   sees : local_of t m c ≡ seen_by_holder p whole
   sees = (shows.each k c is_part).sees
 
-  sound : IsSound whole
+  sound : KeepsInvariant whole
   sound = whole_sound t run m cpus k c shows is_part
 
   own : HasOwn c whole
   own = has_own t m c whole (not_zone t run m cpus k c shows is_part) sees
 
-  listed_times : (f : ℕ) → parts.times f c.list ≡ one_if (has_as ListFrame p (whole.phases f))
-  listed_times f = same_times f c.list ∙ ap (times f) (sym own.list) ∙ sound.lists p ListFrame f
+  listed_times : (f : ℕ) → times f c.list ≡ one_if (has_as ListFrame p (whole.phases f))
+  listed_times f = ap (times f) (sym own.list) ∙ sound.lists p ListFrame f
 
-  fresh_times : (f : ℕ) → parts.times f c.fresh ≡ one_if (has_as FreshFrame p (whole.phases f))
-  fresh_times f = same_times f c.fresh ∙ ap (times f) (sym own.fresh) ∙ sound.lists p FreshFrame f
+  fresh_times : (f : ℕ) → times f c.fresh ≡ one_if (has_as FreshFrame p (whole.phases f))
+  fresh_times f = ap (times f) (sym own.fresh) ∙ sound.lists p FreshFrame f
 
   -- the frames lent to the CPU are its listed and its fresh frames
   pub lent_is_borrowed : LentIsBorrowed t m.frame_seat c.frame_seat
@@ -103,7 +102,7 @@ module _ (t : KnownTable) (w : KnownStockTable) (run : Run) (m : KnownMachine) (
           let noted = tied.tied.noted f in
           let borrowed_is = noted.borrowed_is in
           let once = noted.once in
-          let some : 1 ≤ parts.times f c.list + parts.times f c.fresh = elim (lent_at p (whole.phases f) seen) [
+          let some : 1 ≤ times f c.list + times f c.fresh = elim (lent_at p (whole.phases f) seen) [
             | OnItsList e ↦
                 let a = listed_times f in
                 let b : one_if (has_as ListFrame p (whole.phases f)) ≡ 1 = ap (λ (y : Phase). one_if (has_as ListFrame p y)) e ∙ ap one_if (eq-eqb p p refl) in
@@ -181,7 +180,7 @@ module _ (t : KnownTable) (w : KnownStockTable) (run : Run) (m : KnownMachine) (
       let lock = locked t run m cpus k c shows is_part in
       let lock_is : state_of (zone_of t) lock ≡ record whole { hold = HeldBy p } = locked_is t run m cpus k c shows is_part in
       let took = takes t run m cpus k c shows is_part in
-      let held_sound : IsSound (record whole { hold = HeldBy p }) = subst IsSound lock_is (sound_run (zone_of t) lock took.legal) in
+      let held_sound : KeepsInvariant (record whole { hold = HeldBy p }) = subst KeepsInvariant lock_is (sound_run (zone_of t) lock took.legal) in
       sym (usage_is t w m c is charges lent_is_borrowed tied.tied is_balanced g)
       ∙ ap (λ (x : State). usage_of x g) sees ∙ covered.usage_seen (record whole { hold = HeldBy p }) p held_sound g
 

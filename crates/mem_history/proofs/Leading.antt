@@ -1,8 +1,7 @@
 -- Which step a fast call is. Serves `fast_calls_lead`.
-use Rattle.std.proofs.Common.{◌≡◌, ℕ, ◌+◌, ◌-◌, ◌<◌, ◌≤◌, ◌==◌, ◌&&◌, ◌++◌, Bool, true, false, cond, get_or, List, [], ◌∷◌, length, refl, sym, ◌∙◌, ap, subst, arith, inl, inr, zero, suc, eq-eqb}
+use Rattle.std.proofs.Common.{◌≡◌, ℕ, ◌+◌, ◌-◌, ◌<◌, ◌≤◌, ◌==◌, ◌&&◌, ◌++◌, Bool, true, false, cond, get_or, List, [], ◌∷◌, length, refl, sym, ◌∙◌, ap, subst, arith, inl, inr, zero, eq-eqb}
 use Rattle.std.specs.Prelude.{nat_le, nat_lt, remove, IsPermutation}
 use Rattle.std.proofs.lemmas.Bool.{cases_eq, cases_lt, cases_Bool, ne_eqb, and_from, and_right, or_left, le-leb, lt-ltb, cond-true, cond-false}
-use Rattle.std.proofs.lemmas.List.Sorted.{sum_by-IsPermutation}
 use Rattle.frame_word.specs.declared.view.FrameNote.{FrameNote}
 use Rattle.frame_word.specs.declared.answers.Put.{Put as Putted}
 use Rattle.frame_word.specs.declared.answers.Put.TheVariants as put
@@ -15,8 +14,8 @@ use Rattle.stock_word.specs.Stock.{KnownStockTable, KnownStockSeat, account_of}
 use Rattle.stock_word.specs.Stock as stocks
 use Rattle.stock_word.specs.Calls.{with_view}
 use Rattle.cpu_part.specs.Calls.{UnpinAnswers}
-use Rattle.cpu_part.specs.Cpus as parts
 use Rattle.cpu_part.specs.Cpus.{KnownCpu}
+use Rattle.cpu_part.proofs.Counts.{times_parted}
 use Rattle.step_rules.specs.declared.phase.ChargedUnit.{ChargedUnit}
 use Rattle.step_rules.specs.declared.phase.Way.TheVariants.{OnList}
 use Rattle.step_rules.specs.declared.phase.Stage.TheVariants.{FreshAt, BackAt, AwaitsReturn, Live}
@@ -25,13 +24,14 @@ use Rattle.step_rules.specs.declared.phase.Phase.TheVariants as phase
 use Rattle.step_rules.specs.declared.step.Action.TheVariants.{Get, Put, Consume, Credit}
 use Rattle.step_rules.specs.declared.step.Answer.TheVariants.{Held, Left, Last, Took, Stocked}
 use Rattle.step_rules.specs.Phases.{ListFrame, FreshFrame, has_as, is_live_phase, at_stage, stage_after_last}
-use Rattle.step_rules.specs.State.{State, Part, with_at, one_if, is_cpu, pins_of, without, with_last, front_of, may_zone_act}
+use Rattle.step_rules.specs.State.{State, Part, with_at, one_if, is_cpu, pins_of, without, with_last, front_of, may_zone_act, times}
 use Rattle.step_rules.specs.Legal.{is_legal, IsAnswer}
 use Rattle.step_rules.specs.After.{Run, state_of, consumed, paid, credited, with_back}
+use Rattle.step_rules.specs.Invariant.{KeepsInvariant}
 use Rattle.step_rules.proofs.Basics.{at_same, at_other}
 use Rattle.step_rules.proofs.Sums.{sum_same}
-use Rattle.step_rules.proofs.Lists.{times, times_last, times_same, times_other, times_without, times_without_other, length_last, length_without, count_length, one_if_true}
-use Rattle.step_rules.proofs.Sound.{IsSound}
+use Rattle.step_rules.proofs.Lists.{times_last, times_same, times_other, times_without, times_without_other, length_last, length_without, count_length, one_if_true}
+use Rattle.step_rules.proofs.Lists.{removed_once, stands_at, without_front}
 use Rattle.step_rules.proofs.PhaseLemmas.{live_is, listed_is, fresh_is}
 use Rattle.step_rules.proofs.CoverParts.{own_part}
 use Rattle.mem_machine.specs.declared.frame_state.FrameState.{FrameState}
@@ -42,44 +42,14 @@ use Rattle.mem_machine.specs.Counting.{one_more_last_put}
 use Rattle.mem_machine.specs.Local.{local_of, phase_of, part_of, part_with, references_of, group_of_fresh, number_or_0}
 use Rattle.mem_machine.specs.Interleaving.{zone_of}
 use Rattle.mem_machine.specs.Steps.{cpu_makes}
-use Rattle.mem_machine.proofs.Takes.{without_front}
 use Rattle.mem_machine.proofs.Shown.{fresh_phase}
 use Rattle.mem_history.specs.Whole.{seen_together}
 use Rattle.mem_history.specs.Leading.{IsPart, put_answer, FastCallsLead, LeadsWatched}
-use Rattle.mem_history.proofs.Covers.{plain, head_plain, lent_plain, same_times, cover}
+use Rattle.mem_history.proofs.Covers.{plain, head_plain, lent_plain, cover}
 use Rattle.mem_history.proofs.Others.{HasOwn, has_own, own_shown, other_shown, own_references}
 use Rattle.mem_history.proofs.Wholes.{is_one, not_zone, whole_sound}
 use Rattle.mem_history.proofs.Currents.{frame_state_covers}
 use Rattle.mem_machine.proofs.Followed.{follows_same, LeadsAs}
-
--- ---- lists
-
-times_end : (x y : ℕ) (xs : List ℕ) → parts.times x (xs ++ y ∷ []) ≡ parts.times x xs + one_if (y == x)
-times_end x y xs = same_times x (xs ++ y ∷ []) ∙ times_last x y xs ∙ ap (λ (n : ℕ). n + one_if (y == x)) (sym (same_times x xs))
-
-times_front : (x y : ℕ) (xs : List ℕ) → parts.times x (y ∷ xs) ≡ one_if (y == x) + parts.times x xs
-times_front x y xs = same_times x (y ∷ xs) ∙ ap (λ (n : ℕ). one_if (y == x) + n) (sym (same_times x xs))
-
-stands_at : (f : ℕ) (xs : List ℕ) (i : ℕ) → i < length xs → get_or xs i 0 ≡ f → 1 ≤ times f xs
-stands_at f [] i inside at = absurd (omega arith)
-stands_at f (x ∷ xs) zero inside at = let one : one_if (x == f) ≡ 1 = ap one_if (eq-eqb x f at) in omega arith
-stands_at f (x ∷ xs) (suc i) inside at = let rest = stands_at f xs i (omega arith) at in omega arith
-
--- a frame that is in the list once is removed
-removed_once : (f : ℕ) (xs : List ℕ) (i : ℕ) → i < length xs → get_or xs i 0 ≡ f → times f xs ≡ 1 → remove xs i ≡ without f xs
-removed_once f [] i inside at once = absurd (omega arith)
-removed_once f (x ∷ xs) zero inside at once =
-    let one : one_if (x == f) ≡ 1 = ap one_if (eq-eqb x f at) in
-    let none : parts.times f xs ≡ 0 = same_times f xs ∙ (omega arith) in
-    sym (without_front f (x ∷ xs) xs (ap (λ (y : ℕ). y ∷ xs) at) none)
-removed_once f (x ∷ xs) (suc i) inside at once =
-    let stands = stands_at f xs i (omega arith) at in
-    elim (cases_eq x f) [
-      | inl e ↦ absurd (let one : one_if (x == f) ≡ 1 = ap one_if (eq-eqb x f e) in omega arith)
-      | inr ne ↦
-          let none : one_if (x == f) ≡ 0 = ap one_if (ne_eqb x f ne) in
-          rw (ne_eqb x f ne) (ap (λ (ys : List ℕ). x ∷ ys) (removed_once f xs i (omega arith) at (omega arith)))
-    ]
 
 module _ (t : KnownTable) (m : KnownMachine) (c d : KnownCpu) (named : d.number ≡ c.number) (not_zero : c.number ≡ 0 → ⊥) where
   abbrev p : ℕ
@@ -129,7 +99,7 @@ module _ (t : KnownTable) (w : KnownStockTable) (run : Run) (m : KnownMachine) (
   some : q ≡ 0 → ⊥
   some = not_zone t run m cpus k c is.shows is.is_part
 
-  sound : IsSound whole
+  sound : KeepsInvariant whole
   sound = whole_sound t run m cpus k c is.shows is.is_part
 
   own : HasOwn c whole
@@ -139,17 +109,17 @@ module _ (t : KnownTable) (w : KnownStockTable) (run : Run) (m : KnownMachine) (
   covers_at = frame_state_covers t m c whole (is.shows.each k c is.is_part).sees
 
   -- a listed or fresh frame is lent to the CPU
-  listed_lent : (f : ℕ) → 1 ≤ parts.times f c.list → frame_state_at m.frame_states f ≡ Lent q
+  listed_lent : (f : ℕ) → 1 ≤ times f c.list → frame_state_at m.frame_states f ≡ Lent q
   listed_lent f stands =
       let a : times f (whole.parts q).list ≡ one_if (has_as ListFrame q (whole.phases f)) = sound.lists q ListFrame f in
-      let b : parts.times f c.list ≡ times f (whole.parts q).list = same_times f c.list ∙ ap (times f) (sym own.list) in
+      let b : times f c.list ≡ times f (whole.parts q).list = ap (times f) (sym own.list) in
       let was = listed_is q (whole.phases f) (one_if_true (has_as ListFrame q (whole.phases f)) (omega arith)) in
       lent_plain (frame_state_at m.frame_states f) q (sym (ap cover was) ∙ covers_at f)
 
-  fresh_lent : (f : ℕ) → 1 ≤ parts.times f c.fresh → frame_state_at m.frame_states f ≡ Lent q
+  fresh_lent : (f : ℕ) → 1 ≤ times f c.fresh → frame_state_at m.frame_states f ≡ Lent q
   fresh_lent f stands =
       let a : times f (whole.parts q).fresh ≡ one_if (has_as FreshFrame q (whole.phases f)) = sound.lists q FreshFrame f in
-      let b : parts.times f c.fresh ≡ times f (whole.parts q).fresh = same_times f c.fresh ∙ ap (times f) (sym own.fresh) in
+      let b : times f c.fresh ≡ times f (whole.parts q).fresh = ap (times f) (sym own.fresh) in
       let was = fresh_is q (whole.phases f) (one_if_true (has_as FreshFrame q (whole.phases f)) (omega arith)) in
       lent_plain (frame_state_at m.frame_states f) q (sym (ap cover was.1) ∙ covers_at f)
 
@@ -163,7 +133,7 @@ module _ (t : KnownTable) (w : KnownStockTable) (run : Run) (m : KnownMachine) (
   ]
 
   -- a frame with a pin is one of the table's
-  pinned_frame : (f : ℕ) → 1 ≤ parts.times f c.pins → f < t.frames
+  pinned_frame : (f : ℕ) → 1 ≤ times f c.pins → f < t.frames
   pinned_frame f pinned = elim (cases_lt f t.frames) [
     | inl inside ↦ inside
     | inr past ↦ absurd (let none = (is.tied.noted f).in_table past in omega arith)
@@ -172,8 +142,8 @@ module _ (t : KnownTable) (w : KnownStockTable) (run : Run) (m : KnownMachine) (
   pins_are : pins_of (local_of t m c) q ≡ length c.pins
   pins_are =
       sum_same t.frames (λ f. references_of m.frame_seat c q f) (λ f. times f c.pins)
-      (λ f inside. own_references t m c q f some refl ∙ (is.tied.noted f).references_are ∙ same_times f c.pins)
-      ∙ count_length t.frames c.pins (λ f past. let none = (is.tied.noted f).in_table past in let same = same_times f c.pins in omega arith)
+      (λ f inside. own_references t m c q f some refl ∙ (is.tied.noted f).references_are)
+      ∙ count_length t.frames c.pins (λ f past. let none = (is.tied.noted f).in_table past in omega arith)
 
   back_is : length ((local_of t m c).parts q).back ≡ length c.back
   back_is = ap (λ (x : Part). length x.back) (own_shown t m c q refl)
@@ -208,17 +178,17 @@ module _ (t : KnownTable) (w : KnownStockTable) (run : Run) (m : KnownMachine) (
 
   -- ---- put
 
-  pin_put : (f : ℕ) → 1 ≤ parts.times f c.pins → 1 ≤ seat_references c.frame_seat f
+  pin_put : (f : ℕ) → 1 ≤ times f c.pins → 1 ≤ seat_references c.frame_seat f
   pin_put f pinned = let same = (is.tied.noted f).references_are in omega arith
 
-  put_legal : (f : ℕ) → 1 ≤ parts.times f c.pins → is_legal (local_of t m c) q (Put f) ≡ true
+  put_legal : (f : ℕ) → 1 ≤ times f c.pins → is_legal (local_of t m c) q (Put f) ≡ true
   put_legal f pinned =
       let has = pin_put f pinned in
       let same = own_references t m c q f some refl in
       and_from _ _ (and_from _ _ (or_left (is_cpu (zone_of t) q) (may_zone_act (local_of t m c).hold q) one) (lt-ltb f t.frames (pinned_frame f pinned)))
       (le-leb 1 (references_of m.frame_seat c q f) (omega arith))
 
-  leads_left : (d : KnownCpu) (f n : ℕ) → 1 ≤ parts.times f c.pins → (pins : List ℕ) (seat : KnownSeat) → seat ≡ seat_with c.frame_seat f (put_left n) →
+  leads_left : (d : KnownCpu) (f n : ℕ) → 1 ≤ times f c.pins → (pins : List ℕ) (seat : KnownSeat) → seat ≡ seat_with c.frame_seat f (put_left n) →
       d ≡ record c { pins = pins; frame_seat = seat } → LeadsAs t c.number (visit_state m c) (cpu_makes q (Put f) (Left n) ∷ []) (visit_state m d)
   leads_left d f n pinned pins seat changed now =
       let e : KnownCpu = record c { pins = pins; frame_seat = seat } in
@@ -244,11 +214,11 @@ module _ (t : KnownTable) (w : KnownStockTable) (run : Run) (m : KnownMachine) (
       elim (cases_eq x f) [
         | inl e ↦
             let stage : stage_after_last q ≡ BackAt q = cond-false (q == 0) AwaitsReturn (BackAt q) (ne_eqb q 0 some) in
-            let stands : 1 ≤ parts.times f d.back = let a = times_end f f c.back in let b = times_same f in omega arith in
+            let stands : 1 ≤ times f d.back = let a = times_last f f c.back in let b = times_same f in omega arith in
             ap (λ (y : ℕ). phase_of d y (frame_state_at m.frame_states y)) e ∙ ap (phase_of d f) frame_state
-            ∙ cond-true (nat_le 1 (parts.times f d.back)) _ _ (le-leb 1 (parts.times f d.back) stands)
+            ∙ cond-true (nat_le 1 (times f d.back)) _ _ (le-leb 1 (times f d.back) stands)
             ∙ sym (ap (λ s. at_stage s ((local_of t m c).phases f)) stage ∙ ap (λ (y : FrameState). at_stage (BackAt q) (phase_of c f y)) frame_state
-            ∙ staged (nat_le 1 (parts.times f c.back)))
+            ∙ staged (nat_le 1 (times f c.back)))
             ∙ sym (at_same (local_of t m c).phases f to) ∙ sym (ap (with_at (local_of t m c).phases f to) e)
         | inr ne ↦ other_phase x ne (frame_state_at m.frame_states x) ∙ sym (at_other (local_of t m c).phases f to x ne)
       ]
@@ -262,12 +232,12 @@ module _ (t : KnownTable) (w : KnownStockTable) (run : Run) (m : KnownMachine) (
       other_phase x ne (Lent r) = refl
       other_phase x ne (Tail g) = refl
       other_phase x ne (Head unit) =
-          let a = times_end x f c.back in
+          let a = times_last x f c.back in
           let b = times_other f x (λ z. ne (sym z)) in
-          let same : parts.times x (c.back ++ f ∷ []) ≡ parts.times x c.back = omega arith in
+          let same : times x (c.back ++ f ∷ []) ≡ times x c.back = omega arith in
           ap (λ (n : ℕ). cond (nat_le 1 n) (phase.Head unit (BackAt q)) (phase.Head unit Live)) same
 
-  leads_last : (d : KnownCpu) (f : ℕ) → 1 ≤ parts.times f c.pins → (pins : List ℕ) (seat : KnownSeat) → seat ≡ seat_with c.frame_seat f put_last →
+  leads_last : (d : KnownCpu) (f : ℕ) → 1 ≤ times f c.pins → (pins : List ℕ) (seat : KnownSeat) → seat ≡ seat_with c.frame_seat f put_last →
       d ≡ record c { pins = pins; back = c.back ++ f ∷ []; frame_seat = seat } → LeadsAs t c.number (visit_state m c) (cpu_makes q (Put f) Last ∷ []) (visit_state m d)
   leads_last d f pinned pins seat changed now =
       let e : KnownCpu = record c { pins = pins; back = c.back ++ f ∷ []; frame_seat = seat } in
@@ -304,11 +274,11 @@ module _ (t : KnownTable) (w : KnownStockTable) (run : Run) (m : KnownMachine) (
   own_part_is = own_shown t m c q refl
 
   other_phase : (d : KnownCpu) (x : ℕ) (y : FrameState) → d.number ≡ q → d.back ≡ c.back → group_of_fresh d ≡ group_of_fresh c →
-      parts.times x d.fresh ≡ parts.times x c.fresh → phase_of d x y ≡ phase_of c x y
+      times x d.fresh ≡ times x c.fresh → phase_of d x y ≡ phase_of c x y
   other_phase d x Free named back group fresh = refl
   other_phase d x (Tail g) named back group fresh = refl
   other_phase d x (Head unit) named back group fresh =
-      λ i. cond (nat_le 1 (parts.times x (back i))) (phase.Head unit (BackAt (named i))) (phase.Head unit Live)
+      λ i. cond (nat_le 1 (times x (back i))) (phase.Head unit (BackAt (named i))) (phase.Head unit Live)
   other_phase d x (Lent r) named back group fresh =
       λ i. cond (r == named i && nat_le 1 (fresh i)) (phase.Head (record { group = group i; order = 0 }) (FreshAt r)) (phase.Lent r OnList)
 
@@ -318,12 +288,12 @@ module _ (t : KnownTable) (w : KnownStockTable) (run : Run) (m : KnownMachine) (
       IsAnswer (local_of t m c) q (Consume g) Took → LeadsAs t c.number (visit_state m c) (cpu_makes q (Consume g) Took ∷ []) (visit_state m d)
   leads_took d g f rest stock front room now was_group is_group answered =
       let e : KnownCpu = record c { list = rest; fresh = c.fresh ++ f ∷ []; stock_seat = stock } in
-      let on_list : 1 ≤ parts.times f c.list = let a = ap (parts.times f) front in let b = times_front f f rest in let h = times_same f in omega arith in
+      let on_list : 1 ≤ times f c.list = let a = ap (times f) front in let h = times_same f in omega arith in
       let frame_state = listed_lent f on_list in
       let noted = is.tied.noted f in
       let once = noted.once in
-      let none_in_rest : parts.times f rest ≡ 0 = let a = ap (parts.times f) front in let b = times_front f f rest in let h = times_same f in omega arith in
-      let none_fresh : parts.times f c.fresh ≡ 0 = omega arith in
+      let none_in_rest : times f rest ≡ 0 = let a = ap (times f) front in let h = times_same f in omega arith in
+      let none_fresh : times f c.fresh ≡ 0 = omega arith in
       let a = account_of m.stock_seat.view q in
       let front_is : front_of ((local_of t m c).parts q).list ≡ f = ap (λ (x : Part). front_of x.list) own_part_is ∙ ap front_of front in
       let longer : length (c.fresh ++ f ∷ []) ≡ length c.fresh + 1 = length_last f c.fresh in
@@ -342,12 +312,12 @@ module _ (t : KnownTable) (w : KnownStockTable) (run : Run) (m : KnownMachine) (
       ≡ with_at (local_of t m c).phases (front_of ((local_of t m c).parts q).list) (consumed q g) x =
       λ x. (elim (cases_eq x f) [
         | inl at ↦
-            let stands : parts.times f e.fresh ≡ 1 = let h = times_end f f c.fresh in let l = times_same f in omega arith in
+            let stands : times f e.fresh ≡ 1 = let h = times_last f f c.fresh in let l = times_same f in omega arith in
             ap (λ (y : ℕ). phase_of e y (frame_state_at m.frame_states y)) at ∙ fresh_phase e f (frame_state_at m.frame_states f) frame_state stands
             ∙ ap (λ (h : ℕ). phase.Head (record { group = h; order = 0 }) (FreshAt q)) is_group
             ∙ sym (at_same (local_of t m c).phases f (consumed q g)) ∙ sym (ap (with_at (local_of t m c).phases f (consumed q g)) at)
         | inr ne ↦
-            let same : parts.times x e.fresh ≡ parts.times x c.fresh = let h = times_end x f c.fresh in let l = times_other f x (λ z. ne (sym z)) in omega arith in
+            let same : times x e.fresh ≡ times x c.fresh = let h = times_last x f c.fresh in let l = times_other f x (λ z. ne (sym z)) in omega arith in
             other_phase e x (frame_state_at m.frame_states x) refl refl group same ∙ sym (at_other (local_of t m c).phases f (consumed q g) x ne)
       ]) ∙ ap (λ (h : ℕ). with_at (local_of t m c).phases h (consumed q g) x) (sym front_is) in
       subst (λ (x : KnownCpu). LeadsAs t c.number (visit_state m c) (cpu_makes q (Consume g) Took ∷ []) (visit_state m x)) (sym now) (record {
@@ -376,10 +346,9 @@ module _ (t : KnownTable) (w : KnownStockTable) (run : Run) (m : KnownMachine) (
       let noted = is.tied.noted f in
       let once = noted.once in
       let stands = stands_at f c.fresh i inside at in
-      let counted = same_times f c.fresh in
       let alone : times f c.fresh ≡ 1 = omega arith in
       let frame_state = fresh_lent f (omega arith) in
-      let removed : remove c.fresh i ≡ without f c.fresh = removed_once f c.fresh i inside at alone in
+      let removed : remove c.fresh i ≡ without f c.fresh = removed_once f c.fresh i inside at (omega (arith, alone)) in
       let a = account_of m.stock_seat.view q in
       let below : f < t.frames = elim (cases_lt f t.frames) [
         | inl h ↦ h
@@ -408,13 +377,12 @@ module _ (t : KnownTable) (w : KnownStockTable) (run : Run) (m : KnownMachine) (
       let phases_are : (x : ℕ) → phase_of e x (frame_state_at m.frame_states x) ≡ with_at (local_of t m c).phases f (phase.Lent q OnList) x =
       λ x. elim (cases_eq x f) [
         | inl here ↦
-            let none : parts.times f e.fresh ≡ 0 = ap (parts.times f) removed ∙ same_times f (without f c.fresh) ∙ times_without f c.fresh in
+            let none : times f e.fresh ≡ 0 = ap (times f) removed ∙ times_without f c.fresh in
             ap (λ (y : ℕ). phase_of e y (frame_state_at m.frame_states y)) here ∙ ap (phase_of e f) frame_state
-            ∙ cond-false (q == q && nat_le 1 (parts.times f e.fresh)) _ _ (and_right (q == q) _ (ap (nat_le 1) none))
+            ∙ cond-false (q == q && nat_le 1 (times f e.fresh)) _ _ (and_right (q == q) _ (ap (nat_le 1) none))
             ∙ sym (at_same (local_of t m c).phases f (phase.Lent q OnList)) ∙ sym (ap (with_at (local_of t m c).phases f (phase.Lent q OnList)) here)
         | inr ne ↦
-            let same : parts.times x e.fresh ≡ parts.times x c.fresh =
-            ap (parts.times x) removed ∙ same_times x (without f c.fresh) ∙ times_without_other x f c.fresh ne ∙ sym (same_times x c.fresh) in
+            let same : times x e.fresh ≡ times x c.fresh = ap (times x) removed ∙ times_without_other x f c.fresh ne in
             other_phase e x (frame_state_at m.frame_states x) refl refl group same ∙ sym (at_other (local_of t m c).phases f (phase.Lent q OnList) x ne)
       ] in
       subst (λ (x : KnownCpu). LeadsAs t c.number (visit_state m c) (cpu_makes q (Credit f) Stocked ∷ []) (visit_state m x)) (sym now) (record {
@@ -463,10 +431,9 @@ fast_calls_lead = record {
       (λ x y same h. ap (λ (part : Part). part.stock.is_drained) (sym same) ∙ h) (decided zero)));
 }
   where
-    pin_there : (f : ℕ) (c d : KnownCpu) → IsPermutation c.pins (f ∷ d.pins) → 1 ≤ parts.times f c.pins
+    pin_there : (f : ℕ) (c d : KnownCpu) → IsPermutation c.pins (f ∷ d.pins) → 1 ≤ times f c.pins
     pin_there f c d same =
-        let all : parts.times f (f ∷ d.pins) ≡ parts.times f c.pins = sum_by-IsPermutation (λ (y : ℕ). cond (y == f) 1 0) c.pins (f ∷ d.pins) same in
-        let front = times_front f f d.pins in
+        let all = times_parted f f c.pins d.pins same in
         let here = times_same f in
         omega arith
 

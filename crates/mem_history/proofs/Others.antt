@@ -13,10 +13,10 @@ use Rattle.step_rules.specs.declared.phase.Stage.TheVariants.{FreshAt}
 use Rattle.step_rules.specs.declared.phase.Phase.{Phase}
 use Rattle.step_rules.specs.declared.phase.Phase.TheVariants as phase
 use Rattle.step_rules.specs.Phases.{FreshFrame, BackFrame, has_as}
-use Rattle.step_rules.specs.State.{State, Part, one_if}
+use Rattle.step_rules.specs.State.{State, Part, one_if, times}
 use Rattle.step_rules.specs.Views.{seen_by, phase_seen_by, other_part_seen, parts_seen_by, references_seen_by}
-use Rattle.step_rules.proofs.Lists.{times, one_if_true}
-use Rattle.step_rules.proofs.Sound.{IsSound, PhasePaid, groups_in}
+use Rattle.step_rules.specs.Invariant.{PhasePaid, groups_in, KeepsInvariant}
+use Rattle.step_rules.proofs.Lists.{one_if_true}
 use Rattle.step_rules.proofs.PhaseLemmas.{fresh_is}
 use Rattle.step_rules.proofs.CoverParts.{own_part, other_part, own_reference}
 use Rattle.step_rules.proofs.CoverPhases.{own_fresh}
@@ -26,7 +26,7 @@ use Rattle.mem_machine.specs.Local.{local_of, phase_of, part_of, part_with, refe
 use Rattle.mem_machine.proofs.Shown.{fresh_unit}
 use Rattle.mem_history.specs.Whole.{seen_by_holder}
 use Rattle.mem_history.proofs.Staying.{Owned, Stays}
-use Rattle.mem_history.proofs.Covers.{cover, cover_hidden, cover_shown, fresh_unit_is, same_times, phase_seen}
+use Rattle.mem_history.proofs.Covers.{cover, cover_hidden, cover_shown, fresh_unit_is, phase_seen}
 
 -- ---- parts, seen from outside and from inside
 
@@ -125,7 +125,7 @@ has_own t m c s ne sees =
     }
 
 -- after steps of another CPU, which leave its own
-pub own_stays : (c : KnownCpu) (p : ℕ) (s later : State) → (c.number ≡ 0 → ⊥) → (c.number ≡ p → ⊥) → IsSound s → IsSound later → Stays p s later →
+pub own_stays : (c : KnownCpu) (p : ℕ) (s later : State) → (c.number ≡ 0 → ⊥) → (c.number ≡ p → ⊥) → KeepsInvariant s → KeepsInvariant later → Stays p s later →
     HasOwn c s → HasOwn c later
 own_stays c p s later ne other sound sound_later stays own =
     let q = c.number in
@@ -155,7 +155,7 @@ own_stays c p s later ne other sound sound_later stays own =
 
 -- ---- what it sees
 
-module _ (t : KnownTable) (n : KnownMachine) (d c : KnownCpu) (s : State) (sound : IsSound s) (own : HasOwn c s) (ne : c.number ≡ 0 → ⊥)
+module _ (t : KnownTable) (n : KnownMachine) (d c : KnownCpu) (s : State) (sound : KeepsInvariant s) (own : HasOwn c s) (ne : c.number ≡ 0 → ⊥)
     (other : c.number ≡ d.number → ⊥) (held : hold_of_cpu n.frame_seat c.number ≡ HeldBy c.number) (hold : Hold)
     (sees : local_of t n d ≡ seen_by d.number (record s { hold = hold })) where
   abbrev q : ℕ
@@ -167,8 +167,8 @@ module _ (t : KnownTable) (n : KnownMachine) (d c : KnownCpu) (s : State) (sound
   phases_seen : (f : ℕ) → phase_of c f (frame_state_at n.frame_states f) ≡ phase_seen_by q (s.phases f)
   phases_seen f = phase_seen c q f (frame_state_at n.frame_states f) (s.phases f) refl
       (sym (cover_hidden p (s.phases f)) ∙ sym (ap (λ (x : State). cover (x.phases f)) sees) ∙ cover_shown d f (frame_state_at n.frame_states f))
-      (same_times f c.fresh ∙ ap (times f) (sym own.fresh) ∙ sound.lists q FreshFrame f)
-      (same_times f c.back ∙ ap (times f) (sym own.back) ∙ sound.lists q BackFrame f)
+      (ap (times f) (sym own.fresh) ∙ sound.lists q FreshFrame f)
+      (ap (times f) (sym own.back) ∙ sound.lists q BackFrame f)
       (λ u is. own.unit f u is)
 
   references_seen : (a f : ℕ) → references_of n.frame_seat c a f ≡ references_seen_by q s.references a f

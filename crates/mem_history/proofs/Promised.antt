@@ -9,7 +9,6 @@ use Rattle.frame_word.specs.Seats.{KnownTable}
 use Rattle.stock_word.specs.Stock.{KnownStockTable, account_of}
 use Rattle.group_charge.specs.Charges.{AreCharges}
 use Rattle.zone_blocks.specs.Areas.{AreMaximalBlocks}
-use Rattle.cpu_part.specs.Cpus as parts
 use Rattle.cpu_part.specs.Cpus.{KnownCpu}
 use Rattle.step_rules.specs.declared.phase.ChargedUnit.{ChargedUnit}
 use Rattle.step_rules.specs.declared.phase.Stage.{Stage}
@@ -19,13 +18,12 @@ use Rattle.step_rules.specs.declared.phase.Phase.{Phase}
 use Rattle.step_rules.specs.declared.phase.Phase.TheVariants as phase
 use Rattle.step_rules.specs.Phases.{ListFrame, FreshFrame, has_as, keeper_of}
 use Rattle.step_rules.specs.Phases as phases
-use Rattle.step_rules.specs.State.{Zone, State, Part, Stock, one_if, is_cpu, free_in}
+use Rattle.step_rules.specs.State.{Zone, State, Part, Stock, one_if, is_cpu, free_in, times}
 use Rattle.step_rules.specs.After.{Run, state_of}
 use Rattle.step_rules.specs.Lent.{lent_to}
 use Rattle.step_rules.specs.Promise.{IsShown}
 use Rattle.step_rules.specs.Views.{other_part_seen}
-use Rattle.step_rules.proofs.Lists.{times}
-use Rattle.step_rules.proofs.Sound.{IsSound, PhasePaid, groups_in}
+use Rattle.step_rules.specs.Invariant.{PhasePaid, groups_in, KeepsInvariant}
 use Rattle.step_rules.proofs.PhaseLemmas.{listed_is, fresh_is}
 use Rattle.step_rules.proofs.CoverParts.{own_part, other_part}
 use Rattle.step_rules.proofs.Freeing.{zone_of_run}
@@ -40,7 +38,7 @@ use Rattle.mem_machine.specs.Local.{part_with}
 use Rattle.mem_machine.specs.Interleaving.{zone_of}
 use Rattle.mem_history.specs.Whole.{ShowsAll, IsSeenAt}
 use Rattle.mem_history.specs.Kept.{AreTied, TheWholeIsPromised, list_by, fresh_frames_by, keeper_by, stock_by, shown_of}
-use Rattle.mem_history.proofs.Covers.{cover, plain, lent_plain, same_times}
+use Rattle.mem_history.proofs.Covers.{cover, plain, lent_plain}
 use Rattle.mem_history.proofs.Others.{HasOwn, has_own, own_shown, other_shown}
 use Rattle.mem_history.proofs.Together.{there}
 use Rattle.mem_history.proofs.Wholes.{whole_sound}
@@ -112,7 +110,7 @@ module _ (t : KnownTable) (w : KnownStockTable) (run : Run) (m : KnownMachine) (
   first : (c : KnownCpu) × (slice_get cpus 0 ≡ Some c)
   first = there cpus 0 (let count = shows.count in omega arith)
 
-  sound : IsSound whole
+  sound : KeepsInvariant whole
   sound = whole_sound t run m cpus 0 first.0 shows first.1
 
   seen : (k : ℕ) (d : KnownCpu) → slice_get cpus k ≡ Some d → IsSeenAt t m whole k d
@@ -199,11 +197,11 @@ module _ (t : KnownTable) (w : KnownStockTable) (run : Run) (m : KnownMachine) (
 
   -- ---- keepers
 
-  fresh_times : (f p : ℕ) → parts.times f (fresh_frames_by cpus p) ≡ one_if (has_as FreshFrame p (whole.phases f))
-  fresh_times f p = same_times f (fresh_frames_by cpus p) ∙ ap (times f) (fresh_is_by p) ∙ sound.lists p FreshFrame f
+  fresh_times : (f p : ℕ) → times f (fresh_frames_by cpus p) ≡ one_if (has_as FreshFrame p (whole.phases f))
+  fresh_times f p = ap (times f) (fresh_is_by p) ∙ sound.lists p FreshFrame f
 
   lent_keeper : (f p : ℕ) (b : Bool) → has_as FreshFrame p (whole.phases f) ≡ b → keeper_by m cpus f (Lent p) ≡ (if b then (account_of m.stock_seat.view p).group else None)
-  lent_keeper f p true e = cond-true _ _ _ (le-leb 1 (parts.times f (fresh_frames_by cpus p)) (let a = fresh_times f p in let b = ap one_if e in omega arith))
+  lent_keeper f p true e = cond-true _ _ _ (le-leb 1 (times f (fresh_frames_by cpus p)) (let a = fresh_times f p in let b = ap one_if e in omega arith))
   lent_keeper f p false e = cond-false _ _ _ (ap (nat_le 1) (fresh_times f p ∙ ap one_if e))
 
   keeper_is : (f : ℕ) (x : FrameState) (y : Phase) → whole.phases f ≡ y → cover y ≡ plain x → keeper_by m cpus f x ≡ keeper_of y

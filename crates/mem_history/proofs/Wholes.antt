@@ -6,7 +6,6 @@ use Rattle.std.proofs.lemmas.Bool.{cases_eq, eq-eqb, and_from, le-leb}
 use Rattle.std.proofs.lemmas.List.{append_assoc, length-set, get_or-set_same, get_or-set_other}
 use Rattle.std.proofs.lemmas.Option.{slice_get_within, get_or_from_slice_get, slice_get-get_or}
 use Rattle.frame_word.specs.Seats.{KnownTable, IsShut}
-use Rattle.cpu_part.specs.Cpus as parts
 use Rattle.cpu_part.specs.Cpus.{KnownCpu}
 use Rattle.step_rules.specs.declared.phase.ChargedUnit.{ChargedUnit}
 use Rattle.step_rules.specs.declared.phase.Hold.{Hold}
@@ -19,15 +18,15 @@ use Rattle.step_rules.specs.declared.step.Action.TheVariants.{Lock, Unlock}
 use Rattle.step_rules.specs.declared.step.Answer.{Answer}
 use Rattle.step_rules.specs.declared.step.Answer.TheVariants.{Done}
 use Rattle.step_rules.specs.Phases.{is_passing}
-use Rattle.step_rules.specs.State.{Zone, State, is_cpu, is_held_by}
+use Rattle.step_rules.specs.State.{Zone, State, is_cpu, is_held_by, times}
 use Rattle.step_rules.specs.Legal.{IsCounted, is_legal, no_page_pends, no_frame_passes}
 use Rattle.step_rules.specs.After.{Run, state_of, IsLegalRun}
 use Rattle.step_rules.specs.Views.{holds_lock, seen_by}
 use Rattle.step_rules.specs.Laws.{ShowsLocal, pushed}
 use Rattle.step_rules.specs.Seen.{IsFreeAfter}
+use Rattle.step_rules.specs.Invariant.{KeepsInvariant}
 use Rattle.step_rules.proofs.PhaseLemmas.{equal_test}
 use Rattle.step_rules.proofs.Sums.{all_each}
-use Rattle.step_rules.proofs.Sound.{IsSound}
 use Rattle.step_rules.proofs.Runs.{sound_run, state_more}
 use Rattle.step_rules.proofs.Freeing.{zone_of_run}
 use Rattle.step_rules.proofs.Seeing.{the_lock_is_passed_on}
@@ -68,8 +67,8 @@ head_still false u q = refl
 
 phase_still : (c : KnownCpu) (f : ℕ) (x : FrameState) → is_passing (phase_of c f x) ≡ false
 phase_still c f Free = refl
-phase_still c f (Lent q) = lent_still (q == c.number && nat_le 1 (parts.times f c.fresh)) (record { group = group_of_fresh c; order = 0 }) q
-phase_still c f (Head unit) = head_still (nat_le 1 (parts.times f c.back)) unit c.number
+phase_still c f (Lent q) = lent_still (q == c.number && nat_le 1 (times f c.fresh)) (record { group = group_of_fresh c; order = 0 }) q
+phase_still c f (Head unit) = head_still (nat_le 1 (times f c.back)) unit c.number
 phase_still c f (Tail g) = refl
 
 pub may_unlock : (t : KnownTable) (m : KnownMachine) (c : KnownCpu) → is_cpu (zone_of t) c.number ≡ true → IsShut m.frame_seat c.number →
@@ -106,7 +105,7 @@ module _ (t : KnownTable) (run : Run) (m : KnownMachine) (cpus : List KnownCpu) 
   pub not_zone : c.number ≡ 0 → ⊥
   not_zone e = let named = part_number in absurd (omega arith)
 
-  pub whole_sound : IsSound whole
+  pub whole_sound : KeepsInvariant whole
   whole_sound = sound_run zone run shows.legal
 
   -- what the others have
@@ -149,7 +148,7 @@ module _ (t : KnownTable) (run : Run) (m : KnownMachine) (cpus : List KnownCpu) 
       let was = shows.each j e in_list in
       let some : e.number ≡ 0 → ⊥ = λ z. let a = was.number in absurd (omega arith) in
       let far : e.number ≡ c.number → ⊥ = λ z. let a = was.number in let b = part_number in ne (omega arith) in
-      let sound : IsSound s = subst IsSound is (sound_run zone later legal) in
+      let sound : KeepsInvariant s = subst KeepsInvariant is (sound_run zone later legal) in
       record {
         number = was.number;
         sees = others_see t n d e s sound (own_stays e c.number whole s some far whole_sound sound stays (has_own t m e whole some was.sees))

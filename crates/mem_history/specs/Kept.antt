@@ -5,10 +5,10 @@ use Rattle.std.specs.Option.{option_map_or}
 use Rattle.frame_word.specs.Seats.{KnownTable, first_cpu_view}
 use Rattle.stock_word.specs.Stock.{KnownStockTable, account_of, first_cpu_stock_view, group_of}
 use Rattle.group_charge.specs.Charges.{AreCharges, current_of}
-use Rattle.cpu_part.specs.Cpus.{KnownCpu, IsTied, first_cpu, times}
+use Rattle.cpu_part.specs.Cpus.{KnownCpu, IsTied, first_cpu}
 use Rattle.step_rules.specs.declared.step.Action.TheVariants.{Lock}
 use Rattle.step_rules.specs.declared.step.Answer.TheVariants.{Done}
-use Rattle.step_rules.specs.State.{Stock}
+use Rattle.step_rules.specs.State.{Stock, times}
 use Rattle.step_rules.specs.Usage.{frames_kept, pages_prepaid}
 use Rattle.step_rules.specs.After.{Run, state_of}
 use Rattle.step_rules.specs.Promise.{Shown, Promise}

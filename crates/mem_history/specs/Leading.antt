@@ -7,7 +7,8 @@ use Rattle.frame_word.specs.declared.answers.Put.TheVariants as put
 use Rattle.stock_word.specs.Stock.{KnownStockTable}
 use Rattle.cpu_part.specs.declared.answers.Fast.TheVariants.{Got}
 use Rattle.cpu_part.specs.declared.answers.Dropped.TheVariants.{Listed}
-use Rattle.cpu_part.specs.Cpus.{KnownCpu, IsTied, most_pins, times}
+use Rattle.step_rules.specs.State.{times}
+use Rattle.cpu_part.specs.Cpus.{KnownCpu, IsTied, most_pins}
 use Rattle.cpu_part.specs.Calls.{FastAnswers, DropAnswers, PinAnswers, UnpinAnswers}
 use Rattle.step_rules.specs.declared.step.Action.TheVariants.{Get, Put, Consume, Credit}
 use Rattle.step_rules.specs.declared.step.Answer.{Answer}

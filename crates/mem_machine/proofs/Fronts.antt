@@ -1,9 +1,9 @@
 -- What the own stock holds, the room for more pages, and the front of a list that is paid for. Serves `look_at_stock`,
 -- `prove_room` and `take_front`.
-use Rattle.std.proofs.Common.{◌≡◌, ℕ, ◌+◌, ◌-◌, ◌*◌, ◌<◌, ◌≤◌, ◌==◌, Bool, true, false, List, [], ◌∷◌, ◌++◌, length, zero, suc}
+use Rattle.std.proofs.Common.{◌≡◌, ℕ, ◌+◌, ◌-◌, ◌*◌, ◌<◌, ◌≤◌, Bool, true, false, List, [], ◌∷◌, ◌++◌, length, zero, suc}
 use Rattle.std.proofs.Common.{refl, sym, ap, ◌∙◌, subst, inl, inr, arith, cond, length-append}
 use Rattle.std.specs.Prelude.{◌&&◌, is_some, not, nat_le, nat_lt}
-use Rattle.std.proofs.lemmas.Bool.{cases_eq, ne_eqb, and_from, le-leb}
+use Rattle.std.proofs.lemmas.Bool.{cases_eq, and_from, le-leb}
 use Rattle.group_charge.specs.Charges.{AreCharges, current_of}
 use Rattle.frame_word.specs.Views.{note_of}
 use Rattle.frame_word.specs.Seats.{KnownTable}
@@ -13,16 +13,17 @@ use Rattle.stock_word.specs.Stock.{is_held}
 use Rattle.stock_word.specs.Kinds.{after_took}
 use Rattle.stock_word.specs.Calls.{with_view}
 use Rattle.boot_words.specs.Pasts.{MayMake}
-use Rattle.cpu_part.specs.Cpus.{KnownCpu, IsTied, times}
+use Rattle.cpu_part.specs.Cpus.{KnownCpu, IsTied}
 use Rattle.cpu_part.specs.Calls.{TakesFront}
 use Rattle.step_rules.specs.declared.step.Action.TheVariants.{Consume}
 use Rattle.step_rules.specs.declared.step.Answer.TheVariants.{Took}
-use Rattle.step_rules.specs.State.{Part, with_at, one_if, sum_to, front_of, without, is_cpu}
+use Rattle.step_rules.specs.State.{Part, with_at, one_if, sum_to, front_of, without, is_cpu, times}
 use Rattle.step_rules.specs.Usage.{is_in_subtree}
 use Rattle.step_rules.specs.After.{paid, consumed}
 use Rattle.step_rules.specs.Legal.{is_legal, IsAnswer}
 use Rattle.step_rules.specs.Laws.{IsLocalStep}
 use Rattle.step_rules.proofs.Basics.{at_same, at_other}
+use Rattle.step_rules.proofs.Lists.{times_other, times_same, without_front}
 use Rattle.mem_machine.specs.declared.frame_state.FrameState.{FrameState}
 use Rattle.mem_machine.specs.declared.frame_state.FrameState.TheVariants.{Free, Lent, Head, Tail}
 use Rattle.mem_machine.specs.FrameStates.{frame_state_at, some_cpu}
@@ -37,8 +38,6 @@ use Rattle.mem_machine.proofs.Reaching.{cpu_step, run_one}
 use Rattle.mem_machine.proofs.Holds.{own_part, seated_cpu}
 use Rattle.mem_machine.proofs.Records.{lent_frame_state}
 use Rattle.mem_machine.proofs.Lends.{parts_changed, lent_listed}
-use Rattle.mem_machine.proofs.Takes.{without_front}
-use Rattle.cpu_part.proofs.Counts.{test_here, times_front}
 use Rattle.mem_machine.proofs.Shown.{fresh_phase}
 use Rattle.mem_machine.proofs.Followed.{follows_same, LeadsAs}
 use Rattle.mem_machine.proofs.Reached.{may_first}
@@ -113,14 +112,10 @@ left_after t w m c tied ok =
     omega (arith, none, fresh, at)
 
 one_time : (f : ℕ) → times f (f ∷ []) ≡ 1
-one_time f = let a = times_front f f [] in let b = test_here f in omega (arith, a, b)
+one_time f = let a = times_same f in omega (arith, a)
 
 no_time : (h f : ℕ) → (h ≡ f → ⊥) → times h (f ∷ []) ≡ 0
-no_time h f ne =
-    let a = times_front h f [] in
-    let u : (f == h) ≡ false = ne_eqb f h (λ e. ne (sym e)) in
-    let b : ◌≡◌ {A = ℕ} (cond (f == h) 1 0) 0 = ap (λ (x : Bool). cond x 1 0) u in
-    omega (arith, a, b)
+no_time h f ne = let a = times_other f h (λ e. ne (sym e)) in omega (arith, a)
 
 and_no : (b : Bool) → (b && false) ≡ false
 and_no true = refl
@@ -169,7 +164,7 @@ module _ (t : KnownTable) (w : KnownStockTable) (m : KnownMachine) (c : KnownCpu
   fresh_is = ap (λ (l : List ℕ). l ++ f ∷ []) none
 
   listed_times : times f c.list ≡ 1 + times f rest
-  listed_times = let a = ap (times f) front ∙ times_front f f rest in let b = test_here f in omega (arith, a, b)
+  listed_times = let a = ap (times f) front in let b = times_same f in omega (arith, a, b)
 
   once : (times f c.list ≡ 1) × (times f rest ≡ 0)
   once = let n = tied.noted f in let o = n.once in let b = n.borrowed_is in let l = listed_times in (omega (arith, o, b, l), omega (arith, o, b, l))

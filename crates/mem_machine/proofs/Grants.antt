@@ -15,14 +15,14 @@ use Rattle.frame_word.specs.Seats.{KnownTable}
 use Rattle.group_tree.specs.Groups.{has_group, limit_of}
 use Rattle.group_tree.specs.Room as room
 use Rattle.group_charge.specs.Charges.{AreCharges, SamePeaks, SameEvents, current_of, with_charge}
-use Rattle.cpu_part.specs.Cpus.{KnownCpu, times}
+use Rattle.cpu_part.specs.Cpus.{KnownCpu}
 use Rattle.step_rules.specs.declared.step.Action.TheVariants.{Grant, Ungrant, PlaceBlock}
 use Rattle.step_rules.specs.declared.step.Answer.TheVariants.{Done, Granted, Over, NoFreeBlock}
 use Rattle.step_rules.specs.declared.phase.Way.TheVariants.{OnList}
 use Rattle.step_rules.specs.declared.phase.Stage.TheVariants.{FreshAt, Live, BackAt}
 use Rattle.step_rules.specs.declared.phase.Phase.TheVariants as phase
 use Rattle.step_rules.specs.Phases as phases
-use Rattle.step_rules.specs.State.{State, with_at, free_in}
+use Rattle.step_rules.specs.State.{State, with_at, free_in, times}
 use Rattle.step_rules.specs.Usage.{usage_of}
 use Rattle.step_rules.specs.After.{after}
 use Rattle.step_rules.specs.Legal.{is_legal}

@@ -9,9 +9,8 @@ use Rattle.frame_word.specs.Views.{note_of, passed_back_by_cpu, collected_from}
 use Rattle.frame_word.specs.Seats.{KnownTable, KnownSeat, seat_number, seat_with, IsOpen, IsLent, IsBorrowed}
 use Rattle.frame_word.proofs.Notes.{note_here, note_else}
 use Rattle.stock_word.specs.Stock.{KnownStockTable}
-use Rattle.cpu_part.specs.Cpus.{KnownCpu, IsTied, times}
+use Rattle.cpu_part.specs.Cpus.{KnownCpu, IsTied}
 use Rattle.cpu_part.proofs.CallerLemmas.{collected_is_still}
-use Rattle.cpu_part.proofs.Counts.{test, test_here, test_other, times_front}
 use Rattle.step_rules.specs.declared.phase.ChargedUnit.{ChargedUnit}
 use Rattle.step_rules.specs.declared.phase.Stage.TheVariants.{FreshAt, FreshPassing, Collected, Live, BackAt}
 use Rattle.step_rules.specs.declared.phase.Stage.TheVariants.{BackPassing, AwaitsReturn}
@@ -22,11 +21,12 @@ use Rattle.step_rules.specs.declared.step.Action.TheVariants.{PassBack, Collect,
 use Rattle.step_rules.specs.declared.step.Answer.{Answer}
 use Rattle.step_rules.specs.declared.step.Answer.TheVariants.{Done, Pages}
 use Rattle.step_rules.specs.Phases as phases
-use Rattle.step_rules.specs.State.{State, Part, with_at, is_cpu, is_frame, visits, may_zone_act, one_if}
+use Rattle.step_rules.specs.State.{State, Part, with_at, is_cpu, is_frame, visits, may_zone_act, one_if, times}
 use Rattle.step_rules.specs.Legal.{is_legal}
 use Rattle.step_rules.specs.After.{Run, after, without_frame, without_unit}
 use Rattle.step_rules.specs.Laws.{IsLocalStep}
 use Rattle.step_rules.proofs.Basics.{at_same}
+use Rattle.step_rules.proofs.Lists.{times_other, times_same}
 use Rattle.mem_machine.specs.Machines.{KnownMachine}
 use Rattle.mem_machine.specs.Local.{Visits}
 use Rattle.mem_machine.specs.Local.{IsLocalRun, visit_state}
@@ -105,8 +105,8 @@ pub record IsFreshFront (c : KnownCpu) (f : ℕ) (rest : List ℕ) : Type 0 wher
 
 pub fresh_front : (t : KnownTable) (w : KnownStockTable) (c : KnownCpu) → IsTied t w c → (f : ℕ) (rest : List ℕ) → c.fresh ≡ f ∷ rest → IsFreshFront c f rest
 fresh_front t w c tied f rest front =
-    let a : times f c.fresh ≡ test f f + times f rest = ap (times f) front ∙ times_front f f rest in
-    let b = test_here f in
+    let a = ap (times f) front in
+    let b = times_same f in
     let n = tied.noted f in
     let r = n.borrowed_is in
     let o = n.own_is in
@@ -127,8 +127,8 @@ pub record IsBackFront (c : KnownCpu) (f : ℕ) (rest : List ℕ) : Type 0 where
 
 pub back_front : (t : KnownTable) (w : KnownStockTable) (c : KnownCpu) → IsTied t w c → (f : ℕ) (rest : List ℕ) → c.back ≡ f ∷ rest → IsBackFront c f rest
 back_front t w c tied f rest front =
-    let a : times f c.back ≡ test f f + times f rest = ap (times f) front ∙ times_front f f rest in
-    let b = test_here f in
+    let a = ap (times f) front in
+    let b = times_same f in
     let n = tied.noted f in
     let r = n.borrowed_is in
     let o = n.own_is in
@@ -143,8 +143,8 @@ back_front t w c tied f rest front =
 -- each other frame is as often in the rest as it was before
 pub times_rest : (g f : ℕ) (xs rest : List ℕ) → xs ≡ f ∷ rest → g ≢ f → times g rest ≡ times g xs
 times_rest g f xs rest front ne =
-    let a : times g xs ≡ test g f + times g rest = ap (times g) front ∙ times_front g f rest in
-    let b = test_other g f (λ e. ne (sym e)) in
+    let a = ap (times g) front in
+    let b = times_other f g (λ e. ne (sym e)) in
     omega (arith, a, b)
 
 -- ---- steps, one after the other

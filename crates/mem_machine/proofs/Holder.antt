@@ -3,15 +3,13 @@ use Rattle.std.proofs.Common.{◌≡◌, ℕ, ◌+◌, ◌<◌, ◌≤◌, true,
 use Rattle.std.proofs.lemmas.Bool.{cases_lt}
 use Rattle.frame_word.specs.Seats.{KnownTable, IsLent}
 use Rattle.stock_word.specs.Stock.{KnownStockTable}
-use Rattle.cpu_part.specs.Cpus.{KnownCpu, IsTied, times}
+use Rattle.cpu_part.specs.Cpus.{KnownCpu, IsTied}
 use Rattle.cpu_part.specs.Calls.{PassesBackUnit, PassesFront}
-use Rattle.cpu_part.proofs.Counts.{test_here, times_front}
 use Rattle.step_rules.specs.declared.step.Action.{Action}
 use Rattle.step_rules.specs.declared.step.Action.TheVariants.{PassBack}
 use Rattle.step_rules.specs.declared.step.Answer.{Answer}
-use Rattle.step_rules.specs.State.{State, Part, visits}
+use Rattle.step_rules.specs.State.{State, Part, visits, times}
 use Rattle.step_rules.proofs.Lists.{times_same}
-use Rattle.step_rules.proofs.Lists as rules
 use Rattle.boot_words.specs.Pasts.{KnownPasts, IsHolder, MakesStep, MayMake, cpu_past, local_by_pasts}
 use Rattle.boot_words.specs.Seats.{zone_of_boot}
 use Rattle.boot_words.specs.Sight.{MayPassBack, FromBack}
@@ -57,12 +55,12 @@ borrowed_lent t w m c tied visit f some =
 pub listed_lent : (t : KnownTable) (w : KnownStockTable) (m : KnownMachine) (c : KnownCpu) → IsTied t w c → Visits t (visit_state m c) → (f : ℕ) (rest : List ℕ)
     → c.list ≡ f ∷ rest → IsLentFrame t m c f
 listed_lent t w m c tied visit f rest front = borrowed_lent t w m c tied visit f
-    (let a = ap (times f) front ∙ times_front f f rest in let b = test_here f in omega (arith, a, b))
+    (let a = ap (times f) front in let b = times_same f in omega (arith, a, b))
 
 pub fresh_lent : (t : KnownTable) (w : KnownStockTable) (m : KnownMachine) (c : KnownCpu) → IsTied t w c → Visits t (visit_state m c) → (f : ℕ) (rest : List ℕ)
     → c.fresh ≡ f ∷ rest → IsLentFrame t m c f
 fresh_lent t w m c tied visit f rest front = borrowed_lent t w m c tied visit f
-    (let a = ap (times f) front ∙ times_front f f rest in let b = test_here f in omega (arith, a, b))
+    (let a = ap (times f) front in let b = times_same f in omega (arith, a, b))
 
 -- the oldest back frame may be passed back, by the run alone
 pub back_may_pass : (t : KnownTable) (m now : KnownMachine) → m ≡ now → (c : KnownCpu) → Visits t (visit_state now c) → (f : ℕ) (rest : List ℕ) → c.back ≡ f ∷ rest
@@ -77,5 +75,5 @@ back_may_pass t m now same c visit f rest front =
     seen : ◌≡◌ {A = ℕ × State} (c.number, local_of t now c) ((cpu_past now.run.past).number, local_by_pasts t now.run.past)
     seen i = (sym visit.shown.who i, sym visit.shown.here i)
 
-    some : 1 ≤ rules.times f ((local_of t now c).parts c.number).back
-    some = let a = ap (λ (x : Part). rules.times f x.back) (own_part now c) ∙ ap (rules.times f) front in let b = times_same f in omega (arith, a, b)
+    some : 1 ≤ times f ((local_of t now c).parts c.number).back
+    some = let a = ap (λ (x : Part). times f x.back) (own_part now c) ∙ ap (times f) front in let b = times_same f in omega (arith, a, b)

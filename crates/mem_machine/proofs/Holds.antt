@@ -6,12 +6,12 @@ use Rattle.std.specs.Prelude.{nat_le, not}
 use Rattle.frame_word.specs.Seats.{KnownTable, KnownSeat, IsOpen, IsShut, seat_with_visit}
 use Rattle.stock_word.specs.Stock.{account_of}
 use Rattle.frame_word.proofs.Notes.{put_here}
-use Rattle.cpu_part.specs.Cpus.{KnownCpu, times}
+use Rattle.cpu_part.specs.Cpus.{KnownCpu}
 use Rattle.step_rules.specs.declared.phase.Hold.TheVariants.{HeldBy, Visiting}
 use Rattle.step_rules.specs.declared.step.Action.TheVariants.{OpenVisit, ShutVisit}
 use Rattle.step_rules.specs.declared.step.Answer.TheVariants.{Done}
 use Rattle.step_rules.specs.Phases.{passes_out, passes_back}
-use Rattle.step_rules.specs.State.{Part, may_zone_act, is_held_by, visits, is_cpu}
+use Rattle.step_rules.specs.State.{Part, may_zone_act, is_held_by, visits, is_cpu, times}
 use Rattle.step_rules.specs.declared.phase.ChargedUnit.{ChargedUnit}
 use Rattle.step_rules.specs.declared.phase.Way.TheVariants.{OnList}
 use Rattle.step_rules.specs.declared.phase.Stage.TheVariants.{FreshAt, Live, BackAt}

@@ -14,7 +14,7 @@ use Rattle.frame_word.specs.Seats.{KnownTable, KnownSeat, seat_number, seat_refe
 use Rattle.frame_word.specs.Seats.{IsBorrowed, NothingPasses}
 use Rattle.frame_word.proofs.Notes.{note_here, note_else}
 use Rattle.stock_word.specs.Stock.{KnownStockTable, KnownStockSeat, account_of}
-use Rattle.cpu_part.specs.Cpus.{KnownCpu, IsTied, times}
+use Rattle.cpu_part.specs.Cpus.{KnownCpu, IsTied}
 use Rattle.cpu_part.proofs.CallerLemmas.{accepted_is_still}
 use Rattle.step_rules.specs.declared.phase.Way.TheVariants.{PassingOut, OnList}
 use Rattle.step_rules.specs.declared.phase.Stage.TheVariants.{FreshAt}
@@ -23,7 +23,7 @@ use Rattle.step_rules.specs.declared.phase.Phase.TheVariants as phase
 use Rattle.step_rules.specs.declared.step.Action.TheVariants.{PassOut, TakeIn}
 use Rattle.step_rules.specs.declared.step.Answer.TheVariants.{Done}
 use Rattle.step_rules.specs.Phases as phases
-use Rattle.step_rules.specs.State.{State, Part, with_at, is_frame, one_if}
+use Rattle.step_rules.specs.State.{State, Part, with_at, is_frame, one_if, times}
 use Rattle.step_rules.specs.Legal.{is_legal}
 use Rattle.step_rules.specs.After.{after}
 use Rattle.step_rules.proofs.Basics.{at_same, at_other}

@@ -12,8 +12,8 @@ use Rattle.step_rules.specs.State.{Part, State}
 use Rattle.step_rules.specs.Legal.{is_legal}
 use Rattle.step_rules.specs.After.{Run, state_of, IsLegalRun}
 use Rattle.step_rules.specs.Views.{holds_lock, seen_by}
+use Rattle.step_rules.specs.Invariant.{KeepsInvariant}
 use Rattle.step_rules.proofs.Runs.{legal_from, sound_run, state_more}
-use Rattle.step_rules.proofs.Sound.{IsSound}
 use Rattle.boot_words.specs.Hidden.{hide}
 use Rattle.boot_words.specs.Sight.{HasSameLists}
 use Rattle.boot_words.specs.Seats.{zone_of_boot}
@@ -92,7 +92,7 @@ module _ (t : KnownTable) (w : KnownStockTable) (m : KnownMachine) (c : KnownCpu
   seen_last : State
   seen_last = state_of (zone_of_boot t) (cpu_past m.run.past).seen
 
-  sound_last : IsSound seen_last
+  sound_last : KeepsInvariant seen_last
   unfolding seen_last
   sound_last = sound_run (zone_of_boot t) (cpu_past m.run.past).seen shown.held.holds.shows.legal
 

@@ -9,8 +9,8 @@ use Rattle.std.proofs.lemmas.List.Sums.{sum_by-append}
 use Rattle.frame_word.specs.Views.{note_of}
 use Rattle.frame_word.specs.Seats.{KnownTable, IsLent, IsBorrowed, LentIsBorrowed, seat_number}
 use Rattle.stock_word.specs.Stock.{KnownStockTable}
-use Rattle.cpu_part.specs.Cpus.{KnownCpu, IsTied, times}
-use Rattle.step_rules.specs.State.{one_if}
+use Rattle.cpu_part.specs.Cpus.{KnownCpu, IsTied}
+use Rattle.step_rules.specs.State.{one_if, times}
 use Rattle.mem_machine.specs.declared.frame_state.FrameState.{FrameState}
 use Rattle.mem_machine.specs.declared.frame_state.FrameState.TheVariants.{Free, Lent, Head, Tail}
 use Rattle.mem_machine.specs.FrameStates.{frame_state_at, is_free_state, frame_state_group, some_cpu, cpu_lent_to}

@@ -9,14 +9,14 @@ use Rattle.frame_word.specs.Seats.{KnownTable, seat_references}
 use Rattle.group_tree.specs.Groups.{has_group}
 use Rattle.group_tree.specs.Room as room
 use Rattle.group_charge.specs.Charges.{current_of, AreCharges, SamePeaks, SameEvents, with_charge}
-use Rattle.cpu_part.specs.Cpus.{KnownCpu, times}
+use Rattle.cpu_part.specs.Cpus.{KnownCpu}
 use Rattle.step_rules.specs.declared.phase.ChargedUnit.{ChargedUnit}
 use Rattle.step_rules.specs.declared.phase.Stage.TheVariants.{Live, BackAt, Bare}
 use Rattle.step_rules.specs.declared.phase.Phase.TheVariants as phase
 use Rattle.step_rules.specs.declared.step.Action.TheVariants.{PlaceBlock, Unfreeze, Publish}
 use Rattle.step_rules.specs.declared.step.Answer.TheVariants.{Done, Placed}
 use Rattle.step_rules.specs.Phases.{at_stage, is_head, is_head_in_hand}
-use Rattle.step_rules.specs.State.{State, with_at, free_in}
+use Rattle.step_rules.specs.State.{State, with_at, free_in, times}
 use Rattle.step_rules.specs.Usage.{usage_of}
 use Rattle.step_rules.specs.After.{after, is_within, placed_phase}
 use Rattle.step_rules.specs.Legal.{is_legal}

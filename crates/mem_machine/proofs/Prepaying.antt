@@ -23,11 +23,11 @@ use Rattle.group_charge.proofs.SumLemmas.{share}
 use Rattle.boot_words.specs.Pasts.{cpu_past}
 use Rattle.boot_words.specs.Seats.{zone_of_boot}
 use Rattle.boot_words.proofs.Returning.{none_booked}
-use Rattle.cpu_part.specs.Cpus.{KnownCpu, IsTied, times}
+use Rattle.cpu_part.specs.Cpus.{KnownCpu, IsTied}
 use Rattle.step_rules.specs.Laws.{IsLocalStep}
 use Rattle.step_rules.specs.declared.step.Action.TheVariants.{Fill, Grant}
 use Rattle.step_rules.specs.declared.step.Answer.TheVariants.{Done, Granted}
-use Rattle.step_rules.specs.State.{State, Part, with_at, sum_to}
+use Rattle.step_rules.specs.State.{State, Part, with_at, sum_to, times}
 use Rattle.step_rules.specs.Legal.{takes_fill, is_of_group}
 use Rattle.step_rules.specs.After.{filled, state_of, with_pending}
 use Rattle.step_rules.specs.Usage as local

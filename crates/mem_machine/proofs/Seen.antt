@@ -16,19 +16,19 @@ use Rattle.step_rules.specs.declared.phase.Phase.{Phase}
 use Rattle.step_rules.specs.declared.phase.Phase.TheVariants as phase
 use Rattle.step_rules.specs.declared.step.Action.TheVariants.{Unlock}
 use Rattle.step_rules.specs.Phases.{FreshFrame, has_as, is_passing, keeper_of}
-use Rattle.step_rules.specs.State.{Part, State, is_held_by, with_at}
+use Rattle.step_rules.specs.State.{Part, State, is_held_by, with_at, times}
 use Rattle.step_rules.specs.Legal.{is_legal}
 use Rattle.step_rules.specs.Views.{other_part_seen, phase_seen_by, seen_by}
+use Rattle.step_rules.specs.Invariant.{PhasePaid, groups_in, IsBooked, KeepsInvariant}
 use Rattle.step_rules.proofs.Basics.{at_each}
 use Rattle.step_rules.proofs.CoverParts.{own_part as shown_part, own_reference}
-use Rattle.step_rules.proofs.Lists.{times as counted, one_if_true, times_same}
+use Rattle.step_rules.proofs.Lists.{one_if_true, times_same}
 use Rattle.step_rules.proofs.PhaseLemmas.{equal_test}
-use Rattle.step_rules.proofs.Sound.{IsBooked, IsSound, PhasePaid, groups_in}
 use Rattle.step_rules.proofs.Sums.{all_each}
 use Rattle.boot_words.specs.Hidden.{group_or_0, hide, hide_phase, show_own, show_phase, zone_references}
 use Rattle.boot_words.proofs.Showing.{sees_both}
-use Rattle.cpu_part.specs.Cpus.{KnownCpu, IsTied, times}
-use Rattle.cpu_part.proofs.Knowing.{HasLists, same_times}
+use Rattle.cpu_part.specs.Cpus.{KnownCpu, IsTied}
+use Rattle.cpu_part.proofs.Knowing.{HasLists}
 use Rattle.mem_machine.specs.declared.frame_state.FrameState.{FrameState}
 use Rattle.mem_machine.specs.declared.frame_state.FrameState.TheVariants.{Free, Lent, Head, Tail}
 use Rattle.mem_machine.specs.FrameStates.{frame_state_at}
@@ -61,9 +61,9 @@ module _ (c : KnownCpu) (part : Part) (fresh : part.fresh ≡ c.fresh) (back : p
   phase_shown f Free = refl
   phase_shown f (Tail g) = refl
   phase_shown f (Head unit) = ap (λ (n : ℕ). cond (nat_le 1 n) (phase.Head unit (BackAt c.number)) (phase.Head unit Live))
-      (ap (counted f) back ∙ sym (same_times f c.back))
+      (ap (times f) back)
   phase_shown f (Lent q) =
-      ap (λ (n : ℕ). fresh_or_listed (q == c.number && nat_le 1 n) (group_or_0 part.stock.group) q) (ap (counted f) fresh ∙ sym (same_times f c.fresh))
+      ap (λ (n : ℕ). fresh_or_listed (q == c.number && nat_le 1 n) (group_or_0 part.stock.group) q) (ap (times f) fresh)
       ∙ fresh_same (q == c.number) (times f c.fresh) (group_or_0 part.stock.group) (group_of_fresh c) q (fresh_group f)
 
 own_references : (seat : KnownSeat) (c : KnownCpu) → c.number ≢ 0 → (f : ℕ) → references_of seat c c.number f ≡ seat_references c.frame_seat f
@@ -111,7 +111,7 @@ parts_shown seat c part is q =
 
 -- The CPU holds the lock in a sound state that is the machine's if every CPU's own part is hidden. Then it sees what
 -- the machine and its own part show.
-pub shown_here : (t : KnownTable) (w : KnownStockTable) (m : KnownMachine) (c : KnownCpu) (s : State) → IsSound s
+pub shown_here : (t : KnownTable) (w : KnownStockTable) (m : KnownMachine) (c : KnownCpu) (s : State) → KeepsInvariant s
     → hide s ≡ record (hidden_of t m) { hold = HeldBy c.number } → HasLists s c.number c.list c.fresh c.back c.pins
     → (c.fresh ≢ [] → (s.parts c.number).stock.group ≡ group_of c.stock_seat.view.last) → IsTied t w c → IsShut m.frame_seat c.number
     → seen_by c.number s ≡ local_of t m c
@@ -173,7 +173,7 @@ parts_hide seat c inside q = elim (cases_eq q c.number) [
 
 -- ---- the group of a CPU's fresh frames
 
-some_frame : (frames : List ℕ) → frames ≢ [] → (f : ℕ) × (1 ≤ counted f frames)
+some_frame : (frames : List ℕ) → frames ≢ [] → (f : ℕ) × (1 ≤ times f frames)
 some_frame [] some = absurd (some refl)
 some_frame (f ∷ frames) some = (f, let one = times_same f in omega (arith, one))
 
@@ -206,7 +206,7 @@ last_group (stock.DrainedOf g) some = refl
 
 -- ---- what the lock's holder sees, before it releases the lock
 
-module _ (t : KnownTable) (m : KnownMachine) (c : KnownCpu) (s : State) (sound : IsSound s) (here : seen_by c.number s ≡ local_of t m c) where
+module _ (t : KnownTable) (m : KnownMachine) (c : KnownCpu) (s : State) (sound : KeepsInvariant s) (here : seen_by c.number s ≡ local_of t m c) where
   pub part_here : s.parts c.number ≡ part_with c.list c.fresh c.back (account_of m.stock_seat.view c.number)
   part_here = sym (shown_part c.number s.parts c.number refl) ∙ ap (λ (u : State). u.parts c.number) here ∙ own_part m c
 
@@ -232,7 +232,7 @@ module _ (t : KnownTable) (m : KnownMachine) (c : KnownCpu) (s : State) (sound :
       → (s.parts c.number).stock.group ≡ group_of c.stock_seat.view.last
   group_here fresh none some =
       let one = some_frame c.fresh some in
-      let listed = sound.lists c.number FreshFrame one.0 in let count = ap (counted one.0) fresh in let least = one.1 in
+      let listed = sound.lists c.number FreshFrame one.0 in let count = ap (times one.0) fresh in let least = one.1 in
       let is_fresh = one_if_true (has_as FreshFrame c.number (s.phases one.0)) (omega (arith, listed, count, least)) in
       let sees = fresh_seen c.number s.zone.cpus (groups_in s.parts) (s.phases one.0) is_fresh (sound.frames one.0).paid in
       let shows : phase_seen_by c.number (s.phases one.0) ≡ phase_of c one.0 (frame_state_at m.frame_states one.0) = ap (λ (u : State). u.phases one.0) here in

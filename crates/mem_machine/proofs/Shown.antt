@@ -13,7 +13,7 @@ use Rattle.stock_word.specs.declared.view.StockAccount.{StockAccount}
 use Rattle.stock_word.specs.Stock.{KnownStockTable, KnownStockSeat, account_of}
 use Rattle.stock_word.specs.Kinds.{after_report}
 use Rattle.stock_word.specs.Calls.{with_view}
-use Rattle.cpu_part.specs.Cpus.{KnownCpu, IsTied, times}
+use Rattle.cpu_part.specs.Cpus.{KnownCpu, IsTied}
 use Rattle.step_rules.specs.declared.phase.ChargedUnit.{ChargedUnit}
 use Rattle.step_rules.specs.declared.phase.Way.TheVariants.{OnList}
 use Rattle.step_rules.specs.declared.phase.Stage.{Stage}
@@ -21,9 +21,10 @@ use Rattle.step_rules.specs.declared.phase.Stage.TheVariants.{FreshAt, Live, Bac
 use Rattle.step_rules.specs.declared.phase.Phase.{Phase}
 use Rattle.step_rules.specs.declared.phase.Phase.TheVariants as phase
 use Rattle.step_rules.specs.Phases as phases
-use Rattle.step_rules.specs.State.{Part, with_at, one_if}
+use Rattle.step_rules.specs.State.{Part, with_at, one_if, times}
 use Rattle.step_rules.specs.After.{is_within, unit_size, without_unit, without_frame}
 use Rattle.step_rules.proofs.Basics.{at_same, at_other}
+use Rattle.step_rules.proofs.Lists.{without_front, without_none}
 use Rattle.step_rules.proofs.Placing.{within_cases}
 use Rattle.mem_machine.specs.declared.frame_state.FrameState.{FrameState}
 use Rattle.mem_machine.specs.declared.frame_state.FrameState.TheVariants.{Free, Lent, Head, Tail}
@@ -35,7 +36,6 @@ use Rattle.mem_machine.specs.Freeing.{FreesFrames}
 use Rattle.mem_machine.specs.Settling.{with_page_absorbed}
 use Rattle.mem_machine.proofs.Holds.{zone_may_act, visits_open, seated_cpu}
 use Rattle.mem_machine.proofs.Records.{holds_same}
-use Rattle.mem_machine.proofs.Takes.{without_none, without_front}
 use Rattle.mem_machine.proofs.Absorbs.{absorbed_account, absorbed_at, absorbed_else}
 use Rattle.mem_machine.proofs.HandOvers.{IsVisited, IsFreshFront, IsBackFront, times_rest}
 

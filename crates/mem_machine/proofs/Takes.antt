@@ -2,7 +2,7 @@
 use Rattle.std.proofs.Common.{◌≡◌, ℕ, ◌+◌, ◌<◌, ◌==◌, Bool, true, false, Option, Some, None, List, [], ◌∷◌, length, get_or, refl, sym, ap, ◌∙◌}
 use Rattle.std.proofs.Common.{subst, inl, inr, arith, eq-eqb}
 use Rattle.std.specs.Prelude.{slice_set, IfSome}
-use Rattle.std.proofs.lemmas.Bool.{cases_eq, ne_eqb, and_from, cond-true, lt-ltb, or_left, false≢true}
+use Rattle.std.proofs.lemmas.Bool.{cases_eq, and_from, cond-true, lt-ltb, or_left, false≢true}
 use Rattle.std.proofs.lemmas.List.{length-set}
 use Rattle.zone_blocks.specs.declared.block.Block.{Block}
 use Rattle.zone_blocks.specs.Areas.{AreMaximalBlocks}
@@ -12,20 +12,20 @@ use Rattle.frame_word.specs.Views.{note_of, passed_back_by_cpu, collected_from}
 use Rattle.frame_word.specs.Seats.{KnownTable, KnownSeat, seat_number, seat_with, IsLent, IsBorrowed, Passes, NothingPasses}
 use Rattle.frame_word.proofs.Notes.{note_here, note_else}
 use Rattle.stock_word.specs.Stock.{KnownStockTable, account_of}
-use Rattle.cpu_part.specs.Cpus.{KnownCpu, IsTied, times}
+use Rattle.cpu_part.specs.Cpus.{KnownCpu, IsTied}
 use Rattle.cpu_part.specs.Calls.{PassesFront}
 use Rattle.cpu_part.proofs.CallerLemmas.{handed_passes, collected_is_still}
-use Rattle.cpu_part.proofs.Counts.{test, test_here, times_front}
 use Rattle.lru_lists.specs.declared.record.Home.{Home}
 use Rattle.step_rules.specs.declared.phase.Way.TheVariants.{OnList, PassingBack}
 use Rattle.step_rules.specs.declared.phase.Phase.TheVariants as phase
 use Rattle.step_rules.specs.declared.step.Action.TheVariants.{PassBack, Collect}
 use Rattle.step_rules.specs.declared.step.Answer.TheVariants.{Done}
 use Rattle.step_rules.specs.Phases as phases
-use Rattle.step_rules.specs.State.{State, Part, is_frame, without, front_of}
+use Rattle.step_rules.specs.State.{State, Part, is_frame, front_of, times}
 use Rattle.step_rules.specs.Legal.{is_legal, is_passable}
 use Rattle.step_rules.specs.After.{after, without_frame}
 use Rattle.step_rules.proofs.Basics.{at_same}
+use Rattle.step_rules.proofs.Lists.{times_same, without_front, without_none}
 use Rattle.mem_machine.specs.declared.frame_state.FrameState.{FrameState}
 use Rattle.mem_machine.specs.declared.frame_state.FrameState.TheVariants.{Free, Lent, Head, Tail}
 use Rattle.mem_machine.specs.FrameStates.{frame_state_at, is_free_state, free_of, frame_state_group, head_group_of}
@@ -49,28 +49,6 @@ use Rattle.mem_machine.proofs.Reached.{may_make}
 use Rattle.mem_machine.proofs.Holder.{listed_lent}
 use Rattle.mem_machine.proofs.Watched.{HasOpenVisit}
 
--- a list that hasn't the frame stays without it
-pub without_none : (f : ℕ) (xs : List ℕ) → times f xs ≡ 0 → without f xs ≡ xs
-without_none f [] none = refl
-without_none f (x ∷ xs) none = elim (cases_eq x f) [
-  | inl e ↦
-      let a = times_front f x xs in let b = test_here f in
-      let c : test f x ≡ test f f = ap (test f) e in absurd (omega (arith, a, b, c, none))
-  | inr ne ↦
-      let a = times_front f x xs in
-      let u : (x == f) ≡ false = ne_eqb x f ne in
-      let rest : without f xs ≡ xs = without_none f xs (omega (arith, a, none)) in
-      rw u (ap (λ (l : List ℕ). x ∷ l) rest)
-]
-
-without_here : (f : ℕ) (rest : List ℕ) → times f rest ≡ 0 → without f (f ∷ rest) ≡ rest
-without_here f rest none = let t : (f == f) ≡ true = eq-eqb f f refl in rw t (without_none f rest none)
-
--- only the front frame is gone
-pub without_front : (f : ℕ) (xs rest : List ℕ) → xs ≡ f ∷ rest → times f rest ≡ 0 → without f xs ≡ rest
-without_front f xs rest front none =
-    ap (without f) front ∙ without_here f rest none
-
 module _ (t : KnownTable) (w : KnownStockTable) (m : KnownMachine) (c : KnownCpu) (tied : IsTied t w c) (ok : IsConsistent t w m) (visit : Visits t (visit_state m c))
     (f : ℕ) (rest : List ℕ) (front : c.list ≡ f ∷ rest) (inside : f < t.frames) (lent : IsLent m.frame_seat f c.number) where
   within : f < length m.frame_states
@@ -81,7 +59,7 @@ module _ (t : KnownTable) (w : KnownStockTable) (m : KnownMachine) (c : KnownCpu
 
   -- the frame is once on the list, and on no other list
   listed_once : times f c.list ≡ 1 + times f rest
-  listed_once = let a = ap (times f) front ∙ times_front f f rest in let b = test_here f in omega (arith, a, b)
+  listed_once = let a = ap (times f) front in let b = times_same f in omega (arith, a, b)
 
   none_in_rest : times f rest ≡ 0
   none_in_rest = let a = listed_once in let n = tied.noted f in let b = n.borrowed_is in let o = n.own_is in let h = n.once in omega (arith, a, b, o, h)

@@ -23,9 +23,9 @@ use Rattle.group_tree.specs.Room.{PathHasRoom}
 use Rattle.group_charge.specs.Charges.{Ledger, current_of, with_charge, with_uncharge, PagesRise, AreCharges}
 use Rattle.lru_lists.specs.declared.record.Link.{Link}
 use Rattle.lru_lists.specs.declared.lru.Lru.{Lru}
-use Rattle.cpu_part.specs.Cpus.{KnownCpu, times}
+use Rattle.cpu_part.specs.Cpus.{KnownCpu}
 use Rattle.step_rules.specs.Phases as phases
-use Rattle.step_rules.specs.State.{with_at, free_in, one_if}
+use Rattle.step_rules.specs.State.{with_at, free_in, one_if, times}
 use Rattle.step_rules.specs.Usage.{usage_of}
 use Rattle.step_rules.proofs.Basics.{at_same, at_other}
 use Rattle.step_rules.proofs.Placing.{within_cases}

@@ -1,10 +1,9 @@
 -- The usage by the rules of the steps is the ledger's: the caller's fresh frames count for the group of its stock
 -- there, and are in its stock's book here. Serves `take_block`, `remove` and `fill_stock`, and so `prepay`.
-use Rattle.std.proofs.Common.{◌≡◌, ℕ, ◌+◌, ◌-◌, ◌<◌, ◌≤◌, ◌==◌, ◌&&◌, Bool, true, false, cond, Option, Some, None, List, [], ◌∷◌, length}
+use Rattle.std.proofs.Common.{◌≡◌, ℕ, ◌+◌, ◌-◌, ◌<◌, ◌≤◌, ◌==◌, ◌&&◌, Bool, true, false, cond, Option, Some, None, List, [], length}
 use Rattle.std.proofs.Common.{refl, sym, ap, ◌∙◌, subst, arith, inl, inr}
 use Rattle.std.specs.Prelude.{◌⊎◌, nat_le}
 use Rattle.std.proofs.lemmas.Bool.{cases_eq, cases_lt, ne_eqb, eq-eqb, and_from, le-leb}
-use Rattle.std.proofs.lemmas.List.Sums.{sum_by-cons}
 use Rattle.group_tree.specs.declared.group.Group.{Group}
 use Rattle.group_tree.specs.Groups.{in_subtree}
 use Rattle.group_charge.specs.Charges.{AreCharges, current_of}
@@ -13,16 +12,16 @@ use Rattle.stock_word.specs.Stock.{KnownStockTable, account_of}
 use Rattle.stock_word.specs.Stock as stocks
 use Rattle.frame_word.specs.Views.{note_of}
 use Rattle.frame_word.specs.Seats.{KnownTable, LentIsBorrowed}
-use Rattle.cpu_part.specs.Cpus.{KnownCpu, times, IsTied}
+use Rattle.cpu_part.specs.Cpus.{KnownCpu, IsTied}
 use Rattle.step_rules.specs.declared.phase.ChargedUnit.{ChargedUnit}
 use Rattle.step_rules.specs.declared.phase.Way.TheVariants.{OnList}
 use Rattle.step_rules.specs.declared.phase.Stage.TheVariants.{FreshAt, Live, BackAt}
 use Rattle.step_rules.specs.declared.phase.Phase.TheVariants as phase
 use Rattle.step_rules.specs.Phases.{keeper_of}
-use Rattle.step_rules.specs.State.{one_if, sum_to}
+use Rattle.step_rules.specs.State.{one_if, sum_to, times}
 use Rattle.step_rules.specs.Usage.{is_in_subtree, frames_kept, stock_in_subtree, pages_prepaid, pages_pending, usage_of}
 use Rattle.step_rules.proofs.Sums.{sum_same, sum_none, sum_both, sum_only}
-use Rattle.step_rules.proofs.Lists as steps
+use Rattle.step_rules.proofs.Lists.{count_length}
 use Rattle.mem_machine.specs.declared.frame_state.FrameState.{FrameState}
 use Rattle.mem_machine.specs.declared.frame_state.FrameState.TheVariants.{Free, Lent, Head, Tail}
 use Rattle.mem_machine.specs.FrameStates.{frame_state_at, some_cpu, frame_state_group}
@@ -32,14 +31,6 @@ use Rattle.mem_machine.proofs.Ledgers.{cond_zero, cond_one, cond_sum, ledger_vis
 use Rattle.mem_machine.proofs.Records.{lent_frame_state}
 
 -- ---- what the caller's part shows
-
-as_steps : (f : ℕ) (xs : List ℕ) → times f xs ≡ steps.times f xs
-as_steps f [] = refl
-as_steps f (x ∷ xs) =
-    let front = sum_by-cons (λ (y : ℕ). cond (y == f) 1 0) x xs in
-    let one = cond_one (x == f) in
-    let rest = as_steps f xs in
-    omega arith
 
 -- What a look at the caller's stock shows. The book covers the fresh frames. If a frame is fresh, the stock that the
 -- CPU saw last has a group, and the book is of that group.
@@ -119,8 +110,7 @@ module _ (t : KnownTable) (w : KnownStockTable) (m : KnownMachine) (c : KnownCpu
   fresh_counted =
       sym (cond_sum (in_subtree groups g (group_of_fresh c)) t.frames (λ f. times f c.fresh))
       ∙ ap (λ (n : ℕ). cond (in_subtree groups g (group_of_fresh c)) n 0)
-      (sum_same t.frames (λ f. times f c.fresh) (λ f. steps.times f c.fresh) (λ f lt. as_steps f c.fresh)
-      ∙ steps.count_length t.frames c.fresh (λ f beyond. let none = (tied.noted f).in_table beyond in let same = as_steps f c.fresh in omega arith))
+      (count_length t.frames c.fresh (λ f beyond. let none = (tied.noted f).in_table beyond in omega arith))
 
   kept : frames_kept groups (λ f. phase_of c f (frame_state f)) t.frames g ≡ sum_to t.frames (λ f. one_if (is_in_subtree groups g (frame_state_group (frame_state f)))) + fresh_pages
   kept =

@@ -5,14 +5,14 @@ use Rattle.frame_word.specs.Seats.{KnownTable, KnownSeat, IsOpen, LentIsBorrowed
 use Rattle.stock_word.specs.declared.view.StockAccount.{StockAccount}
 use Rattle.stock_word.specs.Stock.{KnownStockSeat, account_of}
 use Rattle.stock_word.specs.Stock as stocks
-use Rattle.cpu_part.specs.Cpus.{KnownCpu, times}
+use Rattle.cpu_part.specs.Cpus.{KnownCpu}
 use Rattle.step_rules.specs.declared.phase.Hold.{Hold}
 use Rattle.step_rules.specs.declared.phase.Hold.TheVariants.{HeldBy, Visiting}
 use Rattle.step_rules.specs.declared.phase.Way.TheVariants.{OnList}
 use Rattle.step_rules.specs.declared.phase.Stage.TheVariants.{FreshAt, Live, BackAt}
 use Rattle.step_rules.specs.declared.phase.Phase.{Phase}
 use Rattle.step_rules.specs.declared.phase.Phase.TheVariants as phase
-use Rattle.step_rules.specs.State.{State, Part}
+use Rattle.step_rules.specs.State.{State, Part, times}
 use Rattle.step_rules.specs.After.{Run}
 use Rattle.boot_words.specs.Pasts.{IsHeld, cpu_past, local_by_pasts}
 use Rattle.mem_machine.specs.Noted.{Notes}

@@ -8,7 +8,7 @@ use Rattle.frame_word.specs.declared.view.FrameNote.{FrameNote}
 use Rattle.frame_word.specs.Views.{frozen, missed}
 use Rattle.frame_word.specs.Seats.{KnownTable, KnownSeat, misses_of, seat_with}
 use Rattle.frame_word.proofs.Notes.{note_here, note_else}
-use Rattle.cpu_part.specs.Cpus.{KnownCpu, times}
+use Rattle.cpu_part.specs.Cpus.{KnownCpu}
 use Rattle.step_rules.specs.declared.phase.ChargedUnit.{ChargedUnit}
 use Rattle.step_rules.specs.declared.phase.Stage.TheVariants.{Live, BackAt, AwaitsReturn}
 use Rattle.step_rules.specs.declared.phase.Phase.TheVariants as phase
@@ -17,7 +17,7 @@ use Rattle.step_rules.specs.declared.step.Action.TheVariants.{Freeze}
 use Rattle.step_rules.specs.declared.step.Answer.{Answer}
 use Rattle.step_rules.specs.declared.step.Answer.TheVariants.{Done, Missed}
 use Rattle.step_rules.specs.Phases.{at_stage, unit_of}
-use Rattle.step_rules.specs.State.{State}
+use Rattle.step_rules.specs.State.{State, times}
 use Rattle.step_rules.specs.After.{Run, after, unit_size}
 use Rattle.step_rules.proofs.Basics.{at_same}
 use Rattle.mem_machine.specs.declared.frame_state.FrameState.{FrameState}

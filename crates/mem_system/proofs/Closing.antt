@@ -16,8 +16,8 @@ use Rattle.stock_word.specs.declared.view.Stock.TheVariants.{NoGroup, HeldBy, Dr
 use Rattle.stock_word.specs.declared.view.StockView.{StockView}
 use Rattle.stock_word.specs.StockRule.{IsStockOf}
 use Rattle.stock_word.specs.Stock.{KnownStockTable, KnownStockSeat, account_of, view_in, stock_pages_of, is_held}
-use Rattle.cpu_part.specs.Cpus.{KnownCpu, IsIdle, times}
-use Rattle.step_rules.specs.State.{one_if}
+use Rattle.cpu_part.specs.Cpus.{KnownCpu, IsIdle}
+use Rattle.step_rules.specs.State.{one_if, times}
 use Rattle.step_rules.specs.After.{Run}
 use Rattle.boot_words.specs.declared.view.Past.{Past}
 use Rattle.boot_words.specs.Pasts.{own_past}

@@ -13,9 +13,9 @@ use Rattle.frame_word.specs.ReferenceRule.{mark, mark_base, only, references_in,
 use Rattle.frame_word.specs.Seats.{KnownTable}
 use Rattle.frame_word.proofs.Notes.{only_here, only_else, marked_else, lent_yes, lent_no}
 use Rattle.stock_word.specs.Stock.{KnownStockTable}
-use Rattle.cpu_part.specs.Cpus.{KnownCpu, times}
+use Rattle.cpu_part.specs.Cpus.{KnownCpu}
 use Rattle.step_rules.specs.declared.phase.ChargedUnit.{ChargedUnit}
-use Rattle.step_rules.specs.State.{one_if}
+use Rattle.step_rules.specs.State.{one_if, times}
 use Rattle.lru_lists.specs.declared.record.Home.{Home}
 use Rattle.mem_machine.specs.declared.frame_state.FrameState.{FrameState}
 use Rattle.mem_machine.specs.declared.frame_state.FrameState.TheVariants.{Free, Lent, Head}

@@ -5,7 +5,8 @@ use Rattle.frame_word.specs.declared.view.FrameView.{FrameView}
 use Rattle.frame_word.specs.ReferenceRule.{ReferenceRule}
 use Rattle.frame_word.specs.Seats.{KnownTable}
 use Rattle.stock_word.specs.Stock.{KnownStockTable}
-use Rattle.cpu_part.specs.Cpus.{KnownCpu, IsTied, times}
+use Rattle.step_rules.specs.State.{times}
+use Rattle.cpu_part.specs.Cpus.{KnownCpu, IsTied}
 use Rattle.step_rules.specs.declared.phase.ChargedUnit.{ChargedUnit}
 use Rattle.lru_lists.specs.declared.record.Home.{Home}
 use Rattle.mem_machine.specs.declared.frame_state.FrameState.TheVariants.{Lent, Head, Tail}

@@ -19,7 +19,6 @@ use Rattle.group_tree.specs.declared.fault.Fault.TheVariants.{NoGroup, PinsFull,
 use Rattle.cpu_part.specs.declared.answers.Fast.{Fast as FastAnswer}
 use Rattle.cpu_part.specs.declared.answers.Fast.TheVariants.{FreshFull, ListEmpty, OtherGroup, Drained, NoStock, Got}
 use Rattle.cpu_part.specs.declared.answers.Dropped.TheVariants.{NeedVisit}
-use Rattle.cpu_part.specs.Cpus as parts
 use Rattle.cpu_part.specs.Cpus.{KnownCpu}
 use Rattle.cpu_part.specs.Calls.{FastAnswers, DropAnswers, UnpinAnswers}
 use Rattle.step_rules.specs.declared.phase.Way.TheVariants.{OnList}
@@ -29,7 +28,7 @@ use Rattle.step_rules.specs.declared.step.Action.{Action}
 use Rattle.step_rules.specs.declared.step.Action.TheVariants as step
 use Rattle.step_rules.specs.declared.step.Answer.{Answer as StepAnswer}
 use Rattle.step_rules.specs.declared.step.Answer.TheVariants as step_answer
-use Rattle.step_rules.specs.State.{State}
+use Rattle.step_rules.specs.State.{State, times}
 use Rattle.step_rules.specs.After.{Run, state_of, IsLegalRun}
 use Rattle.step_watch.specs.Watched.{KnownWatch}
 use Rattle.mem_machine.specs.declared.frame_state.FrameState.{FrameState}
@@ -90,7 +89,7 @@ module _ (t : KnownTable) (m : KnownMachine) (c : KnownCpu) where
       phase_of (record c { stock_seat = stock }) f x ≡ phase_of c f x
   stock_phase stock group f frame_state_is.Free = refl
   stock_phase stock group f (frame_state_is.Lent q) =
-      λ i. cond (q == c.number && nat_le 1 (parts.times f c.fresh)) (phase.Head (record { group = number_or_0 (group i); order = 0 }) (FreshAt q))
+      λ i. cond (q == c.number && nat_le 1 (times f c.fresh)) (phase.Head (record { group = number_or_0 (group i); order = 0 }) (FreshAt q))
       (phase.Lent q OnList)
   stock_phase stock group f (frame_state_is.Head unit) = refl
   stock_phase stock group f (frame_state_is.Tail g) = refl

@@ -12,10 +12,11 @@ use Rattle.boot_words.specs.Pasts.{KnownPasts, own_past}
 use Rattle.boot_words.specs.Growth.{AreChangesOf, GainsSteps, GrewByAll}
 use Rattle.group_tree.specs.Groups.{number_at}
 use Rattle.group_tree.specs.declared.fault.Fault.TheVariants.{NoGroup, PinsFull, NotPinned}
+use Rattle.step_rules.specs.State.{times}
 use Rattle.cpu_part.specs.declared.answers.Fast.{Fast as FastAnswer}
 use Rattle.cpu_part.specs.declared.answers.Fast.TheVariants.{Got}
 use Rattle.cpu_part.specs.declared.answers.Dropped.TheVariants as dropped
-use Rattle.cpu_part.specs.Cpus.{KnownCpu, most_pins, times}
+use Rattle.cpu_part.specs.Cpus.{KnownCpu, most_pins}
 use Rattle.cpu_part.specs.Calls.{FastAnswers, DropAnswers, PinAnswers, UnpinAnswers}
 use Rattle.step_rules.specs.declared.step.Action.TheVariants as step
 use Rattle.step_rules.specs.declared.step.Answer.TheVariants as step_answer

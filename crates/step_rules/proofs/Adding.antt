@@ -15,12 +15,13 @@ use Rattle.step_rules.specs.Counts.{stock_gained, stock_lost, counted}
 use Rattle.step_rules.specs.Grants.{pending_in, pending_out}
 use Rattle.step_rules.specs.Folds.{last_fill}
 use Rattle.step_rules.specs.Current.{AllCurrentFollowsRun}
+use Rattle.step_rules.specs.Invariant.{there_or_none, IsHomed}
 use Rattle.step_rules.proofs.Sums.{sum_same, sum_none, sum_both, sum_only}
 use Rattle.step_rules.proofs.Counting.{stocks_are_counted}
 use Rattle.step_rules.proofs.Granting.{pending_is_counted}
 use Rattle.step_rules.proofs.Placed.{every_frame_has_one_place}
 use Rattle.step_rules.proofs.Keeping.{homed_run}
-use Rattle.step_rules.proofs.Homes.{there_or_none, IsHomed, number_low}
+use Rattle.step_rules.proofs.Homes.{number_low}
 use Rattle.step_rules.proofs.Telling.{fill_is_told}
 use Rattle.step_rules.proofs.Freeing.{zone_of_run}
 

@@ -25,8 +25,8 @@ use Rattle.step_rules.specs.Usage.{usage_of}
 use Rattle.step_rules.specs.Legal.{is_legal, get_answer, IsAnswer, IsCounted}
 use Rattle.step_rules.specs.After.{state_of}
 use Rattle.step_rules.specs.Answers.{EveryStepIsAnswered}
+use Rattle.step_rules.specs.Invariant.{KeepsInvariant}
 use Rattle.step_rules.proofs.LegalTests.{grant_tests, put_tests}
-use Rattle.step_rules.proofs.Sound.{IsSound}
 use Rattle.step_rules.proofs.Sums.{sum_part}
 use Rattle.step_rules.proofs.PhaseLemmas.{none_some}
 use Rattle.step_rules.proofs.Referring.{seat_there}
@@ -170,7 +170,7 @@ place_given s seat g k =
       | inr none ↦ (NoFreeBlock, none, tt)
     ]
 
-answered : (s : State) (seat : ℕ) (action : Action) → IsSound s → AreGroups s.groups → ((g : ℕ) → has_group s.groups g ≡ true → g < 64) →
+answered : (s : State) (seat : ℕ) (action : Action) → KeepsInvariant s → AreGroups s.groups → ((g : ℕ) → has_group s.groups g ≡ true → g < 64) →
     is_legal s seat action ≡ true → IsAnswered s seat action
 answered s seat (Get f) sound tree few legal = get_given s seat f
 answered s seat (Put f) sound tree few legal =

@@ -18,7 +18,6 @@ use Rattle.step_rules.proofs.LegalTests.{pass_back_tests, report_tests}
 use Rattle.step_rules.proofs.PhaseLemmas.{listed_is, fresh_is, back_is}
 use Rattle.step_rules.proofs.Runs.{after_illegal, allowed, sound_run}
 use Rattle.step_rules.proofs.LocalLaws.{no_illegal}
-use Rattle.step_rules.proofs.Settling.{times_are}
 use Rattle.step_rules.proofs.Counting.{gained, lost, stayed, stayed_last}
 use Rattle.step_rules.proofs.Uniting.{units_follow_the_run}
 use Rattle.step_rules.proofs.Returning.{Along, counted_so_along}
@@ -132,8 +131,8 @@ parts_are_booked zone run legal p =
     let s = state_of zone run in
     let sound = sound_run zone run legal in
     record {
-      fresh = λ f. times_are f (s.parts p).fresh ∙ sound.lists p FreshFrame f;
-      back = λ f. times_are f (s.parts p).back ∙ sound.lists p kinds.BackFrame f;
+      fresh = λ f. sound.lists p FreshFrame f;
+      back = λ f. sound.lists p kinds.BackFrame f;
       book = sound.booked p;
       unreported = counted_so_along (unreported_in p) (reported_in p) (λ t. unreported (t.parts p)) zone refl
           (λ before seat action answer legal ok. allowed_so unreported p (unreported_in p) (reported_in p) (no_unreported p) (unreported_made p)

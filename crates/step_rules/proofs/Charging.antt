@@ -27,18 +27,18 @@ use Rattle.step_rules.specs.After.{Run, IsLegalRun, after, state_of, is_within, 
 use Rattle.step_rules.specs.After.{with_report, absorbed, paid, credited, consumed, filled, drained}
 use Rattle.step_rules.specs.Units.{units_after_run}
 use Rattle.step_rules.specs.Charges.{groups_after, groups_of, charged_in, unit_pages, charged_out, charged_in_subtree}
+use Rattle.step_rules.specs.Invariant.{PhasePaid, groups_in, KeepsInvariant, some_there, IsHomed}
 use Rattle.step_rules.proofs.LegalTests.{consume_tests, credit_tests, drain_stock_tests, fill_tests, grant_tests, pass_out_tests}
 use Rattle.step_rules.proofs.LegalTests.{place_block_tests, return_tests, take_in_tests, ungrant_tests}
 use Rattle.step_rules.proofs.Basics.{at_itself}
 use Rattle.step_rules.proofs.Sums.{sum_same, sum_none, sum_both}
-use Rattle.step_rules.proofs.Sound.{IsSound, PhasePaid, groups_in}
 use Rattle.step_rules.proofs.PhaseLemmas.{fresh_is, free_is, out_is, listed_is, returning_is, Returns, AsEnded, AsKilled, equal_test, none_some}
 use Rattle.step_rules.proofs.SoundSteps.{below_frames}
 use Rattle.step_rules.proofs.Passing.{front_listed, in_zone}
 use Rattle.step_rules.proofs.Placing.{within_cases, block_free, in_block, off_block, in_unit, off_unit}
 use Rattle.step_rules.proofs.Runs.{after_illegal, allowed}
 use Rattle.step_rules.proofs.LocalLaws.{no_illegal}
-use Rattle.step_rules.proofs.Homes.{some_there, IsHomed, number_low, cpu_low, same_keeper, sent_keeper, got_keeper}
+use Rattle.step_rules.proofs.Homes.{number_low, cpu_low, same_keeper, sent_keeper, got_keeper}
 use Rattle.step_rules.proofs.Keeping.{homed_run}
 use Rattle.step_rules.proofs.Moving.{kept_one, pends_one, pends_split, pends_less, frames_move, frames_stay, prepaid_moves, prepaid_stays, pending_moves, stock_as}
 use Rattle.step_rules.proofs.Telling.{told_run}
@@ -157,7 +157,7 @@ placed_keeper g b x = by_head (x == b.at)
     by_head false = refl
 
 -- a unit comes back
-unit_goes : (groups : List Group) (m : ℕ) (s : State) (f : ℕ) (u : ChargedUnit) → IsSound s → unit_of (s.phases f) ≡ Some u →
+unit_goes : (groups : List Group) (m : ℕ) (s : State) (f : ℕ) (u : ChargedUnit) → KeepsInvariant s → unit_of (s.phases f) ≡ Some u →
     keeper_of (s.phases f) ≡ Some u.group →
     frames_kept groups s.phases s.zone.frames m
     ≡ frames_kept groups (without_unit s.phases f) s.zone.frames m + unit_pages (in_subtree groups m) (unit_of (s.phases f))
@@ -188,7 +188,7 @@ unit_goes groups m s f u sound unit keeper =
         kept_busy (Head v stage) e = refl
         kept_busy (Tail g) e = refl
 
-any_unit_goes : (groups : List Group) (m : ℕ) (s : State) (f : ℕ) → IsSound s → Returns s.killed (s.phases f) →
+any_unit_goes : (groups : List Group) (m : ℕ) (s : State) (f : ℕ) → KeepsInvariant s → Returns s.killed (s.phases f) →
     frames_kept groups s.phases s.zone.frames m
     ≡ frames_kept groups (without_unit s.phases f) s.zone.frames m + unit_pages (in_subtree groups m) (unit_of (s.phases f))
 any_unit_goes groups m s f sound (AsEnded u was) = unit_goes groups m s f u sound (ap unit_of was) (ap keeper_of was)
@@ -225,7 +225,7 @@ drain_moves groups m s p n h all (Some k) e =
     ]
 
 module _ (groups : List Group) (m : ℕ) where
-  moves_exactly : (s : State) (run : Run) (seat : ℕ) (action : Action) (answer : Answer) → IsSound s → IsHomed s →
+  moves_exactly : (s : State) (run : Run) (seat : ℕ) (action : Action) (answer : Answer) → KeepsInvariant s → IsHomed s →
       ((f : ℕ) → unit_of (s.phases f) ≡ (units_after_run run).unit f) → is_legal s seat action ≡ true → IsAnswer s seat action answer → IsCounted s action answer →
       total groups m s + charged_in (in_subtree groups m) run seat action answer
       ≡ total groups m (after s seat action answer) + charged_out (in_subtree groups m) run seat action answer

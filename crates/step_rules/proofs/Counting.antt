@@ -14,9 +14,9 @@ use Rattle.step_rules.specs.Legal.{is_legal, IsAnswer, IsCounted, Allows, takes_
 use Rattle.step_rules.specs.After.{Run, after, state_of, IsLegalRun, with_back, paid, credited, filled, drained}
 use Rattle.step_rules.specs.Counts.{count_at, references_gained, references_lost, stock_gained, stock_lost, book_gained, book_lost, counted}
 use Rattle.step_rules.specs.Counts.{ReferencesAreCounted, StocksAreCounted, BooksAreCounted}
+use Rattle.step_rules.specs.Invariant.{KeepsInvariant}
 use Rattle.step_rules.proofs.LegalTests.{fill_tests, freeze_tests, put_tests}
 use Rattle.step_rules.proofs.Basics.{at_same, at_other}
-use Rattle.step_rules.proofs.Sound.{IsSound}
 use Rattle.step_rules.proofs.PhaseLemmas.{equal_test}
 use Rattle.step_rules.proofs.Referring.{Referring, changed, changed_others, changed_here}
 use Rattle.step_rules.proofs.Runs.{after_illegal, allowed, kept_along, sound_boot}
@@ -37,7 +37,7 @@ Count = ℕ → Action → Answer → ℕ
 
 -- a number of the state that each step changes by what it counts in and out is what the run counts
 counts_balance : (gain loss : Count) (F : State → ℕ) → ((zone : Zone) → F (at_boot zone) ≡ 0) →
-    ((s : State) (seat : ℕ) (action : Action) (answer : Answer) → IsSound s → Allows s seat action answer →
+    ((s : State) (seat : ℕ) (action : Action) (answer : Answer) → KeepsInvariant s → Allows s seat action answer →
     F s + gain seat action answer ≡ F (after s seat action answer) + loss seat action answer) →
     (zone : Zone) (run : Run) → IsLegalRun zone run → counted gain run ≡ F (state_of zone run) + counted loss run
 counts_balance gain loss F boot each zone run legal =
@@ -259,7 +259,7 @@ stocks_are_counted zone run legal p =
 abbrev book_in_part : Part → ℕ
 book_in_part part = part.book
 
-book_made : (p : ℕ) (s : State) (seat : ℕ) (action : Action) (answer : Answer) → IsSound s → is_legal s seat action ≡ true →
+book_made : (p : ℕ) (s : State) (seat : ℕ) (action : Action) (answer : Answer) → KeepsInvariant s → is_legal s seat action ≡ true →
     IsAnswer s seat action answer → IsCounted s action answer →
     book_in_part (s.parts p) + book_gained p seat action answer ≡ book_in_part ((after s seat action answer).parts p) + book_lost p seat action answer
 book_made p s seat action Illegal sound legal ok count =
@@ -288,7 +288,7 @@ pub books_are_counted : BooksAreCounted
 books_are_counted zone run legal p =
     counts_balance (book_gained p) (book_lost p) (λ s. book_in_part (s.parts p)) (λ z. refl) by_answer zone run legal
   where
-    by_answer : (s : State) (k : ℕ) (action : Action) (answer : Answer) → IsSound s → Allows s k action answer →
+    by_answer : (s : State) (k : ℕ) (action : Action) (answer : Answer) → KeepsInvariant s → Allows s k action answer →
         book_in_part (s.parts p) + book_gained p k action answer ≡ book_in_part ((after s k action answer).parts p) + book_lost p k action answer
     by_answer s k action answer sound ok =
         elim (allowed s k action answer ok) [

@@ -8,12 +8,12 @@ use Rattle.step_rules.specs.declared.phase.Phase.{Phase}
 use Rattle.step_rules.specs.declared.phase.Phase.TheVariants.{Lent, Head}
 use Rattle.step_rules.specs.declared.phase.Way.TheVariants.{OnList}
 use Rattle.step_rules.specs.Phases.{FreshFrame, has_as, keeper_of}
-use Rattle.step_rules.specs.State.{State, Part, one_if, sum_to}
+use Rattle.step_rules.specs.State.{State, Part, one_if, sum_to, times}
 use Rattle.step_rules.specs.Usage.{is_in_subtree, frames_kept, stock_in_subtree, pages_prepaid, usage_of}
 use Rattle.step_rules.specs.Views.{phase_seen_by, other_part_seen, parts_seen_by, seen_by}
+use Rattle.step_rules.specs.Invariant.{IsPaid, PhasePaid, groups_in, KeepsInvariant}
 use Rattle.step_rules.proofs.Sums.{sum_same, sum_none, sum_both, sum_swap, sum_only}
-use Rattle.step_rules.proofs.Lists.{times, count_length}
-use Rattle.step_rules.proofs.Sound.{IsPaid, PhasePaid, IsSound, groups_in}
+use Rattle.step_rules.proofs.Lists.{count_length}
 use Rattle.step_rules.proofs.PhaseLemmas.{free_is}
 
 -- 1 where another CPU than p, whose stock is of the subtree, has the frame fresh
@@ -82,13 +82,13 @@ stock_counts groups g p parts q = counts (q == p) (is_in_subtree groups g (parts
     counts false false e = rw e refl
 
 -- the fresh frames of a CPU, counted by frame
-fresh_length : (s : State) (q : ℕ) → IsSound s → sum_to s.zone.frames (λ f. one_if (has_as FreshFrame q (s.phases f))) ≡ length (s.parts q).fresh
+fresh_length : (s : State) (q : ℕ) → KeepsInvariant s → sum_to s.zone.frames (λ f. one_if (has_as FreshFrame q (s.phases f))) ≡ length (s.parts q).fresh
 fresh_length s q sound =
     sum_same s.zone.frames (λ f. one_if (has_as FreshFrame q (s.phases f))) (λ f. times f (s.parts q).fresh) (λ f below. sym (sound.lists q FreshFrame f))
     ∙ count_length s.zone.frames (s.parts q).fresh (λ f beyond. sound.lists q FreshFrame f
     ∙ ap (λ x. one_if (has_as FreshFrame q x)) (free_is (s.phases f) ((sound.frames f).inside beyond)))
 
-pub usage_seen : (s : State) (p : ℕ) → IsSound s → (g : ℕ) → usage_of (seen_by p s) g ≡ usage_of s g
+pub usage_seen : (s : State) (p : ℕ) → KeepsInvariant s → (g : ℕ) → usage_of (seen_by p s) g ≡ usage_of s g
 usage_seen s p sound g =
     let groups = s.groups in
     let n = s.zone.frames in

@@ -10,11 +10,11 @@ use Rattle.step_rules.specs.declared.step.Answer.TheVariants.{Illegal, Done, Hel
 use Rattle.step_rules.specs.State.{Zone, Part, State, at_boot, with_at, sum_to, front_of, is_cpu, is_frame, pins_of}
 use Rattle.step_rules.specs.Legal.{IsMade}
 use Rattle.step_rules.specs.After.{Run, IsLegalRun, after, state_of, with_listed, with_report, absorbed, paid, credited, filled, drained, without_frame, with_back}
+use Rattle.step_rules.specs.Invariant.{KeepsInvariant}
 use Rattle.step_rules.proofs.LegalTests.{consume_tests, get_tests, put_tests}
 use Rattle.step_rules.proofs.Basics.{at_same, at_other, at_each}
 use Rattle.step_rules.proofs.Sums.{sum_change, sum_none}
 use Rattle.step_rules.proofs.Lists.{length_last, length_without}
-use Rattle.step_rules.proofs.Sound.{IsSound}
 use Rattle.step_rules.proofs.SoundSteps.{below_frames, cpu_range}
 use Rattle.step_rules.proofs.Placed.{zone_kept}
 use Rattle.step_rules.proofs.LocalLaws.{no_illegal}
@@ -27,7 +27,7 @@ HaveFewFresh parts = (p : ℕ) → length (parts p).fresh ≤ 32
 one_few : (parts : ℕ → Part) (q : ℕ) (part : Part) → HaveFewFresh parts → length part.fresh ≤ 32 → HaveFewFresh (with_at parts q part)
 one_few parts q part few so = at_each parts q part (λ k x. length x.fresh ≤ 32) so (λ k ne. few k)
 
-fresh_made : (s : State) (x : ℕ) (seat : ℕ) (action : Action) (answer : Answer) → IsSound s → HaveFewFresh s.parts → IsMade s seat action answer →
+fresh_made : (s : State) (x : ℕ) (seat : ℕ) (action : Action) (answer : Answer) → KeepsInvariant s → HaveFewFresh s.parts → IsMade s seat action answer →
     HaveFewFresh (after s seat action answer).parts
 fresh_made s x seat action Illegal sound few made = absurd (no_illegal s seat action made.answered)
 fresh_made s x seat (Put f) Last sound few made = by_seat (seat == 0)
@@ -122,7 +122,7 @@ zone_few s f n few p cpu =
     let b = few p cpu in
     omega arith
 
-pub pins_made : (s : State) (x : ℕ) (seat : ℕ) (action : Action) (answer : Answer) → IsSound s → HaveFewPins s.zone s.references s.parts → IsMade s seat action answer →
+pub pins_made : (s : State) (x : ℕ) (seat : ℕ) (action : Action) (answer : Answer) → KeepsInvariant s → HaveFewPins s.zone s.references s.parts → IsMade s seat action answer →
     HaveFewPins s.zone (after s seat action answer).references (after s seat action answer).parts
 pins_made s x seat action Illegal sound few made = absurd (no_illegal s seat action made.answered)
 pins_made s x seat (Get f) Held sound few made =

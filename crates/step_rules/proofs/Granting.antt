@@ -14,9 +14,9 @@ use Rattle.step_rules.specs.Usage.{pages_pending, usage_of}
 use Rattle.step_rules.specs.Legal.{is_legal, Allows, is_of_group}
 use Rattle.step_rules.specs.After.{after, state_of, with_more}
 use Rattle.step_rules.specs.Grants.{NoGrantPassesALimit, pending_in, pending_out, PendingIsCounted}
+use Rattle.step_rules.specs.Invariant.{KeepsInvariant}
 use Rattle.step_rules.proofs.LegalTests.{fill_tests, place_block_tests, ungrant_tests}
 use Rattle.step_rules.proofs.Basics.{at_same, at_other}
-use Rattle.step_rules.proofs.Sound.{IsSound}
 use Rattle.step_rules.proofs.Runs.{allowed}
 use Rattle.step_rules.proofs.Returning.{counted_so}
 
@@ -106,7 +106,7 @@ pending_made g s seat (PlaceBlock h k) (Placed b) legal =
 pending_made g s seat Lock answer legal = refl
 pending_made g s seat action answer legal = refl
 
-pending_allowed : (g : ℕ) (s : State) (seat : ℕ) (action : Action) (answer : Answer) → IsSound s → Allows s seat action answer →
+pending_allowed : (g : ℕ) (s : State) (seat : ℕ) (action : Action) (answer : Answer) → KeepsInvariant s → Allows s seat action answer →
     s.pending g + pending_in g s seat action answer ≡ (after s seat action answer).pending g + pending_out g s seat action answer
 pending_allowed g s seat action answer sound ok =
     elim (allowed s seat action answer ok) [

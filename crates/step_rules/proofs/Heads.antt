@@ -19,9 +19,9 @@ use Rattle.step_rules.specs.Phases.{FreshFrame, is_free, has_as, passes_out, uni
 use Rattle.step_rules.specs.State.{Zone, State, with_at, front_of}
 use Rattle.step_rules.specs.Legal.{IsMade}
 use Rattle.step_rules.specs.After.{Run, IsLegalRun, after, state_of, is_within, placed_phase, with_block, unit_size, without_unit, consumed}
+use Rattle.step_rules.specs.Invariant.{PhasePaid, groups_in, KeepsInvariant}
 use Rattle.step_rules.proofs.LegalTests.{consume_tests, credit_tests, pass_out_tests, return_tests, take_in_tests}
 use Rattle.step_rules.proofs.Basics.{at_same, at_other}
-use Rattle.step_rules.proofs.Sound.{IsSound, PhasePaid, groups_in}
 use Rattle.step_rules.proofs.PhaseLemmas.{free_is, out_is, listed_is, fresh_is, none_some, returning_is, Returns, AsEnded, AsKilled}
 use Rattle.step_rules.proofs.Passing.{front_listed}
 use Rattle.step_rules.proofs.Placing.{within_cases, block_free, in_block, off_block, in_unit, off_unit}
@@ -146,7 +146,7 @@ heads_placed s g b free heads f h is =
     here x e = let some = pow_pos b.order in elim (within_cases b.at (2 ^ b.order) x) [ inl w ↦ w.0 | inr o ↦ absurd (o.1 (omega arith) (omega arith)) ]
 
 -- a unit comes back: a frame beyond it has a head beyond it
-heads_returned : (s : State) (k : ℕ) (u : ChargedUnit) → IsSound s → unit_of (s.phases k) ≡ Some u → HaveHeads s.phases → HaveHeads (without_unit s.phases k)
+heads_returned : (s : State) (k : ℕ) (u : ChargedUnit) → KeepsInvariant s → unit_of (s.phases k) ≡ Some u → HaveHeads s.phases → HaveHeads (without_unit s.phases k)
 heads_returned s k u sound unit heads f g is =
     let size : unit_size (unit_of (s.phases k)) ≡ 2 ^ u.order = ap unit_size unit in
     elim (within_cases k (unit_size (unit_of (s.phases k))) f) [
@@ -173,11 +173,11 @@ heads_returned s k u sound unit heads f g is =
     no_tail : InZone ≡ Tail g → ⊥
     no_tail z = cc
 
-any_returned : (s : State) (k : ℕ) → IsSound s → Returns s.killed (s.phases k) → HaveHeads s.phases → HaveHeads (without_unit s.phases k)
+any_returned : (s : State) (k : ℕ) → KeepsInvariant s → Returns s.killed (s.phases k) → HaveHeads s.phases → HaveHeads (without_unit s.phases k)
 any_returned s k sound (AsEnded u was) = heads_returned s k u sound (ap unit_of was)
 any_returned s k sound (AsKilled u was killed) = heads_returned s k u sound (ap unit_of was)
 
-heads_made : (s : State) (x : ℕ) (seat : ℕ) (action : Action) (answer : Answer) → IsSound s → HaveHeads s.phases → IsMade s seat action answer →
+heads_made : (s : State) (x : ℕ) (seat : ℕ) (action : Action) (answer : Answer) → KeepsInvariant s → HaveHeads s.phases → IsMade s seat action answer →
     HaveHeads (after s seat action answer).phases
 heads_made s x seat action Illegal sound heads made = absurd (no_illegal s seat action made.answered)
 heads_made s x seat (Put f) Last sound heads made = heads_staged s.phases f (stage_after_last seat) heads

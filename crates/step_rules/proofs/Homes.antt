@@ -27,41 +27,15 @@ use Rattle.step_rules.specs.Usage.{is_in_subtree, frames_kept, stock_in_subtree,
 use Rattle.step_rules.specs.Legal.{is_legal, IsAnswer, IsCounted, is_removable}
 use Rattle.step_rules.specs.After.{after, is_within, unit_size, with_more, with_back}
 use Rattle.step_rules.specs.Views.{holds_lock}
+use Rattle.step_rules.specs.Invariant.{PhasePaid, groups_in, KeepsInvariant, there_or_none, some_there, told_pages, Homes, IsHomed}
 use Rattle.step_rules.proofs.LegalTests.{absorb_tests, credit_tests, fill_tests, grant_tests, lock_tests, make_tests}
 use Rattle.step_rules.proofs.LegalTests.{open_visit_tests, pass_back_tests, place_block_tests, removable_tests, remove_tests, report_tests}
 use Rattle.step_rules.proofs.LegalTests.{set_flag_tests, shut_visit_tests, ungrant_tests, unlock_tests}
 use Rattle.step_rules.proofs.Basics.{at_each}
 use Rattle.step_rules.proofs.Sums.{sum_part}
-use Rattle.step_rules.proofs.Sound.{IsSound, PhasePaid, groups_in}
 use Rattle.step_rules.proofs.PhaseLemmas.{visited, fresh_is, free_is, equal_test, none_some}
 use Rattle.step_rules.proofs.SoundSteps.{cpu_range}
 use Rattle.step_rules.proofs.Runs.{after_illegal}
-
--- the group, if there is one, is there
-abbrev pub there_or_none : List Group → Option ℕ → Bool
-there_or_none groups None = true
-there_or_none groups (Some g) = has_group groups g
-
--- there is a group, and it is there
-abbrev pub some_there : List Group → Option ℕ → Bool
-some_there groups None = false
-some_there groups (Some g) = has_group groups g
-
--- pages that aren't absorbed
-abbrev pub told_pages : Part → ℕ
-told_pages part = part.unreported + part.reported
-
-pub record Homes (zone : Zone) (hold : Hold) (groups : List Group) (phases : ℕ → Phase) (parts : ℕ → Part) (pending : ℕ → ℕ) : Type 0 where
-  pub tree : AreGroups groups
-  pub frames : (f : ℕ) → there_or_none groups (keeper_of (phases f)) ≡ true
-  pub stocks : (q : ℕ) → 1 ≤ (parts q).stock.pages → some_there groups (parts q).stock.group ≡ true
-  pub beyond : (q : ℕ) → is_cpu zone q ≡ false → (parts q).stock.pages ≡ 0
-  pub pages : (g : ℕ) → has_group groups g ≡ false → pending g ≡ 0
-  pub holder : (q : ℕ) → holds_lock q hold ≡ true → is_cpu zone q ≡ true
-  pub quiet : (q : ℕ) → visits q hold ≡ false → told_pages (parts q) ≡ 0
-
-abbrev pub IsHomed : State → Type 0
-IsHomed s = Homes s.zone s.hold s.groups s.phases s.parts s.pending
 
 module _ {zone : Zone} {hold : Hold} {groups : List Group} {phases : ℕ → Phase} {parts : ℕ → Part} {pending : ℕ → ℕ}
     (h : Homes zone hold groups phases parts pending) where
@@ -289,7 +263,7 @@ not_true false e = refl
 at_visit : {n : ℕ} (b : Bool) → b ≡ true → b ≡ false → n ≡ 0
 at_visit b visit none = absurd (true≢false (sym visit ∙ none))
 
-pub homes_step : (s : State) (seat : ℕ) (action : Action) (answer : Answer) → IsSound s → IsHomed s → is_legal s seat action ≡ true →
+pub homes_step : (s : State) (seat : ℕ) (action : Action) (answer : Answer) → KeepsInvariant s → IsHomed s → is_legal s seat action ≡ true →
     IsAnswer s seat action answer → IsCounted s action answer → IsHomed (after s seat action answer)
 homes_step s seat action Illegal sound h legal ok counted = subst IsHomed (sym (after_illegal s seat action)) h
 homes_step s seat Lock Done sound h legal ok counted =

@@ -15,15 +15,15 @@ use Rattle.step_rules.specs.State.{Zone, State, at_boot, front_of}
 use Rattle.step_rules.specs.Legal.{Allows, no_page_pends}
 use Rattle.step_rules.specs.After.{Run, after, state_of, IsLegalRun}
 use Rattle.step_rules.specs.Keepers.{StockIsKept, AllKeepersAreThere}
+use Rattle.step_rules.specs.Invariant.{PhasePaid, groups_in, KeepsInvariant, there_or_none, some_there, IsHomed}
 use Rattle.step_rules.proofs.Lists.{front_stands, one_if_true}
-use Rattle.step_rules.proofs.Sound.{IsSound, PhasePaid, groups_in}
 use Rattle.step_rules.proofs.PhaseLemmas.{fresh_is, equal_test}
 use Rattle.step_rules.proofs.Sums.{all_at}
 use Rattle.step_rules.proofs.Runs.{after_illegal, allowed, kept_along, sound_boot}
 use Rattle.step_rules.proofs.Stocked.{FitsStock, stocks_fit}
-use Rattle.step_rules.proofs.Homes.{there_or_none, some_there, IsHomed, homes_step, number_low}
+use Rattle.step_rules.proofs.Homes.{homes_step, number_low}
 
-pub homes_allowed : (s : State) (seat : ℕ) (action : Action) (answer : Answer) → IsSound s → IsHomed s → Allows s seat action answer →
+pub homes_allowed : (s : State) (seat : ℕ) (action : Action) (answer : Answer) → KeepsInvariant s → IsHomed s → Allows s seat action answer →
     IsHomed (after s seat action answer)
 homes_allowed s seat action answer sound h ok =
     elim (allowed s seat action answer ok) [
@@ -43,13 +43,13 @@ homes_boot zone = record {
 }
 
 -- both facts of the state after a legal run
-pub homed_run : (zone : Zone) (run : Run) → IsLegalRun zone run → IsSound (state_of zone run) × IsHomed (state_of zone run)
+pub homed_run : (zone : Zone) (run : Run) → IsLegalRun zone run → KeepsInvariant (state_of zone run) × IsHomed (state_of zone run)
 homed_run zone run legal =
     kept_along (λ (x : ℕ) (e : Step × Answer). x) (λ s x. IsHomed s) (λ s x e sound h ok. homes_allowed s e.0.seat e.0.action e.1 sound h ok)
     (at_boot zone) 0 run (sound_boot zone) (homes_boot zone) legal
 
 -- a book beyond what was passed back has a page in the stock, or a fresh frame
-book_there : (s : State) (p g : ℕ) → IsSound s → IsHomed s → (s.parts p).stock.group ≡ Some g →
+book_there : (s : State) (p g : ℕ) → KeepsInvariant s → IsHomed s → (s.parts p).stock.group ≡ Some g →
     (s.parts p).unreported + (s.parts p).reported < (s.parts p).book → has_group s.groups g ≡ true
 book_there s p g sound h e more =
     elim (cases_lt 0 (s.parts p).stock.pages) [
@@ -66,7 +66,7 @@ book_there s p g sound h e more =
           ap (some_there s.groups) (sym e ∙ paid.group) ∙ sym (ap (λ x. there_or_none s.groups (keeper_of x)) is.1) ∙ h.frames f
     ]
 
-kept_stock_of : (s : State) (p : ℕ) → IsSound s → IsHomed s → FitsStock (s.parts p) → StockIsKept s p
+kept_stock_of : (s : State) (p : ℕ) → KeepsInvariant s → IsHomed s → FitsStock (s.parts p) → StockIsKept s p
 kept_stock_of s p sound h fits = record {
   stock = λ g e some. sym (ap (some_there s.groups) e) ∙ h.stocks p some;
   book = λ g e more. book_there s p g sound h e more;

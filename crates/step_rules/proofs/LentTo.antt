@@ -17,12 +17,11 @@ use Rattle.step_rules.specs.State.{Zone, State, at_boot, with_at, is_cpu, is_hel
 use Rattle.step_rules.specs.Legal.{Allows, IsMade}
 use Rattle.step_rules.specs.After.{after, state_of, placed_phase, with_block, unit_size, without_unit}
 use Rattle.step_rules.specs.Lent.{lent_to, FramesAreLentToCpus, FramesPassInVisits, BeginningsAreLegal}
+use Rattle.step_rules.specs.Invariant.{KeepsInvariant, IsHomed}
 use Rattle.step_rules.proofs.LegalTests.{credit_tests, pass_out_tests, take_in_tests}
 use Rattle.step_rules.proofs.Basics.{at_each}
-use Rattle.step_rules.proofs.Sound.{IsSound}
 use Rattle.step_rules.proofs.PhaseLemmas.{none_some}
 use Rattle.step_rules.proofs.Placing.{within_cases, in_block, off_block, in_unit, off_unit}
-use Rattle.step_rules.proofs.Homes.{IsHomed}
 use Rattle.step_rules.proofs.Keeping.{homes_allowed, homes_boot}
 use Rattle.step_rules.proofs.Runs.{after_illegal, allowed, kept_along, sound_boot, sound_run, legal_from}
 use Rattle.step_rules.proofs.LocalLaws.{no_illegal}
@@ -112,7 +111,7 @@ lent_made s seat action answer homed lent made = lent
 abbrev IsLentWell : State → Type 0
 IsLentWell s = IsHomed s × AreLent s.zone s.phases
 
-lent_allowed : (s : State) (seat : ℕ) (action : Action) (answer : Answer) → IsSound s → IsLentWell s → Allows s seat action answer →
+lent_allowed : (s : State) (seat : ℕ) (action : Action) (answer : Answer) → KeepsInvariant s → IsLentWell s → Allows s seat action answer →
     IsLentWell (after s seat action answer)
 lent_allowed s seat action answer sound both ok =
     elim (allowed s seat action answer ok) [

@@ -18,10 +18,10 @@ use Rattle.step_rules.specs.State.{State, at_boot, with_at, sum_to, is_cpu, live
 use Rattle.step_rules.specs.Legal.{Allows, IsMade, get_answer}
 use Rattle.step_rules.specs.After.{after, placed_phase, with_block, unit_size, without_unit}
 use Rattle.step_rules.specs.Live.{AllLiveAreReferenced}
+use Rattle.step_rules.specs.Invariant.{KeepsInvariant}
 use Rattle.step_rules.proofs.LegalTests.{get_tests, put_tests, unfreeze_tests}
 use Rattle.step_rules.proofs.Basics.{at_same, at_other, at_each}
 use Rattle.step_rules.proofs.Sums.{sum_same, sum_none, sum_change}
-use Rattle.step_rules.proofs.Sound.{IsSound}
 use Rattle.step_rules.proofs.PhaseLemmas.{in_hand, InHand, WasCollected, WasBare, WasEnded, held_case}
 use Rattle.step_rules.proofs.Referring.{changed, changed_others, changed_seats, changed_here, seat_there}
 use Rattle.step_rules.proofs.Placing.{within_cases, in_block, off_block, in_unit, off_unit}
@@ -139,7 +139,7 @@ as_many t l e range = subst (λ (m : ℕ). (1 ≤ m) × (m ≤ 255)) (sym e) ran
 zero_low : (n : ℕ) → 0 ≤ n
 zero_low n = omega arith
 
-referred_made : (f : ℕ) (s : State) (seat : ℕ) (action : Action) (answer : Answer) → IsSound s → IsReferred f s → IsMade s seat action answer →
+referred_made : (f : ℕ) (s : State) (seat : ℕ) (action : Action) (answer : Answer) → KeepsInvariant s → IsReferred f s → IsMade s seat action answer →
     IsReferred f (after s seat action answer)
 referred_made f s seat action Illegal sound holds made = absurd (no_illegal s seat action made.answered)
 referred_made f s seat (Get g) Held sound holds made = λ live.
@@ -197,7 +197,7 @@ referred_made f s seat (Return g) Done sound holds made = λ live. holds (unit_l
 referred_made f s seat Lock answer sound holds made = holds
 referred_made f s seat action answer sound holds made = holds
 
-referred_allowed : (f : ℕ) (s : State) (seat : ℕ) (action : Action) (answer : Answer) → IsSound s → IsReferred f s → Allows s seat action answer →
+referred_allowed : (f : ℕ) (s : State) (seat : ℕ) (action : Action) (answer : Answer) → KeepsInvariant s → IsReferred f s → Allows s seat action answer →
     IsReferred f (after s seat action answer)
 referred_allowed f s seat action answer sound holds ok =
     elim (allowed s seat action answer ok) [

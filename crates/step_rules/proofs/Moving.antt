@@ -27,16 +27,16 @@ use Rattle.step_rules.specs.Legal.{is_legal, IsAnswer, IsCounted}
 use Rattle.step_rules.specs.Peaks.{UsageMoves}
 use Rattle.step_rules.proofs.LegalTests.{consume_tests, credit_tests, drain_stock_tests, fill_tests, grant_tests, make_tests}
 use Rattle.step_rules.proofs.LegalTests.{pass_out_tests, place_block_tests, take_in_tests, ungrant_tests}
-use Rattle.step_rules.proofs.Sound.{IsSound, PhasePaid, groups_in}
 use Rattle.step_rules.proofs.PhaseLemmas.{fresh_is, free_is, out_is, listed_is}
 use Rattle.step_rules.proofs.Passing.{front_listed, in_zone}
 use Rattle.step_rules.proofs.SoundSteps.{below_frames}
 use Rattle.step_rules.specs.State.{Zone, Part, State, with_at, sum_to, one_if, is_cpu, is_frame, visits, front_of, with_last}
 use Rattle.step_rules.specs.Usage.{is_in_subtree, frames_kept, stock_in_subtree, pages_prepaid, pages_pending, usage_of}
+use Rattle.step_rules.specs.Invariant.{PhasePaid, groups_in, KeepsInvariant, there_or_none, some_there, Homes, IsHomed}
 use Rattle.step_rules.proofs.Basics.{at_each, at_same, at_other}
 use Rattle.step_rules.proofs.Sums.{sum_same, sum_none, sum_both, sum_change}
 use Rattle.step_rules.proofs.Placing.{within_cases}
-use Rattle.step_rules.proofs.Homes.{there_or_none, some_there, Homes, IsHomed, number_low, cpu_low, making, same_keeper, sent_keeper, got_keeper}
+use Rattle.step_rules.proofs.Homes.{number_low, cpu_low, making, same_keeper, sent_keeper, got_keeper}
 
 -- ---- sums
 
@@ -291,7 +291,7 @@ pub stock_as : (groups : List Group) (m : ℕ) (part : Part) (o : Option ℕ) �
     stock_in_subtree groups m part ≡ cond (is_in_subtree groups m o) part.stock.pages 0
 stock_as groups m part o e = ap (λ x. cond (is_in_subtree groups m x) part.stock.pages 0) e
 
-pub usage_step : (s : State) (seat : ℕ) (action : Action) (answer : Answer) → IsSound s → IsHomed s → is_legal s seat action ≡ true →
+pub usage_step : (s : State) (seat : ℕ) (action : Action) (answer : Answer) → KeepsInvariant s → IsHomed s → is_legal s seat action ≡ true →
     IsAnswer s seat action answer → IsCounted s action answer → UsageMoves s seat action answer
 usage_step s seat action Illegal sound h legal ok counted = moves_illegal s seat action
 usage_step s seat (Put f) Last sound h legal ok counted = λ m.

@@ -15,18 +15,18 @@ use Rattle.step_rules.specs.declared.step.Action.TheVariants.{Grant, Ungrant, Pl
 use Rattle.step_rules.specs.declared.step.Answer.{Answer}
 use Rattle.step_rules.specs.declared.step.Answer.TheVariants.{Done, Held, Left, Last, Took, Stocked, Pages, Granted, Placed, Number}
 use Rattle.step_rules.specs.Phases.{FreshFrame, has_as, passes_out, at_stage, stage_after_last}
-use Rattle.step_rules.specs.State.{State, with_at, one_if, is_unheld, is_held_by, visits, may_zone_act, front_of, without}
+use Rattle.step_rules.specs.State.{State, with_at, one_if, is_unheld, is_held_by, visits, may_zone_act, front_of, without, times}
 use Rattle.step_rules.specs.Legal.{is_legal, IsAnswer}
 use Rattle.step_rules.specs.After.{after, after_last, paid, credited, with_back, consumed}
 use Rattle.step_rules.specs.Views.{seen_by, phase_seen_by, other_part_seen, parts_seen_by, holds_lock}
+use Rattle.step_rules.specs.Invariant.{KeepsInvariant}
 use Rattle.step_rules.proofs.LegalTests.{absorb_tests, collect_tests, consume_tests, credit_tests, drain_stock_tests, fill_tests}
 use Rattle.step_rules.proofs.LegalTests.{freeze_tests, grant_tests, kill_tests, lock_tests, make_tests, open_visit_tests}
 use Rattle.step_rules.proofs.LegalTests.{pass_back_tests, pass_out_tests, place_block_tests, put_tests, remove_tests, report_tests}
 use Rattle.step_rules.proofs.LegalTests.{return_tests, set_flag_tests, set_max_tests, shut_visit_tests, take_in_tests, unfreeze_tests, ungrant_tests}
 use Rattle.step_rules.proofs.LegalTests.{unlock_tests}
 use Rattle.step_rules.proofs.Basics.{at_each, same_state}
-use Rattle.step_rules.proofs.Lists.{times, length_last, length_without}
-use Rattle.step_rules.proofs.Sound.{IsSound}
+use Rattle.step_rules.proofs.Lists.{length_last, length_without}
 use Rattle.step_rules.proofs.PhaseLemmas.{live_is, listed_is, fresh_is, equal_test}
 use Rattle.step_rules.proofs.Referring.{live_from_one}
 use Rattle.step_rules.proofs.Passing.{front_listed}
@@ -58,7 +58,7 @@ covered_phase : (p : ℕ) (phases : ℕ → Phase) (f : ℕ) (y : Phase) → pha
     ◌≡◌ {A = ℕ → Phase} (λ m. phase_seen_by p (with_at phases f y m)) (λ m. phase_seen_by p (phases m))
 covered_phase p phases f y same = λ i. λ m. at_each phases f y (λ n x. phase_seen_by p x ≡ phase_seen_by p (phases n)) same (λ n ne. refl) m i
 
-last_hidden : (s : State) (p q f : ℕ) → IsSound s → (q ≡ 0 → ⊥) → (q ≡ p → ⊥) → 1 ≤ s.references q f → seen_by p (after_last s q f) ≡ seen_by p s
+last_hidden : (s : State) (p q f : ℕ) → KeepsInvariant s → (q ≡ 0 → ⊥) → (q ≡ p → ⊥) → 1 ≤ s.references q f → seen_by p (after_last s q f) ≡ seen_by p s
 last_hidden s p q f sound ne other some =
     let is = live_is (s.phases f) (live_from_one s q f sound some) in
     let stage : stage_after_last q ≡ BackAt q = cond-false (q == 0) AwaitsReturn (BackAt q) (ne_eqb q 0 ne) in
@@ -69,7 +69,7 @@ last_hidden s p q f sound ne other some =
     (ap (parts_seen_by p) (cond-false (q == 0) s.parts (with_at s.parts q (with_back (s.parts q) f)) (ne_eqb q 0 ne))
     ∙ other_changed p s.parts q (with_back (s.parts q) f) other refl)
 
-consume_hidden : (s : State) (p q g : ℕ) → IsSound s → (q ≡ p → ⊥) → 1 ≤ length (s.parts q).list → 1 ≤ (s.parts q).stock.pages →
+consume_hidden : (s : State) (p q g : ℕ) → KeepsInvariant s → (q ≡ p → ⊥) → 1 ≤ length (s.parts q).list → 1 ≤ (s.parts q).stock.pages →
     seen_by p (after s q (Consume g) Took) ≡ seen_by p s
 consume_hidden s p q g sound other some pages =
     let f = front_of (s.parts q).list in
@@ -81,7 +81,7 @@ consume_hidden s p q g sound other some pages =
     same_state s (covered_phase p s.phases f (consumed q g) (other_fresh (record { group = g; order = 0 }) p q other
     ∙ sym (ap (phase_seen_by p) was))) refl (other_changed p s.parts q (paid (s.parts q)) other part)
 
-credit_hidden : (s : State) (p q f : ℕ) → IsSound s → (q ≡ p → ⊥) → has_as FreshFrame q (s.phases f) ≡ true → seen_by p (after s q (Credit f) Stocked) ≡ seen_by p s
+credit_hidden : (s : State) (p q f : ℕ) → KeepsInvariant s → (q ≡ p → ⊥) → has_as FreshFrame q (s.phases f) ≡ true → seen_by p (after s q (Credit f) Stocked) ≡ seen_by p s
 credit_hidden s p q f sound other has =
     let is = fresh_is q (s.phases f) has in
     let c : times f (s.parts q).fresh ≡ one_if (has_as FreshFrame q (s.phases f)) = sound.lists q FreshFrame f in
@@ -94,7 +94,7 @@ credit_hidden s p q f sound other has =
     (other_changed p s.parts q (credited (s.parts q) f) other part)
 
 -- a legal step of another CPU leaves what p sees as it is
-pub other_after : (s : State) (p q : ℕ) (action : Action) (answer : Answer) → IsSound s → (q ≡ 0 → ⊥) → (q ≡ p → ⊥) → holds_lock p s.hold ≡ true →
+pub other_after : (s : State) (p q : ℕ) (action : Action) (answer : Answer) → KeepsInvariant s → (q ≡ 0 → ⊥) → (q ≡ p → ⊥) → holds_lock p s.hold ≡ true →
     is_legal s q action ≡ true → IsAnswer s q action answer → seen_by p (after s q action answer) ≡ seen_by p s
 other_after s p q Lock Done sound ne other holds legal ok =
     let free : is_unheld s.hold ≡ true = (lock_tests s q legal).1 in

@@ -31,11 +31,11 @@ use Rattle.step_rules.specs.After.{after, after_last, with_phase, with_part, wit
 use Rattle.step_rules.specs.Views.{seen_by, phase_seen_by, other_part_seen, parts_seen_by, references_seen_by}
 use Rattle.step_rules.specs.Views.{holds_lock}
 use Rattle.step_rules.specs.Laws.{is_of_lock}
+use Rattle.step_rules.specs.Invariant.{KeepsInvariant}
 use Rattle.step_rules.proofs.LegalTests.{collect_tests, consume_tests, credit_tests, fill_tests, freeze_tests, pass_back_tests}
 use Rattle.step_rules.proofs.LegalTests.{put_tests, report_tests, return_tests, take_in_tests, unfreeze_tests}
 use Rattle.step_rules.proofs.Basics.{at_through, same_state}
 use Rattle.step_rules.proofs.Sums.{all_same}
-use Rattle.step_rules.proofs.Sound.{IsSound}
 use Rattle.step_rules.proofs.PhaseLemmas.{live_is, in_hand, came_back, returning_is, equal_test}
 use Rattle.step_rules.proofs.Referring.{changed, live_from_one}
 use Rattle.step_rules.proofs.SoundSteps.{cpu_range}
@@ -92,7 +92,7 @@ own_pins : (s : State) (p seat : ℕ) → IsOwn p seat → pins_of (seen_by p s)
 own_pins s p seat own = ap (sum_to s.zone.frames) (λ i. λ f. own_reference p s.references seat f own i)
 
 -- only the head of a live unit has references
-head_seen : (s : State) (p f : ℕ) → IsSound s → (a : Bool) →
+head_seen : (s : State) (p f : ℕ) → KeepsInvariant s → (a : Bool) →
     (a && is_head (phase_seen_by p (s.phases f)) && nat_le 1 (s.references 0 f)) ≡ (a && is_head (s.phases f) && nat_le 1 (s.references 0 f))
 head_seen s p f sound a =
     elim (cases_Bool (nat_le 1 (s.references 0 f))) [
@@ -124,7 +124,7 @@ fill_seen s p q g n a holds =
     no_visit false b c d e = refl
 
 -- a step of p or the zone is legal under the cover exactly where it is
-pub own_legal : (s : State) (p seat : ℕ) (action : Action) → IsSound s → IsOwn p seat → is_of_lock action ≡ false → holds_lock p s.hold ≡ true →
+pub own_legal : (s : State) (p seat : ℕ) (action : Action) → KeepsInvariant s → IsOwn p seat → is_of_lock action ≡ false → holds_lock p s.hold ≡ true →
     is_legal (seen_by p s) seat action ≡ is_legal s seat action
 own_legal s p seat Lock sound own inside holds = absurd (true≢false inside)
 own_legal s p seat Unlock sound own inside holds = absurd (true≢false inside)
@@ -177,11 +177,11 @@ own_legal s p seat (Remove g) sound own inside holds =
 own_legal s p seat (Kill g) sound own inside holds = refl
 
 -- all usage at once
-usages_seen : (s : State) (p : ℕ) → IsSound s → usage_of (seen_by p s) ≡ usage_of s
+usages_seen : (s : State) (p : ℕ) → KeepsInvariant s → usage_of (seen_by p s) ≡ usage_of s
 usages_seen s p sound = λ i. λ g. usage_seen s p sound g i
 
 -- an answer under the cover is one of the whole state
-pub own_answer : (s : State) (p seat : ℕ) (action : Action) (answer : Answer) → IsSound s → IsOwn p seat → is_legal s seat action ≡ true →
+pub own_answer : (s : State) (p seat : ℕ) (action : Action) (answer : Answer) → KeepsInvariant s → IsOwn p seat → is_legal s seat action ≡ true →
     IsAnswer (seen_by p s) seat action answer → IsAnswer s seat action answer
 own_answer s p seat (Consume g) Took sound own legal ok =
     let cpu : is_cpu s.zone seat ≡ true = (consume_tests s seat g legal).0 in
@@ -219,7 +219,7 @@ referred_seen : (s : State) (p seat f : ℕ) (F : ℕ → ℕ) → IsOwn p seat 
 referred_seen s p seat f F own = own_referred p s.references seat f (F (s.references seat f)) own
     ∙ ap (λ (n : ℕ). changed (references_seen_by p s.references) seat f (F n)) (sym (own_reference p s.references seat f own))
 
-last_seen : (s : State) (p seat f : ℕ) → IsSound s → IsOwn p seat → 1 ≤ s.references seat f → seen_by p (after_last s seat f) ≡ after_last (seen_by p s) seat f
+last_seen : (s : State) (p seat f : ℕ) → KeepsInvariant s → IsOwn p seat → 1 ≤ s.references seat f → seen_by p (after_last s seat f) ≡ after_last (seen_by p s) seat f
 last_seen s p seat f sound own some =
     let is = live_is (s.phases f) (live_from_one s seat f sound some) in
     elim (cases_eq seat 0) [
@@ -254,7 +254,7 @@ drained_seen part n is =
     ap (λ (k : ℕ). record (other_part_seen (drained part n)) { stock = record ((drained part n).stock) { pages = k } }) e
 
 -- what a step of p or the zone changes is the same under the cover
-pub own_after : (s : State) (p seat : ℕ) (action : Action) (answer : Answer) → IsSound s → IsOwn p seat → is_of_lock action ≡ false →
+pub own_after : (s : State) (p seat : ℕ) (action : Action) (answer : Answer) → KeepsInvariant s → IsOwn p seat → is_of_lock action ≡ false →
     holds_lock p s.hold ≡ true →
     is_legal s seat action ≡ true → IsAnswer s seat action answer → IsCounted s action answer → seen_by p (after s seat action answer)
     ≡ after (seen_by p s) seat action answer

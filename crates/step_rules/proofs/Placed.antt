@@ -23,9 +23,9 @@ use Rattle.step_rules.specs.Legal.{is_legal, IsAnswer, IsMade}
 use Rattle.step_rules.specs.After.{after, state_of, is_within, placed_phase, with_block, unit_size, without_unit, consumed}
 use Rattle.step_rules.specs.Units.{Units, no_units, units_after}
 use Rattle.step_rules.specs.Places.{Places, is_same_frame_place, places_at_boot, moved, returned, credited_place, places_after, place_in, EveryFrameHasOnePlace}
+use Rattle.step_rules.specs.Invariant.{KeepsInvariant}
 use Rattle.step_rules.proofs.LegalTests.{collect_tests, consume_tests, credit_tests, pass_out_tests, return_tests, take_in_tests}
 use Rattle.step_rules.proofs.Basics.{at_same, at_other, at_each}
-use Rattle.step_rules.proofs.Sound.{IsSound}
 use Rattle.step_rules.proofs.PhaseLemmas.{free_is, out_is, listed_is, fresh_is, came_back, CameBack, FromList, FromFresh, FromBack}
 use Rattle.step_rules.proofs.PhaseLemmas.{returning_is, Returns, AsEnded, AsKilled}
 use Rattle.step_rules.proofs.Passing.{front_listed, in_zone}
@@ -124,7 +124,7 @@ collects_told zone phases places f p told frame (FromBack u was) =
     (stays_told zone phases places f (collected (phases f)) told (ap (λ x. place_in (collected x)) was ∙ sym (ap place_in was)))
 
 -- a unit in the zone's hand comes back
-returns_told : (s : State) (places : Places) (f : ℕ) (u : ChargedUnit) (stage : Stage) → IsSound s → AreTold s.zone s.phases places →
+returns_told : (s : State) (places : Places) (f : ℕ) (u : ChargedUnit) (stage : Stage) → KeepsInvariant s → AreTold s.zone s.phases places →
     s.phases f ≡ Head u stage →
     AreTold s.zone (without_unit s.phases f) (returned places f (unit_of (s.phases f)))
 returns_told s places f u stage sound told was =
@@ -141,7 +141,7 @@ returns_told s places f u stage sound told was =
     (lt-ltb x s.zone.frames (in_zone s x sound kept.1), kept.0, ap place_in (in_unit s.phases f x in_it)))
     (λ x off. ap place_in (off_unit s.phases f x (ap (λ n. is_within f n x) size ∙ off))))
 
-any_return_told : (s : State) (places : Places) (f : ℕ) → IsSound s → AreTold s.zone s.phases places → Returns s.killed (s.phases f) →
+any_return_told : (s : State) (places : Places) (f : ℕ) → KeepsInvariant s → AreTold s.zone s.phases places → Returns s.killed (s.phases f) →
     AreTold s.zone (without_unit s.phases f) (returned places f (unit_of (s.phases f)))
 any_return_told s places f sound told (AsEnded u was) = returns_told s places f u AwaitsReturn sound told was
 any_return_told s places f sound told (AsKilled u was killed) = returns_told s places f u Collected sound told was
@@ -184,7 +184,7 @@ places_unchanged : (s : State) (places : Places) (seat : ℕ) (action : Action) 
 places_unchanged s places seat Lock told = told
 places_unchanged s places seat action told = told
 
-places_made : (s : State) (places : Places) (seat : ℕ) (action : Action) (answer : Answer) → IsSound s → AreTold s.zone s.phases places →
+places_made : (s : State) (places : Places) (seat : ℕ) (action : Action) (answer : Answer) → KeepsInvariant s → AreTold s.zone s.phases places →
     is_legal s seat action ≡ true → IsAnswer s seat action answer →
     AreTold s.zone (after s seat action answer).phases (moves_in s places seat action answer)
 places_made s places seat action Illegal sound told legal ok = places_unchanged s places seat action told
@@ -251,7 +251,7 @@ tell t seat action answer = (units_after t.0 seat action answer, places_after t.
 tell_still : (t : Units × Places) (seat : ℕ) (action : Action) → tell t seat action Illegal ≡ t
 tell_still t seat action = λ i. (units_still t.0 seat action i, illegal_moves t.0 t.1 seat action i)
 
-tell_made : (zone : Zone) (s : State) (t : Units × Places) (seat : ℕ) (action : Action) (answer : Answer) → IsSound s → Tells zone s t →
+tell_made : (zone : Zone) (s : State) (t : Units × Places) (seat : ℕ) (action : Action) (answer : Answer) → KeepsInvariant s → Tells zone s t →
     IsMade s seat action answer → Tells zone (after s seat action answer) (tell t seat action answer)
 tell_made zone s t seat action answer sound tells made =
     let here : AreTold s.zone s.phases t.1 = subst (λ (z : Zone). AreTold z s.phases t.1) (sym tells.zone_is) tells.told in

@@ -14,13 +14,13 @@ use Rattle.step_rules.specs.declared.phase.Stage.TheVariants.{FreshAt, Collected
 use Rattle.step_rules.specs.declared.phase.Phase.{Phase}
 use Rattle.step_rules.specs.declared.phase.Phase.TheVariants.{InZone, Lent, Head, Tail}
 use Rattle.step_rules.specs.Phases.{FreshFrame, is_live_phase, is_free, has_as, unit_of, passes_out, passes_back}
-use Rattle.step_rules.specs.State.{Zone, Part, State, with_at, one_if, frames_of, free_in}
+use Rattle.step_rules.specs.State.{Zone, Part, State, with_at, one_if, frames_of, free_in, times}
 use Rattle.step_rules.specs.Legal.{nothing_passes, rests, takes_fill, is_of_group}
 use Rattle.step_rules.specs.After.{is_within, placed_phase, with_block, unit_size, without_unit, filled, drained}
+use Rattle.step_rules.specs.Invariant.{PhasePaid, FrameFits, groups_in, HaveTails, StateInvariant, KeepsInvariant}
 use Rattle.step_rules.proofs.Basics.{at_other}
 use Rattle.step_rules.proofs.Sums.{all_at}
-use Rattle.step_rules.proofs.Lists.{times}
-use Rattle.step_rules.proofs.Sound.{FrameFits, PhasePaid, Sound, IsSound, AreUnits, groups_in, sound_part, sound_numbers, same_groups}
+use Rattle.step_rules.proofs.Sound.{sound_part, sound_numbers, same_groups}
 use Rattle.step_rules.proofs.PhaseLemmas.{by_kind, is_quiet, is_quiet_stage, nobody_has, free_rests, none_some, equal_test, same_visitor}
 
 quiet_rests : (x : Phase) → is_quiet x ≡ true → (q : ℕ) → (passes_out q x ≡ false) × (passes_back q x ≡ false)
@@ -65,8 +65,8 @@ quiet_fits zone hold groups references f x y quiet old = record {
 }
 
 -- phases change quietly
-pub sound_quiet : (zone : Zone) (hold : Hold) (phases later : ℕ → Phase) (references : ℕ → ℕ → ℕ) (parts : ℕ → Part) → Sound zone hold phases references parts →
-    ((f : ℕ) → (later f ≡ phases f) ⊎ IsQuietly zone f (phases f) (later f)) → AreUnits later → Sound zone hold later references parts
+pub sound_quiet : (zone : Zone) (hold : Hold) (phases later : ℕ → Phase) (references : ℕ → ℕ → ℕ) (parts : ℕ → Part) → StateInvariant zone hold phases references parts →
+    ((f : ℕ) → (later f ≡ phases f) ⊎ IsQuietly zone f (phases f) (later f)) → HaveTails later → StateInvariant zone hold later references parts
 sound_quiet zone hold phases later references parts s each units = record {
   frames = λ f. elim (each f) [
     | inl same ↦ subst (λ (x : Phase). FrameFits zone hold (groups_in parts) (λ seat. references seat f) f x) (sym same) (s.frames f)
@@ -130,8 +130,8 @@ placed_head g b x u e =
 placed_tail : (g : ℕ) (b : Block) (x : ℕ) → (x ≡ b.at → ⊥) → placed_phase g b x ≡ Tail g
 placed_tail g b x ne = rw (ne_eqb x b.at ne)
 
-placed_units : (phases : ℕ → Phase) (g : ℕ) (b : Block) → AreUnits phases →
-    ((x : ℕ) → b.at ≤ x → x < b.at + 2 ^ b.order → is_free (phases x) ≡ true) → AreUnits (with_block phases g b)
+placed_units : (phases : ℕ → Phase) (g : ℕ) (b : Block) → HaveTails phases →
+    ((x : ℕ) → b.at ≤ x → x < b.at + 2 ^ b.order → is_free (phases x) ≡ true) → HaveTails (with_block phases g b)
 placed_units phases g b units free f u is z low high =
     elim (within_cases b.at (2 ^ b.order) f) [
       | inl within ↦
@@ -152,8 +152,8 @@ placed_units phases g b units free f u is z low high =
           ]
     ]
 
-pub sound_placed : (s : State) (g : ℕ) (b : Block) → IsSound s → IsFreeBlock (free_in s.zone s.phases) b →
-    Sound s.zone s.hold (with_block s.phases g b) s.references s.parts
+pub sound_placed : (s : State) (g : ℕ) (b : Block) → KeepsInvariant s → IsFreeBlock (free_in s.zone s.phases) b →
+    StateInvariant s.zone s.hold (with_block s.phases g b) s.references s.parts
 sound_placed s g b sound free =
     sound_quiet s.zone s.hold s.phases (with_block s.phases g b) s.references s.parts sound
     (λ x. elim (within_cases b.at (2 ^ b.order) x) [
@@ -176,8 +176,8 @@ pub off_unit : (phases : ℕ → Phase) (f x : ℕ) → is_within f (unit_size (
 off_unit phases f x e = rw e
 
 -- a unit in the zone's hand comes back
-pub sound_returned : (s : State) (f : ℕ) (u : ChargedUnit) (stage : Stage) → IsSound s → s.phases f ≡ Head u stage → is_quiet_stage stage ≡ true →
-    Sound s.zone s.hold (without_unit s.phases f) s.references s.parts
+pub sound_returned : (s : State) (f : ℕ) (u : ChargedUnit) (stage : Stage) → KeepsInvariant s → s.phases f ≡ Head u stage → is_quiet_stage stage ≡ true →
+    StateInvariant s.zone s.hold (without_unit s.phases f) s.references s.parts
 sound_returned s f u stage sound was quiet =
     let size : unit_size (unit_of (s.phases f)) ≡ 2 ^ u.order = ap (λ (x : Phase). unit_size (unit_of x)) was in
     let later = without_unit s.phases f in
@@ -217,8 +217,8 @@ sound_returned s f u stage sound was quiet =
     not_both x g e h = none_some u (sym (ap unit_of e) ∙ h)
 
 -- who holds the lock changes while nothing passes
-pub sound_hold : (zone : Zone) (hold later : Hold) (phases : ℕ → Phase) (references : ℕ → ℕ → ℕ) (parts : ℕ → Part) → Sound zone hold phases references parts →
-    ((f q : ℕ) → hold ≡ Visiting q → (passes_out q (phases f) ≡ false) × (passes_back q (phases f) ≡ false)) → Sound zone later phases references parts
+pub sound_hold : (zone : Zone) (hold later : Hold) (phases : ℕ → Phase) (references : ℕ → ℕ → ℕ) (parts : ℕ → Part) → StateInvariant zone hold phases references parts →
+    ((f q : ℕ) → hold ≡ Visiting q → (passes_out q (phases f) ≡ false) × (passes_back q (phases f) ≡ false)) → StateInvariant zone later phases references parts
 sound_hold zone hold later phases references parts s rest = record {
   frames = λ f.
       let old = s.frames f in
@@ -241,7 +241,7 @@ not_parts true b e = absurd (false≢true e)
 not_parts false true e = absurd (false≢true e)
 
 -- nothing passes for the CPU that is visited
-pub visit_rests : (s : State) (p : ℕ) → IsSound s → s.hold ≡ Visiting p → nothing_passes s p ≡ true → (f q : ℕ) → s.hold ≡ Visiting q →
+pub visit_rests : (s : State) (p : ℕ) → KeepsInvariant s → s.hold ≡ Visiting p → nothing_passes s p ≡ true → (f q : ℕ) → s.hold ≡ Visiting q →
     (passes_out q (s.phases f) ≡ false) × (passes_back q (s.phases f) ≡ false)
 visit_rests s p sound visit rest f q at =
     let same : p ≡ q = same_visitor p q (sym visit ∙ at) in
@@ -251,23 +251,23 @@ visit_rests s p sound visit rest f q at =
       | inr beyond ↦ free_rests (s.phases f) ((sound.frames f).inside beyond) q
     ]
 
-pub sound_reported : (s : State) (p n : ℕ) → IsSound s → n ≤ (s.parts p).unreported →
-    Sound s.zone s.hold s.phases s.references (with_at s.parts p
+pub sound_reported : (s : State) (p n : ℕ) → KeepsInvariant s → n ≤ (s.parts p).unreported →
+    StateInvariant s.zone s.hold s.phases s.references (with_at s.parts p
     (record (s.parts p) { unreported = (s.parts p).unreported - n; reported = (s.parts p).reported + n }))
 sound_reported s p n sound few =
     sound_numbers s.zone s.hold s.phases s.references s.parts p _ sound refl
     (by_kind (λ k. frames_of (record (s.parts p) { unreported = (s.parts p).unreported - n; reported = (s.parts p).reported + n }) k
     ≡ frames_of (s.parts p) k) refl refl refl) (let a = sound.booked p in omega arith)
 
-pub sound_absorbed : (s : State) (p n : ℕ) → IsSound s → n ≡ (s.parts p).reported →
-    Sound s.zone s.hold s.phases s.references (with_at s.parts p (record (s.parts p) { book = (s.parts p).book - n; reported = (s.parts p).reported - n }))
+pub sound_absorbed : (s : State) (p n : ℕ) → KeepsInvariant s → n ≡ (s.parts p).reported →
+    StateInvariant s.zone s.hold s.phases s.references (with_at s.parts p (record (s.parts p) { book = (s.parts p).book - n; reported = (s.parts p).reported - n }))
 sound_absorbed s p n sound is =
     sound_numbers s.zone s.hold s.phases s.references s.parts p _ sound refl
     (by_kind (λ k. frames_of (record (s.parts p) { book = (s.parts p).book - n; reported = (s.parts p).reported - n }) k
     ≡ frames_of (s.parts p) k) refl refl refl) (let a = sound.booked p in omega arith)
 
-pub sound_drained : (s : State) (p n : ℕ) → IsSound s → n ≡ (s.parts p).stock.pages →
-    Sound s.zone s.hold s.phases s.references (with_at s.parts p (drained (s.parts p) n))
+pub sound_drained : (s : State) (p n : ℕ) → KeepsInvariant s → n ≡ (s.parts p).stock.pages →
+    StateInvariant s.zone s.hold s.phases s.references (with_at s.parts p (drained (s.parts p) n))
 sound_drained s p n sound is =
     sound_numbers s.zone s.hold s.phases s.references s.parts p (drained (s.parts p) n) sound refl
     (by_kind (λ k. frames_of (drained (s.parts p) n) k ≡ frames_of (s.parts p) k) refl refl refl) (let a = sound.booked p in omega arith)
@@ -277,7 +277,7 @@ of_group None g e = absurd (false≢true e)
 of_group (Some h) g e = ap Some (equal_test h g e)
 
 -- where the book is 0 nothing is fresh
-nothing_fresh : (s : State) (p : ℕ) → IsSound s → (s.parts p).book ≡ 0 → (f : ℕ) → has_as FreshFrame p (s.phases f) ≡ false
+nothing_fresh : (s : State) (p : ℕ) → KeepsInvariant s → (s.parts p).book ≡ 0 → (f : ℕ) → has_as FreshFrame p (s.phases f) ≡ false
 nothing_fresh s p sound none f =
     let a = sound.booked p in
     let c : times f (s.parts p).fresh ≡ one_if (has_as FreshFrame p (s.phases f)) = sound.lists p FreshFrame f in
@@ -303,8 +303,8 @@ still_paid cpus parts p part (Lent q way) not_here paid = tt
 still_paid cpus parts p part (Tail g) not_here paid = tt
 still_paid cpus parts p part (Head u stage) not_here paid = paid
 
-pub sound_filled : (s : State) (p g n : ℕ) → IsSound s → takes_fill (s.parts p) g ≡ true →
-    Sound s.zone s.hold s.phases s.references (with_at s.parts p (filled (s.parts p) g n))
+pub sound_filled : (s : State) (p g n : ℕ) → KeepsInvariant s → takes_fill (s.parts p) g ≡ true →
+    StateInvariant s.zone s.hold s.phases s.references (with_at s.parts p (filled (s.parts p) g n))
 sound_filled s p g n sound may =
     let both = and_parts ((s.parts p).stock.pages == 0) ((s.parts p).book == 0 || is_of_group (s.parts p).stock.group g) may in
     let empty : (s.parts p).stock.pages ≡ 0 = equal_test (s.parts p).stock.pages 0 both.0 in

@@ -23,7 +23,7 @@ use Rattle.step_rules.specs.declared.step.Action.TheVariants.{Get, Put, Freeze, 
 use Rattle.step_rules.specs.declared.step.Answer.{Answer}
 use Rattle.step_rules.specs.declared.step.Answer.TheVariants.{Done, Held, Last, Took, Stocked, Granted, Placed}
 use Rattle.step_rules.specs.Phases.{FreshFrame, is_free, is_live_phase, has_as, unit_of, keeper_of, is_head_in_hand, is_returnable}
-use Rattle.step_rules.specs.State.{Zone, Stock, State, one_if, sum_to, front_of, is_cpu, free_in, live_references}
+use Rattle.step_rules.specs.State.{Zone, Stock, State, one_if, sum_to, front_of, is_cpu, free_in, live_references, times}
 use Rattle.group_tree.specs.Room.{fits_limit}
 use Rattle.step_rules.specs.Usage.{is_in_subtree, usage_of, frames_kept, stock_in_subtree, pages_prepaid}
 use Rattle.step_rules.specs.Legal.{is_legal, Allows}
@@ -31,7 +31,7 @@ use Rattle.step_rules.specs.After.{Run, state_of, IsLegalRun}
 use Rattle.step_rules.specs.Folds.{limit_given, was_killed, InHand}
 use Rattle.step_rules.specs.Units.{units_after_run}
 use Rattle.step_rules.specs.Places.{is_same_frame_place, place_in}
-use Rattle.step_rules.specs.Returns.{phase_awaits_return, is_killed_return_phase, times_in, IsAllPlaced, ReturnsOnce}
+use Rattle.step_rules.specs.Returns.{phase_awaits_return, is_killed_return_phase, IsAllPlaced, ReturnsOnce}
 use Rattle.step_rules.specs.Charges.{charged_in_subtree}
 use Rattle.step_rules.specs.Keepers.{StockIsKept}
 use Rattle.step_rules.specs.Lent.{lent_to}
@@ -154,8 +154,8 @@ module _ (zone : Zone) (run : Run) (legal : IsLegalRun zone run) (shown : Shown)
   abbrev s : State
   s = state_of zone run
 
-  times_shown : (f p : ℕ) → times_in f (shown.lists p) ≡ one_if (is_same_frame_place (place_in (s.phases f)) (LentTo p))
-  times_shown f p = ap (times_in f) (is.lists p) ∙ placed.listed f p
+  times_shown : (f p : ℕ) → times f (shown.lists p) ≡ one_if (is_same_frame_place (place_in (s.phases f)) (LentTo p))
+  times_shown f p = ap (times f) (is.lists p) ∙ placed.listed f p
 
   is_free_at : (f : ℕ) → f < s.zone.frames → is_free (s.phases f) ≡ true → IsFree (free_in s.zone s.phases) f
   is_free_at f below e = get_or-map-range_with_len (λ x. is_free (s.phases x)) 0 s.zone.frames f f false below (omega arith) ∙ e
@@ -331,8 +331,8 @@ returns_kept zone run legal seat (Credit f) Stocked ok =
     let cpu : is_cpu s.zone seat ≡ true = (credit_tests (state_of zone run) seat f ok.legal).0 in
     let fresh : has_as FreshFrame seat (s.phases f) ≡ true = (credit_tests (state_of zone run) seat f ok.legal).2 in
     let is = fresh_is seat (s.phases f) fresh in (
-      ap (λ (h : InHand). times_in f h.fresh) ((units_follow_the_run zone run legal f).hands seat)
-          ∙ ap (times_in f) (sym (parts_follow_the_run zone run legal seat (is_of_zone zone run legal seat cpu)).fresh)
+      ap (λ (h : InHand). times f h.fresh) ((units_follow_the_run zone run legal f).hands seat)
+          ∙ ap (times f) (sym (parts_follow_the_run zone run legal seat (is_of_zone zone run legal seat cpu)).fresh)
           ∙ (parts_are_booked zone run legal seat).fresh f ∙ ap one_if fresh,
       no_reference zone run legal f (ap is_live_phase is.1),
     )

@@ -19,9 +19,9 @@ use Rattle.step_rules.specs.Legal.{IsMade}
 use Rattle.step_rules.specs.After.{after, state_of, unit_size, without_unit}
 use Rattle.step_rules.specs.Returns.{phase_awaits_return}
 use Rattle.step_rules.specs.Kept.{published_after, AllPublishedIsKept}
+use Rattle.step_rules.specs.Invariant.{KeepsInvariant}
 use Rattle.step_rules.proofs.LegalTests.{consume_tests, credit_tests, pass_out_tests, publish_tests, return_tests, take_in_tests}
 use Rattle.step_rules.proofs.Basics.{at_each}
-use Rattle.step_rules.proofs.Sound.{IsSound}
 use Rattle.step_rules.proofs.PhaseLemmas.{Returns, AsEnded, AsKilled, free_is, out_is, listed_is, fresh_is, returning_is}
 use Rattle.step_rules.proofs.Referring.{live_from_one}
 use Rattle.step_rules.proofs.Passing.{front_listed}
@@ -93,7 +93,7 @@ kept_still : (f : ℕ) (x : Bool) (seat : ℕ) (action : Action) → published_a
 kept_still f x seat Lock = refl
 kept_still f x seat action = refl
 
-returned_used : (s : State) (g f : ℕ) (u : ChargedUnit) → IsSound s → unit_of (s.phases g) ≡ Some u → (f ≡ g → ⊥) → is_used (s.phases f) ≡ true →
+returned_used : (s : State) (g f : ℕ) (u : ChargedUnit) → KeepsInvariant s → unit_of (s.phases g) ≡ Some u → (f ≡ g → ⊥) → is_used (s.phases f) ≡ true →
     is_used (without_unit s.phases g f) ≡ true
 returned_used s g f u sound is ne used =
     elim (within_cases g (unit_size (unit_of (s.phases g))) f) [
@@ -107,7 +107,7 @@ unit_is : (killed : ℕ → Bool) (x : Phase) → Returns killed x → (u : Char
 unit_is killed x (AsEnded u was) = (u, ap unit_of was)
 unit_is killed x (AsKilled u was dead) = (u, ap unit_of was)
 
-kept_made : (f : ℕ) (s : State) (x : Bool) (seat : ℕ) (action : Action) (answer : Answer) → IsSound s → IsKept f s x → IsMade s seat action answer →
+kept_made : (f : ℕ) (s : State) (x : Bool) (seat : ℕ) (action : Action) (answer : Answer) → KeepsInvariant s → IsKept f s x → IsMade s seat action answer →
     IsKept f (after s seat action answer) (published_after f x action answer)
 kept_made f s x seat action Illegal sound kept made = absurd (no_illegal s seat action made.answered)
 kept_made f s x seat (Put g) Last sound kept made = λ e. used_at s.phases g _ f (used_last seat (s.phases g)) (kept e)

@@ -30,10 +30,10 @@ use Rattle.step_rules.specs.Returns.{phase_awaits_return, is_killed_return_stage
 use Rattle.step_rules.specs.Returns.{is_killed_return, is_killed_group, awaits_return_after, awaits_return, uses_ended}
 use Rattle.step_rules.specs.Returns.{uses_closed, counted_with_state}
 use Rattle.step_rules.specs.Returns.{counted_with_run, EveryFrameReturnsOnce}
+use Rattle.step_rules.specs.Invariant.{KeepsInvariant}
 use Rattle.step_rules.proofs.LegalTests.{collect_tests, consume_tests, credit_tests, freeze_tests, pass_out_tests, put_tests}
 use Rattle.step_rules.proofs.LegalTests.{return_tests, take_in_tests, unfreeze_tests}
 use Rattle.step_rules.proofs.Basics.{at_same, at_other}
-use Rattle.step_rules.proofs.Sound.{IsSound}
 use Rattle.step_rules.proofs.PhaseLemmas.{live_is, free_is, out_is, listed_is, fresh_is, in_hand, InHand, WasCollected, WasBare, WasEnded}
 use Rattle.step_rules.proofs.PhaseLemmas.{came_back, CameBack, FromList, FromFresh, FromBack, returning_is, Returns, AsEnded, AsKilled}
 use Rattle.step_rules.proofs.Referring.{live_from_one}
@@ -72,7 +72,7 @@ record Tells (F : State → ℕ) (s : State) (t : Told) : Type 0 where
   sum : t.1.0 ≡ F s + t.1.1
 
 pub counted_so : (gain loss : Count) (F : State → ℕ) → ((zone : Zone) → F (at_boot zone) ≡ 0) →
-    ((s : State) (seat : ℕ) (action : Action) (answer : Answer) → IsSound s → Allows s seat action answer →
+    ((s : State) (seat : ℕ) (action : Action) (answer : Answer) → KeepsInvariant s → Allows s seat action answer →
     F s + gain s seat action answer ≡ F (after s seat action answer) + loss s seat action answer) →
     (zone : Zone) (run : Run) → IsLegalRun zone run → counted_with_state gain zone run ≡ F (state_of zone run) + counted_with_state loss zone run
 unfolding tell_both tell_one
@@ -160,7 +160,7 @@ abbrev killed_returns : State → ℕ → ℕ
 killed_returns s f = one_if (is_killed_return_phase s.killed (s.phases f))
 
 -- a unit comes back: its head closes its use, and its tails had none
-unit_closes : (s : State) (f m : ℕ) (u : ChargedUnit) (stage : Stage) → IsSound s → s.phases f ≡ Head u stage → opens (s.phases f) + killed_returns s f ≡ 1 →
+unit_closes : (s : State) (f m : ℕ) (u : ChargedUnit) (stage : Stage) → KeepsInvariant s → s.phases f ≡ Head u stage → opens (s.phases f) + killed_returns s f ≡ 1 →
     opens (s.phases m) + cond (f == m) (killed_returns s f) 0 ≡ opens (without_unit s.phases f m) + cond (f == m) 1 0
 unit_closes s f m u stage sound was one =
     let unit : unit_of (s.phases f) ≡ Some u = ap unit_of was in
@@ -187,7 +187,7 @@ unit_closes s f m u stage sound was one =
     self : 1 ≤ unit_size (unit_of (s.phases f)) → is_within f (unit_size (unit_of (s.phases f))) f ≡ true
     self some = elim (within_cases f (unit_size (unit_of (s.phases f))) f) [ inl w ↦ w.0 | inr o ↦ absurd (o.1 (omega arith) (omega arith)) ]
 
-any_unit_closes : (s : State) (f m : ℕ) → IsSound s → Returns s.killed (s.phases f) →
+any_unit_closes : (s : State) (f m : ℕ) → KeepsInvariant s → Returns s.killed (s.phases f) →
     opens (s.phases m) + cond (f == m) (killed_returns s f) 0 ≡ opens (without_unit s.phases f m) + cond (f == m) 1 0
 any_unit_closes s f m sound (AsEnded u was) =
     let a : opens (s.phases f) ≡ 1 = ap opens was in
@@ -230,7 +230,7 @@ uses_unchanged : (m : ℕ) (s : State) (seat : ℕ) (action : Action) →
 uses_unchanged m s seat Lock = refl
 uses_unchanged m s seat action = refl
 
-pub uses_made : (m : ℕ) (s : State) (seat : ℕ) (action : Action) (answer : Answer) → IsSound s → is_legal s seat action ≡ true → IsAnswer s seat action answer →
+pub uses_made : (m : ℕ) (s : State) (seat : ℕ) (action : Action) (answer : Answer) → KeepsInvariant s → is_legal s seat action ≡ true → IsAnswer s seat action answer →
     opens (s.phases m) + ended_in m s seat action answer ≡ opens ((after s seat action answer).phases m) + closed_in m s seat action answer
 uses_made m s seat action Illegal sound legal ok = uses_unchanged m s seat action
 uses_made m s seat (Put f) Last sound legal ok =
@@ -311,7 +311,7 @@ ends : (b : Bool) → one_if b ≤ 1
 ends true = omega arith
 ends false = omega arith
 
-gone_made : (f : ℕ) (s : State) (x : Bool) (seat : ℕ) (action : Action) (answer : Answer) → IsSound s → IsGone f s x → IsMade s seat action answer →
+gone_made : (f : ℕ) (s : State) (x : Bool) (seat : ℕ) (action : Action) (answer : Answer) → KeepsInvariant s → IsGone f s x → IsMade s seat action answer →
     IsGone f (after s seat action answer) (awaits_return_after f x action answer)
 gone_made f s x seat action Illegal sound holds made = absurd (no_illegal s seat action made.answered)
 gone_made f s x seat (Put g) Last sound holds made =

@@ -11,12 +11,11 @@ use Rattle.step_rules.specs.declared.step.Action.{Action}
 use Rattle.step_rules.specs.declared.step.Action.TheVariants.{Lock}
 use Rattle.step_rules.specs.declared.step.Answer.{Answer}
 use Rattle.step_rules.specs.declared.step.Answer.TheVariants.{Illegal}
-use Rattle.step_rules.specs.State.{Zone, State, at_boot, frames_of, no_part}
+use Rattle.step_rules.specs.State.{Zone, State, at_boot, frames_of, no_part, times}
 use Rattle.step_rules.specs.Legal.{Allows, IsMade}
 use Rattle.step_rules.specs.After.{Run, after, state_of, IsLegalRun}
+use Rattle.step_rules.specs.Invariant.{KeepsInvariant}
 use Rattle.step_rules.proofs.PhaseLemmas.{by_kind, none_some}
-use Rattle.step_rules.proofs.Lists.{times}
-use Rattle.step_rules.proofs.Sound.{IsSound}
 use Rattle.step_rules.proofs.SoundSteps.{sound_step}
 
 -- an illegal step changes nothing
@@ -29,15 +28,15 @@ pub allowed : (s : State) (seat : ℕ) (action : Action) (answer : Answer) → A
 allowed s seat action Illegal ok = inl refl
 allowed s seat action answer ok = inr ok
 
-sound_allowed : (s : State) (seat : ℕ) (action : Action) (answer : Answer) → IsSound s → Allows s seat action answer → IsSound (after s seat action answer)
+sound_allowed : (s : State) (seat : ℕ) (action : Action) (answer : Answer) → KeepsInvariant s → Allows s seat action answer → KeepsInvariant (after s seat action answer)
 sound_allowed s seat action answer sound ok =
     elim (allowed s seat action answer ok) [
-      | inl illegal ↦ subst IsSound (sym (ap (after s seat action) illegal ∙ after_illegal s seat action)) sound
+      | inl illegal ↦ subst KeepsInvariant (sym (ap (after s seat action) illegal ∙ after_illegal s seat action)) sound
       | inr made ↦ sound_step s seat action answer sound made.legal made.answered made.counted
     ]
 
 -- nothing stands anywhere at first
-pub sound_boot : (zone : Zone) → IsSound (at_boot zone)
+pub sound_boot : (zone : Zone) → KeepsInvariant (at_boot zone)
 sound_boot zone = record {
   frames = λ f. record {
     out = λ q e. absurd (false≢true e);
@@ -62,14 +61,14 @@ IsLegalFrom s run = (k : ℕ) → IfSome (slice_get run k) (λ e. Allows (fold n
 
 -- what each allowed step keeps, beside what is told of the run, holds after every legal run
 pub kept_along : {X : Type 0} (tell : X → Step × Answer → X) (R : State → X → Type 0) →
-    ((s : State) (x : X) (e : Step × Answer) → IsSound s → R s x → Allows s e.0.seat e.0.action e.1 → R (next s e) (tell x e)) →
-    (s : State) (x : X) (run : Run) → IsSound s → R s x → IsLegalFrom s run → IsSound (fold next s run) × R (fold next s run) (fold tell x run)
+    ((s : State) (x : X) (e : Step × Answer) → KeepsInvariant s → R s x → Allows s e.0.seat e.0.action e.1 → R (next s e) (tell x e)) →
+    (s : State) (x : X) (run : Run) → KeepsInvariant s → R s x → IsLegalFrom s run → KeepsInvariant (fold next s run) × R (fold next s run) (fold tell x run)
 kept_along tell R keep s x [] sound holds legal = (sound, holds)
 kept_along tell R keep s x (e ∷ run) sound holds legal =
     let here : Allows s e.0.seat e.0.action e.1 = legal zero in
     kept_along tell R keep (next s e) (tell x e) run (sound_allowed s e.0.seat e.0.action e.1 sound here) (keep s x e sound holds here) (λ k. legal (suc k))
 
-pub sound_run : (zone : Zone) (run : Run) → IsLegalRun zone run → IsSound (state_of zone run)
+pub sound_run : (zone : Zone) (run : Run) → IsLegalRun zone run → KeepsInvariant (state_of zone run)
 sound_run zone run legal = (kept_along (λ (x : ℕ) e. x) (λ s x. Unit {0}) (λ s x e sound h ok. tt) (at_boot zone) 0 run (sound_boot zone) tt legal).0
 
 -- one more pair at the end of a run

@@ -12,14 +12,13 @@ use Rattle.step_rules.specs.Legal.{is_legal, no_page_pends, no_frame_passes}
 use Rattle.step_rules.specs.After.{state_of}
 use Rattle.step_rules.specs.Views.{seen_by, phase_seen_by, other_part_seen, parts_seen_by, holds_lock}
 use Rattle.step_rules.specs.Seen.{AllLegalityIsSeen, LockIsPassedOn, SeesAll, AllIsSeen}
+use Rattle.step_rules.specs.Invariant.{KeepsInvariant, IsHomed}
 use Rattle.step_rules.proofs.Sums.{all_same}
-use Rattle.step_rules.proofs.Sound.{IsSound}
 use Rattle.step_rules.proofs.CoverPhases.{seen_through, frees_seen}
 use Rattle.step_rules.proofs.CoverParts.{own_part, part_seen}
 use Rattle.step_rules.proofs.CoverUsage.{usage_seen}
 use Rattle.step_rules.proofs.Own.{own_legal, only_visit}
 use Rattle.step_rules.proofs.Runs.{sound_run, state_more, legal_more}
-use Rattle.step_rules.proofs.Homes.{IsHomed}
 use Rattle.step_rules.proofs.Keeping.{homed_run}
 
 -- a frame passes under the cover exactly where it does
@@ -30,7 +29,7 @@ still_seen : (s : State) (p : ℕ) → no_frame_passes (seen_by p s) ≡ no_fram
 still_seen s p = all_same s.zone.frames (λ f. not (is_passing (phase_seen_by p (s.phases f)))) (λ f. not (is_passing (s.phases f)))
     (λ f. ap not (passing_seen p (s.phases f)))
 
-any_legal : (s : State) (p seat : ℕ) (action : Action) → IsSound s → (seat ≡ 0) ⊎ (seat ≡ p) → holds_lock p s.hold ≡ true →
+any_legal : (s : State) (p seat : ℕ) (action : Action) → KeepsInvariant s → (seat ≡ 0) ⊎ (seat ≡ p) → holds_lock p s.hold ≡ true →
     is_legal (seen_by p s) seat action ≡ is_legal s seat action
 any_legal s p seat Lock sound own holds = refl
 any_legal s p seat Unlock sound own holds = ap (λ b. is_cpu s.zone seat && is_held_by seat s.hold && no_page_pends s && b) (still_seen s p)
@@ -65,7 +64,7 @@ the_lock_is_passed_on = record {
 }
 
 -- of another CPU p sees the book, and as its stock the same
-covered_stock : (s : State) (p q : ℕ) → IsSound s → IsHomed s → holds_lock p s.hold ≡ true → (q ≡ p → ⊥) →
+covered_stock : (s : State) (p q : ℕ) → KeepsInvariant s → IsHomed s → holds_lock p s.hold ≡ true → (q ≡ p → ⊥) →
     (parts_seen_by p s.parts q).stock.pages ≡ (s.parts q).book
 covered_stock s p q sound homed holds ne =
     let off : visits q s.hold ≡ false = elim (cases_Bool (visits q s.hold)) [
@@ -76,7 +75,7 @@ covered_stock s p q sound homed holds ne =
     let booked = sound.booked q in
     ap (λ (part : Part). part.stock.pages) (cond-false (q == p) (s.parts q) (other_part_seen (s.parts q)) (ne_eqb q p ne)) ∙ (omega arith)
 
-seen_state : (s : State) (p : ℕ) → IsSound s → IsHomed s → holds_lock p s.hold ≡ true → SeesAll s (seen_by p s) p
+seen_state : (s : State) (p : ℕ) → KeepsInvariant s → IsHomed s → holds_lock p s.hold ≡ true → SeesAll s (seen_by p s) p
 seen_state s p sound homed holds = record {
   zone = refl;
   groups = refl;

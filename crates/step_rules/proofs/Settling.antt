@@ -1,7 +1,7 @@
 -- While the lock is free nothing is pending, and nothing passes.
-use Rattle.std.proofs.Common.{◌≡◌, ℕ, ◌==◌, Bool, true, false, List, [], ◌∷◌, refl, sym, ◌∙◌, ap, subst, arith, inl, inr, cond, if◌then◌else◌, eq-eqb}
+use Rattle.std.proofs.Common.{◌≡◌, ℕ, ◌==◌, Bool, true, false, refl, sym, ◌∙◌, ap, subst, arith, inl, inr, cond, if◌then◌else◌, eq-eqb}
 use Rattle.std.specs.Prelude.{not}
-use Rattle.std.proofs.lemmas.Bool.{false≢true, true≢false, and_parts, cases_eq, ne_eqb}
+use Rattle.std.proofs.lemmas.Bool.{false≢true, true≢false, and_parts}
 use Rattle.group_tree.specs.Groups.{in_subtree}
 use Rattle.step_rules.specs.declared.phase.Hold.{Hold}
 use Rattle.step_rules.specs.declared.phase.Way.TheVariants.{PassingOut, PassingBack}
@@ -20,13 +20,11 @@ use Rattle.step_rules.specs.Usage.{pages_pending}
 use Rattle.step_rules.specs.Legal.{is_legal, Allows, no_page_pends}
 use Rattle.step_rules.specs.Places.{is_same_frame_place, place_in}
 use Rattle.step_rules.specs.After.{after, state_of}
-use Rattle.step_rules.specs.Returns.{times_in, IsAllPlaced, NothingPendsWhileTheLockIsFree}
+use Rattle.step_rules.specs.Returns.{IsAllPlaced, NothingPendsWhileTheLockIsFree}
+use Rattle.step_rules.specs.Invariant.{KeepsInvariant, IsHomed}
 use Rattle.step_rules.proofs.LegalTests.{drain_stock_tests, fill_tests, grant_tests, place_block_tests, ungrant_tests}
 use Rattle.step_rules.proofs.Sums.{sum_none, all_each}
-use Rattle.step_rules.proofs.Lists.{times}
-use Rattle.step_rules.proofs.Sound.{IsSound}
 use Rattle.step_rules.proofs.PhaseLemmas.{unheld_visit}
-use Rattle.step_rules.proofs.Homes.{IsHomed}
 use Rattle.step_rules.proofs.Keeping.{homed_run, settled_all}
 use Rattle.step_rules.proofs.Runs.{after_illegal, allowed, kept_along, sound_boot}
 
@@ -82,15 +80,7 @@ on_its_list p (Lent q PassingBack) still = absurd (true≢false still)
 on_its_list p (Head u stage) still = refl
 on_its_list p x still = refl
 
-pub times_are : (f : ℕ) (xs : List ℕ) → times_in f xs ≡ times f xs
-times_are f [] = refl
-times_are f (x ∷ xs) =
-    elim (cases_eq x f) [
-      | inl e ↦ rw (eq-eqb x f e) (let a = times_are f xs in omega arith)
-      | inr ne ↦ rw (ne_eqb x f ne) (let a = times_are f xs in omega arith)
-    ]
-
-all_placed : (s : State) → IsSound s → IsHomed s → is_unheld s.hold ≡ true → no_page_pends s ≡ true → IsAllPlaced s
+all_placed : (s : State) → KeepsInvariant s → IsHomed s → is_unheld s.hold ≡ true → no_page_pends s ≡ true → IsAllPlaced s
 all_placed s sound homed free settled =
     let rests : (f : ℕ) → is_passing (s.phases f) ≡ false = λ f.
     still_phase (s.phases f) (λ q out. unheld_visit s.hold q free ((sound.frames f).out q out))
@@ -102,7 +92,7 @@ all_placed s sound homed free settled =
           sum_none 64 (λ h. if in_subtree s.groups g h then s.pending h else 0)
           (λ h below. none_below (in_subtree s.groups g h) (s.pending h) (none h)) in omega arith;
       still = all_each s.zone.frames (λ f. not (is_passing (s.phases f))) (λ f below. ap not (rests f));
-      listed = λ f p. times_are f (s.parts p).list ∙ sound.lists p ListFrame f ∙ ap one_if (on_its_list p (s.phases f) (rests f));
+      listed = λ f p. sound.lists p ListFrame f ∙ ap one_if (on_its_list p (s.phases f) (rests f));
     }
 
 pub nothing_pends : NothingPendsWhileTheLockIsFree

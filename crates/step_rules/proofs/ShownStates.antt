@@ -15,7 +15,7 @@ use Rattle.step_rules.specs.declared.phase.ChargedUnit.{ChargedUnit}
 use Rattle.step_rules.specs.declared.step.FramePlace.{FramePlace}
 use Rattle.step_rules.specs.declared.step.FramePlace.TheVariants.{Free, LentTo, Charged}
 use Rattle.step_rules.specs.Phases.{keeper_of}
-use Rattle.step_rules.specs.State.{State, sum_to, is_cpu, free_in}
+use Rattle.step_rules.specs.State.{State, sum_to, is_cpu, free_in, times}
 use Rattle.step_rules.specs.Usage.{usage_of}
 use Rattle.step_rules.specs.After.{state_of, IsLegalRun}
 use Rattle.step_rules.specs.Promise.{IsShown, HasOnce, Promise}
@@ -24,7 +24,6 @@ use Rattle.step_rules.specs.Breaches.{kept_run, shown_rightly, at_list, IsShownW
 use Rattle.step_rules.specs.Breaches.{kept_in_no_unit, seen_beyond, prepaid_for_nobody, prepaid_left_out, no_group_seen}
 use Rattle.step_rules.specs.Breaches.{IsWrongAfter, shown_free, parted_areas, prepaid_by_nobody, prepaid_for_no_group, granted_and_lost, lost_in_number}
 use Rattle.step_rules.specs.Units.{units_after_run}
-use Rattle.step_rules.specs.Returns.{times_in}
 use Rattle.step_rules.proofs.SmallRuns.{life_is_legal}
 use Rattle.step_rules.proofs.LentTo.{beginnings_are_legal}
 use Rattle.step_rules.proofs.Promising.{the_promise_is_kept}
@@ -126,10 +125,10 @@ right_is_kept = the_promise_is_kept small_zone kept_run shown_rightly kept_run_i
 
 -- ---- shown wrongly
 -- a list of another CPU is empty
-not_listed : (q p f : ℕ) (frames : List ℕ) → (p ≡ q → ⊥) → times_in f (at_list q frames p) ≡ 1 → ⊥
+not_listed : (q p f : ℕ) (frames : List ℕ) → (p ≡ q → ⊥) → times f (at_list q frames p) ≡ 1 → ⊥
 not_listed q p f frames ne e = true≢false (ap (λ (n : ℕ). n == 0) (sym (none ne) ∙ e))
   where
-    none : (p ≡ q → ⊥) → times_in f (at_list q frames p) ≡ 0
+    none : (p ≡ q → ⊥) → times f (at_list q frames p) ≡ 0
     none away = rw (ne_eqb p q away) refl
 
 -- no block holds a frame where there is none
@@ -161,7 +160,7 @@ listed_twice_is_wrong promise = by_place (promise.frames 1 (omega arith)).place 
     by_place : (p : FramePlace) → HasOnce small_zone listed_twice 1 p → ⊥
     by_place Free once = in_no_block 1 once
     by_place (LentTo p) once = elim (cases_eq p 1) [
-      | inl e ↦ true≢false (ap (λ (n : ℕ). n == 2) (subst (λ (k : ℕ). times_in 1 (listed_twice.lists k) ≡ 1) e once.1))
+      | inl e ↦ true≢false (ap (λ (n : ℕ). n == 2) (subst (λ (k : ℕ). times 1 (listed_twice.lists k) ≡ 1) e once.1))
       | inr ne ↦ not_listed 1 p 1 (1 ∷ 1 ∷ []) ne once.1
     ]
     by_place (Charged g) once = none_some g once.1

@@ -1,64 +1,15 @@
--- What holds of the state after every legal run.
-use Rattle.std.proofs.Common.{◌≡◌, ℕ, ◌+◌, ◌^◌, ◌<◌, ◌≤◌, Bool, true, false, Option, Some, List, length, refl, sym, ◌∙◌, ap, subst, arith, inl, inr}
+-- Steps that move one frame, or change one CPU's part, keep the invariant.
+use Rattle.std.proofs.Common.{◌≡◌, ℕ, ◌+◌, ◌^◌, ◌<◌, Bool, true, false, Option, Some, List, refl, sym, ◌∙◌, ap, subst, arith, inl, inr}
 use Rattle.std.specs.Prelude.{◌⊎◌}
 use Rattle.step_rules.specs.declared.phase.Hold.{Hold}
-use Rattle.step_rules.specs.declared.phase.Hold.TheVariants.{Visiting}
 use Rattle.step_rules.specs.declared.phase.ChargedUnit.{ChargedUnit}
-use Rattle.step_rules.specs.declared.phase.Stage.{Stage}
-use Rattle.step_rules.specs.declared.phase.Stage.TheVariants.{FreshAt}
 use Rattle.step_rules.specs.declared.phase.Phase.{Phase}
-use Rattle.step_rules.specs.declared.phase.Phase.TheVariants.{Head, Tail}
-use Rattle.step_rules.specs.Phases.{Kind, is_free, is_live_phase, has_as, passes_out, passes_back, unit_of}
-use Rattle.step_rules.specs.State.{Zone, Part, State, with_at, one_if, without, with_last, frames_of}
+use Rattle.step_rules.specs.declared.phase.Phase.TheVariants.{Tail}
+use Rattle.step_rules.specs.Phases.{Kind, has_as, unit_of}
+use Rattle.step_rules.specs.State.{Zone, Part, with_at, one_if, without, with_last, frames_of, times}
+use Rattle.step_rules.specs.Invariant.{PhasePaid, FrameFits, groups_in, IsBooked, StateInvariant}
 use Rattle.step_rules.proofs.Basics.{at_other, at_each, at_itself}
-use Rattle.step_rules.proofs.Lists.{times, times_same, times_other, times_last, times_without, times_without_other}
-
--- a fresh frame is one that a CPU paid from a stock of its group
-pub record IsPaid (cpus : ℕ) (groups : ℕ → Option ℕ) (unit : ChargedUnit) (q : ℕ) : Type 0 where
-  pub group : groups q ≡ Some unit.group
-  pub order : unit.order ≡ 0
-  pub low : 1 ≤ q
-  pub high : q ≤ cpus
-
-abbrev pub StagePaid : ℕ → (ℕ → Option ℕ) → ChargedUnit → Stage → Type 0
-StagePaid cpus groups unit (FreshAt q) = IsPaid cpus groups unit q
-StagePaid cpus groups unit _ = Unit {0}
-
-abbrev pub PhasePaid : ℕ → (ℕ → Option ℕ) → Phase → Type 0
-PhasePaid cpus groups (Head unit stage) = StagePaid cpus groups unit stage
-PhasePaid cpus groups _ = Unit {0}
-
--- what holds of one frame: it passes only for who is visited, it has references only where it is live, a fresh one was
--- paid, and beyond the zone there is nothing
-pub record FrameFits (zone : Zone) (hold : Hold) (groups : ℕ → Option ℕ) (references : ℕ → ℕ) (f : ℕ) (x : Phase) : Type 0 where
-  pub out : (q : ℕ) → passes_out q x ≡ true → hold ≡ Visiting q
-  pub returning : (q : ℕ) → passes_back q x ≡ true → hold ≡ Visiting q
-  pub unreferred : is_live_phase x ≡ false → (seat : ℕ) → references seat ≡ 0
-  pub seats : (seat : ℕ) → zone.cpus < seat → references seat ≡ 0
-  pub paid : PhasePaid zone.cpus groups x
-  pub inside : zone.frames ≤ f → is_free x ≡ true
-
--- the groups of the stocks
-abbrev pub groups_in : (ℕ → Part) → ℕ → Option ℕ
-groups_in parts q = (parts q).stock.group
-
--- the frames of a unit after its head are its tails
-abbrev pub AreUnits : (ℕ → Phase) → Type 0
-AreUnits phases = (f : ℕ) (unit : ChargedUnit) → unit_of (phases f) ≡ Some unit → (x : ℕ) → f < x → x < f + 2 ^ unit.order → phases x ≡ Tail unit.group
-
--- a CPU's book is the pages of its stock, its fresh frames, and what it passed back and isn't absorbed
-abbrev pub IsBooked : Part → Type 0
-IsBooked part = part.book ≡ part.stock.pages + length part.fresh + part.unreported + part.reported
-
--- what holds of the frames, the references and the parts
-pub record Sound (zone : Zone) (hold : Hold) (phases : ℕ → Phase) (references : ℕ → ℕ → ℕ) (parts : ℕ → Part) : Type 0 where
-  pub frames : (f : ℕ) → FrameFits zone hold (groups_in parts) (λ seat. references seat f) f (phases f)
-  pub lists : (q : ℕ) (kind : Kind) (f : ℕ) → times f (frames_of (parts q) kind) ≡ one_if (has_as kind q (phases f))
-  pub units : AreUnits phases
-  pub booked : (q : ℕ) → IsBooked (parts q)
-
-abbrev pub IsSound : State → Type 0
-IsSound s = Sound s.zone s.hold s.phases s.references s.parts
+use Rattle.step_rules.proofs.Lists.{times_same, times_other, times_last, times_without, times_without_other}
 
 -- how a list of one kind changes where frame f goes from one phase to another
 pub data ListMoves (f : ℕ) (xs ys : List ℕ) (b c : Bool) : Type 0 where
@@ -99,8 +50,8 @@ pub same_groups : (parts : ℕ → Part) (p : ℕ) (part : Part) → part.stock.
 same_groups parts p part e = λ i. λ q. at_each parts p part (λ n x. (parts n).stock.group ≡ x.stock.group) (sym e) (λ n ne. refl) q i
 
 move_one : (zone : Zone) (hold : Hold) (phases : ℕ → Phase) (references later : ℕ → ℕ → ℕ) (parts : ℕ → Part) (f p : ℕ) (y : Phase) (part : Part) →
-    Sound zone hold phases references parts → Moves zone hold references later parts f p (phases f) y part →
-    Sound zone hold (with_at phases f y) later (with_at parts p part)
+    StateInvariant zone hold phases references parts → Moves zone hold references later parts f p (phases f) y part →
+    StateInvariant zone hold (with_at phases f y) later (with_at parts p part)
 move_one zone hold phases references later parts f p y part s m =
     let groups : groups_in parts ≡ groups_in (with_at parts p part) = same_groups parts p part m.group in
     record {
@@ -133,32 +84,32 @@ move_one zone hold phases references later parts f p y part s m =
     }
 
 pub sound_one : (zone : Zone) (hold : Hold) (phases : ℕ → Phase) (references later : ℕ → ℕ → ℕ) (parts : ℕ → Part) (f p : ℕ) (x y : Phase) (part : Part) →
-    Sound zone hold phases references parts → phases f ≡ x → Moves zone hold references later parts f p x y part →
-    Sound zone hold (with_at phases f y) later (with_at parts p part)
+    StateInvariant zone hold phases references parts → phases f ≡ x → Moves zone hold references later parts f p x y part →
+    StateInvariant zone hold (with_at phases f y) later (with_at parts p part)
 sound_one zone hold phases references later parts f p x y part s was m =
     move_one zone hold phases references later parts f p y part s (subst (λ (z : Phase). Moves zone hold references later parts f p z y part) (sym was) m)
 
 -- the same where no part changes
 pub sound_phase : (zone : Zone) (hold : Hold) (phases : ℕ → Phase) (references later : ℕ → ℕ → ℕ) (parts : ℕ → Part) (f : ℕ) (x y : Phase) →
-    Sound zone hold phases references parts → phases f ≡ x → Moves zone hold references later parts f 0 x y (parts 0) →
-    Sound zone hold (with_at phases f y) later parts
+    StateInvariant zone hold phases references parts → phases f ≡ x → Moves zone hold references later parts f 0 x y (parts 0) →
+    StateInvariant zone hold (with_at phases f y) later parts
 sound_phase zone hold phases references later parts f x y s was m =
-    subst (λ (ps : ℕ → Part). Sound zone hold (with_at phases f y) later ps) (at_itself parts 0)
+    subst (λ (ps : ℕ → Part). StateInvariant zone hold (with_at phases f y) later ps) (at_itself parts 0)
     (sound_one zone hold phases references later parts f 0 x y (parts 0) s was m)
 
 -- the same where no phase changes either
 pub sound_references : (zone : Zone) (hold : Hold) (phases : ℕ → Phase) (references later : ℕ → ℕ → ℕ) (parts : ℕ → Part) (f : ℕ) →
-    Sound zone hold phases references parts → Moves zone hold references later parts f 0 (phases f) (phases f) (parts 0) →
-    Sound zone hold phases later parts
+    StateInvariant zone hold phases references parts → Moves zone hold references later parts f 0 (phases f) (phases f) (parts 0) →
+    StateInvariant zone hold phases later parts
 sound_references zone hold phases references later parts f s m =
-    subst (λ (ph : ℕ → Phase). Sound zone hold ph later parts) (at_itself phases f)
+    subst (λ (ph : ℕ → Phase). StateInvariant zone hold ph later parts) (at_itself phases f)
     (sound_phase zone hold phases references later parts f (phases f) (phases f) s refl m)
 
 -- a part changes in its numbers alone, and what is fresh stays paid
 pub sound_part : (zone : Zone) (hold : Hold) (phases : ℕ → Phase) (references : ℕ → ℕ → ℕ) (parts : ℕ → Part) (p : ℕ) (part : Part) →
-    Sound zone hold phases references parts → ((f : ℕ) → PhasePaid zone.cpus (groups_in (with_at parts p part)) (phases f)) →
+    StateInvariant zone hold phases references parts → ((f : ℕ) → PhasePaid zone.cpus (groups_in (with_at parts p part)) (phases f)) →
     ((kind : Kind) → frames_of part kind ≡ frames_of (parts p) kind) → IsBooked part →
-    Sound zone hold phases references (with_at parts p part)
+    StateInvariant zone hold phases references (with_at parts p part)
 sound_part zone hold phases references parts p part s paid lists booked = record {
   frames = λ f.
       let old = s.frames f in
@@ -171,9 +122,9 @@ sound_part zone hold phases references parts p part s paid lists booked = record
 
 -- the same where the stock stays of its group
 pub sound_numbers : (zone : Zone) (hold : Hold) (phases : ℕ → Phase) (references : ℕ → ℕ → ℕ) (parts : ℕ → Part) (p : ℕ) (part : Part) →
-    Sound zone hold phases references parts → part.stock.group
+    StateInvariant zone hold phases references parts → part.stock.group
     ≡ (parts p).stock.group → ((kind : Kind) → frames_of part kind ≡ frames_of (parts p) kind) → IsBooked part →
-    Sound zone hold phases references (with_at parts p part)
+    StateInvariant zone hold phases references (with_at parts p part)
 sound_numbers zone hold phases references parts p part s group lists booked =
     sound_part zone hold phases references parts p part s
     (λ f. subst (λ (g : ℕ → Option ℕ). PhasePaid zone.cpus g (phases f)) (same_groups parts p part group) (s.frames f).paid)

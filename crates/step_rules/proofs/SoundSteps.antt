@@ -14,10 +14,10 @@ use Rattle.step_rules.specs.Phases as kinds
 use Rattle.step_rules.specs.State.{Zone, State, is_cpu, is_frame, is_unheld, is_held_by, visits, front_of}
 use Rattle.step_rules.specs.Legal.{is_legal, IsAnswer, IsCounted, nothing_passes, is_passable, takes_fill}
 use Rattle.step_rules.specs.After.{after, without_unit}
+use Rattle.step_rules.specs.Invariant.{StateInvariant, KeepsInvariant}
 use Rattle.step_rules.proofs.LegalTests.{collect_tests, consume_tests, credit_tests, fill_tests, freeze_tests, get_tests}
 use Rattle.step_rules.proofs.LegalTests.{lock_tests, open_visit_tests, pass_back_tests, pass_out_tests, put_tests, report_tests}
 use Rattle.step_rules.proofs.LegalTests.{return_tests, shut_visit_tests, take_in_tests, unfreeze_tests, unlock_tests}
-use Rattle.step_rules.proofs.Sound.{Sound, IsSound}
 use Rattle.step_rules.proofs.PhaseLemmas.{Returns, AsEnded, AsKilled, returning_is, unheld_visit, held_visit, visited, held_live}
 use Rattle.step_rules.proofs.Referring.{live_from_references, live_from_one, seat_there, sound_referred, sound_frozen, sound_last, sound_unfrozen}
 use Rattle.step_rules.proofs.Passing.{sound_passed_out, sound_taken_in, sound_sent_listed, sound_sent_fresh, sound_sent_back}
@@ -30,12 +30,12 @@ below_frames zone f e = ltb-true f zone.frames e
 pub cpu_range : (zone : Zone) (p : ℕ) → is_cpu zone p ≡ true → (1 ≤ p) × (p ≤ zone.cpus)
 cpu_range zone p e = let both = and_parts (nat_le 1 p) (nat_le p zone.cpus) e in (leb-true 1 p both.0, leb-true p zone.cpus both.1)
 
-returned : (s : State) (f : ℕ) → IsSound s → Returns s.killed (s.phases f) → Sound s.zone s.hold (without_unit s.phases f) s.references s.parts
+returned : (s : State) (f : ℕ) → KeepsInvariant s → Returns s.killed (s.phases f) → StateInvariant s.zone s.hold (without_unit s.phases f) s.references s.parts
 returned s f sound (AsEnded u was) = sound_returned s f u _ sound was refl
 returned s f sound (AsKilled u was killed) = sound_returned s f u _ sound was refl
 
-pub sound_step : (s : State) (seat : ℕ) (action : Action) (answer : Answer) → IsSound s → is_legal s seat action ≡ true →
-    IsAnswer s seat action answer → IsCounted s action answer → IsSound (after s seat action answer)
+pub sound_step : (s : State) (seat : ℕ) (action : Action) (answer : Answer) → KeepsInvariant s → is_legal s seat action ≡ true →
+    IsAnswer s seat action answer → IsCounted s action answer → KeepsInvariant (after s seat action answer)
 sound_step s seat Lock Done sound legal ok counted =
     let free : is_unheld s.hold ≡ true = (lock_tests s seat legal).1 in
     sound_hold s.zone s.hold (HeldBy seat) s.phases s.references s.parts sound (λ f q e. absurd (unheld_visit s.hold q free e))

@@ -24,8 +24,8 @@ use Rattle.step_rules.specs.Legal.{IsMade, Allows}
 use Rattle.step_rules.specs.After.{Run, after, state_of, with_back, without_frame, paid, credited, filled, drained, IsLegalRun}
 use Rattle.step_rules.specs.Folds.{limit_after, flag_after, killed_after, AllGroupsFollowRun, holder_after, open_after, hold_of, TheLockFollowsRun, InHand}
 use Rattle.step_rules.specs.Folds.{hand_after, LastFill, fill_after, last_fill, AllPartsFollowRun}
+use Rattle.step_rules.specs.Invariant.{KeepsInvariant}
 use Rattle.step_rules.proofs.LegalTests.{lock_tests, open_visit_tests, shut_visit_tests, unlock_tests}
-use Rattle.step_rules.proofs.Sound.{IsSound}
 use Rattle.step_rules.proofs.PhaseLemmas.{equal_test, none_some}
 use Rattle.step_rules.proofs.SoundSteps.{cpu_range}
 use Rattle.step_rules.proofs.Runs.{after_illegal, allowed, kept_along, sound_boot}
@@ -35,9 +35,9 @@ use Rattle.step_rules.proofs.Moving.{gone_itself}
 -- a relation that each made step keeps, and which an illegal one leaves, holds after every legal run
 module _ {X : Type 0} (tell : X → ℕ → Action → Answer → X) (R : State → X → Type 0)
     (still : (x : X) (seat : ℕ) (action : Action) → tell x seat action Illegal ≡ x)
-    (made : (s : State) (x : X) (seat : ℕ) (action : Action) (answer : Answer) → IsSound s → R s x → IsMade s seat action answer →
+    (made : (s : State) (x : X) (seat : ℕ) (action : Action) (answer : Answer) → KeepsInvariant s → R s x → IsMade s seat action answer →
     R (after s seat action answer) (tell x seat action answer)) where
-  told_step : (s : State) (x : X) (e : Step × Answer) → IsSound s → R s x → Allows s e.0.seat e.0.action e.1 →
+  told_step : (s : State) (x : X) (e : Step × Answer) → KeepsInvariant s → R s x → Allows s e.0.seat e.0.action e.1 →
       R (after s e.0.seat e.0.action e.1) (tell x e.0.seat e.0.action e.1)
   told_step s x e sound holds ok =
       elim (allowed s e.0.seat e.0.action e.1 ok) [

@@ -23,10 +23,10 @@ use Rattle.step_rules.specs.Legal.{IsMade}
 use Rattle.step_rules.specs.After.{Run, IsLegalRun, after, state_of, placed_phase, with_block, unit_size, without_unit, consumed}
 use Rattle.step_rules.specs.Folds.{InHand, hand_after}
 use Rattle.step_rules.specs.Units.{Units, unit_after, fresh_after, units_after, no_units, units_after_run, fresh_group, AllUnitsFollowRun}
+use Rattle.step_rules.specs.Invariant.{KeepsInvariant}
 use Rattle.step_rules.proofs.LegalTests.{collect_tests, consume_tests, freeze_tests, pass_out_tests, put_tests, return_tests}
 use Rattle.step_rules.proofs.LegalTests.{take_in_tests, unfreeze_tests}
 use Rattle.step_rules.proofs.Basics.{at_same, at_other, at_each}
-use Rattle.step_rules.proofs.Sound.{IsSound}
 use Rattle.step_rules.proofs.SoundSteps.{cpu_range}
 use Rattle.step_rules.proofs.PhaseLemmas.{live_is, free_is, out_is, in_hand, InHand as Hand, WasCollected, WasBare, WasEnded}
 use Rattle.step_rules.proofs.PhaseLemmas.{came_back, CameBack, FromList, FromFresh, FromBack, returning_is, Returns, AsEnded, AsKilled}
@@ -107,7 +107,7 @@ block_marks s g k b f x order free holds =
     ]
 
 -- a unit that comes back has none
-unit_marks : (s : State) (g f : ℕ) (u : ChargedUnit) (x : Marks) → IsSound s → unit_of (s.phases g) ≡ Some u → marks (s.phases f) ≡ x →
+unit_marks : (s : State) (g f : ℕ) (u : ChargedUnit) (x : Marks) → KeepsInvariant s → unit_of (s.phases g) ≡ Some u → marks (s.phases f) ≡ x →
     marks (without_unit s.phases g f) ≡ (cond (g == f) None x.0, cond (g == f) None x.1)
 unit_marks s g f u x sound unit holds =
     let size : unit_size (unit_of (s.phases g)) ≡ 2 ^ u.order = ap unit_size unit in
@@ -126,7 +126,7 @@ unit_marks s g f u x sound unit holds =
           rw (ne_eqb g f ne) (ap marks (off_unit s.phases g f without.0) ∙ holds)
     ]
 
-any_unit_marks : (s : State) (g f : ℕ) (x : Marks) → IsSound s → Returns s.killed (s.phases g) → marks (s.phases f) ≡ x →
+any_unit_marks : (s : State) (g f : ℕ) (x : Marks) → KeepsInvariant s → Returns s.killed (s.phases g) → marks (s.phases f) ≡ x →
     marks (without_unit s.phases g f) ≡ (cond (g == f) None x.0, cond (g == f) None x.1)
 any_unit_marks s g f x sound (AsEnded u was) holds = unit_marks s g f u x sound (ap unit_of was) holds
 any_unit_marks s g f x sound (AsKilled u was killed) holds = unit_marks s g f u x sound (ap unit_of was) holds
@@ -135,7 +135,7 @@ any_unit_marks s g f x sound (AsKilled u was killed) holds = unit_marks s g f u 
 abbrev marks_after : ℕ → ℕ → Marks → Action → Answer → Marks
 marks_after f front x action answer = (unit_after f front x.0 action answer, fresh_after f front x.1 action answer)
 
-marks_made : (f front : ℕ) (s : State) (x : Marks) (seat : ℕ) (action : Action) (answer : Answer) → IsSound s → marks (s.phases f) ≡ x →
+marks_made : (f front : ℕ) (s : State) (x : Marks) (seat : ℕ) (action : Action) (answer : Answer) → KeepsInvariant s → marks (s.phases f) ≡ x →
     (is_cpu s.zone seat ≡ true → front ≡ front_of (s.parts seat).list) → IsMade s seat action answer →
     marks ((after s seat action answer).phases f) ≡ marks_after f front x action answer
 marks_made f front s x seat action Illegal sound holds at made = absurd (no_illegal s seat action made.answered)
@@ -214,7 +214,7 @@ pub front_told : (s : State) (u : Units) → HasUnits s u → (seat : ℕ) → i
 front_told s u has seat cpu =
     ap (λ (h : InHand). front_of h.list) (sym (has.hands seat (λ e. (let low = (cpu_range s.zone seat cpu).0 in omega arith))))
 
-pub units_made : (s : State) (u : Units) (seat : ℕ) (action : Action) (answer : Answer) → IsSound s → HasUnits s u → IsMade s seat action answer →
+pub units_made : (s : State) (u : Units) (seat : ℕ) (action : Action) (answer : Answer) → KeepsInvariant s → HasUnits s u → IsMade s seat action answer →
     HasUnits (after s seat action answer) (units_after u seat action answer)
 units_made s u seat action answer sound has made = record {
   hands = λ p some. hand_made p some s (u.hands p) seat action answer (has.hands p some) made;

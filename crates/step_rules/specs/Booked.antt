@@ -5,10 +5,10 @@ use Rattle.step_rules.specs.declared.step.Action.TheVariants.{PassBack, Report, 
 use Rattle.step_rules.specs.declared.step.Answer.{Answer}
 use Rattle.step_rules.specs.declared.step.Answer.TheVariants.{Done, Pages}
 use Rattle.step_rules.specs.Phases.{FreshFrame, BackFrame, has_as}
-use Rattle.step_rules.specs.State.{Zone, one_if, is_cpu, pins_of}
+use Rattle.step_rules.specs.State.{Zone, one_if, is_cpu, pins_of, times}
 use Rattle.step_rules.specs.After.{Run, state_of, part_after, IsLegalRun}
 use Rattle.step_rules.specs.Units.{units_after_run}
-use Rattle.step_rules.specs.Returns.{counted_with_run, times_in}
+use Rattle.step_rules.specs.Returns.{counted_with_run}
 
 -- the pages that a step leaves unreported at the CPU: one, if the CPU passes back a fresh frame
 abbrev pub unreported_in : ℕ → Run → ℕ → Action → Answer → ℕ
@@ -31,9 +31,9 @@ absorbed_in cpu run seat action answer = 0
 -- fresh frames passed back are unreported until reported, and reported until absorbed. There are at most 32 fresh
 -- frames, and at most 256 pins and back frames of a CPU.
 pub record PartIsBooked (zone : Zone) (run : Run) (cpu : ℕ) : Type 0 where
-  pub fresh : (f : ℕ) → times_in f (part_after zone run cpu).fresh
+  pub fresh : (f : ℕ) → times f (part_after zone run cpu).fresh
       ≡ one_if (has_as FreshFrame cpu ((state_of zone run).phases f))
-  pub back : (f : ℕ) → times_in f (part_after zone run cpu).back
+  pub back : (f : ℕ) → times f (part_after zone run cpu).back
       ≡ one_if (has_as BackFrame cpu ((state_of zone run).phases f))
   pub book : (part_after zone run cpu).book
       ≡ (part_after zone run cpu).stock.pages + length (part_after zone run cpu).fresh

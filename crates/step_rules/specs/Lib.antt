@@ -4,6 +4,7 @@ pub mod Usage
 pub mod Legal
 pub mod After
 pub mod Views
+pub mod Invariant
 pub mod Laws
 pub mod Counts
 pub mod Places

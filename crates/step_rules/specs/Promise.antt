@@ -19,14 +19,14 @@ use Rattle.step_rules.specs.declared.step.Action.TheVariants.{PlaceBlock, Return
 use Rattle.step_rules.specs.declared.step.Answer.{Answer}
 use Rattle.step_rules.specs.declared.step.Answer.TheVariants.{Done, Held, Last, Took, Stocked, Granted, Placed}
 use Rattle.step_rules.specs.Phases.{keeper_of}
-use Rattle.step_rules.specs.State.{Zone, Stock, State, one_if, sum_to, front_of, is_cpu, is_unheld, free_in}
+use Rattle.step_rules.specs.State.{Zone, Stock, State, one_if, sum_to, front_of, is_cpu, is_unheld, free_in, times}
 use Rattle.group_tree.specs.Room.{fits_limit}
 use Rattle.step_rules.specs.Usage.{is_in_subtree, usage_of}
 use Rattle.step_rules.specs.After.{Run, state_of, IsLegalRun}
 use Rattle.step_rules.specs.Folds.{limit_given, was_killed}
 use Rattle.step_rules.specs.Units.{units_after_run}
 use Rattle.step_rules.specs.Counts.{references_gained, references_lost, counted}
-use Rattle.step_rules.specs.Returns.{awaits_return, is_killed_return, times_in}
+use Rattle.step_rules.specs.Returns.{awaits_return, is_killed_return}
 use Rattle.step_rules.specs.Charges.{groups_of, charged_in_subtree}
 use Rattle.step_rules.specs.References.{CountsReferences}
 
@@ -55,13 +55,13 @@ pub record IsShown (s : State) (shown : Shown) : Type 0 where
 -- the frame is shown at the place: in a block of the free areas, on the CPU's list, or kept by the group
 abbrev pub Has : Shown → ℕ → FramePlace → Type 0
 Has shown f Free = (b : Block) × Contains shown.areas b × Covers b f
-Has shown f (LentTo cpu) = 1 ≤ times_in f (shown.lists cpu)
+Has shown f (LentTo cpu) = 1 ≤ times f (shown.lists cpu)
 Has shown f (Charged g) = shown.keeper f ≡ Some g
 
 -- the frame is shown at the place once: in one block alone, once on the list of a CPU, or kept by a group that exists
 abbrev pub HasOnce : Zone → Shown → ℕ → FramePlace → Type 0
 HasOnce zone shown f Free = IsInOneBlock shown.areas f
-HasOnce zone shown f (LentTo cpu) = (is_cpu zone cpu ≡ true) × (times_in f (shown.lists cpu) ≡ 1)
+HasOnce zone shown f (LentTo cpu) = (is_cpu zone cpu ≡ true) × (times f (shown.lists cpu) ≡ 1)
 HasOnce zone shown f (Charged g) = (has_group shown.groups g ≡ true) × (shown.keeper f ≡ Some g)
 
 -- by the run a unit of this group has the frame: that of a head h, of 2^k frames
@@ -124,7 +124,7 @@ ReturnsNoFrameTwice run seat (Unfreeze f n) Done = (is_some ((units_after_run ru
     × HasNoReference run f
 ReturnsNoFrameTwice run seat (Return f) Done = ((awaits_return run f ≡ true) ⊎ (is_killed_return run f ≡ true))
     × (is_some ((units_after_run run).unit f) ≡ true) × HasNoReference run f
-ReturnsNoFrameTwice run seat (Credit f) Stocked = (times_in f ((units_after_run run).hands seat).fresh ≡ 1)
+ReturnsNoFrameTwice run seat (Credit f) Stocked = (times f ((units_after_run run).hands seat).fresh ≡ 1)
     × HasNoReference run f
 ReturnsNoFrameTwice run seat (Consume g) Took =
     (1 ≤ length ((units_after_run run).hands seat).list)

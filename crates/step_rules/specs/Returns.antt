@@ -1,6 +1,6 @@
 -- How each use of a frame ends and is closed, and that nothing is pending while the lock is free.
-use Rattle.std.specs.Prelude.{◌≡◌, ℕ, ◌+◌, ◌==◌, ◌++◌, Bool, true, false, Option, Some, None, List, [], ◌∷◌, fold}
-use Rattle.std.specs.Prelude.{filter, length, if◌then◌else◌}
+use Rattle.std.specs.Prelude.{◌≡◌, ℕ, ◌+◌, ◌==◌, ◌++◌, Bool, true, false, Option, Some, None, [], ◌∷◌, fold}
+use Rattle.std.specs.Prelude.{if◌then◌else◌}
 use Rattle.step_rules.specs.declared.phase.Stage.{Stage}
 use Rattle.step_rules.specs.declared.phase.Stage.TheVariants.{Collected, BackAt, BackPassing, AwaitsReturn}
 use Rattle.step_rules.specs.declared.phase.Phase.{Phase}
@@ -11,7 +11,7 @@ use Rattle.step_rules.specs.declared.step.Action.{Action}
 use Rattle.step_rules.specs.declared.step.Action.TheVariants.{Put, Freeze, Unfreeze, Credit, Return}
 use Rattle.step_rules.specs.declared.step.Answer.{Answer}
 use Rattle.step_rules.specs.declared.step.Answer.TheVariants.{Done, Last, Stocked}
-use Rattle.step_rules.specs.State.{Zone, State, at_boot, one_if, is_unheld}
+use Rattle.step_rules.specs.State.{Zone, State, at_boot, one_if, is_unheld, times}
 use Rattle.step_rules.specs.Usage.{frames_kept, pages_prepaid, usage_of}
 use Rattle.step_rules.specs.Legal.{is_legal, IsMade, no_frame_passes}
 use Rattle.step_rules.specs.After.{Run, after, state_of, IsLegalRun}
@@ -114,10 +114,6 @@ pub record ReturnsOnce (zone : Zone) (run : Run) (f : ℕ) : Type 0 where
 abbrev pub EveryFrameReturnsOnce : Type 0
 EveryFrameReturnsOnce = (zone : Zone) (run : Run) → IsLegalRun zone run → (f : ℕ) → ReturnsOnce zone run f
 
--- how often the list has the frame
-abbrev pub times_in : ℕ → List ℕ → ℕ
-times_in f frames = length (filter (λ x. x == f) frames)
-
 -- While the lock is free no page is pending, usage is the frames kept and the pages prepaid, and no frame is in
 -- transit. A frame that is lent is once on the list of its CPU, and no frame is on any other list.
 pub record IsAllPlaced (s : State) : Type 0 where
@@ -125,7 +121,7 @@ pub record IsAllPlaced (s : State) : Type 0 where
   pub usage : (g : ℕ) → usage_of s g
       ≡ frames_kept s.groups s.phases s.zone.frames g + pages_prepaid s.groups s.parts s.zone.cpus g
   pub still : no_frame_passes s ≡ true
-  pub listed : (f cpu : ℕ) → times_in f (s.parts cpu).list
+  pub listed : (f cpu : ℕ) → times f (s.parts cpu).list
       ≡ one_if (is_same_frame_place (place_in (s.phases f)) (LentTo cpu))
 
 -- after every legal run that leaves the lock free nothing is pending or in transit

@@ -75,6 +75,11 @@ abbrev pub one_if : Bool → ℕ
 one_if true = 1
 one_if false = 0
 
+-- how often x is in the list
+abbrev pub times : ℕ → List ℕ → ℕ
+times x [] = 0
+times x (y ∷ ys) = one_if (y == x) + times x ys
+
 -- the sum of h 0, h 1 and so on, n numbers in all
 unfoldable pub sum_to : ℕ → (ℕ → ℕ) → ℕ
 sum_to zero h = 0

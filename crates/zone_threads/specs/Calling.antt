@@ -13,8 +13,9 @@ use Rattle.group_tree.specs.declared.fault.Fault.{Fault}
 use Rattle.group_tree.specs.declared.fault.Fault.TheVariants.{NotPinned, PinsFull}
 use Rattle.boot_words.specs.Growth.{GrewByAll}
 use Rattle.boot_words.specs.Pasts.{own_past}
+use Rattle.step_rules.specs.State.{times}
 use Rattle.cpu_part.specs.Calls.{DropAnswers, FastAnswers, PinAnswers, UnpinAnswers}
-use Rattle.cpu_part.specs.Cpus.{most_pins, times}
+use Rattle.cpu_part.specs.Cpus.{most_pins}
 use Rattle.cpu_part.specs.Told.{steps_of_drop, steps_of_fast, steps_of_get, steps_of_put}
 use Rattle.cpu_part.specs.declared.answers.Dropped.{Dropped}
 use Rattle.cpu_part.specs.declared.answers.Dropped.TheVariants.{Listed, NeedVisit}

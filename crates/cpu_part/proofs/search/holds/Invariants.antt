@@ -1,5 +1,5 @@
 use Rattle.std.proofs.Common.{◌≡◌, false, take}
-use Rattle.cpu_part.specs.Cpus.{times}
+use Rattle.step_rules.specs.State.{times}
 use Rattle.cpu_part.proofs.search.holds.Given as goal
 
 abbrev pub invariant-loop-other : goal.invariant-loop-other

@@ -1,5 +1,5 @@
 use Rattle.std.proofs.Common.{◌≡◌, ◌≤◌, length, drop}
-use Rattle.cpu_part.specs.Cpus.{times}
+use Rattle.step_rules.specs.State.{times}
 use Rattle.cpu_part.proofs.search.skip_blocks_without.Given as goal
 
 abbrev pub invariant-loop-end : goal.invariant-loop-end

@@ -1,11 +1,12 @@
-use Rattle.std.proofs.Common.{◌<◌, ◌≤◌, length, inl, arith, refl, rules, subst, sym}
+use Rattle.std.proofs.Common.{◌<◌, ◌≤◌, length, ap, inl, arith, refl, rules, subst, sym}
 use Rattle.std.proofs.lemmas.Grind.{common_steps}
+use Rattle.stock_word.specs.declared.view.StockView.{StockView}
 use Rattle.step_rules.specs.declared.step.Action.TheVariants.{Consume}
 use Rattle.cpu_part.specs.Known.{KnowsItsPart}
 use Rattle.cpu_part.proofs.Knowing.{knows_drained, knows_took, may_consume}
 use Rattle.cpu_part.proofs.Making.{may_do_at, past_at}
 use Rattle.cpu_part.proofs.Answered.{got}
-use Rattle.cpu_part.proofs.Tied.{front_inside}
+use Rattle.cpu_part.proofs.Tied.{front_inside, tied_took}
 use Rattle.boot_words.specs.Growth.{GrewByAll}
 use Rattle.boot_words.specs.Pasts.{own_past}
 use Rattle.step_rules.specs.declared.step.Answer.TheVariants as said
@@ -24,6 +25,16 @@ returns-in-Took-clause-answer g c =
 
 pub returns-in-Took-clause-frame : goal.returns-in-Took-clause-frame
 returns-in-Took-clause-frame g c = front_inside _ _ _ c.self.invariant.0 c.freshen.result c.freshen.new.list.items (inl c.freshen.ensures.front)
+
+pub invariant_of-self-in-Took : goal.invariant_of-self-in-Took
+invariant_of-self-in-Took g c =
+    let bound = c.self.invariant.0.within.fresh_bound in let took = c.in-Took.ensures.answer.2 in
+    let short : length c.self.inside.fresh.items < 32 = omega arith in (
+      tied_took _ _ _ c.self.invariant.0 c.freshen.result c.consume.new.seat c.freshen.new.list.items c.freshen.new.fresh.items
+          c.freshen.ensures.front c.freshen.ensures.fresh short c.consume.ensures.table (ap (λ (v : StockView). v.number) took)
+          (ap (λ (v : StockView). v.fresh) took),
+      search rules,
+    )
 
 pub invariant_of-self-in-Empty : goal.invariant_of-self-in-Empty
 invariant_of-self-in-Empty g c = search rules

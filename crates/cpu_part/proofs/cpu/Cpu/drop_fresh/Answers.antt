@@ -1,7 +1,8 @@
 use Rattle.std.proofs.Common.{◌≤◌, ap, refl, rules, subst, sym}
 use Rattle.stock_word.specs.declared.view.StockView.{StockView}
 use Rattle.step_rules.specs.declared.step.Action.TheVariants.{Credit}
-use Rattle.cpu_part.specs.Cpus.{KnownCpu, times}
+use Rattle.step_rules.specs.State.{times}
+use Rattle.cpu_part.specs.Cpus.{KnownCpu}
 use Rattle.cpu_part.specs.Known.{KnowsItsPart}
 use Rattle.cpu_part.proofs.Answered.{dropped}
 use Rattle.cpu_part.proofs.Knowing.{knows_drained, knows_listed, may_credit}

@@ -1,6 +1,7 @@
 use Rattle.std.proofs.Common.{◌≤◌, rules, subst, sym}
 use Rattle.step_rules.specs.declared.step.Action.TheVariants.{Put}
-use Rattle.cpu_part.specs.Cpus.{KnownCpu, times}
+use Rattle.step_rules.specs.State.{times}
+use Rattle.cpu_part.specs.Cpus.{KnownCpu}
 use Rattle.cpu_part.specs.Known.{KnowsItsPart}
 use Rattle.cpu_part.proofs.Knowing.{knows_last, knows_left, may_put}
 use Rattle.cpu_part.proofs.Making.{may_do_at, past_at}

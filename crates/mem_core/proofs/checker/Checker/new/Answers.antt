@@ -1,9 +1,8 @@
 -- At first all is as at boot.
 use Rattle.std.proofs.Common.{◌≡◌, ◌*◌, ◌^◌, lit<, [], sym, ◌∙◌, ap, subst, arith}
 use Rattle.step_rules.specs.State.{Zone, State, at_boot}
-use Rattle.step_rules.proofs.Sound.{IsSound}
+use Rattle.step_rules.specs.Invariant.{KeepsInvariant, IsHomed}
 use Rattle.step_rules.proofs.Runs.{sound_boot}
-use Rattle.step_rules.proofs.Homes.{IsHomed}
 use Rattle.step_rules.proofs.Keeping.{homed_run}
 use Rattle.mem_core.specs.Rows as rows
 use Rattle.mem_core.specs.Bounded.{IsBounded}
@@ -20,7 +19,7 @@ invariant_of-result c =
     let frames : s.zone.frames ≡ c.args.config.frames = ap (λ (t : State). t.zone.frames) boot in
     record {
       fits = c.in_ok-rows.ensures.fits;
-      sound = subst IsSound (sym boot) (sound_boot zone);
+      sound = subst KeepsInvariant (sym boot) (sound_boot zone);
       homed = subst IsHomed (sym boot) (homed_run zone [] (λ k. tt)).1;
       bounded = subst (IsBounded (0 * 2 ^ 32)) (sym boot) (bounded_boot (0 * 2 ^ 32) zone);
       few = lit< tt;

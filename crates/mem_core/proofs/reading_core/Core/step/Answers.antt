@@ -6,9 +6,8 @@ use Rattle.step_rules.specs.Legal.{Allows}
 use Rattle.step_rules.specs.After.{after}
 use Rattle.step_rules.proofs.Placed.{zone_kept}
 use Rattle.step_rules.specs.Peaks.{UsageMoves}
-use Rattle.step_rules.proofs.Homes.{IsHomed}
+use Rattle.step_rules.specs.Invariant.{KeepsInvariant, IsHomed}
 use Rattle.step_rules.proofs.Keeping.{homes_allowed}
-use Rattle.step_rules.proofs.Sound.{IsSound}
 use Rattle.mem_core.specs.declared.rows.Rows.{Rows}
 use Rattle.mem_core.specs.Rooms.{pages_asked}
 use Rattle.mem_core.specs.Rows as rows
@@ -40,7 +39,7 @@ update_accounts-requires-clause-bounded c =
     let asked : pages_asked action < 2 ^ 32 = let a = c.pages_asked.ensures.pages in let b = c.pages_asked.ensures.few in omega arith in
     let bounded = bounded_after (n * 2 ^ 32) s seat action answer c.self.invariant.sound c.self.invariant.bounded c.serve-answer.ensures.allowed asked in
     ready c.serve-answer.new.rows (n * 2 ^ 32 + 2 ^ 32) (omega arith) c.serve-answer.ensures.fits
-    (subst IsSound (sym state) (sound_after s seat action answer c.self.invariant.sound c.serve-answer.ensures.allowed))
+    (subst KeepsInvariant (sym state) (sound_after s seat action answer c.self.invariant.sound c.serve-answer.ensures.allowed))
     (subst (IsBounded (n * 2 ^ 32 + 2 ^ 32)) (sym state) bounded)
 
 pub set_areas-requires-clause-frames : goal.set_areas-requires-clause-frames
@@ -65,7 +64,7 @@ invariant_of-self-2 c =
     let frames : t.zone.frames ≡ s.zone.frames = ap (λ (z : Zone). z.frames) zone in
     record {
       fits = c.serve-answer.ensures.fits;
-      sound = subst IsSound (sym state) (sound_after s seat action answer c.self.invariant.sound c.serve-answer.ensures.allowed);
+      sound = subst KeepsInvariant (sym state) (sound_after s seat action answer c.self.invariant.sound c.serve-answer.ensures.allowed);
       homed = subst IsHomed (sym state) (homes_allowed s seat action answer c.self.invariant.sound c.self.invariant.homed c.serve-answer.ensures.allowed);
       bounded = subst (λ (m : ℕ). IsBounded m t) count (subst (IsBounded (n * 2 ^ 32 + 2 ^ 32)) (sym state) bounded);
       accounts = c.update_accounts.ensures.length;
