@@ -10,7 +10,7 @@ use Rattle.stock_word.specs.declared.view.StockView.{StockView}
 use Rattle.stock_word.specs.Stock.{HasWord, stock_pages_of, word_of}
 use Rattle.stock_word.specs.StockRule.{StockRule, report_index, stock_index}
 use Rattle.stock_word.specs.Kinds.{Alone, Joined, absorbing_step, draining_step, filling_step}
-use Rattle.stock_word.proofs.Steps.{absorbing_allowed, draining_allowed, filling_allowed}
+use Rattle.stock_word.proofs.Steps.{renamed, absorbing_allowed, draining_allowed, filling_allowed}
 use Rattle.step_rules.specs.declared.step.Step.{Step}
 use Rattle.step_rules.specs.declared.step.Answer.{Answer}
 use Rattle.step_rules.specs.declared.step.Answer.TheVariants.{Done, Pages}
@@ -74,14 +74,16 @@ fill_is_allowed {S} zone slots id g n z c local m v holds legal are fits may =
     let kind : ℕ → Me S (List StockView) → Type 0 = λ found. Joined filling_step (step slots (stock_index c.number) (word_of (HeldBy g n)) 0 none) (m ∷ v ∷ [], []) (word_of (HeldBy g n)) in
     stock_under_lock zone slots id (stock_index c.number) (stock_low zone c.number (within zone c m.number v.number are)) (λ x. word_of (HeldBy g n)) z c local (m ∷ v ∷ []) _ (λ found. Done) kind holds (inl refl) refl legal
     (λ s k at small x told. (fits, refl)) (λ found x told. ap (λ (y : Me S (List StockView)). y.1) told.2)
-    (filling_allowed zone.cpus slots id ((m ∷ v ∷ []), []) m v g n refl are.zone_is are.low are.high fits.0 fits.1 may.0 may.1 may.2 (stock_index c.number) (word_of (HeldBy g n)) (ap stock_index (sym are.cpu_is)) refl)
+    (renamed zone.cpus slots id (m ∷ v ∷ [], []) (λ x. word_of (HeldBy g n))
+    (λ i x. Joined filling_step (step slots i (word_of (HeldBy g n)) 0 none) (m ∷ v ∷ [], []) (word_of (HeldBy g n))) _ _ (ap stock_index (sym are.cpu_is))
+    (filling_allowed zone.cpus slots id m v are.zone_is are.low are.high g n fits.0 fits.1 may.0 may.1 may.2))
 
 pub absorb_is_allowed : {S : Type 0} → AbsorbIsAllowed S
 absorb_is_allowed {S} zone slots id cpu z c local m holds legal zone_is low high =
     let kind : ℕ → Me S (List StockView) → Type 0 = Alone absorbing_step (step slots (report_index cpu) 0 0 none) (m ∷ [], []) in
     stock_under_lock zone slots id (report_index cpu) (report_low zone cpu high) (λ x. 0) z c local (m ∷ []) _ (λ found. Pages found) kind holds (inl refl) refl legal
     (λ s k at small x told. (sym ((stock_is_at zone (report_index cpu) (report_low zone cpu high)).reads s.words), refl)) (λ found x told. ap (λ (y : Me S (List StockView)). y.1) told.1)
-    (absorbing_allowed zone.cpus slots id ((m ∷ []), []) cpu refl zone_is low high (report_index cpu) refl)
+    (absorbing_allowed zone.cpus slots id m zone_is cpu low high)
 
 pub said_pages : (stock : Stock) → HasWord stock → word_of stock % 65536 ≡ stock_pages_of stock
 said_pages NoGroup h = refl
@@ -97,4 +99,4 @@ drain_is_allowed {S} zone slots id cpu g z c local m holds legal zone_is low hig
     OfGroup drains.stock g drains.of_group (ap pages_said drains.word_before ∙ said_pages drains.stock drains.has_word)
     (record { before_fits = drains.has_word; after_fits = few; found = (stock_is_at zone (stock_index cpu) (stock_low zone cpu high)).reads s.words ∙ drains.word_before; later_is = refl }))
     (λ found x told. ap (λ (y : Me S (List StockView)). y.1) told.1)
-    (draining_allowed zone.cpus slots id ((m ∷ []), []) cpu g refl zone_is low high group (stock_index cpu) (word_of (DrainedOf g)) refl refl)
+    (draining_allowed zone.cpus slots id m zone_is cpu low high g group)

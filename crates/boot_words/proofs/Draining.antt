@@ -4,15 +4,15 @@ use Rattle.std.specs.Prelude.{is_some}
 use Rattle.std.specs.List.{fold}
 use Rattle.std.proofs.lemmas.Bool.{true≢false}
 use Rattle.step_rules.specs.declared.step.Action.{Action}
-use Rattle.step_rules.specs.declared.step.Action.TheVariants.{Lock, Unlock, OpenVisit, ShutVisit, Get, Put, Freeze, Unfreeze, PassOut}
-use Rattle.step_rules.specs.declared.step.Action.TheVariants.{TakeIn, PassBack, Collect, Consume, Credit, Report, Absorb, Fill, DrainStock}
-use Rattle.step_rules.specs.declared.step.Action.TheVariants.{Grant, Ungrant, PlaceBlock, Return, SetMax, SetFlag, Make, Remove, Kill}
+use Rattle.step_rules.specs.declared.step.Action.TheVariants.{Lock, Put}
+use Rattle.step_rules.specs.declared.step.Action.TheVariants.{TakeIn, PassBack, Consume, Credit, Report, Absorb, Fill, DrainStock}
 use Rattle.step_rules.specs.declared.step.Answer.{Answer}
-use Rattle.step_rules.specs.declared.step.Answer.TheVariants.{Done, Held, Left, Last, Took, Stocked, Pages, Granted, Placed, Number}
+use Rattle.step_rules.specs.declared.step.Answer.TheVariants.{Illegal, Done, Last, Took, Stocked, Pages}
 use Rattle.step_rules.specs.State.{State, Part, with_at, at_boot}
 use Rattle.step_rules.specs.Legal.{Allows, IsMade}
 use Rattle.step_rules.specs.After.{Run, after, state_of, with_back, drained}
 use Rattle.step_rules.proofs.Basics.{at_other, at_each}
+use Rattle.step_rules.proofs.LocalLaws.{no_illegal}
 use Rattle.step_rules.proofs.Runs.{next, after_illegal, allowed, IsLegalFrom}
 use Rattle.boot_words.specs.Runs.{HasNoStepOf, BooksNothingOf, books}
 use Rattle.boot_words.specs.Sight.{HasSameOrDrained, StocksAreOwn}
@@ -45,38 +45,21 @@ other_booked s r p part other = at_other s.parts r part p (λ e. true≢false (s
 
 pub stock_step : (s : State) (q p : ℕ) (action : Action) (answer : Answer) → q ≢ p → books p action ≡ false → IsMade s q action answer
     → HasSameOrDrained (s.parts p) ((after s q action answer).parts p)
-stock_step s q p Lock Done ne other made = same_part _ _ refl
-stock_step s q p Unlock Done ne other made = same_part _ _ refl
-stock_step s q p (OpenVisit r) Done ne other made = same_part _ _ refl
-stock_step s q p (ShutVisit r) Done ne other made = same_part _ _ refl
-stock_step s q p (Get f) Held ne other made = same_part _ _ refl
-stock_step s q p (Put f) (Left n) ne other made = same_part _ _ refl
+stock_step s q p action Illegal ne other made = absurd (no_illegal s q action made.answered)
 stock_step s q p (Put f) Last ne other made = by_seat (q == 0)
   where
     by_seat : (b : Bool) → HasSameOrDrained (s.parts p) (cond b s.parts (with_at s.parts q (with_back (s.parts q) f)) p)
     by_seat true = same_part _ _ refl
     by_seat false = same_part _ _ (at_other s.parts q _ p (λ e. ne (sym e)))
-stock_step s q p (Freeze f n) Done ne other made = same_part _ _ refl
-stock_step s q p (Unfreeze f n) Done ne other made = same_part _ _ refl
-stock_step s q p (PassOut f r) Done ne other made = same_part _ _ refl
 stock_step s q p (TakeIn f) Done ne other made = same_part _ _ (at_other s.parts q _ p (λ e. ne (sym e)))
 stock_step s q p (PassBack f) Done ne other made = same_part _ _ (at_other s.parts q _ p (λ e. ne (sym e)))
-stock_step s q p (Collect f r) Done ne other made = same_part _ _ refl
 stock_step s q p (Consume g) Took ne other made = same_part _ _ (at_other s.parts q _ p (λ e. ne (sym e)))
 stock_step s q p (Credit f) Stocked ne other made = same_part _ _ (at_other s.parts q _ p (λ e. ne (sym e)))
 stock_step s q p (Report n) Done ne other made = same_part _ _ (at_other s.parts q _ p (λ e. ne (sym e)))
 stock_step s q p (Absorb r) (Pages n) ne other made = same_part _ _ (other_booked s r p _ other)
 stock_step s q p (Fill r g n) Done ne other made = same_part _ _ (other_booked s r p _ other)
 stock_step s q p (DrainStock r) (Pages n) ne other made = drained_at s r n p made.counted
-stock_step s q p (Grant g n) Granted ne other made = same_part _ _ refl
-stock_step s q p (Ungrant g n) Done ne other made = same_part _ _ refl
-stock_step s q p (PlaceBlock g k) (Placed b) ne other made = same_part _ _ refl
-stock_step s q p (Return f) Done ne other made = same_part _ _ refl
-stock_step s q p (SetMax g limit) Done ne other made = same_part _ _ refl
-stock_step s q p (SetFlag g flag) Done ne other made = same_part _ _ refl
-stock_step s q p (Make path) (Number n) ne other made = same_part _ _ refl
-stock_step s q p (Remove g) Done ne other made = same_part _ _ refl
-stock_step s q p (Kill g) Done ne other made = same_part _ _ refl
+stock_step s q p Lock answer ne other made = same_part _ _ refl
 stock_step s q p action answer ne other made = same_part _ _ refl
 
 pub drained_twice : (a b c : Part) → HasSameOrDrained a b → HasSameOrDrained b c → HasSameOrDrained a c

@@ -1,14 +1,14 @@
 -- What the pasts of the zone and of a CPU gain, and the run so far.
-use Rattle.std.proofs.Common.{◌≡◌, ◌≢◌, ℕ, zero, suc, ◌+◌, ◌≤◌, ◌<◌, ◌==◌, ◌||◌, true, Some, List, [], ◌∷◌, ◌++◌, length, get_or, refl, ap, sym, ◌∙◌, subst, arith, inl, inr, ⊎_elim, append_assoc}
+use Rattle.std.proofs.Common.{◌≡◌, ◌≢◌, ℕ, zero, suc, ◌+◌, ◌≤◌, ◌<◌, ◌==◌, ◌||◌, true, Some, List, [], ◌∷◌, ◌++◌, length, get_or, refl, ap, sym, ◌∙◌, subst, arith, rules, inl, inr, ⊎_elim, append_assoc}
 use Rattle.std.specs.Prelude.{◌⊎◌, not, nat_le, slice_get, slice_set}
-use Rattle.std.proofs.lemmas.Bool.{and_parts, cases_Bool, cases_eq, eqb-true, leb-true, false≢true, true≢false}
+use Rattle.std.proofs.lemmas.Bool.{and_parts, cases_Bool, cases_eq, eqb-true, leb-true, true≢false}
 use Rattle.std.proofs.lemmas.List.{get_or-set_other, get_or-set_same, length-set}
 use Rattle.std.proofs.lemmas.Option.{get_or_from_slice_get, slice_get-get_or, slice_get_within}
 use Rattle.frame_word.specs.Seats.{KnownTable}
 use Rattle.step_rules.specs.declared.phase.Hold.{Hold}
 use Rattle.step_rules.specs.declared.step.Step.{Step}
 use Rattle.step_rules.specs.declared.step.Answer.{Answer}
-use Rattle.step_rules.specs.declared.step.Answer.TheVariants.{Drained, Full, Illegal, Zero}
+use Rattle.step_rules.specs.declared.step.Answer.TheVariants.{Illegal}
 use Rattle.step_rules.specs.declared.step.Action.{Action}
 use Rattle.step_rules.specs.declared.step.Action.TheVariants.{Lock, Unlock, OpenVisit, ShutVisit, Get, Put, Freeze, Unfreeze, PassOut, TakeIn, PassBack, Collect}
 use Rattle.step_rules.specs.declared.step.Action.TheVariants.{Consume, Credit, Report, Absorb, Fill, DrainStock, Grant, Ungrant, PlaceBlock, Publish, Return}
@@ -21,7 +21,7 @@ use Rattle.step_rules.proofs.LegalTests.{lock_tests, unlock_tests, open_visit_te
 use Rattle.step_rules.proofs.LegalTests.{consume_tests, credit_tests, report_tests, absorb_tests, fill_tests, drain_stock_tests, grant_tests, ungrant_tests, place_block_tests, publish_tests, return_tests}
 use Rattle.step_rules.proofs.LegalTests.{set_max_tests, set_flag_tests, make_tests, remove_tests, kill_tests}
 use Rattle.step_rules.proofs.PhaseLemmas.{none_some}
-use Rattle.step_rules.proofs.Runs.{allowed, legal_more, state_more}
+use Rattle.step_rules.proofs.Runs.{after_illegal, allowed, legal_more, state_more}
 use Rattle.boot_words.specs.declared.view.Past.{Past}
 use Rattle.boot_words.specs.Rule.{AllOf, IsPastOf}
 use Rattle.boot_words.specs.Allowed.{GrewBy}
@@ -222,15 +222,9 @@ gains_go_on earlier steps zone zone' cpus index cpu cpu' so_far at gains =
 
 -- a step whose answer changes nothing changes nothing
 quiet_after : (s : State) (seat : ℕ) (action : Action) (answer : Answer) → changes_nothing answer ≡ true → after s seat action answer ≡ s
-quiet_after s seat Lock Illegal quiet = refl
-quiet_after s seat action Illegal quiet = refl
-quiet_after s seat Lock Zero quiet = refl
-quiet_after s seat action Zero quiet = refl
-quiet_after s seat Lock Full quiet = refl
-quiet_after s seat action Full quiet = refl
-quiet_after s seat Lock Drained quiet = refl
-quiet_after s seat action Drained quiet = refl
-quiet_after s seat action answer quiet = absurd (false≢true quiet)
+quiet_after s seat action Illegal quiet = after_illegal s seat action
+quiet_after s seat Lock answer quiet = search rules
+quiet_after s seat action answer quiet = search rules
 
 -- a legal run without some steps that change nothing is legal, and leads to the same state
 without_quiet : (zone : Zone) (before before' run steps : Run) → state_of zone before' ≡ state_of zone before → IsLegalRun zone before' → IsLegalRun zone (before ++ run)

@@ -87,13 +87,13 @@ pub stock_look_is_allowed : {S : Type 0} → StockLookIsAllowed S
 stock_look_is_allowed {S} zone slots id cpu m zone_is low high =
     stock_look zone slots id (stock_index cpu) (stock_low zone cpu high) [] (m ∷ []) (Alone looking_step (step slots (stock_index cpu) 0 0 none) (m ∷ [], []))
     (λ found x told. ap (λ (y : Me S (List StockView)). y.1) told.1)
-    (looking_allowed zone.cpus slots id ((m ∷ []), []) cpu refl zone_is low high (stock_index cpu) refl)
+    (looking_allowed zone.cpus slots id m zone_is cpu low high)
 
 pub joined_look_is_allowed : {S : Type 0} → JoinedLookIsAllowed S
 joined_look_is_allowed {S} zone slots id m v zone_is low high =
     stock_look zone slots id (stock_index v.number) (stock_low zone v.number high) [] (m ∷ v ∷ []) (Joined seeing_stock_step (step slots (stock_index v.number) 0 0 none) (m ∷ v ∷ [], []))
     (λ found x told. ap (λ (y : Me S (List StockView)). y.1) told.2)
-    (seeing_allowed zone.cpus slots id ((m ∷ v ∷ []), []) m v refl zone_is low high (stock_index v.number) refl)
+    (seeing_allowed zone.cpus slots id m v zone_is low high)
 
 pub look_to_drain_is_allowed : {S : Type 0} → LookToDrainIsAllowed S
 look_to_drain_is_allowed {S} zone slots id cpu z c local m holds legal zone_is low high s k homes at small =
@@ -102,7 +102,7 @@ look_to_drain_is_allowed {S} zone slots id cpu z c local m holds legal zone_is l
     let found = slice_index s.words i in
     let kind : ℕ → Me S (List StockView) → Type 0 = Alone looking_step (step slots i 0 0 none) (m ∷ [], []) in
     let empty : (found : ℕ) (x : Me S (List StockView)) → kind found x → x.1 ≡ [] = λ found x told. ap (λ (y : Me S (List StockView)). y.1) told.1 in
-    let allows = looking_allowed {S = S} zone.cpus slots id ((m ∷ []), []) cpu refl zone_is low high i refl in
+    let allows = looking_allowed {S = S} zone.cpus slots id m zone_is cpu low high in
     let words = words_in zone s.words in
     let is : slice_index words.stocks i ≡ found = (stock_is_at zone i word_low).reads s.words in
     dite (ℕ_discrete found 0)

@@ -2,15 +2,14 @@
 use Rattle.std.proofs.Common.{◌≡◌, ◌≢◌, ℕ, ◌==◌, Bool, true, false, [], ◌∷◌, ◌++◌, List, refl, sym, ap, ◌∙◌, cond}
 use Rattle.std.specs.List.{fold}
 use Rattle.step_rules.specs.declared.step.Action.{Action}
-use Rattle.step_rules.specs.declared.step.Action.TheVariants.{Lock, Unlock, OpenVisit, ShutVisit, Get, Put, Freeze, Unfreeze, PassOut}
-use Rattle.step_rules.specs.declared.step.Action.TheVariants.{TakeIn, PassBack, Collect, Consume, Credit, Report, Absorb, Fill, DrainStock}
-use Rattle.step_rules.specs.declared.step.Action.TheVariants.{Grant, Ungrant, PlaceBlock, Return, SetMax, SetFlag, Make, Remove, Kill}
+use Rattle.step_rules.specs.declared.step.Action.TheVariants.{Lock, Get, Put, Freeze, Unfreeze}
+use Rattle.step_rules.specs.declared.step.Action.TheVariants.{TakeIn, PassBack, Consume, Credit, Report, Absorb, Fill, DrainStock}
 use Rattle.step_rules.specs.declared.step.Answer.{Answer}
-use Rattle.step_rules.specs.declared.step.Answer.TheVariants.{Done, Held, Left, Last, Took, Stocked, Pages, Granted, Placed, Number}
+use Rattle.step_rules.specs.declared.step.Answer.TheVariants.{Illegal, Done, Held, Left, Last, Took, Stocked, Pages}
 use Rattle.step_rules.specs.State.{Zone, State, Part, with_at, at_boot}
 use Rattle.step_rules.specs.After.{Run, after, state_of, with_back, absorbed, filled, drained}
 use Rattle.step_rules.proofs.Basics.{at_other, at_each}
-use Rattle.step_rules.proofs.Runs.{next}
+use Rattle.step_rules.proofs.Runs.{next, after_illegal}
 use Rattle.boot_words.specs.Runs.{HasNoStepOf, OthersFollow}
 use Rattle.boot_words.specs.Sight.{ListsAreOwn}
 
@@ -24,10 +23,8 @@ changed_at parts r part p same = at_each parts r part (λ k x. lists_in x ≡ li
 -- another seat's step leaves the CPU's lists and references
 pub own_keeps : (s : State) (q p : ℕ) (action : Action) (answer : Answer) → p ≢ 0 → q ≢ p
     → (lists_in ((after s q action answer).parts p) ≡ lists_in (s.parts p)) × ((after s q action answer).references p ≡ s.references p)
-own_keeps s q p Lock Done zone ne = (refl, refl)
-own_keeps s q p Unlock Done zone ne = (refl, refl)
-own_keeps s q p (OpenVisit r) Done zone ne = (refl, refl)
-own_keeps s q p (ShutVisit r) Done zone ne = (refl, refl)
+own_keeps s q p action Illegal zone ne =
+    let none = after_illegal s q action in (ap (λ (t : State). lists_in (t.parts p)) none, ap (λ (t : State). t.references p) none)
 own_keeps s q p (Get f) Held zone ne = (refl, at_other s.references q _ p (λ e. ne (sym e)))
 own_keeps s q p (Put f) (Left n) zone ne = (refl, at_other s.references q _ p (λ e. ne (sym e)))
 own_keeps s q p (Put f) Last zone ne = (by_seat (q == 0), at_other s.references q _ p (λ e. ne (sym e)))
@@ -37,25 +34,15 @@ own_keeps s q p (Put f) Last zone ne = (by_seat (q == 0), at_other s.references 
     by_seat false = ap lists_in (at_other s.parts q _ p (λ e. ne (sym e)))
 own_keeps s q p (Freeze f n) Done zone ne = (refl, at_other s.references 0 _ p zone)
 own_keeps s q p (Unfreeze f n) Done zone ne = (refl, at_other s.references 0 _ p zone)
-own_keeps s q p (PassOut f r) Done zone ne = (refl, refl)
 own_keeps s q p (TakeIn f) Done zone ne = (ap lists_in (at_other s.parts q _ p (λ e. ne (sym e))), refl)
 own_keeps s q p (PassBack f) Done zone ne = (ap lists_in (at_other s.parts q _ p (λ e. ne (sym e))), refl)
-own_keeps s q p (Collect f r) Done zone ne = (refl, refl)
 own_keeps s q p (Consume g) Took zone ne = (ap lists_in (at_other s.parts q _ p (λ e. ne (sym e))), refl)
 own_keeps s q p (Credit f) Stocked zone ne = (ap lists_in (at_other s.parts q _ p (λ e. ne (sym e))), refl)
 own_keeps s q p (Report n) Done zone ne = (ap lists_in (at_other s.parts q _ p (λ e. ne (sym e))), refl)
 own_keeps s q p (Absorb r) (Pages n) zone ne = (changed_at s.parts r (absorbed (s.parts r) n) p refl, refl)
 own_keeps s q p (Fill r g n) Done zone ne = (changed_at s.parts r (filled (s.parts r) g n) p refl, refl)
 own_keeps s q p (DrainStock r) (Pages n) zone ne = (changed_at s.parts r (drained (s.parts r) n) p refl, refl)
-own_keeps s q p (Grant g n) Granted zone ne = (refl, refl)
-own_keeps s q p (Ungrant g n) Done zone ne = (refl, refl)
-own_keeps s q p (PlaceBlock g k) (Placed b) zone ne = (refl, refl)
-own_keeps s q p (Return f) Done zone ne = (refl, refl)
-own_keeps s q p (SetMax g limit) Done zone ne = (refl, refl)
-own_keeps s q p (SetFlag g flag) Done zone ne = (refl, refl)
-own_keeps s q p (Make path) (Number n) zone ne = (refl, refl)
-own_keeps s q p (Remove g) Done zone ne = (refl, refl)
-own_keeps s q p (Kill g) Done zone ne = (refl, refl)
+own_keeps s q p Lock answer zone ne = (refl, refl)
 own_keeps s q p action answer zone ne = (refl, refl)
 
 rest_keeps : {X : Type 0} (p : ℕ) (T : State → X) → ((s : State) (q : ℕ) (action : Action) (answer : Answer) → q ≢ p → T (after s q action answer) ≡ T s)

@@ -1,5 +1,5 @@
 -- Plain steps leave the words those of the run.
-use Rattle.std.proofs.Common.{◌≡◌, ◌≢◌, ℕ, ◌+◌, ◌^◌, ◌<◌, ◌≤◌, ◌==◌, Bool, true, false, refl, sym, ◌∙◌, ap, subst, arith, inl, inr, cond}
+use Rattle.std.proofs.Common.{◌≡◌, ◌≢◌, ℕ, ◌+◌, ◌^◌, ◌<◌, ◌≤◌, ◌==◌, Bool, true, false, refl, sym, ◌∙◌, ap, subst, arith, rules, inl, inr, cond}
 use Rattle.std.proofs.lemmas.Bool.{cases_eq, false≢true}
 use Rattle.zone_blocks.specs.declared.block.Block.{Block}
 use Rattle.zone_blocks.specs.Areas.{IsFreeBlock}
@@ -11,10 +11,9 @@ use Rattle.step_rules.specs.declared.phase.Stage.TheVariants.{Bare, Collected, A
 use Rattle.step_rules.specs.declared.phase.Phase.{Phase}
 use Rattle.step_rules.specs.declared.phase.Phase.TheVariants.{InZone, Head, Tail}
 use Rattle.step_rules.specs.declared.step.Action.{Action}
-use Rattle.step_rules.specs.declared.step.Action.TheVariants.{Lock, Unlock, Grant, Ungrant, PlaceBlock, Publish, Return}
-use Rattle.step_rules.specs.declared.step.Action.TheVariants.{NoteMax, NoteOom, NoteGroupKill, SetMax, SetFlag, Make, Remove, Kill}
+use Rattle.step_rules.specs.declared.step.Action.TheVariants.{Lock, Unlock, PlaceBlock, Return}
 use Rattle.step_rules.specs.declared.step.Answer.{Answer}
-use Rattle.step_rules.specs.declared.step.Answer.TheVariants.{Done, Granted, Placed, Number}
+use Rattle.step_rules.specs.declared.step.Answer.TheVariants.{Illegal, Done, Placed}
 use Rattle.step_rules.specs.Phases.{is_free, unit_of}
 use Rattle.step_rules.specs.State.{State, Part, free_in, is_unheld, is_held_by, live_references, one_if, visits}
 use Rattle.step_rules.specs.Legal.{is_legal, IsAnswer}
@@ -23,6 +22,7 @@ use Rattle.step_rules.specs.Invariant.{KeepsInvariant}
 use Rattle.step_rules.proofs.LegalTests.{lock_tests, unlock_tests, return_tests}
 use Rattle.step_rules.proofs.PhaseLemmas.{is_quiet, is_quiet_stage, returning_is, Returns, AsEnded, AsKilled}
 use Rattle.step_rules.proofs.Placing.{block_free, in_block, in_unit, off_block, off_unit, within_cases}
+use Rattle.step_rules.proofs.LocalLaws.{no_illegal}
 use Rattle.step_rules.proofs.Runs.{after_illegal, allowed, legal_more, state_more}
 use Rattle.boot_words.specs.Words.{Words, AreFrameWords, AreStockWords, word_in_phase, frame_word}
 use Rattle.boot_words.specs.Steps.{IsPlain, PlainStepsKeepWords}
@@ -105,6 +105,7 @@ held_visits p hold q e = absurd (false≢true e)
 
 plain_stays : (s : State) (words : Words) (seat : ℕ) (action : Action) (answer : Answer) → Stands s words → IsPlain action
     → is_legal s seat action ≡ true → IsAnswer s seat action answer → StaysSo s (after s seat action answer)
+plain_stays s words seat action Illegal stands plain legal ok = absurd (no_illegal s seat action ok)
 plain_stays s words seat Lock Done stands plain legal ok = record {
   frames = record { zone = refl; frame = λ f. refl; visit = λ q. sym (ap one_if (unheld_visits s.hold q (lock_tests s seat legal).1)) };
   parts = refl;
@@ -121,29 +122,8 @@ plain_stays s words seat (Return f) Done stands plain legal ok = record {
   frames = record { zone = refl; frame = returned_words s f stands.sound (returning_is s.killed (s.phases f) (return_tests s seat f legal).2); visit = λ q. refl };
   parts = refl;
 }
-plain_stays s words seat (Grant g n) Granted stands plain legal ok = record { frames = record { zone = refl; frame = λ f. refl; visit = λ q. refl }; parts = refl }
-plain_stays s words seat (Ungrant g n) Done stands plain legal ok = record { frames = record { zone = refl; frame = λ f. refl; visit = λ q. refl }; parts = refl }
-plain_stays s words seat (SetMax g limit) Done stands plain legal ok = record { frames = record { zone = refl; frame = λ f. refl; visit = λ q. refl }; parts = refl }
-plain_stays s words seat (SetFlag g flag) Done stands plain legal ok = record { frames = record { zone = refl; frame = λ f. refl; visit = λ q. refl }; parts = refl }
-plain_stays s words seat (Make path) (Number n) stands plain legal ok = record { frames = record { zone = refl; frame = λ f. refl; visit = λ q. refl }; parts = refl }
-plain_stays s words seat (Remove g) Done stands plain legal ok = record { frames = record { zone = refl; frame = λ f. refl; visit = λ q. refl }; parts = refl }
-plain_stays s words seat (Kill g) Done stands plain legal ok = record { frames = record { zone = refl; frame = λ f. refl; visit = λ q. refl }; parts = refl }
 plain_stays s words seat Lock answer stands plain legal ok = stays s
-plain_stays s words seat Unlock answer stands plain legal ok = stays s
-plain_stays s words seat (Grant g n) answer stands plain legal ok = stays s
-plain_stays s words seat (Ungrant g n) answer stands plain legal ok = stays s
-plain_stays s words seat (PlaceBlock g k) answer stands plain legal ok = stays s
-plain_stays s words seat (Publish f) answer stands plain legal ok = stays s
-plain_stays s words seat (Return f) answer stands plain legal ok = stays s
-plain_stays s words seat (NoteMax g) answer stands plain legal ok = stays s
-plain_stays s words seat (NoteOom g) answer stands plain legal ok = stays s
-plain_stays s words seat (NoteGroupKill g) answer stands plain legal ok = stays s
-plain_stays s words seat (SetMax g limit) answer stands plain legal ok = stays s
-plain_stays s words seat (SetFlag g flag) answer stands plain legal ok = stays s
-plain_stays s words seat (Make path) answer stands plain legal ok = stays s
-plain_stays s words seat (Remove g) answer stands plain legal ok = stays s
-plain_stays s words seat (Kill g) answer stands plain legal ok = stays s
-plain_stays s words seat action answer stands plain legal ok = absurd plain
+plain_stays s words seat action answer stands plain legal ok = search rules
 
 pub plain_steps_keep_words : PlainStepsKeepWords
 plain_steps_keep_words zone words run step answer is plain ok =

@@ -12,7 +12,7 @@ use Rattle.stock_word.specs.Stock.{HasWord, drained_of, word_of}
 use Rattle.stock_word.specs.StockRule.{StockRule, stock_index}
 use Rattle.stock_word.specs.Kinds.{Alone, consuming_step, crediting_step}
 use Rattle.stock_word.proofs.Keeps.{cpu_stock}
-use Rattle.stock_word.proofs.Steps.{consume_allowed, credit_allowed}
+use Rattle.stock_word.proofs.Steps.{renamed, consume_allowed, credit_allowed}
 use Rattle.step_rules.specs.declared.step.Step.{Step}
 use Rattle.step_rules.specs.declared.step.Action.TheVariants.{Consume, Credit}
 use Rattle.step_rules.specs.declared.step.Answer.{Answer}
@@ -60,7 +60,8 @@ consume_is_allowed {S} zone slots id g n v p ne same high last legal s k homes a
     let most : v.number ≤ zone.cpus = subst (λ m. m ≤ zone.cpus) same high in
     let lifted = lift (λ (t : State S (List StockView)). StockRule zone.cpus t.words t.views) (take (frame_base zone)) stocks_in slots id i i old
     (λ m. either (eqb m before) after m) (Alone consuming_step (step slots i before after none) (v ∷ [], []))
-    (consume_allowed zone.cpus slots id (v ∷ [], []) g n refl low most last i before after (ap stock_index same) refl refl)
+    (renamed zone.cpus slots id (v ∷ [], []) (λ m. either (eqb m before) after m) (λ j. Alone consuming_step (step slots j before after none) (v ∷ [], []))
+    _ _ (ap stock_index same) (consume_allowed zone.cpus slots id v low most g n last))
     (stock_is_at zone i low_word) s k.stocks homes at small in
     let made = lifted.4 in
     let words = words_in zone s.words in
@@ -126,7 +127,8 @@ credit_is_allowed {S} zone slots id f g n v p ne same high last fresh legal s k 
     let most : v.number ≤ zone.cpus = subst (λ m. m ≤ zone.cpus) same high in
     let lifted = lift (λ (t : State S (List StockView)). StockRule zone.cpus t.words t.views) (take (frame_base zone)) stocks_in slots id i i old
     (λ m. either (eqb m before) after m) (Alone crediting_step (step slots i before after none) (v ∷ [], []))
-    (credit_allowed zone.cpus slots id (v ∷ [], []) g n refl low most last fresh i before after (ap stock_index same) refl refl)
+    (renamed zone.cpus slots id (v ∷ [], []) (λ m. either (eqb m before) after m) (λ j. Alone crediting_step (step slots j before after none) (v ∷ [], []))
+    _ _ (ap stock_index same) (credit_allowed zone.cpus slots id v low most g n last fresh))
     (stock_is_at zone i low_word) s k.stocks homes at small in
     let made = lifted.4 in
     let words = words_in zone s.words in

@@ -1,5 +1,5 @@
 -- A plain step under the lock, made by a load of a word that nobody writes.
-use Rattle.std.proofs.Common.{◌≡◌, ℕ, List, [], ◌∷◌, ◌++◌, set, refl, sym, subst, inl}
+use Rattle.std.proofs.Common.{◌≡◌, ℕ, List, [], ◌∷◌, ◌++◌, set, refl, sym, subst, rules, inl}
 use Rattle.std.specs.Prelude.{◌⊎◌, slice_index}
 use Rattle.std.proofs.lemmas.List.{set-get_or}
 use mathlib.Core.Option.{some}
@@ -11,8 +11,7 @@ use Rattle.stock_word.specs.declared.view.StockView.{StockView}
 use Rattle.stock_word.specs.StockRule.{StockRule}
 use Rattle.step_rules.specs.declared.step.Step.{Step}
 use Rattle.step_rules.specs.declared.step.Action.{Action}
-use Rattle.step_rules.specs.declared.step.Action.TheVariants.{Lock, Unlock, Grant, Ungrant, PlaceBlock, Publish, Return}
-use Rattle.step_rules.specs.declared.step.Action.TheVariants.{NoteMax, NoteOom, NoteGroupKill, SetMax, SetFlag, Make, Remove, Kill}
+use Rattle.step_rules.specs.declared.step.Action.TheVariants.{Lock}
 use Rattle.step_rules.specs.declared.step.Answer.{Answer}
 use Rattle.step_rules.specs.State.{State, Zone}
 use Rattle.step_rules.specs.Legal.{Allows, IsAnswer, IsCounted}
@@ -36,21 +35,7 @@ use Rattle.boot_words.proofs.UnderLock.{has_past, legal_now, next_holds, shows_n
 
 plain_counted : (s : State) (action : Action) (answer : Answer) → IsPlain action → IsCounted s action answer
 plain_counted s Lock answer plain = tt
-plain_counted s Unlock answer plain = tt
-plain_counted s (Grant g n) answer plain = tt
-plain_counted s (Ungrant g n) answer plain = tt
-plain_counted s (PlaceBlock g k) answer plain = tt
-plain_counted s (Publish f) answer plain = tt
-plain_counted s (Return f) answer plain = tt
-plain_counted s (NoteMax g) answer plain = tt
-plain_counted s (NoteOom g) answer plain = tt
-plain_counted s (NoteGroupKill g) answer plain = tt
-plain_counted s (SetMax g limit) answer plain = tt
-plain_counted s (SetFlag g flag) answer plain = tt
-plain_counted s (Make path) answer plain = tt
-plain_counted s (Remove g) answer plain = tt
-plain_counted s (Kill g) answer plain = tt
-plain_counted s action answer plain = absurd plain
+plain_counted s action answer plain = search rules
 
 -- A seat with both pasts makes an allowed plain step behind the run, and both pasts note it.
 pub plain_step : {S : Type 0} (zone : Zone) (s : Board S (List BootView)) (k : boot_rule zone s) (id : ℕ) (z c : Past) (made_step : Step) (answer : Answer)

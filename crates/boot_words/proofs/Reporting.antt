@@ -11,7 +11,7 @@ use Rattle.stock_word.specs.Stock.{HasWord, account_of, stock_pages_of, word_of}
 use Rattle.stock_word.specs.StockRule.{IsStock, report_index, stock_index}
 use Rattle.stock_word.specs.Kinds.{Joined, consuming_held_step, reporting_step}
 use Rattle.stock_word.proofs.Keeps.{joined_stock}
-use Rattle.stock_word.proofs.Steps.{consuming_held_allowed, reporting_allowed}
+use Rattle.stock_word.proofs.Steps.{renamed, consuming_held_allowed, reporting_allowed}
 use Rattle.step_rules.specs.declared.step.Answer.TheVariants.{Done, Took}
 use Rattle.step_rules.specs.State.{Zone}
 use Rattle.boot_words.specs.declared.view.Past.{Past}
@@ -49,7 +49,8 @@ report_is_allowed {S} zone slots id n z c local m v holds legal are few =
     let balanced : (account_of m v.number).book ≡ stock_pages_of stock.stock + v.fresh + found = stock.balanced ∙ ap (λ r. stock_pages_of stock.stock + v.fresh + r) report in
     ap (with_stocks_at words i) (small_sum found n v.fresh (stock_pages_of stock.stock) (account_of m v.number).book balanced stock.bounded few ∙ ap (λ r. r + n) (sym is)))
     (λ found x told. ap (λ (y : Me S (List StockView)). y.1) told.2)
-    (reporting_allowed zone.cpus slots id ((m ∷ v ∷ []), []) m v n refl are.zone_is are.low are.high few i (ap report_index (sym are.cpu_is)))
+    (renamed zone.cpus slots id (m ∷ v ∷ [], []) (λ x. (x + n) % 2 ^ 64) (λ j. Joined reporting_step (step slots j n 0 none) (m ∷ v ∷ [], [])) _ _
+    (ap report_index (sym are.cpu_is)) (reporting_allowed zone.cpus slots id m v are.zone_is are.low are.high n few))
 
 one_less : (x y : ℕ) → x ≡ y + 1 → x < 18446744073709551616 → (x + (2 ^ 64 - 1)) % 2 ^ 64 ≡ y
 one_less x y e h = omega arith
@@ -82,7 +83,8 @@ held_consume_is_allowed {S} zone slots id g z c local m v holds legal are group 
       },
     ))
     (λ found x told. ap (λ (y : Me S (List StockView)). y.1) told.2)
-    (consuming_held_allowed zone.cpus slots id ((m ∷ v ∷ []), []) m v g refl are.zone_is are.low are.high group more i (ap stock_index (sym are.cpu_is)))
+    (renamed zone.cpus slots id (m ∷ v ∷ [], []) (λ x. (x + (2 ^ 64 - 1)) % 2 ^ 64) (λ j. Joined consuming_held_step (step slots j 1 0 none) (m ∷ v ∷ [], [])) _ _
+    (ap stock_index (sym are.cpu_is)) (consuming_held_allowed zone.cpus slots id m v are.zone_is are.low are.high g group more))
   where
     same_some : (a b : ℕ) → Some a ≡ Some b → a ≡ b
     same_some a b e = cc

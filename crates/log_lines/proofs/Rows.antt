@@ -187,25 +187,12 @@ action_again (action.Make a) rest fit = one_again path_codec action.Make a rest 
 -- an answer is read again from its words
 answer_again : (v : Answer) (rest : List (List ℕ)) → AllFit (answer_words v) → answer_at (texts (answer_words v) ++ rest) ≡ Some (v, rest)
 unfolding answer_at results_at
-answer_again answer.Illegal rest fit = refl
-answer_again answer.Done rest fit = refl
-answer_again answer.Held rest fit = refl
-answer_again answer.Zero rest fit = refl
-answer_again answer.Full rest fit = refl
-answer_again answer.Last rest fit = refl
-answer_again answer.Missed rest fit = refl
-answer_again answer.Took rest fit = refl
-answer_again answer.Empty rest fit = refl
-answer_again answer.OtherGroup rest fit = refl
-answer_again answer.Drained rest fit = refl
-answer_again answer.Stocked rest fit = refl
-answer_again answer.Granted rest fit = refl
-answer_again answer.NoFreeBlock rest fit = refl
 answer_again (answer.Left a) rest fit = one_again number_codec answer.Left a rest fit.1
 answer_again (answer.Pages a) rest fit = one_again wide_codec answer.Pages a rest fit.1
 answer_again (answer.Over a) rest fit = one_again group_codec answer.Over a rest fit.1
 answer_again (answer.Number a) rest fit = one_again group_codec answer.Number a rest fit.1
 answer_again (answer.Placed block) rest fit = two_again number_codec order_codec placed block.at block.order rest (fit.1.0, tt) fit.1.1
+answer_again v rest fit = refl
 
 pub action_codec : IsCodec action_at action_words
 unfolding action_at

@@ -123,6 +123,12 @@ cases_list Active Active = inl refl
 pub homes_differ : (lru : Lru) (list m : LruList) → m ≢ list → home_in lru list ≢ home_in lru m
 homes_differ lru list m ne e = ne (sym (ap (λ (h : Home). h.list) e))
 
+-- a unit on one of the lists isn't on the other
+pub elsewhere : (lru : Lru) (list : LruList) (home : Option Home) → home ≡ Some (home_in lru list) → (m : LruList) → m ≢ list → home ≢ Some (home_in lru m)
+elsewhere lru list home there m ne e =
+    let k : Some (home_in lru list) ≡ Some (home_in lru m) = sym there ∙ e in
+    homes_differ lru list m ne (let w : home_in lru list ≡ home_in lru m = cc in w)
+
 -- the list that didn't change, after a push or an unlink on the other
 pub other_linked : (before after : List Link) (lru : Lru) (list m : LruList) (unit : ℕ) → AreLinked before lru → m ≢ list
     → StaysElsewhere before after (home_in lru list) unit → SameUse before after unit
@@ -300,66 +306,42 @@ own_after_push before after lru list unit m away h =
 
 -- ---- a whole push and a whole unlink
 
--- what a push on one of the lists leaves
-pub record AfterPush (before after : List Link) (lru : Lru) (list : LruList) (q : Queue) (unit : ℕ) : Type 0 where
+-- what a change of one of the lists leaves, and the list's entries
+pub record AfterChange (before after : List Link) (lru : Lru) (list : LruList) (q : Queue) (unit : ℕ) (es : List Entry) : Type 0 where
   pub stands : AreLinked after (with_queue lru list q)
-  pub entries : entries_of after (with_queue lru list q) list ≡ entries_of before lru list ++ marked false (entry_of before unit) ∷ []
+  pub entries : entries_of after (with_queue lru list q) list ≡ es
   pub other : (m : LruList) → m ≢ list → entries_of after (with_queue lru list q) m ≡ entries_of before lru m
   pub moves : MovesOnly before after lru.owner unit
 
-pub after_push_is : (before after : List Link) (lru : Lru) (list : LruList) (q : Queue) (unit : ℕ) (home : Home) (old : Queue) (older : Option ℕ)
-    → AreLinked before lru
-    → IsOnNone before unit → home ≡ home_in lru list → old ≡ queue_of lru list → units_of after q ≡ units_of before old ++ unit ∷ []
-    → IsLinked after home q (units_of after q) → link_at after unit ≡ newest_link home older (link_at before unit).is_dirty
-    → StaysElsewhere before after home unit → SameUse before after unit → AfterPush before after lru list q unit
-after_push_is before after lru list q unit home old older stands away h o units0 linked at stays used =
-    let units : units_of after q ≡ units_of before (queue_of lru list) ++ unit ∷ [] =
-    subst (λ (v : Queue). units_of after q ≡ units_of before v ++ unit ∷ []) o units0 in
-    let linked' : IsLinked after (home_in lru list) q (units_of after q) = subst (λ (v : Home). IsLinked after v q (units_of after q)) h linked in
-    let at' : link_at after unit ≡ newest_link (home_in lru list) older (link_at before unit).is_dirty =
-    subst (λ (v : Home). link_at after unit ≡ newest_link v older (link_at before unit).is_dirty) h at in
-    let stays' : StaysElsewhere before after (home_in lru list) unit = subst (λ (v : Home). StaysElsewhere before after v unit) h stays in
-    let there : (link_at after unit).home ≡ Some (home_in lru list) = ap (λ (k : Link). k.home) at' in
-    let b : (m : LruList) → m ≢ list → (link_at before unit).home ≢ Some (home_in lru m) =
-    λ m ne e. let k : None ≡ Some (home_in lru m) = sym away ∙ e in cc in
-    let a : (m : LruList) → m ≢ list → (link_at after unit).home ≢ Some (home_in lru m) =
-    λ m ne e. let k : Some (home_in lru list) ≡ Some (home_in lru m) = sym there ∙ e in
-    homes_differ lru list m ne (let w : home_in lru list ≡ home_in lru m = cc in w) in
-    record {
-      stands = stands_after before after lru list q unit stands linked' stays' used b a;
-      entries = pushed_entries before after lru list q unit older stands away units at' used;
-      other = λ m ne. entries_of_other after lru list m q ne ∙ other_entries before after lru list m unit stands ne stays' used (b m ne) (a m ne);
-      moves = moves_only before after lru list unit stays' used;
-    }
+module _ (before after : List Link) (lru : Lru) (list : LruList) (q : Queue) (unit : ℕ) (stands : AreLinked before lru)
+    (linked : IsLinked after (home_in lru list) q (units_of after q)) (stays : StaysElsewhere before after (home_in lru list) unit)
+    (used : SameUse before after unit) where
+  after_change : (es : List Entry) → entries_of after (with_queue lru list q) list ≡ es
+      → ((m : LruList) → m ≢ list → (link_at before unit).home ≢ Some (home_in lru m))
+      → ((m : LruList) → m ≢ list → (link_at after unit).home ≢ Some (home_in lru m)) → AfterChange before after lru list q unit es
+  after_change es same b a = record {
+    stands = stands_after before after lru list q unit stands linked stays used b a;
+    entries = same;
+    other = λ m ne. entries_of_other after lru list m q ne ∙ other_entries before after lru list m unit stands ne stays used (b m ne) (a m ne);
+    moves = moves_only before after lru list unit stays used;
+  }
 
--- what an unlink from one of the lists leaves
-pub record AfterUnlink (before after : List Link) (lru : Lru) (list : LruList) (q : Queue) (unit : ℕ) : Type 0 where
-  pub stands : AreLinked after (with_queue lru list q)
-  pub entries : entries_of after (with_queue lru list q) list ≡ entries_without unit (entries_of before lru list)
-  pub other : (m : LruList) → m ≢ list → entries_of after (with_queue lru list q) m ≡ entries_of before lru m
-  pub moves : MovesOnly before after lru.owner unit
+  -- a push of a unit that is on no list
+  pub after_push : (older : Option ℕ) → IsOnNone before unit → units_of after q ≡ units_of before (queue_of lru list) ++ unit ∷ []
+      → link_at after unit ≡ newest_link (home_in lru list) older (link_at before unit).is_dirty
+      → AfterChange before after lru list q unit (entries_of before lru list ++ marked false (entry_of before unit) ∷ [])
+  after_push older away units at =
+      let there : (link_at after unit).home ≡ Some (home_in lru list) = ap (λ (k : Link). k.home) at in
+      after_change _ (pushed_entries before after lru list q unit older stands away units at used)
+      (λ m ne e. let k : None ≡ Some (home_in lru m) = sym away ∙ e in cc) (elsewhere lru list _ there)
 
-pub after_unlink_is : (before after : List Link) (lru : Lru) (list : LruList) (q : Queue) (unit : ℕ) (home : Home) (old : Queue) → AreLinked before lru
-    → (link_at before unit).home ≡ Some (home_in lru list) → home ≡ home_in lru list → old ≡ queue_of lru list
-    → units_of after q ≡ list_without unit (units_of before old)
-    → IsLinked after home q (units_of after q) → link_at after unit ≡ unlinked (link_at before unit)
-    → StaysElsewhere before after home unit → SameUse before after unit → AfterUnlink before after lru list q unit
-after_unlink_is before after lru list q unit home old stands there h o units0 linked at stays used =
-    let units : units_of after q ≡ list_without unit (units_of before (queue_of lru list)) =
-    subst (λ (v : Queue). units_of after q ≡ list_without unit (units_of before v)) o units0 in
-    let linked' : IsLinked after (home_in lru list) q (units_of after q) = subst (λ (v : Home). IsLinked after v q (units_of after q)) h linked in
-    let stays' : StaysElsewhere before after (home_in lru list) unit = subst (λ (v : Home). StaysElsewhere before after v unit) h stays in
-    let b : (m : LruList) → m ≢ list → (link_at before unit).home ≢ Some (home_in lru m) =
-    λ m ne e. let k : Some (home_in lru list) ≡ Some (home_in lru m) = sym there ∙ e in
-    homes_differ lru list m ne (let w : home_in lru list ≡ home_in lru m = cc in w) in
-    let a : (m : LruList) → m ≢ list → (link_at after unit).home ≢ Some (home_in lru m) =
-    λ m ne e. let k : None ≡ Some (home_in lru m) = sym (ap (λ (v : Link). v.home) at) ∙ e in cc in
-    record {
-      stands = stands_after before after lru list q unit stands linked' stays' used b a;
-      entries = unlinked_entries before after lru list q unit stands units used;
-      other = λ m ne. entries_of_other after lru list m q ne ∙ other_entries before after lru list m unit stands ne stays' used (b m ne) (a m ne);
-      moves = moves_only before after lru list unit stays' used;
-    }
+  -- an unlink of a unit of the list
+  pub after_unlink : (link_at before unit).home ≡ Some (home_in lru list) → units_of after q ≡ list_without unit (units_of before (queue_of lru list))
+      → link_at after unit ≡ unlinked (link_at before unit)
+      → AfterChange before after lru list q unit (entries_without unit (entries_of before lru list))
+  after_unlink there units at =
+      after_change _ (unlinked_entries before after lru list q unit stands units used) (elsewhere lru list _ there)
+      (λ m ne e. let k : None ≡ Some (home_in lru m) = sym (ap (λ (v : Link). v.home) at) ∙ e in cc)
 
 -- ---- a unit that isn't on a list
 
@@ -517,11 +499,7 @@ pub unlinked_each : (before after : List Link) (lru new : Lru) (list : LruList) 
     → (m : LruList) → entries_of after new m ≡ entries_without unit (entries_of before lru m)
 unlinked_each before after lru new list unit stands there own other m = elim (cases_list m list) [
   | inl e ↦ rw e own
-  | inr ne ↦
-      let away : (link_at before unit).home ≢ Some (home_in lru m) =
-      λ h. let k : Some (home_in lru list) ≡ Some (home_in lru m) = sym there ∙ h in
-      homes_differ lru list m ne (let w : home_in lru list ≡ home_in lru m = cc in w) in
-      other m ne ∙ sym (other_lacks before lru m unit stands away)
+  | inr ne ↦ other m ne ∙ sym (other_lacks before lru m unit stands (elsewhere lru list _ there m ne))
 ]
 
 -- a unit that was removed is added again as it was, unmarked
@@ -534,9 +512,7 @@ pub other_unchanged : (links : List Link) (lru : Lru) (list m : LruList) (unit :
     → (link_at links unit).home ≡ Some (home_in lru list) → m ≢ list → changed_at unit change (entries_of links lru m) ≡ entries_of links lru m
 other_unchanged links lru list m unit change stands there ne =
     let xs : List ℕ = units_of links (queue_of lru m) in
-    changed_lacks links unit change xs (false_from_ne_true (is_among xs unit) (λ i.
-    let k : Some (home_in lru list) ≡ Some (home_in lru m) = sym there ∙ (stands m).homes unit i in
-    homes_differ lru list m ne (let w : home_in lru list ≡ home_in lru m = cc in w)))
+    changed_lacks links unit change xs (false_from_ne_true (is_among xs unit) (λ i. elsewhere lru list _ there m ne ((stands m).homes unit i)))
 
 -- ---- ends and neighbours, read
 

@@ -7,11 +7,11 @@ use Rattle.step_rules.specs.declared.phase.Hold.{Hold}
 use Rattle.step_rules.specs.declared.phase.Hold.TheVariants.{Unheld, HeldBy, Visiting}
 use Rattle.step_rules.specs.declared.phase.Phase.{Phase}
 use Rattle.step_rules.specs.declared.step.Action.{Action}
-use Rattle.step_rules.specs.declared.step.Action.TheVariants.{Lock, Unlock, OpenVisit, ShutVisit, Get, Put, Freeze, Unfreeze, PassOut}
-use Rattle.step_rules.specs.declared.step.Action.TheVariants.{TakeIn, PassBack, Collect, Consume, Credit, Report, Absorb, Fill, DrainStock}
-use Rattle.step_rules.specs.declared.step.Action.TheVariants.{Grant, Ungrant, PlaceBlock, Return, SetMax, SetFlag, Make, Remove, Kill}
+use Rattle.step_rules.specs.declared.step.Action.TheVariants.{Lock, Unlock, OpenVisit, ShutVisit, Get, Put, Freeze, Unfreeze}
+use Rattle.step_rules.specs.declared.step.Action.TheVariants.{TakeIn, PassBack, Consume, Credit, Report, Absorb, Fill, DrainStock}
+use Rattle.step_rules.specs.declared.step.Action.TheVariants.{Grant, Ungrant, PlaceBlock}
 use Rattle.step_rules.specs.declared.step.Answer.{Answer}
-use Rattle.step_rules.specs.declared.step.Answer.TheVariants.{Done, Held, Left, Last, Took, Stocked, Pages, Granted, Placed, Number}
+use Rattle.step_rules.specs.declared.step.Answer.TheVariants.{Illegal, Done, Held, Left, Last, Took, Stocked, Pages, Granted, Placed}
 use Rattle.step_rules.specs.Phases.{Kind, ListFrame, has_as, is_live_phase, is_head_in_hand}
 use Rattle.step_rules.specs.State.{Zone, State, Part, with_at, sum_to, one_if, is_cpu, is_held_by, visits, front_of, frames_of, live_references, times}
 use Rattle.step_rules.specs.Legal.{is_legal, IsAnswer, IsCounted, get_answer}
@@ -22,6 +22,7 @@ use Rattle.step_rules.proofs.Sums.{sum_same, sum_part, sum_change}
 use Rattle.step_rules.proofs.Lists.{count_length, front_stands, one_if_true}
 use Rattle.step_rules.proofs.PhaseLemmas.{free_is, in_hand, WasCollected, WasBare, WasEnded}
 use Rattle.step_rules.proofs.Few.{HaveFewPins, pins_made}
+use Rattle.step_rules.proofs.LocalLaws.{no_illegal}
 use Rattle.step_rules.proofs.Placed.{zone_kept}
 use Rattle.mem_core.specs.Bounded.{IsBounded, pages_out, HolderIsThere}
 use Rattle.mem_core.specs.Rooms.{IsBelowBounds, pages_asked}
@@ -164,6 +165,7 @@ cpu_high zone p e = leb-true p zone.cpus (and_parts (nat_le 1 p) (nat_le p zone.
 
 small_step : (n : ℕ) (s : State) (seat : ℕ) (action : Action) (answer : Answer) → KeepsInvariant s → AreSmall n s → is_legal s seat action ≡ true →
     IsAnswer s seat action answer → IsCounted s action answer → pages_asked action < 2 ^ 32 → AreSmall (n + 2 ^ 32) (after s seat action answer)
+small_step n s seat action Illegal sound b legal ok counted small = absurd (no_illegal s seat action ok)
 small_step n s seat Lock Done sound b legal ok counted small =
     let cpu : is_cpu s.zone seat ≡ true = grind (arith, legal) in
     record { references = b.references; pages = wide n (pages_out s) b.pages; holder = cpu_high s.zone seat cpu }
@@ -179,20 +181,12 @@ small_step n s seat (Get f) Held sound b legal ok counted small =
     let high = cpu_high s.zone seat cpu in
     let part = sum_part (s.zone.cpus + 1) (λ k. s.references k f) seat (omega arith) in
     let few = held_few (live_references s f) counted in
-    record {
-      references = refs_with s.references seat f (s.references seat f + 1) b.references (omega arith);
-      pages =
-          wide n (pages_out s) b.pages;
-      holder = b.holder;
-    }
+    let refs = refs_with s.references seat f (s.references seat f + 1) b.references (omega arith) in
+    record { references = refs; pages = wide n (pages_out s) b.pages; holder = b.holder }
 small_step n s seat (Put f) (Left m) sound b legal ok counted small =
     let was = b.references seat f in
-    record {
-      references = refs_with s.references seat f (s.references seat f - 1) b.references (omega arith);
-      pages =
-          wide n (pages_out s) b.pages;
-      holder = b.holder;
-    }
+    let refs = refs_with s.references seat f (s.references seat f - 1) b.references (omega arith) in
+    record { references = refs; pages = wide n (pages_out s) b.pages; holder = b.holder }
 small_step n s seat (Put f) Last sound b legal ok counted small =
     let was = b.references seat f in
     record {
@@ -207,31 +201,19 @@ small_step n s seat (Put f) Last sound b legal ok counted small =
     last false = part_kept n s seat (with_back (s.parts seat) f) refl b.pages
 small_step n s seat (Freeze f m) Done sound b legal ok counted small =
     let was = b.references 0 f in
-    record {
-      references = refs_with s.references 0 f (s.references 0 f - m) b.references (omega arith);
-      pages =
-          wide n (pages_out s) b.pages;
-      holder = b.holder;
-    }
+    let refs = refs_with s.references 0 f (s.references 0 f - m) b.references (omega arith) in
+    record { references = refs; pages = wide n (pages_out s) b.pages; holder = b.holder }
 small_step n s seat (Unfreeze f m) Done sound b legal ok counted small =
     let hand : is_head_in_hand (s.phases f) ≡ true = grind (arith, legal) in
     let top : nat_le m 255 ≡ true = grind (arith, legal) in
     let most = leb-true m 255 top in
     let none : s.references 0 f ≡ 0 = (sound.frames f).unreferred (hand_not_live (s.phases f) hand) 0 in
-    record {
-      references = refs_with s.references 0 f (s.references 0 f + m) b.references (omega arith);
-      pages =
-          wide n (pages_out s) b.pages;
-      holder = b.holder;
-    }
-small_step n s seat (PassOut f p) Done sound b legal ok counted small =
-    record { references = b.references; pages = wide n (pages_out s) b.pages; holder = b.holder }
+    let refs = refs_with s.references 0 f (s.references 0 f + m) b.references (omega arith) in
+    record { references = refs; pages = wide n (pages_out s) b.pages; holder = b.holder }
 small_step n s seat (TakeIn f) Done sound b legal ok counted small =
     record { references = b.references; pages = part_kept n s seat _ refl b.pages; holder = b.holder }
 small_step n s seat (PassBack f) Done sound b legal ok counted small =
     record { references = b.references; pages = part_kept n s seat _ refl b.pages; holder = b.holder }
-small_step n s seat (Collect f p) Done sound b legal ok counted small =
-    record { references = b.references; pages = wide n (pages_out s) b.pages; holder = b.holder }
 small_step n s seat (Consume g) Took sound b legal ok counted small =
     record { references = b.references; pages = part_kept n s seat _ refl b.pages; holder = b.holder }
 small_step n s seat (Credit f) Stocked sound b legal ok counted small =
@@ -273,17 +255,7 @@ small_step n s seat (PlaceBlock g k) (Placed x) sound b legal ok counted small =
     let d = sum_more 64 s.pending g (s.pending g - 2 ^ k) 0 (omega arith) in
     let few = b.pages in
     record { references = b.references; pages = omega arith; holder = b.holder }
-small_step n s seat (Return f) Done sound b legal ok counted small =
-    record { references = b.references; pages = wide n (pages_out s) b.pages; holder = b.holder }
-small_step n s seat (SetMax g limit) Done sound b legal ok counted small =
-    record { references = b.references; pages = wide n (pages_out s) b.pages; holder = b.holder }
-small_step n s seat (SetFlag g flag) Done sound b legal ok counted small =
-    record { references = b.references; pages = wide n (pages_out s) b.pages; holder = b.holder }
-small_step n s seat (Make path) (Number k) sound b legal ok counted small =
-    record { references = b.references; pages = wide n (pages_out s) b.pages; holder = b.holder }
-small_step n s seat (Remove g) Done sound b legal ok counted small =
-    record { references = b.references; pages = wide n (pages_out s) b.pages; holder = b.holder }
-small_step n s seat (Kill g) Done sound b legal ok counted small =
+small_step n s seat Lock answer sound b legal ok counted small =
     record { references = b.references; pages = wide n (pages_out s) b.pages; holder = b.holder }
 small_step n s seat action answer sound b legal ok counted small =
     record { references = b.references; pages = wide n (pages_out s) b.pages; holder = b.holder }

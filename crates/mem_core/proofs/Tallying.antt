@@ -6,11 +6,11 @@ use Rattle.std.proofs.lemmas.Bool.{cases_eq, cases_lt, cond-false, cond-true, ne
 use Rattle.std.proofs.lemmas.List.{length-set, length-replicate}
 use Rattle.group_tree.specs.declared.group.Group.{Group}
 use Rattle.group_tree.specs.Groups.{in_subtree}
-use Rattle.step_rules.specs.declared.phase.Way.TheVariants.{PassingOut, OnList, PassingBack}
+use Rattle.step_rules.specs.declared.phase.Way.TheVariants.{PassingOut, PassingBack}
 use Rattle.step_rules.specs.declared.phase.Stage.{Stage}
-use Rattle.step_rules.specs.declared.phase.Stage.TheVariants.{FreshAt, FreshPassing, Collected, Bare, Live, BackAt, BackPassing, AwaitsReturn}
+use Rattle.step_rules.specs.declared.phase.Stage.TheVariants.{FreshPassing, BackPassing}
 use Rattle.step_rules.specs.declared.phase.Phase.{Phase}
-use Rattle.step_rules.specs.declared.phase.Phase.TheVariants.{InZone, Lent, Head, Tail}
+use Rattle.step_rules.specs.declared.phase.Phase.TheVariants.{InZone, Lent, Head}
 use Rattle.step_rules.specs.Phases.{is_passing, is_stage_passing, keeper_of, passes_out, passes_back, stage_passes_back}
 use Rattle.step_rules.specs.State.{all_to, one_if, sum_to, with_at}
 use Rattle.step_rules.specs.Usage.{frames_kept, is_in_subtree}
@@ -201,21 +201,14 @@ class_none last n =
 rest_stage : (stage : Stage) → not (is_stage_passing stage) ≡ (class_of 64 (stage_transit_cpu stage) == 0)
 rest_stage (FreshPassing cpu) = class_none 64 cpu
 rest_stage (BackPassing cpu) = class_none 64 cpu
-rest_stage (FreshAt cpu) = refl
-rest_stage Collected = refl
-rest_stage Bare = refl
-rest_stage Live = refl
-rest_stage (BackAt cpu) = refl
-rest_stage AwaitsReturn = refl
+rest_stage stage = refl
 
 -- a frame that is not in transit is of the first class
 pub rest_class : (x : Phase) → not (is_passing x) ≡ (transit_class x == 0)
-rest_class InZone = refl
 rest_class (Lent cpu PassingOut) = class_none 64 cpu
-rest_class (Lent cpu OnList) = refl
 rest_class (Lent cpu PassingBack) = class_none 64 cpu
 rest_class (Head unit stage) = rest_stage stage
-rest_class (Tail g) = refl
+rest_class x = refl
 
 no_class : (cpu : ℕ) → true ≡ not (0 == cpu + 1)
 no_class cpu = sym (ap not (ne_eqb 0 (cpu + 1) (λ z. absurd (omega arith))))
@@ -223,21 +216,14 @@ no_class cpu = sym (ap not (ne_eqb 0 (cpu + 1) (λ z. absurd (omega arith))))
 rests_stage : (cpu : ℕ) (stage : Stage) → cpu ≤ 64 → not (stage_passes_back cpu stage) ≡ not (class_of 64 (stage_transit_cpu stage) == cpu + 1)
 rests_stage cpu (FreshPassing other) below = ap not (sym (class_is 64 other cpu below))
 rests_stage cpu (BackPassing other) below = ap not (sym (class_is 64 other cpu below))
-rests_stage cpu (FreshAt other) below = no_class cpu
-rests_stage cpu Collected below = no_class cpu
-rests_stage cpu Bare below = no_class cpu
-rests_stage cpu Live below = no_class cpu
-rests_stage cpu (BackAt other) below = no_class cpu
-rests_stage cpu AwaitsReturn below = no_class cpu
+rests_stage cpu stage below = no_class cpu
 
 -- a frame is in transit to or from the CPU exactly if it is of the CPU's class
 pub rests_class : (cpu : ℕ) (x : Phase) → cpu ≤ 64 → (not (passes_out cpu x) && not (passes_back cpu x)) ≡ not (transit_class x == cpu + 1)
-rests_class cpu InZone below = no_class cpu
 rests_class cpu (Lent other PassingOut) below = and_true (not (other == cpu)) ∙ ap not (sym (class_is 64 other cpu below))
-rests_class cpu (Lent other OnList) below = no_class cpu
 rests_class cpu (Lent other PassingBack) below = ap not (sym (class_is 64 other cpu below))
 rests_class cpu (Head unit stage) below = rests_stage cpu stage below
-rests_class cpu (Tail g) below = no_class cpu
+rests_class cpu x below = no_class cpu
 
 -- the sizes follow the change of one phase
 pub tally_set : (class : Phase → ℕ) (xs : List Phase) (sizes : List ℕ) (f : ℕ) (x : Phase)

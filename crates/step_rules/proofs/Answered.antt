@@ -14,9 +14,9 @@ use Rattle.group_tree.proofs.AncestorLemmas.{parent_of-none_root}
 use Rattle.group_tree.proofs.CallerLemmas.{in_subtree-above, in_subtree-refl}
 use Rattle.group_tree.proofs.Walks.{WalkedTo, walked_up, walked_all, walked_lowest, parent_depth}
 use Rattle.step_rules.specs.declared.step.Action.{Action}
-use Rattle.step_rules.specs.declared.step.Action.TheVariants.{Lock, Unlock, OpenVisit, ShutVisit, Get, Put, Freeze, Unfreeze, PassOut, TakeIn, PassBack}
-use Rattle.step_rules.specs.declared.step.Action.TheVariants.{Collect, Consume, Credit, Report, Absorb, Fill, DrainStock, Grant, Ungrant, PlaceBlock}
-use Rattle.step_rules.specs.declared.step.Action.TheVariants.{Publish, Return, NoteMax, NoteOom, NoteGroupKill, SetMax, SetFlag, Make, Remove, Kill}
+use Rattle.step_rules.specs.declared.step.Action.TheVariants.{Get, Put, Freeze}
+use Rattle.step_rules.specs.declared.step.Action.TheVariants.{Consume, Credit, Absorb, DrainStock, Grant, PlaceBlock}
+use Rattle.step_rules.specs.declared.step.Action.TheVariants.{Make}
 use Rattle.step_rules.specs.declared.step.Answer.{Answer}
 use Rattle.step_rules.specs.declared.step.Answer.TheVariants.{Illegal, Done, Held, Zero, Full, Left, Last, Missed, Took, Empty, OtherGroup, Drained, Stocked}
 use Rattle.step_rules.specs.declared.step.Answer.TheVariants.{Pages, Granted, Over, Placed, NoFreeBlock, Number}
@@ -189,27 +189,7 @@ answered s seat (Grant g n) sound tree few legal =
     grant_given s seat g n tree there
 answered s seat (PlaceBlock g k) sound tree few legal = place_given s seat g k
 answered s seat (Make path) sound tree few legal = let least = least_number s.groups few in (Number least.0, least.1, tt)
-answered s seat Lock sound tree few legal = (Done, tt, tt)
-answered s seat Unlock sound tree few legal = (Done, tt, tt)
-answered s seat (OpenVisit p) sound tree few legal = (Done, tt, tt)
-answered s seat (ShutVisit p) sound tree few legal = (Done, tt, tt)
-answered s seat (Unfreeze f n) sound tree few legal = (Done, tt, tt)
-answered s seat (PassOut f p) sound tree few legal = (Done, tt, tt)
-answered s seat (TakeIn f) sound tree few legal = (Done, tt, tt)
-answered s seat (PassBack f) sound tree few legal = (Done, tt, tt)
-answered s seat (Collect f p) sound tree few legal = (Done, tt, tt)
-answered s seat (Report n) sound tree few legal = (Done, tt, tt)
-answered s seat (Fill p g n) sound tree few legal = (Done, tt, tt)
-answered s seat (Ungrant g n) sound tree few legal = (Done, tt, tt)
-answered s seat (Publish f) sound tree few legal = (Done, tt, tt)
-answered s seat (Return f) sound tree few legal = (Done, tt, tt)
-answered s seat (NoteMax g) sound tree few legal = (Done, tt, tt)
-answered s seat (NoteOom g) sound tree few legal = (Done, tt, tt)
-answered s seat (NoteGroupKill g) sound tree few legal = (Done, tt, tt)
-answered s seat (SetMax g limit) sound tree few legal = (Done, tt, tt)
-answered s seat (SetFlag g flag) sound tree few legal = (Done, tt, tt)
-answered s seat (Remove g) sound tree few legal = (Done, tt, tt)
-answered s seat (Kill g) sound tree few legal = (Done, tt, tt)
+answered s seat action sound tree few legal = (Done, tt, tt)
 
 pub every_step_is_answered : EveryStepIsAnswered
 every_step_is_answered zone run legal seat action =

@@ -1,14 +1,14 @@
 -- Each step has one answer, but for which free block is placed. Serves `answers_are_determined`, `only_seats_act`.
-use Rattle.std.proofs.Common.{◌≡◌, ℕ, ◌+◌, ◌≤◌, ◌==◌, true, false, Option, Some, None, List, refl, sym, ◌∙◌, ap, subst, arith, inl, inr, if◌then◌else◌, eq-eqb}
+use Rattle.std.proofs.Common.{◌≡◌, ℕ, ◌+◌, ◌≤◌, ◌==◌, true, false, Option, Some, None, List, refl, sym, ◌∙◌, ap, subst, arith, rules, inl, inr, if◌then◌else◌, eq-eqb}
 use Rattle.std.specs.Prelude.{◌⊎◌, ◌||◌}
 use Rattle.std.proofs.lemmas.Bool.{cases_order, or_left, or_right, ne_eqb, false≢true, true≢false}
 use Rattle.group_tree.specs.Groups.{AreGroups, IsLeastFreeNumber}
 use Rattle.group_tree.specs.Room.{PathHasRoom, IsLowestOver}
 use Rattle.group_tree.proofs.CallerLemmas.{in_subtree-antisym}
 use Rattle.step_rules.specs.declared.step.Action.{Action}
-use Rattle.step_rules.specs.declared.step.Action.TheVariants.{Lock, Unlock, OpenVisit, ShutVisit, Get, Put, Freeze, Unfreeze, PassOut, TakeIn, PassBack}
-use Rattle.step_rules.specs.declared.step.Action.TheVariants.{Collect, Consume, Credit, Report, Absorb, Fill, DrainStock, Grant, Ungrant, PlaceBlock}
-use Rattle.step_rules.specs.declared.step.Action.TheVariants.{Publish, Return, NoteMax, NoteOom, NoteGroupKill, SetMax, SetFlag, Make, Remove, Kill}
+use Rattle.step_rules.specs.declared.step.Action.TheVariants.{Lock, Unlock, Get, Put, Freeze, TakeIn, PassBack}
+use Rattle.step_rules.specs.declared.step.Action.TheVariants.{Consume, Credit, Report, Absorb, DrainStock, Grant, PlaceBlock}
+use Rattle.step_rules.specs.declared.step.Action.TheVariants.{Make}
 use Rattle.step_rules.specs.declared.step.Answer.{Answer}
 use Rattle.step_rules.specs.declared.step.Answer.TheVariants.{Illegal, Done, Left, Last, Missed, Took, Empty, OtherGroup, Drained, Stocked}
 use Rattle.step_rules.specs.declared.step.Answer.TheVariants.{Pages, Granted, Over, Placed, NoFreeBlock, Number}
@@ -38,49 +38,9 @@ IsPlain (Make path) = ⊥
 IsPlain action = Unit {0}
 
 plain_done : (s : State) (seat : ℕ) (action : Action) (answer : Answer) → IsPlain action → IsAnswer s seat action answer → answer ≡ Done
-plain_done s seat Lock Done plain ok = refl
+plain_done s seat action Done plain ok = refl
 plain_done s seat Lock answer plain ok = absurd ok
-plain_done s seat Unlock Done plain ok = refl
-plain_done s seat Unlock answer plain ok = absurd ok
-plain_done s seat (OpenVisit p) Done plain ok = refl
-plain_done s seat (OpenVisit p) answer plain ok = absurd ok
-plain_done s seat (ShutVisit p) Done plain ok = refl
-plain_done s seat (ShutVisit p) answer plain ok = absurd ok
-plain_done s seat (Unfreeze f n) Done plain ok = refl
-plain_done s seat (Unfreeze f n) answer plain ok = absurd ok
-plain_done s seat (PassOut f p) Done plain ok = refl
-plain_done s seat (PassOut f p) answer plain ok = absurd ok
-plain_done s seat (TakeIn f) Done plain ok = refl
-plain_done s seat (TakeIn f) answer plain ok = absurd ok
-plain_done s seat (PassBack f) Done plain ok = refl
-plain_done s seat (PassBack f) answer plain ok = absurd ok
-plain_done s seat (Collect f p) Done plain ok = refl
-plain_done s seat (Collect f p) answer plain ok = absurd ok
-plain_done s seat (Report n) Done plain ok = refl
-plain_done s seat (Report n) answer plain ok = absurd ok
-plain_done s seat (Fill p g n) Done plain ok = refl
-plain_done s seat (Fill p g n) answer plain ok = absurd ok
-plain_done s seat (Ungrant g n) Done plain ok = refl
-plain_done s seat (Ungrant g n) answer plain ok = absurd ok
-plain_done s seat (Publish f) Done plain ok = refl
-plain_done s seat (Publish f) answer plain ok = absurd ok
-plain_done s seat (Return f) Done plain ok = refl
-plain_done s seat (Return f) answer plain ok = absurd ok
-plain_done s seat (NoteMax g) Done plain ok = refl
-plain_done s seat (NoteMax g) answer plain ok = absurd ok
-plain_done s seat (NoteOom g) Done plain ok = refl
-plain_done s seat (NoteOom g) answer plain ok = absurd ok
-plain_done s seat (NoteGroupKill g) Done plain ok = refl
-plain_done s seat (NoteGroupKill g) answer plain ok = absurd ok
-plain_done s seat (SetMax g limit) Done plain ok = refl
-plain_done s seat (SetMax g limit) answer plain ok = absurd ok
-plain_done s seat (SetFlag g flag) Done plain ok = refl
-plain_done s seat (SetFlag g flag) answer plain ok = absurd ok
-plain_done s seat (Remove g) Done plain ok = refl
-plain_done s seat (Remove g) answer plain ok = absurd ok
-plain_done s seat (Kill g) Done plain ok = refl
-plain_done s seat (Kill g) answer plain ok = absurd ok
-plain_done s seat action answer plain ok = absurd plain
+plain_done s seat action answer plain ok = search rules
 
 -- ---- the answers that others decide
 -- a put by the references that there are

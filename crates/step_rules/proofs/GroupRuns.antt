@@ -1,5 +1,5 @@
 -- The small runs of groups and of a stock are legal, each step in turn.
-use Rattle.std.proofs.Common.{◌≡◌, ℕ, ◌+◌, ◌<◌, Bool, true, false, Option, Some, None, List, [], ◌∷◌, refl, sym, ◌∙◌, ap, subst, arith, inl, inr, zero, suc}
+use Rattle.std.proofs.Common.{◌≡◌, ℕ, ◌+◌, ◌<◌, Bool, true, false, Option, Some, None, List, [], ◌∷◌, refl, sym, ◌∙◌, ap, subst, arith, rules, inl, inr, zero, suc}
 use Rattle.std.specs.Prelude.{codes}
 use Rattle.std.specs.List.{slice_index_or}
 use Rattle.std.proofs.lemmas.Bool.{cases_eq, ne_eqb, true≢false, false≢true}
@@ -96,11 +96,14 @@ none_free free e b small is =
 
 pub group_run_is_legal : IsLegalRun small_zone group_comes_and_goes
 unfolding has_group group_at sum_to all_to in_subtree path_of names_of number_at parent_path is_name is_well_formed make_fault has_child with_limit without_group limit_of
-group_run_is_legal = legal_each (at_boot small_zone) group_comes_and_goes (record { legal = refl; answered = tt; counted = tt }, (record { legal = refl; answered = first_number; counted = tt }, (record { legal = refl; answered = second_number None; counted = tt }, (record { legal = refl; answered = tt; counted = tt }, (record { legal = refl; answered = upper_is_over (Some 1) _ 2 refl; counted = tt }, (record { legal = refl; answered = path_has_room (Some 1) _ 1 refl; counted = tt }, (record { legal = refl; answered = tt; counted = tt }, (record { legal = refl; answered = (refl, front_block _ refl refl); counted = tt }, (record { legal = refl; answered = tt; counted = tt }, (record { legal = refl; answered = tt; counted = refl }, (record { legal = refl; answered = tt; counted = refl }, (record { legal = refl; answered = tt; counted = (refl, omega arith) }, (record { legal = refl; answered = tt; counted = (refl, omega arith) }, (refl, (refl, (record { legal = refl; answered = tt; counted = tt }, (record { legal = refl; answered = tt; counted = tt }, (record { legal = refl; answered = tt; counted = refl }, (record { legal = refl; answered = tt; counted = tt }, (record { legal = refl; answered = tt; counted = tt }, (record { legal = refl; answered = second_number (Some 0); counted = tt }, (record { legal = refl; answered = tt; counted = tt }, (record { legal = refl; answered = upper_is_over (Some 0) _ 1 refl; counted = tt }, (record { legal = refl; answered = tt; counted = tt }, tt))))))))))))))))))))))))
+group_run_is_legal = legal_each (at_boot small_zone) group_comes_and_goes (search (rules, first_number, second_number, path_has_room, upper_is_over, front_block) depth 40)
+
+not_group_5 : ◌≡◌ {A = Option ℕ} (Some 0) (Some 5) → ⊥
+not_group_5 same = true≢false (ap (λ o. is_of_group o 0) same)
 
 pub stock_run_is_legal : IsLegalRun small_zone stock_without_a_page
 unfolding has_group group_at sum_to all_to
-stock_run_is_legal = legal_each (at_boot small_zone) stock_without_a_page (record { legal = refl; answered = tt; counted = tt }, (record { legal = refl; answered = tt; counted = tt }, (record { legal = refl; answered = tt; counted = tt }, (record { legal = refl; answered = tt; counted = tt }, (record { legal = refl; answered = tt; counted = tt }, (record { legal = refl; answered = tt; counted = tt }, (record { legal = refl; answered = root_has_room _ 1; counted = tt }, (record { legal = refl; answered = none_free _ refl; counted = tt }, (record { legal = refl; answered = tt; counted = tt }, (record { legal = refl; answered = λ same. true≢false (ap (λ o. is_of_group o 0) same); counted = tt }, (record { legal = refl; answered = (refl, refl, omega arith); counted = tt }, (record { legal = refl; answered = (refl, refl, refl); counted = tt }, (record { legal = refl; answered = tt; counted = refl }, (record { legal = refl; answered = (refl, refl); counted = tt }, (record { legal = refl; answered = refl; counted = tt }, tt)))))))))))))))
+stock_run_is_legal = legal_each (at_boot small_zone) stock_without_a_page (search (rules, root_has_room, none_free, not_group_5) depth 40)
 
 pub noted_above : (events_in Oom small_zone group_comes_and_goes 1 ≡ 1) × (events_local_in Oom small_zone group_comes_and_goes 1 ≡ 0)
 unfolding in_subtree path_of group_at names_of with_limit without_group
@@ -130,11 +133,11 @@ two_have_room usage n m below = elim (cases_eq 0 m) [
 
 pub killed_run_is_legal : IsLegalRun small_zone killed_group_ends
 unfolding has_group group_at sum_to all_to in_subtree path_of names_of number_at parent_path is_name is_well_formed make_fault has_child with_limit without_group limit_of
-killed_run_is_legal = legal_each (at_boot small_zone) killed_group_ends (record { legal = refl; answered = tt; counted = tt }, (record { legal = refl; answered = first_number; counted = tt }, (record { legal = refl; answered = two_have_room _ 2; counted = tt }, (record { legal = refl; answered = tt; counted = tt }, (refl, (record { legal = refl; answered = tt; counted = tt }, (record { legal = refl; answered = tt; counted = tt }, (record { legal = refl; answered = tt; counted = tt }, (record { legal = refl; answered = (refl, front_block _ refl refl); counted = tt }, (record { legal = refl; answered = tt; counted = tt }, (record { legal = refl; answered = tt; counted = tt }, (record { legal = refl; answered = tt; counted = tt }, (record { legal = refl; answered = tt; counted = refl }, (record { legal = refl; answered = tt; counted = tt }, (record { legal = refl; answered = second_number (Some 0); counted = tt }, (record { legal = refl; answered = tt; counted = tt }, (record { legal = refl; answered = tt; counted = tt }, (record { legal = refl; answered = tt; counted = tt }, tt))))))))))))))))))
+killed_run_is_legal = legal_each (at_boot small_zone) killed_group_ends (search (rules, first_number, second_number, two_have_room, front_block) depth 40)
 
 pub whole_run_is_legal : IsLegalRun small_zone group_dies_whole
 unfolding has_group group_at sum_to all_to in_subtree path_of names_of number_at parent_path is_name is_well_formed make_fault has_child with_oom_group without_group limit_of
-whole_run_is_legal = legal_each (at_boot small_zone) group_dies_whole (record { legal = refl; answered = tt; counted = tt }, (record { legal = refl; answered = first_number; counted = tt }, (record { legal = refl; answered = second_number None; counted = tt }, (refl, (refl, (record { legal = refl; answered = tt; counted = tt }, (record { legal = refl; answered = tt; counted = tt }, (record { legal = refl; answered = tt; counted = tt }, (refl, (refl, (record { legal = refl; answered = tt; counted = tt }, (record { legal = refl; answered = tt; counted = tt }, (record { legal = refl; answered = tt; counted = tt }, (record { legal = refl; answered = first_number; counted = tt }, (record { legal = refl; answered = tt; counted = tt }, tt)))))))))))))))
+whole_run_is_legal = legal_each (at_boot small_zone) group_dies_whole (search (rules, first_number, second_number) depth 40)
 
 pub flags_given : (flag_given group_killed_whole 1 ≡ true) × (flag_given group_killed_whole 2 ≡ false)
 flags_given = (refl, refl)

@@ -13,13 +13,13 @@ use Rattle.step_rules.specs.declared.phase.Stage.TheVariants.{Live, BackAt, Awai
 use Rattle.step_rules.specs.declared.phase.Phase.{Phase}
 use Rattle.step_rules.specs.declared.phase.Phase.TheVariants.{Lent}
 use Rattle.step_rules.specs.declared.step.Action.{Action}
-use Rattle.step_rules.specs.declared.step.Action.TheVariants.{Lock, Unlock, OpenVisit, ShutVisit, Get, Put, Freeze, Unfreeze, PassOut}
+use Rattle.step_rules.specs.declared.step.Action.TheVariants.{Lock, Unlock, ShutVisit, Get, Put, Freeze, Unfreeze, PassOut}
 use Rattle.step_rules.specs.declared.step.Action.TheVariants.{TakeIn, PassBack, Collect, Consume, Credit, Report, Absorb, Fill, DrainStock}
-use Rattle.step_rules.specs.declared.step.Action.TheVariants.{Grant, Ungrant, PlaceBlock, Publish, Return, NoteMax, NoteOom, NoteGroupKill}
-use Rattle.step_rules.specs.declared.step.Action.TheVariants.{SetMax, SetFlag, Make, Remove, Kill}
+use Rattle.step_rules.specs.declared.step.Action.TheVariants.{Grant, PlaceBlock, Publish, Return}
+use Rattle.step_rules.specs.declared.step.Action.TheVariants.{Remove}
 use Rattle.step_rules.specs.declared.step.Answer.{Answer}
-use Rattle.step_rules.specs.declared.step.Answer.TheVariants.{Done, Held, Left, Last, Took, Empty, Drained, OtherGroup, Stocked, Pages}
-use Rattle.step_rules.specs.declared.step.Answer.TheVariants.{Granted, Over, Placed, NoFreeBlock, Number}
+use Rattle.step_rules.specs.declared.step.Answer.TheVariants.{Illegal, Done, Held, Left, Last, Took, Empty, Drained, OtherGroup, Stocked, Pages}
+use Rattle.step_rules.specs.declared.step.Answer.TheVariants.{Granted, Over, Placed, NoFreeBlock}
 use Rattle.step_rules.specs.Phases.{Kind, ListFrame, FreshFrame, has_as, passes_back, is_head, is_head_in_hand}
 use Rattle.step_rules.specs.Phases.{is_returnable, passed_back, collected, at_stage, stage_after_last}
 use Rattle.step_rules.specs.Phases as kinds
@@ -39,6 +39,7 @@ use Rattle.step_rules.proofs.Sums.{all_same}
 use Rattle.step_rules.proofs.PhaseLemmas.{live_is, in_hand, came_back, returning_is, equal_test}
 use Rattle.step_rules.proofs.Referring.{changed, live_from_one}
 use Rattle.step_rules.proofs.SoundSteps.{cpu_range}
+use Rattle.step_rules.proofs.Runs.{after_illegal}
 use Rattle.step_rules.proofs.CoverPhases.{out_seen, back_seen, free_seen, hand_seen, return_seen, frees_seen, own_seen, gone_on, woken_goes}
 use Rattle.step_rules.proofs.CoverPhases.{ended_goes, backed_goes, collected_goes, listed_goes, fresh_goes, back_goes, block_seen}
 use Rattle.step_rules.proofs.CoverPhases.{unit_seen, GoesOn}
@@ -128,7 +129,6 @@ pub own_legal : (s : State) (p seat : ℕ) (action : Action) → KeepsInvariant 
     is_legal (seen_by p s) seat action ≡ is_legal s seat action
 own_legal s p seat Lock sound own inside holds = absurd (true≢false inside)
 own_legal s p seat Unlock sound own inside holds = absurd (true≢false inside)
-own_legal s p seat (OpenVisit q) sound own inside holds = refl
 own_legal s p seat (ShutVisit q) sound own inside holds =
     let a : (parts_seen_by p s.parts q).unreported ≡ (s.parts q).unreported = part_seen (λ part. part.unreported) (λ part. refl) p s.parts q in
     let b : (parts_seen_by p s.parts q).reported ≡ (s.parts q).reported = part_seen (λ part. part.reported) (λ part. refl) p s.parts q in
@@ -158,23 +158,12 @@ own_legal s p seat (Credit f) sound own inside holds =
     (sym e) (own_seen p FreshFrame (s.phases f)))
 own_legal s p seat (Report n) sound own inside holds =
     at_cpu3 s.zone p seat _ _ _ _ own (λ e. refl) (λ e. ap (λ (part : Part). nat_le n part.unreported) (own_part p s.parts seat e))
-own_legal s p seat (Absorb q) sound own inside holds = refl
 own_legal s p seat (Fill q g n) sound own inside holds = fill_seen s p q g n (may_zone_act s.hold seat) holds
-own_legal s p seat (DrainStock q) sound own inside holds = refl
-own_legal s p seat (Grant g n) sound own inside holds = refl
-own_legal s p seat (Ungrant g n) sound own inside holds = refl
-own_legal s p seat (PlaceBlock g k) sound own inside holds = refl
 own_legal s p seat (Publish f) sound own inside holds = head_seen s p f sound (may_zone_act s.hold seat && is_frame s.zone f)
 own_legal s p seat (Return f) sound own inside holds = (λ i. may_zone_act s.hold seat && is_frame s.zone f && return_seen p s.killed (s.phases f) i)
-own_legal s p seat (NoteMax g) sound own inside holds = refl
-own_legal s p seat (NoteOom g) sound own inside holds = refl
-own_legal s p seat (NoteGroupKill g) sound own inside holds = refl
-own_legal s p seat (SetMax g limit) sound own inside holds = refl
-own_legal s p seat (SetFlag g flag) sound own inside holds = refl
-own_legal s p seat (Make path) sound own inside holds = refl
 own_legal s p seat (Remove g) sound own inside holds =
     (λ i. may_zone_act s.hold seat && (has_group s.groups g && not (g == 0) && not (has_child s.groups g) && usage_seen s p sound g i == 0))
-own_legal s p seat (Kill g) sound own inside holds = refl
+own_legal s p seat action sound own inside holds = refl
 
 -- all usage at once
 usages_seen : (s : State) (p : ℕ) → KeepsInvariant s → usage_of (seen_by p s) ≡ usage_of s
@@ -258,10 +247,8 @@ pub own_after : (s : State) (p seat : ℕ) (action : Action) (answer : Answer) �
     holds_lock p s.hold ≡ true →
     is_legal s seat action ≡ true → IsAnswer s seat action answer → IsCounted s action answer → seen_by p (after s seat action answer)
     ≡ after (seen_by p s) seat action answer
-own_after s p seat Lock Done sound own inside holds legal ok counted = refl
-own_after s p seat Unlock Done sound own inside holds legal ok counted = refl
-own_after s p seat (OpenVisit q) Done sound own inside holds legal ok counted = refl
-own_after s p seat (ShutVisit q) Done sound own inside holds legal ok counted = refl
+own_after s p seat action Illegal sound own inside holds legal ok counted =
+    ap (seen_by p) (after_illegal s seat action) ∙ sym (after_illegal (seen_by p s) seat action)
 own_after s p seat (Get f) Held sound own inside holds legal ok counted = same_state s refl (referred_seen s p seat f (λ n. n + 1) own) refl
 own_after s p seat (Put f) (Left n) sound own inside holds legal ok counted = same_state s refl (referred_seen s p seat f (λ n. n - 1) own) refl
 own_after s p seat (Put f) Last sound own inside holds legal ok counted =
@@ -333,16 +320,10 @@ own_after s p seat (DrainStock q) (Pages n) sound own inside holds legal ok coun
       parts = with_at (parts_seen_by p s.parts) q (drained (parts_seen_by p s.parts q) n);
       pending = with_more s.pending o n;
     }) group
-own_after s p seat (Grant g n) Granted sound own inside holds legal ok counted = refl
-own_after s p seat (Ungrant g n) Done sound own inside holds legal ok counted = refl
 own_after s p seat (PlaceBlock g k) (Placed b) sound own inside holds legal ok counted =
     same_state (record s { pending = with_at s.pending g (s.pending g - 2 ^ k) }) (block_seen p s.phases g b) refl refl
 own_after s p seat (Return f) Done sound own inside holds legal ok counted =
     let may : is_returnable s.killed (s.phases f) ≡ true = (return_tests s seat f legal).2 in
     same_state s (unit_seen p s.killed s.phases f (returning_is s.killed (s.phases f) may)) refl refl
-own_after s p seat (SetMax g limit) Done sound own inside holds legal ok counted = refl
-own_after s p seat (SetFlag g flag) Done sound own inside holds legal ok counted = refl
-own_after s p seat (Make path) (Number n) sound own inside holds legal ok counted = refl
-own_after s p seat (Remove g) Done sound own inside holds legal ok counted = refl
-own_after s p seat (Kill g) Done sound own inside holds legal ok counted = refl
+own_after s p seat Lock answer sound own inside holds legal ok counted = refl
 own_after s p seat action answer sound own inside holds legal ok counted = refl

@@ -1,5 +1,5 @@
 -- The small runs are legal, each step in turn.
-use Rattle.std.proofs.Common.{◌≡◌, ℕ, Bool, true, false, List, [], ◌∷◌, ◌==◌, length, refl, sym, ap, subst, arith, inl, inr, zero, suc}
+use Rattle.std.proofs.Common.{◌≡◌, ℕ, Bool, true, false, List, [], ◌∷◌, ◌==◌, length, refl, sym, ap, subst, arith, rules, inl, inr, zero, suc}
 use Rattle.std.specs.List.{slice_index_or}
 use Rattle.std.proofs.lemmas.Bool.{cases_eq, ne_eqb, true≢false}
 use Rattle.zone_blocks.specs.Areas.{IsFreeBlock}
@@ -46,191 +46,23 @@ front_block free size first = record {
 
 pub life_is_legal : IsLegalRun small_zone life_of_a_frame
 unfolding has_group group_at sum_to all_to
-life_is_legal = legal_each (at_boot small_zone) life_of_a_frame (
-  record { legal = refl; answered = tt; counted = tt },
-  (
-    record { legal = refl; answered = tt; counted = tt },
-    (
-      record { legal = refl; answered = tt; counted = tt },
-      (
-        record { legal = refl; answered = tt; counted = tt },
-        (
-          record { legal = refl; answered = root_has_room _ 2; counted = tt },
-          (
-            record { legal = refl; answered = tt; counted = tt },
-            (
-              record { legal = refl; answered = (refl, refl, omega arith); counted = tt },
-              (
-                record { legal = refl; answered = tt; counted = tt },
-                (
-                  record { legal = refl; answered = tt; counted = tt },
-                  (
-                    record { legal = refl; answered = tt; counted = tt },
-                    (
-                      record { legal = refl; answered = tt; counted = tt },
-                      (
-                        record { legal = refl; answered = tt; counted = tt },
-                        (
-                          record { legal = refl; answered = refl; counted = tt },
-                          (
-                            record { legal = refl; answered = tt; counted = tt },
-                            (
-                              record { legal = refl; answered = tt; counted = tt },
-                              (
-                                record { legal = refl; answered = tt; counted = refl },
-                                (
-                                  record { legal = refl; answered = tt; counted = tt },
-                                  (
-                                    record { legal = refl; answered = tt; counted = (refl, omega arith) },
-                                    (
-                                      record { legal = refl; answered = tt; counted = refl },
-                                      (
-                                        record { legal = refl; answered = tt; counted = tt },
-                                        (
-                                          record { legal = refl; answered = tt; counted = tt },
-                                          (
-                                            record { legal = refl; answered = tt; counted = tt },
-                                            (
-                                              record { legal = refl; answered = tt; counted = tt },
-                                              (
-                                                record { legal = refl; answered = tt; counted = tt },
-                                                (
-                                                  record { legal = refl; answered = tt; counted = tt },
-                                                  (
-                                                    record { legal = refl; answered = tt; counted = tt },
-                                                    (
-                                                      record { legal = refl; answered = tt; counted = refl },
-                                                      (
-                                                        record { legal = refl; answered = tt; counted = tt },
-                                                        (record { legal = refl; answered = tt; counted = tt }, tt),
-                                                      ),
-                                                    ),
-                                                  ),
-                                                ),
-                                              ),
-                                            ),
-                                          ),
-                                        ),
-                                      ),
-                                    ),
-                                  ),
-                                ),
-                              ),
-                            ),
-                          ),
-                        ),
-                      ),
-                    ),
-                  ),
-                ),
-              ),
-            ),
-          ),
-        ),
-      ),
-    ),
-  ),
-)
+life_is_legal = legal_each (at_boot small_zone) life_of_a_frame (search (rules, root_has_room) depth 40 fits 3000)
 
 pub credited_twice_is_refused : IsLegalRun small_zone credited_twice
 unfolding has_group group_at sum_to all_to
-credited_twice_is_refused = legal_each (at_boot small_zone) credited_twice (
-  record { legal = refl; answered = tt; counted = tt },
-  (
-    record { legal = refl; answered = tt; counted = tt },
-    (
-      record { legal = refl; answered = tt; counted = tt },
-      (
-        record { legal = refl; answered = tt; counted = tt },
-        (
-          record { legal = refl; answered = root_has_room _ 2; counted = tt },
-          (
-            record { legal = refl; answered = tt; counted = tt },
-            (
-              record { legal = refl; answered = (refl, refl, omega arith); counted = tt },
-              (
-                record { legal = refl; answered = refl; counted = tt },
-                (refl, tt),
-              ),
-            ),
-          ),
-        ),
-      ),
-    ),
-  ),
-)
+credited_twice_is_refused = legal_each (at_boot small_zone) credited_twice (search (rules, root_has_room) depth 40)
 
 pub returned_twice_is_refused : IsLegalRun small_zone returned_twice
 unfolding has_group group_at sum_to all_to
-returned_twice_is_refused = legal_each (at_boot small_zone) returned_twice (
-  record { legal = refl; answered = tt; counted = tt },
-  (
-    record { legal = refl; answered = root_has_room _ 2; counted = tt },
-    (
-      record { legal = refl; answered = (refl, front_block _ refl refl); counted = tt },
-      (
-        record { legal = refl; answered = tt; counted = tt },
-        (
-          record { legal = refl; answered = tt; counted = refl },
-          (
-            record { legal = refl; answered = tt; counted = tt },
-            (
-              record { legal = refl; answered = (refl, front_block _ refl refl); counted = tt },
-              (refl, tt),
-            ),
-          ),
-        ),
-      ),
-    ),
-  ),
-)
+returned_twice_is_refused = legal_each (at_boot small_zone) returned_twice (search (rules, root_has_room, front_block) depth 40)
 
 pub unlocked_too_soon_is_refused : IsLegalRun small_zone unlocked_too_soon
 unfolding has_group group_at sum_to all_to
-unlocked_too_soon_is_refused = legal_each (at_boot small_zone) unlocked_too_soon (
-  record { legal = refl; answered = tt; counted = tt },
-  (
-    record { legal = refl; answered = root_has_room _ 2; counted = tt },
-    (refl, tt),
-  ),
-)
+unlocked_too_soon_is_refused = legal_each (at_boot small_zone) unlocked_too_soon (search (rules, root_has_room) depth 40)
 
 pub returned_when_killed_is_legal : IsLegalRun small_zone returned_when_killed
 unfolding has_group group_at sum_to all_to
-returned_when_killed_is_legal = legal_each (at_boot small_zone) returned_when_killed (
-  record { legal = refl; answered = tt; counted = tt },
-  (
-    record { legal = refl; answered = tt; counted = tt },
-    (
-      record { legal = refl; answered = tt; counted = tt },
-      (
-        record { legal = refl; answered = tt; counted = tt },
-        (
-          record { legal = refl; answered = root_has_room _ 2; counted = tt },
-          (
-            record { legal = refl; answered = tt; counted = tt },
-            (
-              record { legal = refl; answered = (refl, refl, omega arith); counted = tt },
-              (
-                record { legal = refl; answered = tt; counted = tt },
-                (
-                  record { legal = refl; answered = tt; counted = tt },
-                  (
-                    refl,
-                    (
-                      record { legal = refl; answered = tt; counted = tt },
-                      (record { legal = refl; answered = tt; counted = tt }, tt),
-                    ),
-                  ),
-                ),
-              ),
-            ),
-          ),
-        ),
-      ),
-    ),
-  ),
-)
+returned_when_killed_is_legal = legal_each (at_boot small_zone) returned_when_killed (search (rules, root_has_room) depth 40)
 
 pub borders_are_kept : IsLegalRun small_zone at_the_borders
 unfolding has_group group_at sum_to all_to
@@ -277,57 +109,11 @@ borders_are_kept = legal_each (at_boot small_zone) at_the_borders (
 
 pub line_is_kept : IsLegalRun small_zone in_line
 unfolding has_group group_at sum_to all_to
-line_is_kept = legal_each (at_boot small_zone) in_line (
-  record { legal = refl; answered = tt; counted = tt },
-  (
-    record { legal = refl; answered = tt; counted = tt },
-    (
-      record { legal = refl; answered = tt; counted = tt },
-      (
-        record { legal = refl; answered = tt; counted = tt },
-        (
-          record { legal = refl; answered = tt; counted = tt },
-          (
-            record { legal = refl; answered = tt; counted = tt },
-            (
-              refl,
-              (
-                record { legal = refl; answered = tt; counted = tt },
-                (
-                  record { legal = refl; answered = tt; counted = tt },
-                  (
-                    record { legal = refl; answered = root_has_room _ 1; counted = tt },
-                    (
-                      record { legal = refl; answered = (refl, front_block _ refl refl); counted = tt },
-                      (
-                        record { legal = refl; answered = tt; counted = tt },
-                        (
-                          record { legal = refl; answered = tt; counted = refl },
-                          (
-                            record { legal = refl; answered = tt; counted = tt },
-                            (
-                              record { legal = refl; answered = tt; counted = (refl, omega arith) },
-                              (refl, tt),
-                            ),
-                          ),
-                        ),
-                      ),
-                    ),
-                  ),
-                ),
-              ),
-            ),
-          ),
-        ),
-      ),
-    ),
-  ),
-)
+line_is_kept = legal_each (at_boot small_zone) in_line (search (rules, root_has_room, front_block) depth 40)
 
 pub noted_is_legal : IsLegalRun small_zone noted_events
 unfolding has_group group_at sum_to all_to
-noted_is_legal = legal_each (at_boot small_zone) noted_events
-    (record { legal = refl; answered = tt; counted = tt }, (record { legal = refl; answered = tt; counted = tt }, (record { legal = refl; answered = tt; counted = tt }, (record { legal = refl; answered = tt; counted = tt }, (record { legal = refl; answered = tt; counted = tt }, tt)))))
+noted_is_legal = legal_each (at_boot small_zone) noted_events (search rules)
 
 pub max_counts : (events_in Max small_zone noted_events 0 ≡ 1) × (events_local_in Max small_zone noted_events 0 ≡ 1)
 unfolding in_subtree path_of group_at names_of

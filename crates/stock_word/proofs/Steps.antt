@@ -11,13 +11,13 @@ use Rattle.atomic_table.proofs.Lists.{exchanged}
 use Rattle.stock_word.specs.declared.view.Stock.TheVariants.{HeldBy, DrainedOf}
 use Rattle.stock_word.specs.declared.view.StockAccount.{StockAccount}
 use Rattle.stock_word.specs.declared.view.StockView.{StockView}
-use Rattle.stock_word.specs.Stock.{word_of, stock_pages_of, group_of, account_of, with_account, first_stock_view}
+use Rattle.stock_word.specs.Stock.{word_of, stock_pages_of, group_of, account_of, with_account}
 use Rattle.stock_word.specs.StockRule.{stock_index, report_index, IsStock, StockRule}
 use Rattle.stock_word.specs.Kinds.{after_took, after_back, after_drained, after_report, zone_after_report}
 use Rattle.stock_word.specs.Kinds.{zone_after_fill}
 use Rattle.stock_word.specs.Kinds.{after_fill}
 use Rattle.stock_word.specs.Kinds.{zone_after_drain, zone_after_absorb, with_steps}
-use Rattle.stock_word.specs.Kinds.{DrainsWord, DrainsNone, LooksAt, Absorbs, FillsWord, Alone, Joined, consuming_step}
+use Rattle.stock_word.specs.Kinds.{SeesDrained, DrainsWord, DrainsNone, LooksAt, Absorbs, FillsWord, Alone, Joined, consuming_step}
 use Rattle.stock_word.specs.Kinds.{crediting_step, looking_step, draining_step}
 use Rattle.stock_word.specs.Kinds.{absorbing_step, reporting_step, consuming_held_step, filling_step, seeing_stock_step}
 use Rattle.stock_word.proofs.Stocks.{left_of, took, back, now_drained, sees_drained, last_group, reported, held_by_books, nothing_booked}
@@ -73,10 +73,22 @@ module _ {S : Type 0} (cpus slots id : ℕ) where
         → then (slice_index s.words (stock_index v.number)) (w ∷ [], []) → Owes s (v ∷ [], []) (stock_index v.number) then x
     cpu_owes s rule at then x w kept told = (w ∷ [], keeps, tt, kept, told)
 
-    consume_allowed_at : (g n : ℕ) → v.last ≡ HeldBy g (n + 1)
+    -- an exchange that fails shows the CPU that its stock is drained
+    missed : (s : State S (List StockView)) (rule : holds s) → get_elem? s.views id ≡ some (v ∷ []) → (then : ℕ → Me S (List StockView) → Type 0)
+        → (let found = slice_index s.words (stock_index v.number) in found ≢ word_of v.last
+        → (SeesDrained (stock_index v.number) found found v (after_drained v) → then found (after_drained v ∷ [], [])) → Owes s (v ∷ [], []) (stock_index v.number) then found)
+    missed s rule at then other told =
+        let found = slice_index s.words (stock_index v.number) in
+        let stock = cpu_stock cpus s.words s.views rule s.words id v at low high in
+        cpu_owes s rule at then found (after_drained v)
+        (cpu_keeps cpus s.words s.views rule (set s.words (stock_index v.number) found) id v at low high found _
+        (leaves_stock cpus s.words v.number found rule.rows high) (after_drained v) refl (sees_drained _ _ _ v stock other))
+        (told (record { at_stock = refl; word_before = stock.encoded ∙ ap word_of (now_drained _ _ _ v stock other); word_after = refl; view_after = refl }))
+
+    pub consume_allowed : (g n : ℕ) → v.last ≡ HeldBy g (n + 1)
         → Allows holds slots id (v ∷ [], []) (stock_index v.number) (λ x. either (eqb x (word_of (HeldBy g (n + 1)))) (word_of (HeldBy g n)) x)
         (Alone consuming_step (step slots (stock_index v.number) (word_of (HeldBy g (n + 1))) (word_of (HeldBy g n)) none) (v ∷ [], []))
-    consume_allowed_at g n last s rule homes at fits =
+    consume_allowed g n last s rule homes at fits =
         let old = word_of (HeldBy g (n + 1)) in
         let new = word_of (HeldBy g n) in
         let index = stock_index v.number in
@@ -103,29 +115,12 @@ module _ {S : Type 0} (cpus slots id : ℕ) where
             (λ miss. absurd (miss hit)),
           ),
         ))
-        (λ miss.
-        let other : found ≢ word_of v.last = (λ e. miss (e ∙ ap word_of last)) in
-        cpu_owes s rule at then found (after_drained v)
-        (cpu_keeps cpus s.words s.views rule (set s.words index found) id v at low high found _
-        (leaves_stock cpus s.words v.number found rule.rows high) (after_drained v) refl (sees_drained _ _ _ v stock other)) (
-          after_drained v,
-          refl,
-          (
-            (λ hit. absurd (miss hit)),
-            (λ _. record {
-              at_stock = refl;
-              word_before = stock.encoded
-                  ∙ ap word_of (now_drained _ _ _ v stock other);
-              word_after = refl;
-              view_after = refl;
-            }),
-          ),
-        ))
+        (λ miss. missed s rule at then (λ e. miss (e ∙ ap word_of last)) (λ sees. (after_drained v, refl, ((λ hit. absurd (miss hit)), (λ _. sees)))))
 
-    credit_allowed_at : (g n : ℕ) → v.last ≡ HeldBy g n → 0 < v.fresh
+    pub credit_allowed : (g n : ℕ) → v.last ≡ HeldBy g n → 0 < v.fresh
         → Allows holds slots id (v ∷ [], []) (stock_index v.number) (λ x. either (eqb x (word_of (HeldBy g n))) (word_of (HeldBy g (n + 1))) x)
         (Alone crediting_step (step slots (stock_index v.number) (word_of (HeldBy g n)) (word_of (HeldBy g (n + 1))) none) (v ∷ [], []))
-    credit_allowed_at g n last fresh s rule homes at fits =
+    credit_allowed g n last fresh s rule homes at fits =
         let old = word_of (HeldBy g n) in
         let new = word_of (HeldBy g (n + 1)) in
         let index = stock_index v.number in
@@ -155,24 +150,7 @@ module _ {S : Type 0} (cpus slots id : ℕ) where
             (λ miss. absurd (miss hit)),
           ),
         ))
-        (λ miss.
-        let other : found ≢ word_of v.last = (λ e. miss (e ∙ ap word_of last)) in
-        cpu_owes s rule at then found (after_drained v)
-        (cpu_keeps cpus s.words s.views rule (set s.words index found) id v at low high found _
-        (leaves_stock cpus s.words v.number found rule.rows high) (after_drained v) refl (sees_drained _ _ _ v stock other)) (
-          after_drained v,
-          refl,
-          (
-            (λ hit. absurd (miss hit)),
-            (λ _. record {
-              at_stock = refl;
-              word_before = stock.encoded
-                  ∙ ap word_of (now_drained _ _ _ v stock other);
-              word_after = refl;
-              view_after = refl;
-            }),
-          ),
-        ))
+        (λ miss. missed s rule at then (λ e. miss (e ∙ ap word_of last)) (λ sees. (after_drained v, refl, ((λ hit. absurd (miss hit)), (λ _. sees)))))
 
   -- ---- the zone's seat
 
@@ -223,8 +201,8 @@ module _ {S : Type 0} (cpus slots id : ℕ) where
 
   module _ (m : StockView) (zeroth : m.number ≡ 0) (p : ℕ) (low : 0 < p) (high : p ≤ cpus) where
     -- the look of a drain
-    looking_allowed_at : Allows holds slots id (m ∷ [], []) (stock_index p) (λ x. x) (Alone looking_step (step slots (stock_index p) 0 0 none) (m ∷ [], []))
-    looking_allowed_at s rule homes at fits =
+    pub looking_allowed : Allows holds slots id (m ∷ [], []) (stock_index p) (λ x. x) (Alone looking_step (step slots (stock_index p) 0 0 none) (m ∷ [], []))
+    looking_allowed s rule homes at fits =
         let index = stock_index p in
         let found = slice_index s.words index in
         let view = (rule.each p low high).view in
@@ -267,10 +245,10 @@ module _ {S : Type 0} (cpus slots id : ℕ) where
         ))
 
     -- the swap of a drain
-    draining_allowed_at : (g : ℕ) → (account_of m p).group ≡ Some g
+    pub draining_allowed : (g : ℕ) → (account_of m p).group ≡ Some g
         → Allows holds slots id (m ∷ [], []) (stock_index p) (λ x. word_of (DrainedOf g))
         (Alone draining_step (step slots (stock_index p) (word_of (DrainedOf g)) 0 none) (m ∷ [], []))
-    draining_allowed_at g booked s rule homes at fits =
+    draining_allowed g booked s rule homes at fits =
         let index = stock_index p in
         let found = slice_index s.words index in
         let view = (rule.each p low high).view in
@@ -303,11 +281,11 @@ module _ {S : Type 0} (cpus slots id : ℕ) where
         )
 
     -- the swap of an absorb
-    absorbing_allowed_at : Allows holds slots id (
+    pub absorbing_allowed : Allows holds slots id (
       m ∷ [],
       [],
     ) (report_index p) (λ x. 0) (Alone absorbing_step (step slots (report_index p) 0 0 none) (m ∷ [], []))
-    absorbing_allowed_at s rule homes at fits =
+    absorbing_allowed s rule homes at fits =
         let index = report_index p in
         let found = slice_index s.words index in
         let view = (rule.each p low high).view in
@@ -364,11 +342,11 @@ module _ {S : Type 0} (cpus slots id : ℕ) where
     )
 
     -- the addition of a report
-    reporting_allowed_at : (n : ℕ) → n ≤ v.fresh → Allows holds slots id (
+    pub reporting_allowed : (n : ℕ) → n ≤ v.fresh → Allows holds slots id (
       m ∷ v ∷ [],
       [],
     ) (report_index v.number) (λ x. (x + n) % 2 ^ 64) (Joined reporting_step (step slots (report_index v.number) n 0 none) (m ∷ v ∷ [], []))
-    reporting_allowed_at n fresh s rule homes at fits =
+    reporting_allowed n fresh s rule homes at fits =
         let index = report_index v.number in
         let found = slice_index s.words index in
         let stock = joined_stock cpus s.words s.views rule s.words id m v at zeroth low high in
@@ -391,9 +369,9 @@ module _ {S : Type 0} (cpus slots id : ℕ) where
         ))
 
     -- the look
-    seeing_allowed_at : Allows holds slots id (m ∷ v ∷ [], []) (stock_index v.number) (λ x. x)
+    pub seeing_allowed : Allows holds slots id (m ∷ v ∷ [], []) (stock_index v.number) (λ x. x)
         (Joined seeing_stock_step (step slots (stock_index v.number) 0 0 none) (m ∷ v ∷ [], []))
-    seeing_allowed_at s rule homes at fits =
+    seeing_allowed s rule homes at fits =
         let index = stock_index v.number in
         let found = slice_index s.words index in
         let stock = joined_stock cpus s.words s.views rule s.words id m v at zeroth low high in (
@@ -425,10 +403,10 @@ module _ {S : Type 0} (cpus slots id : ℕ) where
         )
 
     -- the store of a fill
-    filling_allowed_at : (g n : ℕ) → g < 64 → n < 65536 → (account_of m v.number).filled ≡ false → v.fresh ≡ 0 → (account_of m v.number).unabsorbed ≡ 0
+    pub filling_allowed : (g n : ℕ) → g < 64 → n < 65536 → (account_of m v.number).filled ≡ false → v.fresh ≡ 0 → (account_of m v.number).unabsorbed ≡ 0
         → Allows holds slots id (m ∷ v ∷ [], []) (stock_index v.number) (λ x. word_of (HeldBy g n))
         (λ x. Joined filling_step (step slots (stock_index v.number) (word_of (HeldBy g n)) 0 none) (m ∷ v ∷ [], []) (word_of (HeldBy g n)))
-    filling_allowed_at g n group few off fresh noted s rule homes at fits =
+    filling_allowed g n group few off fresh noted s rule homes at fits =
         let index = stock_index v.number in
         let new = word_of (HeldBy g n) in
         let stock = joined_stock cpus s.words s.views rule s.words id m v at zeroth low high in
@@ -457,10 +435,10 @@ module _ {S : Type 0} (cpus slots id : ℕ) where
         )
 
     -- the subtraction of a consume that always takes
-    consuming_held_allowed_at : (g : ℕ) → (account_of m v.number).group ≡ Some g → v.fresh + (account_of m v.number).unabsorbed < (account_of m v.number).book
+    pub consuming_held_allowed : (g : ℕ) → (account_of m v.number).group ≡ Some g → v.fresh + (account_of m v.number).unabsorbed < (account_of m v.number).book
         → Allows holds slots id (m ∷ v ∷ [], []) (stock_index v.number) (λ x. (x + (2 ^ 64 - 1)) % 2 ^ 64)
         (Joined consuming_held_step (step slots (stock_index v.number) 1 0 none) (m ∷ v ∷ [], []))
-    consuming_held_allowed_at g booked more s rule homes at fits =
+    consuming_held_allowed g booked more s rule homes at fits =
         let index = stock_index v.number in
         let found = slice_index s.words index in
         let stock = joined_stock cpus s.words s.views rule s.words id m v at zeroth low high in
@@ -502,129 +480,8 @@ module _ {S : Type 0} (cpus slots id : ℕ) where
           ),
         )
 
--- ---- the same at the seat that the caller has
+-- ---- the same where the word is named otherwise
 
-pub consume_allowed : {S : Type 0} (cpus slots id : ℕ) (me : Me S (List StockView)) (g n : ℕ)
-    → me ≡ (first_stock_view me.0 ∷ [], []) → 0 < (first_stock_view me.0).number → (first_stock_view me.0).number ≤ cpus
-    → (first_stock_view me.0).last ≡ HeldBy g (n + 1)
-    → (index old new : ℕ) → index ≡ stock_index (first_stock_view me.0).number → old ≡ word_of (HeldBy g (n + 1)) → new ≡ word_of (HeldBy g n)
-    → Allows (λ (s : State S (List StockView)). StockRule cpus s.words s.views) slots id me index (λ x. either (eqb x old) new x)
-    (Alone consuming_step (step slots index old new none) me)
-consume_allowed {S} cpus slots id me g n is low high last index old new at_index at_old at_new =
-    subst (λ (z : Me S (List StockView)). Allows (λ (s : State S (List StockView)). StockRule cpus s.words s.views) slots id z
-    index (λ x. either (eqb x old) new x) (Alone consuming_step (step slots index old new none) z)) (sym is)
-    (subst (λ (y : ℕ × ℕ × ℕ). Allows (λ (s : State S (List StockView)). StockRule cpus s.words s.views) slots id
-    (first_stock_view me.0 ∷ [], []) y.0 (λ x. either (eqb x y.1) y.2 x)
-    (Alone consuming_step (step slots y.0 y.1 y.2 none) (first_stock_view me.0 ∷ [], []))) (λ i. (sym at_index i, sym at_old i, sym at_new i))
-    (consume_allowed_at cpus slots id (first_stock_view me.0) low high g n last))
-
-pub credit_allowed : {S : Type 0} (cpus slots id : ℕ) (me : Me S (List StockView)) (g n : ℕ)
-    → me ≡ (first_stock_view me.0 ∷ [], []) → 0 < (first_stock_view me.0).number → (first_stock_view me.0).number ≤ cpus
-    → (first_stock_view me.0).last ≡ HeldBy g n → 0 < (first_stock_view me.0).fresh
-    → (index old new : ℕ) → index ≡ stock_index (first_stock_view me.0).number → old ≡ word_of (HeldBy g n) → new ≡ word_of (HeldBy g (n + 1))
-    → Allows (λ (s : State S (List StockView)). StockRule cpus s.words s.views) slots id me index (λ x. either (eqb x old) new x)
-    (Alone crediting_step (step slots index old new none) me)
-credit_allowed {S} cpus slots id me g n is low high last fresh index old new at_index at_old at_new =
-    subst (λ (z : Me S (List StockView)). Allows (λ (s : State S (List StockView)). StockRule cpus s.words s.views) slots id z
-    index (λ x. either (eqb x old) new x) (Alone crediting_step (step slots index old new none) z)) (sym is)
-    (subst (λ (y : ℕ × ℕ × ℕ). Allows (λ (s : State S (List StockView)). StockRule cpus s.words s.views) slots id
-    (first_stock_view me.0 ∷ [], []) y.0 (λ x. either (eqb x y.1) y.2 x)
-    (Alone crediting_step (step slots y.0 y.1 y.2 none) (first_stock_view me.0 ∷ [], []))) (λ i. (sym at_index i, sym at_old i, sym at_new i))
-    (credit_allowed_at cpus slots id (first_stock_view me.0) low high g n last fresh))
-
-pub looking_allowed : {S : Type 0} (cpus slots id : ℕ) (me : Me S (List StockView)) (p : ℕ)
-    → me ≡ (first_stock_view me.0 ∷ [], []) → (first_stock_view me.0).number ≡ 0 → 0 < p → p ≤ cpus → (index : ℕ)
-    → index ≡ stock_index p
-    → Allows (λ (s : State S (List StockView)). StockRule cpus s.words s.views) slots id me index (λ x. x) (Alone looking_step (step slots index 0 0 none) me)
-looking_allowed {S} cpus slots id me p is zeroth low high index at_index =
-    subst (λ (z : Me S (List StockView)). Allows (λ (s : State S (List StockView)). StockRule cpus s.words s.views) slots id z
-    index (λ x. x) (Alone looking_step (step slots index 0 0 none) z)) (sym is)
-    (subst (λ (y : ℕ). Allows (λ (s : State S (List StockView)). StockRule cpus s.words s.views) slots id (
-      first_stock_view me.0 ∷ [],
-      [],
-    ) y (λ x. x) (Alone looking_step (step slots y 0 0 none) (first_stock_view me.0 ∷ [], []))) (sym at_index)
-    (looking_allowed_at cpus slots id (first_stock_view me.0) zeroth p low high))
-
-pub draining_allowed : {S : Type 0} (cpus slots id : ℕ) (me : Me S (List StockView)) (p g : ℕ)
-    → me ≡ (first_stock_view me.0 ∷ [], []) → (first_stock_view me.0).number ≡ 0 → 0 < p → p ≤ cpus
-    → (account_of (first_stock_view me.0) p).group ≡ Some g
-    → (index new : ℕ) → index ≡ stock_index p → new ≡ word_of (DrainedOf g)
-    → Allows (λ (s : State S (List StockView)). StockRule cpus s.words s.views) slots id me index (λ x. new)
-    (Alone draining_step (step slots index new 0 none) me)
-draining_allowed {S} cpus slots id me p g is zeroth low high group index new at_index at_new =
-    subst (λ (z : Me S (List StockView)). Allows (λ (s : State S (List StockView)). StockRule cpus s.words s.views) slots id z
-    index (λ x. new) (Alone draining_step (step slots index new 0 none) z)) (sym is)
-    (subst (λ (y : ℕ × ℕ). Allows (λ (s : State S (List StockView)). StockRule cpus s.words s.views) slots id (
-      first_stock_view me.0 ∷ [],
-      [],
-    ) y.0 (λ x. y.1) (Alone draining_step (step slots y.0 y.1 0 none) (first_stock_view me.0 ∷ [], []))) (λ i. (sym at_index i, sym at_new i))
-    (draining_allowed_at cpus slots id (first_stock_view me.0) zeroth p low high g group))
-
-pub absorbing_allowed : {S : Type 0} (cpus slots id : ℕ) (me : Me S (List StockView)) (p : ℕ)
-    → me ≡ (first_stock_view me.0 ∷ [], []) → (first_stock_view me.0).number ≡ 0 → 0 < p → p ≤ cpus → (index : ℕ)
-    → index ≡ report_index p
-    → Allows (λ (s : State S (List StockView)). StockRule cpus s.words s.views) slots id me index (λ x. 0) (Alone absorbing_step (step slots index 0 0 none) me)
-absorbing_allowed {S} cpus slots id me p is zeroth low high index at_index =
-    subst (λ (z : Me S (List StockView)). Allows (λ (s : State S (List StockView)). StockRule cpus s.words s.views) slots id z
-    index (λ x. 0) (Alone absorbing_step (step slots index 0 0 none) z)) (sym is)
-    (subst (λ (y : ℕ). Allows (λ (s : State S (List StockView)). StockRule cpus s.words s.views) slots id (
-      first_stock_view me.0 ∷ [],
-      [],
-    ) y (λ x. 0) (Alone absorbing_step (step slots y 0 0 none) (first_stock_view me.0 ∷ [], []))) (sym at_index)
-    (absorbing_allowed_at cpus slots id (first_stock_view me.0) zeroth p low high))
-
-pub reporting_allowed : {S : Type 0} (cpus slots id : ℕ) (me : Me S (List StockView)) (m v : StockView) (n : ℕ)
-    → me ≡ (m ∷ v ∷ [], []) → m.number ≡ 0 → 0 < v.number → v.number ≤ cpus → n ≤ v.fresh → (index : ℕ)
-    → index ≡ report_index v.number
-    → Allows (λ (s : State S (List StockView)). StockRule cpus s.words s.views) slots id me index (λ x. (x + n) % 2 ^ 64)
-    (Joined reporting_step (step slots index n 0 none) me)
-reporting_allowed {S} cpus slots id me m v n is zeroth low high fresh index at_index =
-    subst (λ (z : Me S (List StockView)). Allows (λ (s : State S (List StockView)). StockRule cpus s.words s.views) slots id z
-    index (λ x. (x + n) % 2 ^ 64) (Joined reporting_step (step slots index n 0 none) z)) (sym is)
-    (subst (λ (y : ℕ). Allows (λ (s : State S (List StockView)). StockRule cpus s.words s.views) slots id (
-      m ∷ v ∷ [],
-      [],
-    ) y (λ x. (x + n) % 2 ^ 64) (Joined reporting_step (step slots y n 0 none) (m ∷ v ∷ [], []))) (sym at_index)
-    (reporting_allowed_at cpus slots id m v zeroth low high n fresh))
-
-pub filling_allowed : {S : Type 0} (cpus slots id : ℕ) (me : Me S (List StockView)) (m v : StockView) (g n : ℕ)
-    → me ≡ (m ∷ v ∷ [], []) → m.number ≡ 0 → 0 < v.number → v.number ≤ cpus → g < 64 → n < 65536
-    → (account_of m v.number).filled ≡ false → v.fresh ≡ 0 → (account_of m v.number).unabsorbed ≡ 0 → (index new : ℕ) → index
-    ≡ stock_index v.number → new ≡ word_of (HeldBy g n)
-    → Allows (λ (s : State S (List StockView)). StockRule cpus s.words s.views) slots id me index (λ x. new)
-    (λ x. Joined filling_step (step slots index new 0 none) me new)
-filling_allowed {S} cpus slots id me m v g n is zeroth low high group few off fresh noted index new at_index at_new =
-    subst (λ (z : Me S (List StockView)). Allows (λ (s : State S (List StockView)). StockRule cpus s.words s.views) slots id z
-    index (λ x. new) (λ x. Joined filling_step (step slots index new 0 none) z new)) (sym is)
-    (subst (λ (y : ℕ × ℕ). Allows (λ (s : State S (List StockView)). StockRule cpus s.words s.views) slots id (
-      m ∷ v ∷ [],
-      [],
-    ) y.0 (λ x. y.1) (λ x. Joined filling_step (step slots y.0 y.1 0 none) (m ∷ v ∷ [], []) y.1)) (λ i. (sym at_index i, sym at_new i))
-    (filling_allowed_at cpus slots id m v zeroth low high g n group few off fresh noted))
-
-pub seeing_allowed : {S : Type 0} (cpus slots id : ℕ) (me : Me S (List StockView)) (m v : StockView) → me ≡ (m ∷ v ∷ [], []) → m.number ≡ 0
-    → 0 < v.number → v.number ≤ cpus → (index : ℕ) → index ≡ stock_index v.number
-    → Allows (λ (s : State S (List StockView)). StockRule cpus s.words s.views) slots id me index (λ x. x) (Joined seeing_stock_step (step slots index 0 0 none) me)
-seeing_allowed {S} cpus slots id me m v is zeroth low high index at_index =
-    subst (λ (z : Me S (List StockView)). Allows (λ (s : State S (List StockView)). StockRule cpus s.words s.views) slots id z index (λ x. x)
-    (Joined seeing_stock_step (step slots index 0 0 none) z)) (sym is)
-    (subst (λ (y : ℕ). Allows (λ (s : State S (List StockView)). StockRule cpus s.words s.views) slots id (m ∷ v ∷ [], []) y (λ x. x)
-    (Joined seeing_stock_step (step slots y 0 0 none) (m ∷ v ∷ [], []))) (sym at_index)
-    (seeing_allowed_at cpus slots id m v zeroth low high))
-
-pub consuming_held_allowed : {S : Type 0} (cpus slots id : ℕ) (me : Me S (List StockView)) (m v : StockView) (g : ℕ)
-    → me ≡ (m ∷ v ∷ [], []) → m.number ≡ 0 → 0 < v.number → v.number ≤ cpus
-    → (account_of m v.number).group ≡ Some g → v.fresh + (account_of m v.number).unabsorbed < (account_of m v.number).book
-    → (index : ℕ) → index ≡ stock_index v.number
-    → Allows (λ (s : State S (List StockView)). StockRule cpus s.words s.views) slots id me index
-    (λ x. (x + (2 ^ 64 - 1)) % 2 ^ 64) (Joined consuming_held_step (step slots index 1 0 none) me)
-consuming_held_allowed {S} cpus slots id me m v g is zeroth low high group more index at_index =
-    subst (λ (z : Me S (List StockView)). Allows (λ (s : State S (List StockView)). StockRule cpus s.words s.views) slots id z
-    index (λ x. (x + (2 ^ 64 - 1)) % 2 ^ 64) (Joined consuming_held_step (step slots index 1 0 none) z)) (sym is)
-    (subst (λ (y : ℕ). Allows (λ (s : State S (List StockView)). StockRule cpus s.words s.views) slots id (
-      m ∷ v ∷ [],
-      [],
-    ) y (λ x. (x + (2 ^ 64 - 1)) % 2 ^ 64) (Joined consuming_held_step (step slots y 1 0 none) (m ∷ v ∷ [], []))) (sym at_index)
-    (consuming_held_allowed_at cpus slots id m v zeroth low high g group more))
-
--- ---- splits and joins
+pub renamed : {S : Type 0} (cpus slots id : ℕ) (me : Me S (List StockView)) (f : ℕ → ℕ) (then : ℕ → ℕ → Me S (List StockView) → Type 0) (i j : ℕ) → i ≡ j
+    → Allows (holds {S = S} cpus slots id) slots id me j f (then j) → Allows (holds {S = S} cpus slots id) slots id me i f (then i)
+renamed {S} cpus slots id me f then i j e = subst (λ k. Allows (holds {S = S} cpus slots id) slots id me k f (then k)) (sym e)

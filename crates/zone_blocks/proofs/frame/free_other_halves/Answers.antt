@@ -4,25 +4,16 @@ use Rattle.zone_blocks.proofs.Halves.{double, size_is, half_is, upper_first, low
 use Rattle.zone_blocks.proofs.Around.{HalvedAround, halved_more, one_frame}
 use Rattle.zone_blocks.proofs.frame.free_other_halves.Goals as goal
 
-pub insert-requires-clause-block : goal.insert-requires-clause-block
-insert-requires-clause-block c =
+pub insert-requires : goal.insert-requires
+insert-requires c =
     let at = c.loop-exponent.at in
     let e : ℕ = c.loop-exponent.exponent - 1 in
     let o = rw c.unwrap-half.ensures at c.of.ensures in
     let k : c.loop-exponent.exponent ≡ e + 1 = omega arith in
-    (half_ready c.loop-exponent.areas at c.loop-exponent.exponent e _ _ (block_at at e) k
+    let ready = half_ready c.loop-exponent.areas at c.loop-exponent.exponent e _ _ (block_at at e) k
     (half_is at e c.frames.result c.unwrap-half.result c.frames.ensures.frames o.0 _ refl) (upper_first c.loop-exponent.areas.frames at e)
-    c.loop-exponent.invariant.halving).0
-
-pub insert-requires-clause-apart : goal.insert-requires-clause-apart
-insert-requires-clause-apart c =
-    let at = c.loop-exponent.at in
-    let e : ℕ = c.loop-exponent.exponent - 1 in
-    let o = rw c.unwrap-half.ensures at c.of.ensures in
-    let k : c.loop-exponent.exponent ≡ e + 1 = omega arith in
-    (half_ready c.loop-exponent.areas at c.loop-exponent.exponent e _ _ (block_at at e) k
-    (half_is at e c.frames.result c.unwrap-half.result c.frames.ensures.frames o.0 _ refl) (upper_first c.loop-exponent.areas.frames at e)
-    c.loop-exponent.invariant.halving).1
+    c.loop-exponent.invariant.halving in
+    record { block = ready.0; apart = ready.1 }
 
 pub loop-exponent-preserved-then-frame-middle : goal.loop-exponent-preserved-then-frame-middle
 loop-exponent-preserved-then-frame-middle c =
@@ -37,23 +28,15 @@ loop-exponent-preserved-then-frame-middle c =
     (half_is at e c.frames.result c.unwrap-half.result c.frames.ensures.frames o.0 _ refl) (upper_first c.loop-exponent.areas.frames at e)
     c.loop-exponent.invariant c.insert.ensures.blocks c.insert.ensures.frames record { from = from; before = omega (arith, size, c.if-frame-middle.true) }
 
-pub insert-requires-else-frame-middle-clause-block : goal.insert-requires-else-frame-middle-clause-block
-insert-requires-else-frame-middle-clause-block c =
+pub insert-requires-else-frame-middle : goal.insert-requires-else-frame-middle
+insert-requires-else-frame-middle c =
     let at = c.loop-exponent.at in
     let e : ℕ = c.loop-exponent.exponent - 1 in
     let o = rw c.unwrap-half.ensures at c.of.ensures in
     let k : c.loop-exponent.exponent ≡ e + 1 = omega arith in
-    (half_ready c.loop-exponent.areas at c.loop-exponent.exponent e _ _ (block_at (at + 2 ^ e) e) k (ap (block_at at) o.0)
-    (lower_first c.loop-exponent.areas.frames at e) c.loop-exponent.invariant.halving).0
-
-pub insert-requires-else-frame-middle-clause-apart : goal.insert-requires-else-frame-middle-clause-apart
-insert-requires-else-frame-middle-clause-apart c =
-    let at = c.loop-exponent.at in
-    let e : ℕ = c.loop-exponent.exponent - 1 in
-    let o = rw c.unwrap-half.ensures at c.of.ensures in
-    let k : c.loop-exponent.exponent ≡ e + 1 = omega arith in
-    (half_ready c.loop-exponent.areas at c.loop-exponent.exponent e _ _ (block_at (at + 2 ^ e) e) k (ap (block_at at) o.0)
-    (lower_first c.loop-exponent.areas.frames at e) c.loop-exponent.invariant.halving).1
+    let ready = half_ready c.loop-exponent.areas at c.loop-exponent.exponent e _ _ (block_at (at + 2 ^ e) e) k (ap (block_at at) o.0)
+    (lower_first c.loop-exponent.areas.frames at e) c.loop-exponent.invariant.halving in
+    record { block = ready.0; apart = ready.1 }
 
 pub loop-exponent-preserved : goal.loop-exponent-preserved
 loop-exponent-preserved c =

@@ -1,9 +1,9 @@
 use Rattle.std.proofs.Common.{◌≡◌, ◌≢◌, ◌∙◌, ℕ, List, None, Some, Option, arith, rules, refl, sym}
 use Rattle.lru_lists.specs.declared.record.LruList.TheVariants.{Inactive, Active}
-use Rattle.lru_lists.specs.Queue.{link_at, units_of}
+use Rattle.lru_lists.specs.Queue.{units_of}
 use Rattle.lru_lists.specs.Lists.{home_in, list_of}
 use Rattle.lru_lists.proofs.Linking.{within}
-use Rattle.lru_lists.proofs.Pairs.{oldest_first, entries_first, some_oldest, list_at_home, other_lacks, homes_differ}
+use Rattle.lru_lists.proofs.Pairs.{oldest_first, entries_first, some_oldest, list_at_home, other_lacks, elsewhere}
 use Rattle.std.specs.Option.{IsSome}
 use Rattle.lru_lists.proofs.lru.Lru.demote.Goals as goal
 
@@ -42,9 +42,7 @@ returns-clause-inactive c =
     let i = (oldest_first xs c.unwrap-oldest.result first).2 in
     let there = l.homes c.unwrap-oldest.result i in
     let ne : Inactive ≢ Active = λ e. cc in
-    let away : (link_at c.args.links.now c.unwrap-oldest.result).home ≢ Some (home_in c.args.self.now Inactive) =
-    λ h. let k : Some (home_in c.args.self.now Active) ≡ Some (home_in c.args.self.now Inactive) = sym there ∙ h in
-    homes_differ c.args.self.now Active Inactive ne (let w : home_in c.args.self.now Active ≡ home_in c.args.self.now Inactive = cc in w) in
+    let away = elsewhere c.args.self.now Active _ there Inactive ne in
     rw (
       c.move_to.ensures.gained,
       other_lacks c.args.links.now c.args.self.now Inactive c.unwrap-oldest.result c.requires.linked away,

@@ -83,14 +83,8 @@ returns-clause-allowed c =
 
 pub returns-clause-state : goal.returns-clause-state
 returns-clause-state c =
-    let inside : Inside = record {
-      rows = c.serve-answer.new.rows;
-      free = c.set_areas.new.free;
-      accounts =
-          c.update_accounts.new.accounts;
-      areas = c.set_areas.new.areas;
-      steps = c.self.inside.steps + 1;
-    } in
+    let a = c.set_areas.new in
+    let inside : Inside = record { rows = c.serve-answer.new.rows; free = a.free; accounts = c.update_accounts.new.accounts; areas = a.areas; steps = c.self.inside.steps + 1 } in
     let link : state_shown c.args.self.now ≡ rows.state_in c.self.inside.rows = ap state_shown (sym c.self.view_is) ∙ shown_is c.self.inside in
     shown_is inside ∙ c.serve-answer.ensures.state ∙ ap (λ (s : State). after s c.args.step.seat c.args.step.action c.serve-answer.result) (sym link)
 
@@ -109,14 +103,8 @@ returns-clause-first c =
 
 pub returns-clause-shows : goal.returns-clause-shows
 returns-clause-shows c run shows =
-    let inside : Inside = record {
-      rows = c.serve-answer.new.rows;
-      free = c.set_areas.new.free;
-      accounts =
-          c.update_accounts.new.accounts;
-      areas = c.set_areas.new.areas;
-      steps = c.self.inside.steps + 1;
-    } in
+    let a = c.set_areas.new in
+    let inside : Inside = record { rows = c.serve-answer.new.rows; free = a.free; accounts = c.update_accounts.new.accounts; areas = a.areas; steps = c.self.inside.steps + 1 } in
     shown_more c.args.self.now (core_state inside) run c.args.step c.serve-answer.result shows (returns-clause-allowed c) (returns-clause-zone c)
     (ap (λ (x : CoreState). x.steps + 1) c.self.view_is) (returns-clause-state c)
     (subst (λ (old : List Account). AccountsFollow
@@ -128,14 +116,8 @@ returns-clause-shows c run shows =
 
 pub returns-clause-promise : goal.returns-clause-promise
 returns-clause-promise c run shows =
-    let inside : Inside = record {
-      rows = c.serve-answer.new.rows;
-      free = c.set_areas.new.free;
-      accounts =
-          c.update_accounts.new.accounts;
-      areas = c.set_areas.new.areas;
-      steps = c.self.inside.steps + 1;
-    } in
+    let a = c.set_areas.new in
+    let inside : Inside = record { rows = c.serve-answer.new.rows; free = a.free; accounts = c.update_accounts.new.accounts; areas = a.areas; steps = c.self.inside.steps + 1 } in
     keeps_promise (core_state inside) (run ++ (c.args.step, c.serve-answer.result) ∷ []) (returns-clause-shows c run shows) c.set_areas.ensures.areas
 
 pub returns-clause-usage : goal.returns-clause-usage
@@ -153,27 +135,13 @@ returns-in-Illegal-clause-allowed c =
 
 pub returns-in-Illegal-clause-state : goal.returns-in-Illegal-clause-state
 returns-in-Illegal-clause-state c =
-    let inside : Inside = record {
-      rows = c.serve-answer.new.rows;
-      free = c.self.inside.free;
-      accounts =
-          c.self.inside.accounts;
-      areas = c.self.inside.areas;
-      steps = c.self.inside.steps + 1;
-    } in
+    let inside : Inside = record c.self.inside { rows = c.serve-answer.new.rows; steps = c.self.inside.steps + 1 } in
     let link : state_shown c.args.self.now ≡ rows.state_in c.self.inside.rows = ap state_shown (sym c.self.view_is) ∙ shown_is c.self.inside in
     shown_is inside ∙ c.serve-answer.ensures.state ∙ ap (λ (s : State). after s c.args.step.seat c.args.step.action c.serve-answer.result) (sym link)
 
 pub returns-in-Illegal-clause-shows : goal.returns-in-Illegal-clause-shows
 returns-in-Illegal-clause-shows c run shows =
-    let inside : Inside = record {
-      rows = c.serve-answer.new.rows;
-      free = c.self.inside.free;
-      accounts =
-          c.self.inside.accounts;
-      areas = c.self.inside.areas;
-      steps = c.self.inside.steps + 1;
-    } in
+    let inside : Inside = record c.self.inside { rows = c.serve-answer.new.rows; steps = c.self.inside.steps + 1 } in
     let s = rows.state_in c.self.inside.rows in
     let zone = ap (λ (x : State). x.zone) c.serve-answer.ensures.state
     ∙ zone_kept s c.args.step.seat c.args.step.action c.serve-answer.result ∙ ap (λ (x : CoreState). x.zone) c.self.view_is in
@@ -194,14 +162,7 @@ returns-in-Illegal-clause-areas c =
 
 pub returns-in-Illegal-clause-promise : goal.returns-in-Illegal-clause-promise
 returns-in-Illegal-clause-promise c run shows =
-    let inside : Inside = record {
-      rows = c.serve-answer.new.rows;
-      free = c.self.inside.free;
-      accounts =
-          c.self.inside.accounts;
-      areas = c.self.inside.areas;
-      steps = c.self.inside.steps + 1;
-    } in
+    let inside : Inside = record c.self.inside { rows = c.serve-answer.new.rows; steps = c.self.inside.steps + 1 } in
     keeps_promise (core_state inside) (run ++ (c.args.step, c.serve-answer.result) ∷ []) (returns-in-Illegal-clause-shows c run shows)
     (returns-in-Illegal-clause-areas c)
 
@@ -211,14 +172,7 @@ invariant_of-self c =
     let n = c.self.inside.steps in
     let count : n * 2 ^ 32 + 2 ^ 32 ≡ (n + 1) * 2 ^ 32 = omega arith in
     let s = rows.state_in c.self.inside.rows in
-    subst (λ (r : Rows). IsWhole (record {
-      rows = r;
-      free = c.self.inside.free;
-      accounts = c.self.inside.accounts;
-      areas =
-          c.self.inside.areas;
-      steps = n + 1;
-    })) (sym same) (record {
+    subst (λ (r : Rows). IsWhole (record c.self.inside { rows = r; steps = n + 1 })) (sym same) (record {
       fits = c.self.invariant.fits;
       sound = c.self.invariant.sound;
       homed = c.self.invariant.homed;

@@ -1,4 +1,4 @@
-use Rattle.std.proofs.Common.{◌≡◌, ◌∙◌, ◌*◌, ◌/◌, ◌^◌, ◌-◌, ◌%◌, ℕ, length, replicate, true, inl, inr, refl, ap, sym, subst, arith}
+use Rattle.std.proofs.Common.{◌≡◌, ◌∙◌, ◌*◌, ◌/◌, ◌^◌, ◌-◌, ◌%◌, ℕ, length, replicate, true, inl, inr, refl, ap, ap₂, sym, subst, arith}
 use Rattle.std.proofs.lemmas.List.{length-replicate}
 use Rattle.zone_blocks.specs.Block.{IsBlock}
 use Rattle.zone_blocks.proofs.Lists.{numbered_is_block}
@@ -12,9 +12,7 @@ loop-index-init c =
     let k = c.args.order in
     let n = c.args.self.now.frames in
     let o = c.exponent.ensures.exponent in
-    let parts : ℕ → ℕ = λ m. n / m in
-    let whole : ℕ → ℕ = λ m. m / c.frames-size.result in
-    let count : whole c.frames.result ≡ parts (2 ^ k) = ap whole c.frames.ensures ∙ ap parts c.frames-size.ensures.frames in
+    let count : c.frames.result / c.frames-size.result ≡ n / 2 ^ k = ap₂ (λ f size. f / size) c.frames.ensures c.frames-size.ensures.frames in
     let even : ℕ → ℕ = λ m. m - m % 2 in
     let left : IsFirstLeft n k c.if-exponent-lt-GREATEST.first = elim c.if-exponent-lt-GREATEST.branch [
       | then-exponent-lt-GREATEST w ↦ let t = w.if-exponent-lt-GREATEST.true in inl (omega (arith, o, t), w.first-is ∙ ap even count)
@@ -26,47 +24,31 @@ loop-index-init c =
       filled = filled_up_to n k c.if-exponent-lt-GREATEST.first _ left c.requires.lower;
     }
 
-pub insert-requires-clause-block : goal.insert-requires-clause-block
-insert-requires-clause-block c =
+pub insert-requires : goal.insert-requires
+insert-requires c =
     let k = c.args.order in
     let n = c.args.self.now.frames in
-    let parts : ℕ → ℕ = λ m. n / m in
-    let whole : ℕ → ℕ = λ m. m / c.frames-size.result in
-    let count : whole c.frames.result ≡ parts (2 ^ k) = ap whole c.frames.ensures ∙ ap parts c.frames-size.ensures.frames in
+    let count : c.frames.result / c.frames-size.result ≡ n / 2 ^ k = ap₂ (λ f size. f / size) c.frames.ensures c.frames-size.ensures.frames in
     let within = c.loop-index-test.true in
     let small = c.frames-size.ensures.order in
-    let scaled : ℕ → ℕ = λ m. c.loop-index.index * m in
-    let P : ℕ → ℕ → Type 0 = λ frames at. IsBlock frames record { at = at; order = k } in
-    let Q : ℕ → Type 0 = λ frames. P frames (c.loop-index.index * c.frames-size.result) in
-    subst Q (sym c.loop-index.invariant.frames) (subst (P n) (sym (ap scaled c.frames-size.ensures.frames))
-    (numbered_is_block n k c.loop-index.index (omega arith) (omega (arith, within, count))))
-
-pub insert-requires-clause-apart : goal.insert-requires-clause-apart
-insert-requires-clause-apart c =
-    let k = c.args.order in
-    let n = c.args.self.now.frames in
-    let parts : ℕ → ℕ = λ m. n / m in
-    let whole : ℕ → ℕ = λ m. m / c.frames-size.result in
-    let count : whole c.frames.result ≡ parts (2 ^ k) = ap whole c.frames.ensures ∙ ap parts c.frames-size.ensures.frames in
-    let within = c.loop-index-test.true in
-    let small = c.frames-size.ensures.order in
-    let scaled : ℕ → ℕ = λ m. c.loop-index.index * m in
-    let here = ap scaled c.frames-size.ensures.frames in
+    let here = ap (λ m. c.loop-index.index * m) c.frames-size.ensures.frames in
     let maximal = maximal_from n k c.if-exponent-lt-GREATEST.first c.loop-index.index _ small c.loop-index.invariant.left c.loop-index.auto.index
     (omega (arith, within, count)) here in
-    apart_yet (replicate n true) k c.loop-index.index _ c.loop-index.self.blocks here maximal c.loop-index.invariant.filled
+    let P : ℕ → ℕ → Type 0 = λ frames at. IsBlock frames record { at = at; order = k } in
+    record {
+      block = subst (λ frames. P frames (c.loop-index.index * c.frames-size.result)) (sym c.loop-index.invariant.frames)
+          (subst (P n) (sym here) (numbered_is_block n k c.loop-index.index (omega arith) (omega (arith, within, count))));
+      apart = apart_yet (replicate n true) k c.loop-index.index _ c.loop-index.self.blocks here maximal c.loop-index.invariant.filled;
+    }
 
 pub loop-index-preserved : goal.loop-index-preserved
 loop-index-preserved c =
     let k = c.args.order in
     let n = c.args.self.now.frames in
-    let parts : ℕ → ℕ = λ m. n / m in
-    let whole : ℕ → ℕ = λ m. m / c.frames-size.result in
-    let count : whole c.frames.result ≡ parts (2 ^ k) = ap whole c.frames.ensures ∙ ap parts c.frames-size.ensures.frames in
+    let count : c.frames.result / c.frames-size.result ≡ n / 2 ^ k = ap₂ (λ f size. f / size) c.frames.ensures c.frames-size.ensures.frames in
     let within = c.loop-index-test.true in
     let small = c.frames-size.ensures.order in
-    let scaled : ℕ → ℕ = λ m. c.loop-index.index * m in
-    let here = ap scaled c.frames-size.ensures.frames in
+    let here = ap (λ m. c.loop-index.index * m) c.frames-size.ensures.frames in
     let maximal = maximal_from n k c.if-exponent-lt-GREATEST.first c.loop-index.index _ small c.loop-index.invariant.left c.loop-index.auto.index
     (omega (arith, within, count)) here in
     record {
@@ -80,9 +62,7 @@ pub returns-clause-filled : goal.returns-clause-filled
 returns-clause-filled c =
     let k = c.args.order in
     let n = c.args.self.now.frames in
-    let parts : ℕ → ℕ = λ m. n / m in
-    let whole : ℕ → ℕ = λ m. m / c.frames-size.result in
-    let count : whole c.frames.result ≡ parts (2 ^ k) = ap whole c.frames.ensures ∙ ap parts c.frames-size.ensures.frames in
+    let count : c.frames.result / c.frames-size.result ≡ n / 2 ^ k = ap₂ (λ f size. f / size) c.frames.ensures c.frames-size.ensures.frames in
     let len : length (replicate n true) ≡ n = length-replicate n true in
     let each : ℕ → ℕ = λ m. m / 2 ^ k in
     let low = first_within n k c.if-exponent-lt-GREATEST.first c.loop-index.invariant.left in
