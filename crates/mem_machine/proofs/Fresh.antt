@@ -1,7 +1,7 @@
 -- A fresh frame is kept for its group, or dropped. Serves `keep_one` and `drop_one`.
-use Rattle.std.proofs.Common.{◌++◌, ◌≡◌, ℕ, ◌+◌, ◌^◌, ◌<◌, ◌≤◌, ◌==◌, Bool, true, false, cond, Option, Some, None, List, [], ◌∷◌, length}
+use Rattle.std.proofs.Common.{◌++◌, ◌≡◌, ℕ, ◌+◌, ◌^◌, ◌<◌, ◌≤◌, ◌==◌, Bool, true, false, cond, Some, List, [], ◌∷◌, length, rules}
 use Rattle.std.proofs.Common.{refl, sym, ap, ◌∙◌, subst, arith, inl, inr, eq-eqb}
-use Rattle.std.specs.Prelude.{slice_set, nat_le, IfSome}
+use Rattle.std.specs.Prelude.{slice_set, nat_le}
 use Rattle.std.proofs.lemmas.Bool.{cases_eq, cond-true, false≢true}
 use Rattle.std.proofs.lemmas.List.{get_or-set_same, get_or-set_other, length-set, ext_get_or}
 use Rattle.zone_blocks.specs.declared.block.Block.{Block}
@@ -15,7 +15,6 @@ use Rattle.stock_word.specs.Stock.{KnownStockTable, KnownStockSeat, account_of, 
 use Rattle.group_charge.specs.Charges.{Ledger, pages_of, with_uncharge}
 use Rattle.group_charge.proofs.CallerLemmas.{uncharge_pages, uncharge_peaks, uncharge_events}
 use Rattle.lru_lists.specs.declared.record.Link.{Link}
-use Rattle.lru_lists.specs.declared.record.Home.{Home}
 use Rattle.lru_lists.specs.declared.lru.Lru.{Lru}
 use Rattle.cpu_part.specs.Cpus.{KnownCpu, IsTied}
 use Rattle.cpu_part.specs.Calls.{PassesFresh}
@@ -28,7 +27,7 @@ use Rattle.step_rules.specs.After.{is_within}
 use Rattle.mem_machine.specs.declared.frame_state.FrameState.{FrameState}
 use Rattle.mem_machine.specs.declared.frame_state.FrameState.TheVariants.{Free, Lent, Head}
 use Rattle.mem_machine.specs.declared.counts.Counts.{Counts}
-use Rattle.mem_machine.specs.FrameStates.{frame_state_at, is_free_state, free_of, frame_state_group, head_group_of}
+use Rattle.mem_machine.specs.FrameStates.{frame_state_at, is_free_state, free_of, frame_state_group}
 use Rattle.mem_machine.specs.FrameStates.{some_cpu}
 use Rattle.mem_machine.specs.Machines.{KnownMachine, FitsFrameState, IsConsistent, BalancesCounts, home_of, is_killed, pages_booked}
 use Rattle.mem_machine.specs.Local.{Visits}
@@ -40,7 +39,7 @@ use Rattle.mem_machine.specs.Counting.{counts_along}
 use Rattle.mem_machine.specs.Freeing.{FreesFrames}
 use Rattle.mem_machine.specs.Settling.{KeepsFresh, DropsFresh, with_page_absorbed, collect_steps, keep_steps, drop_steps}
 use Rattle.mem_machine.proofs.Holds.{own_part}
-use Rattle.mem_machine.proofs.Records.{free_at, free_set, lent_frame_state, frame_states_changed, units_stay, charges_stay}
+use Rattle.mem_machine.proofs.Records.{free_at, free_set, lent_frame_state, frame_states_changed, units_stay, charges_stay, collected_fits}
 use Rattle.mem_machine.proofs.PlacesUnits.{head_of_block, off_block}
 use Rattle.mem_machine.proofs.Joins.{AllJoin}
 use Rattle.mem_machine.proofs.KeptUnits.{unit_kept}
@@ -215,17 +214,8 @@ module _ (t : KnownTable) (w : KnownStockTable) (m : KnownMachine) (c : KnownCpu
     one_set : new ≡ slice_set m.frame_states f Free
     one_set = frees_one m.frame_states new f 0 refl within frees
 
-    -- a lent frame has no list
-    homeless : (h : Option Home) → IfSome h (λ x. (x.owner < 64) × (head_group_of (Lent c.number) ≡ Some x.owner))
-        → IfSome h (λ x. (x.owner < 64) × (head_group_of Free ≡ Some x.owner))
-    homeless None is = tt
-    homeless (Some x) is = is
-
     dropped_fits : FitsFrameState t.cpus (collected_from c.number (note_of m.frame_seat.view f)) (home_of m.links f) Free
-    dropped_fits =
-        let old : FitsFrameState t.cpus (note_of m.frame_seat.view f) (home_of m.links f) (Lent c.number) =
-        subst (λ (x : FrameState). FitsFrameState t.cpus (note_of m.frame_seat.view f) (home_of m.links f) x) is_lent (ok.frame_states f was.inside) in
-        record { own = refl; borrowed = old.borrowed; lent = refl; borrower = tt; references = old.references; kept = homeless (home_of m.links f) old.kept }
+    dropped_fits = collected_fits t.cpus c.number _ _ (subst (λ (x : FrameState). FitsFrameState t.cpus (note_of m.frame_seat.view f) (home_of m.links f) x) is_lent (ok.frame_states f was.inside))
 
     charged_one : 1 ≤ pages_of m.ledger g
     charged_one =
@@ -236,13 +226,7 @@ module _ (t : KnownTable) (w : KnownStockTable) (m : KnownMachine) (c : KnownCpu
 
     dropped_set : IsConsistent t w (record dropped { frame_states = slice_set m.frame_states f Free })
     dropped_set = record {
-      sizes = let z = ok.sizes in record {
-        frame_states = length-set m.frame_states f Free ∙ z.frame_states;
-        links = z.links;
-        lists = z.lists;
-        killed = z.killed;
-        cpus = z.cpus;
-      };
+      sizes = let sized = length-set m.frame_states f Free ∙ ok.sizes.frame_states in search rules;
       seats = let z = ok.seats in record { frames = z.frames; table = z.table; stocks = z.stocks };
       areas = subst (λ (l : List FrameState). AreMaximalBlocks (free_of l) blocks) one_set areas;
       frame_states = frame_states_changed t.cpus m.frame_seat m.links m.frame_states f (collected_from c.number) Free t.frames within ok.frame_states dropped_fits;

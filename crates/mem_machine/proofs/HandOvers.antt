@@ -111,12 +111,7 @@ fresh_front t w c tied f rest front =
     let r = n.borrowed_is in
     let o = n.own_is in
     let h = n.once in
-    record {
-      once = omega (arith, a, b, r, o, h);
-      none_in_rest = omega (arith, a, b, r, o, h);
-      none_listed = omega (arith, a, b, r, o, h);
-      none_back = omega (arith, a, b, r, o, h);
-    }
+    omega (arith, a, b, r, o, h)
 
 -- the frame is the front of the back frames
 pub record IsBackFront (c : KnownCpu) (f : ℕ) (rest : List ℕ) : Type 0 where
@@ -133,12 +128,7 @@ back_front t w c tied f rest front =
     let r = n.borrowed_is in
     let o = n.own_is in
     let h = n.once in
-    record {
-      once = omega (arith, a, b, r, o, h);
-      none_in_rest = omega (arith, a, b, r, o, h);
-      none_listed = omega (arith, a, b, r, o, h);
-      none_fresh = omega (arith, a, b, r, o, h);
-    }
+    omega (arith, a, b, r, o, h)
 
 -- each other frame is as often in the rest as it was before
 pub times_rest : (g f : ℕ) (xs rest : List ℕ) → xs ≡ f ∷ rest → g ≢ f → times g rest ≡ times g xs

@@ -1,9 +1,8 @@
 -- The front of the visited CPU's list is returned to the free areas. Serves `unlist_one`.
-use Rattle.std.proofs.Common.{◌≡◌, ℕ, ◌+◌, ◌<◌, ◌==◌, Bool, true, false, Option, Some, None, List, [], ◌∷◌, length, get_or, refl, sym, ap, ◌∙◌}
+use Rattle.std.proofs.Common.{◌≡◌, ℕ, ◌+◌, ◌<◌, ◌==◌, Bool, true, false, List, [], ◌∷◌, length, get_or, refl, sym, ap, ◌∙◌}
 use Rattle.std.proofs.Common.{subst, inl, inr, arith, eq-eqb}
-use Rattle.std.specs.Prelude.{slice_set, IfSome}
+use Rattle.std.specs.Prelude.{slice_set}
 use Rattle.std.proofs.lemmas.Bool.{cases_eq, ne_eqb, and_from, cond-true, lt-ltb, or_left, false≢true}
-use Rattle.std.proofs.lemmas.List.{length-set}
 use Rattle.zone_blocks.specs.declared.block.Block.{Block}
 use Rattle.zone_blocks.specs.Areas.{AreMaximalBlocks}
 use Rattle.zone_blocks.specs.Zone.{GivesFrames, IsInUse}
@@ -16,7 +15,6 @@ use Rattle.cpu_part.specs.Cpus.{KnownCpu, IsTied, times}
 use Rattle.cpu_part.specs.Calls.{PassesFront}
 use Rattle.cpu_part.proofs.CallerLemmas.{handed_passes, collected_is_still}
 use Rattle.cpu_part.proofs.Counts.{test, test_here, times_front}
-use Rattle.lru_lists.specs.declared.record.Home.{Home}
 use Rattle.step_rules.specs.declared.phase.Way.TheVariants.{OnList, PassingBack}
 use Rattle.step_rules.specs.declared.phase.Phase.TheVariants as phase
 use Rattle.step_rules.specs.declared.step.Action.TheVariants.{PassBack, Collect}
@@ -28,7 +26,7 @@ use Rattle.step_rules.specs.After.{after, without_frame}
 use Rattle.step_rules.proofs.Basics.{at_same}
 use Rattle.mem_machine.specs.declared.frame_state.FrameState.{FrameState}
 use Rattle.mem_machine.specs.declared.frame_state.FrameState.TheVariants.{Free, Lent, Head, Tail}
-use Rattle.mem_machine.specs.FrameStates.{frame_state_at, is_free_state, free_of, frame_state_group, head_group_of}
+use Rattle.mem_machine.specs.FrameStates.{frame_state_at, is_free_state, free_of, frame_state_group}
 use Rattle.mem_machine.specs.FrameStates.{some_cpu}
 use Rattle.mem_machine.specs.Machines.{KnownMachine, FitsFrameState, IsConsistent, home_of}
 use Rattle.mem_machine.specs.Local.{Visits}
@@ -37,8 +35,8 @@ use Rattle.mem_machine.specs.Local.{local_of, phase_of, part_of, part_with, visi
 use Rattle.mem_machine.specs.Steps.{unlist_steps}
 use Rattle.mem_machine.proofs.Reaching.{zone_step, cpu_step}
 use Rattle.mem_machine.proofs.Holds.{IsSeated, zone_may_act, visits_open, seated_cpu}
-use Rattle.mem_machine.proofs.Records.{free_at, one_covered, length_free, free_given, lent_frame_state, frame_states_changed, holds_same, units_stay, charges_stay}
-use Rattle.mem_machine.proofs.Lends.{parts_changed, references_stay, lent_listed, phases_changed}
+use Rattle.mem_machine.proofs.Records.{free_at, one_covered, length_free, free_given, lent_frame_state, holds_same, collected_fits}
+use Rattle.mem_machine.proofs.Lends.{parts_changed, references_stay, lent_listed, phases_changed, frame_changed}
 use Rattle.mem_machine.proofs.Followed.{follows_same, LeadsAs}
 use Rattle.mem_machine.proofs.Counted.{collects_none}
 use Rattle.boot_words.specs.Pasts.{KnownPasts, MakesStep, MayMake}
@@ -95,38 +93,12 @@ module _ (t : KnownTable) (w : KnownStockTable) (m : KnownMachine) (c : KnownCpu
   seated : IsSeated t c
   seated = record { some_number = tied.seats.some_number; cpus = tied.seats.frame_cpus }
 
-  -- a lent frame has no list
-  homeless : (h : Option Home) → IfSome h (λ x. (x.owner < 64) × (head_group_of (Lent c.number) ≡ Some x.owner))
-      → IfSome h (λ x. (x.owner < 64) × (head_group_of Free ≡ Some x.owner))
-  homeless None is = tt
-  homeless (Some x) is = is
-
   taken_fits : FitsFrameState t.cpus (collected_from c.number (note_of m.frame_seat.view f)) (home_of m.links f) Free
-  taken_fits =
-      let old : FitsFrameState t.cpus (note_of m.frame_seat.view f) (home_of m.links f) (Lent c.number) =
-      subst (λ (x : FrameState). FitsFrameState t.cpus (note_of m.frame_seat.view f) (home_of m.links f) x) is_lent_frame_state (ok.frame_states f inside) in
-      record { own = refl; borrowed = old.borrowed; lent = refl; borrower = tt; references = old.references; kept = homeless (home_of m.links f) old.kept }
+  taken_fits = collected_fits t.cpus c.number _ _ (subst (λ (x : FrameState). FitsFrameState t.cpus (note_of m.frame_seat.view f) (home_of m.links f) x) is_lent_frame_state (ok.frame_states f inside))
 
   pub take_consistent : (blocks : List Block) → AreMaximalBlocks (free_of (slice_set m.frame_states f Free)) blocks
       → IsConsistent t w (record m { blocks = blocks; frame_states = slice_set m.frame_states f Free; frame_seat = seat_with m.frame_seat f (collected_from c.number) })
-  take_consistent blocks areas = record {
-    sizes = let s = ok.sizes in record {
-      frame_states = length-set m.frame_states f Free ∙ s.frame_states;
-      links = s.links;
-      lists = s.lists;
-      killed = s.killed;
-      cpus = s.cpus;
-    };
-    seats = let s = ok.seats in record { frames = s.frames; table = s.table; stocks = s.stocks };
-    areas = areas;
-    frame_states = frame_states_changed t.cpus m.frame_seat m.links m.frame_states f (collected_from c.number) Free t.frames within ok.frame_states taken_fits;
-    units = units_stay m.frame_states f Free within (ap frame_state_group is_lent_frame_state) refl ok.units;
-    lists = ok.lists;
-    absorbed = ok.absorbed;
-    bounded = ok.bounded;
-    charged = λ g. let a = ok.charged g in let b = charges_stay m.frame_states f Free within (ap frame_state_group is_lent_frame_state) refl g in omega (arith, a, b);
-    balances = ok.balances;
-  }
+  take_consistent = frame_changed t w m ok f within Free (ap frame_state_group is_lent_frame_state) refl (collected_from c.number) taken_fits
 
   -- what was not lent before isn't after
   not_lent_to : (0 ≡ seat_number c.frame_seat) → ⊥

@@ -1,5 +1,7 @@
 -- A block is charged to a group and taken, or none is there. Serves `take_block`.
 use Rattle.std.proofs.Common.{◌≡◌, ℕ, zero, suc, ◌+◌, ◌-◌, ◌^◌, ◌≤◌, ◌<◌, ◌==◌, Bool, true, false, cond, List, [], ◌∷◌, length, get_or}
+use Rattle.mem_machine.proofs.Usage.{usage_seen, balanced_alone}
+use Rattle.mem_machine.specs.Paying.{MayCharge}
 use Rattle.std.proofs.Common.{refl, sym, ap, ◌∙◌, subst, arith, inl, inr}
 use Rattle.std.specs.Prelude.{slice_index}
 use Rattle.std.specs.Cmp.{both_ways}
@@ -23,7 +25,7 @@ use Rattle.group_tree.specs.Room.{PathHasRoom}
 use Rattle.group_charge.specs.Charges.{Ledger, current_of, with_charge, with_uncharge, PagesRise, AreCharges}
 use Rattle.lru_lists.specs.declared.record.Link.{Link}
 use Rattle.lru_lists.specs.declared.lru.Lru.{Lru}
-use Rattle.cpu_part.specs.Cpus.{KnownCpu, times}
+use Rattle.cpu_part.specs.Cpus.{KnownCpu, times, IsTied}
 use Rattle.step_rules.specs.Phases as phases
 use Rattle.step_rules.specs.State.{with_at, free_in, one_if}
 use Rattle.step_rules.specs.Usage.{usage_of}
@@ -44,7 +46,7 @@ use Rattle.step_rules.specs.After.{Run}
 use Rattle.step_rules.specs.declared.step.Action.TheVariants.{Grant, PlaceBlock, Publish, Ungrant, Unfreeze}
 use Rattle.step_rules.specs.declared.step.Answer.TheVariants.{Done, Granted, NoFreeBlock, Placed}
 use Rattle.mem_machine.specs.Blocks.{PlacesUnit, TakesBlock, TakesNoBlock, taken_steps, unplaced_steps}
-use Rattle.mem_machine.specs.Local.{IsSeenByRun, MakesAs, Visits, local_of, phase_of, visit_state}
+use Rattle.mem_machine.specs.Local.{IsSeenByRun, Visits, local_of, phase_of, visit_state}
 use Rattle.mem_machine.proofs.Records.{length_free, free_at, free_is, free_inside, no_cpu_is}
 use Rattle.mem_machine.proofs.PlacesUnits.{in_block, off_block}
 use Rattle.mem_machine.proofs.Joins.{AllJoin}
@@ -52,7 +54,7 @@ use Rattle.mem_machine.proofs.KeptUnits.{IsUsed, JoinsCharges, unit_kept}
 use Rattle.mem_machine.proofs.Placed.{place_local, taken_run}
 use Rattle.mem_machine.proofs.Grants.{is_granted, unplaced_run}
 use Rattle.mem_machine.proofs.Reached.{may_lead_all, may_make}
-use Rattle.mem_machine.proofs.Watched.{HasOpenVisit, visits_then}
+use Rattle.mem_machine.proofs.Watched.{HasOpenVisit}
 use Rattle.mem_machine.proofs.Followed.{same_events, LeadsAs}
 use Rattle.group_charge.proofs.CallerLemmas.{uncharge_peaks, uncharge_events}
 
@@ -194,6 +196,16 @@ pub record MayTake (t : KnownTable) (m : KnownMachine) (c : KnownCpu) (g : ℕ) 
   pub usage : (h : ℕ) → usage_of (local_of t m c) h ≡ current_of m.ledger h
   pub there : has_group m.ledger.groups g ≡ true
   pub alive : is_killed m.killed g ≡ false
+
+pub may_take : (t : KnownTable) (w : KnownStockTable) (m now : KnownMachine) → m ≡ now → (c : KnownCpu) → IsConsistent t w m → AreCharges m.ledger → IsTied t w c
+    → Visits t (visit_state now c) → c.fresh ≡ [] → c.back ≡ [] → (g pages : ℕ) → MayCharge now g pages → MayTake t now c g
+may_take t w m now same c ok facts tied visit none_fresh none_back g pages charges = record {
+  visit = visit;
+  none_back = none_back;
+  usage = usage_seen t w m now same c ok facts visit.lent tied (balanced_alone _ _ none_fresh);
+  there = charges.there;
+  alive = charges.alive;
+}
 
 abbrev taken_machine : KnownMachine → ℕ → Block → List Block → List FrameState → List Link → List Lru → KnownMachine
 taken_machine m g b blocks frame_states links lists = record {
@@ -387,12 +399,3 @@ unplaced_may t w m now same c at ok facts g k pages size may room none =
     let all = none_all t w m now same c c refl ok facts g k pages size may room _ _ refl refl m.blocks refl none in
     subst (λ (x : ℕ). MayTakeAll t m.run.past (unplaced_as g x k)) (sym size)
     (may_lead_all t m now same c at (unplaced_steps g k) _ all.steps)
-
--- steps that leave the zone's seat at the frames leave the CPU's visit open
-pub visit_kept : (t : KnownTable) (m now : KnownMachine) → m ≡ now → (c : KnownCpu) (n : KnownMachine) → n.frame_seat ≡ m.frame_seat → (steps : Run)
-    → MakesAs t c.number (visit_state now c) steps (visit_state n c) → Visits t (visit_state now c) → Visits t (visit_state n c)
-visit_kept t m now same c n seat steps makes visit =
-    let seat_now : now.frame_seat ≡ n.frame_seat = sym (seat ∙ ap (λ (k : KnownMachine). k.frame_seat) same) in
-    visits_then t (visit_state now c) (visit_state n c) steps visit.shown makes refl
-    (subst (λ (x : KnownSeat). HasOpenVisit t (visit_state (record n { frame_seat = x }) c)) seat_now
-    (record { is_open = visit.is_open; still = visit.still; lent = visit.lent }))

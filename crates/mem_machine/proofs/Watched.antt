@@ -1,6 +1,6 @@
 -- What a call does stays true if the run of the machine after it has grown. Serves all calls that make steps. Other notes
 -- change as little. That serves `evict`.
-use Rattle.std.proofs.Common.{◌≡◌, ℕ, refl, sym, ◌∙◌, ap, subst}
+use Rattle.std.proofs.Common.{◌≡◌, ℕ, refl, sym, ◌∙◌, ap, subst, rules}
 use Rattle.step_rules.specs.After.{Run}
 use Rattle.frame_word.specs.Seats.{KnownSeat, KnownTable}
 use Rattle.stock_word.specs.Stock.{KnownStockTable}
@@ -21,18 +21,7 @@ use Rattle.mem_machine.specs.Paying.{PaysForFront}
 use Rattle.mem_machine.specs.Stocks.{DrainsBy, DrainsNoted}
 
 pub consistent_still : (t : KnownTable) (w : KnownStockTable) (n : KnownMachine) (v : KnownRun) → IsConsistent t w n → IsConsistent t w (with_run n v)
-consistent_still t w n v ok = record {
-  sizes = let s = ok.sizes in record { frame_states = s.frame_states; links = s.links; lists = s.lists; killed = s.killed; cpus = s.cpus };
-  seats = ok.seats;
-  areas = ok.areas;
-  frame_states = ok.frame_states;
-  units = ok.units;
-  lists = ok.lists;
-  absorbed = ok.absorbed;
-  bounded = ok.bounded;
-  charged = ok.charged;
-  balances = ok.balances;
-}
+consistent_still t w n v ok = search rules
 
 -- `Visits` without what the CPU sees by the run
 pub record HasOpenVisit (t : KnownTable) (now : VisitState) : Type 0 where
@@ -42,47 +31,33 @@ pub record HasOpenVisit (t : KnownTable) (now : VisitState) : Type 0 where
 
 -- the visit goes on behind the steps of a call
 pub visits_then : (t : KnownTable) (a b : VisitState) (steps : Run) → IsSeenByRun t a → MakesAs t a.cpu.number a steps b → b.cpu.number ≡ a.cpu.number → HasOpenVisit t b → Visits t b
-visits_then t a b steps now makes number visit = record {
-  is_open = visit.is_open;
-  still = visit.still;
-  lent = visit.lent;
-  shown = shown_then t a b steps now makes number;
-}
+visits_then t a b steps now makes number visit = let shown = shown_then t a b steps now makes number in search rules
 
--- steps that leave the zone's seat at the frames leave each visit open
-pub stays_then : (t : KnownTable) (m now : KnownMachine) → m ≡ now → (n : KnownMachine) → n.frame_seat ≡ m.frame_seat → (steps : Run) → MakesForAny t now steps n
-    → StaysVisited t now n
-stays_then t m now same n seat steps makes c visit =
+-- steps that leave the zone's seat at the frames leave the CPU's visit open
+pub visit_kept : (t : KnownTable) (m now : KnownMachine) → m ≡ now → (c : KnownCpu) (n : KnownMachine) → n.frame_seat ≡ m.frame_seat → (steps : Run)
+    → MakesAs t c.number (visit_state now c) steps (visit_state n c) → Visits t (visit_state now c) → Visits t (visit_state n c)
+visit_kept t m now same c n seat steps makes visit =
     let seat_now : now.frame_seat ≡ n.frame_seat = sym (seat ∙ ap (λ (k : KnownMachine). k.frame_seat) same) in
-    visits_then t (visit_state now c) (visit_state n c) steps visit.shown (makes c) refl
+    visits_then t (visit_state now c) (visit_state n c) steps visit.shown makes refl
     (subst (λ (x : KnownSeat). HasOpenVisit t (visit_state (record n { frame_seat = x }) c)) seat_now
     (record { is_open = visit.is_open; still = visit.still; lent = visit.lent }))
+
+-- and so for each CPU
+pub stays_then : (t : KnownTable) (m now : KnownMachine) → m ≡ now → (n : KnownMachine) → n.frame_seat ≡ m.frame_seat → (steps : Run) → MakesForAny t now steps n
+    → StaysVisited t now n
+stays_then t m now same n seat steps makes c visit = visit_kept t m now same c n seat steps (makes c) visit
 
 pub open_still : (t : KnownTable) (n : KnownMachine) (d : KnownCpu) (v : KnownRun) → HasOpenVisit t (visit_state n d) → HasOpenVisit t (visit_state (with_run n v) d)
 open_still t n d v visit = record { is_open = visit.is_open; still = visit.still; lent = visit.lent }
 
 pub consistent_noted : (t : KnownTable) (w : KnownStockTable) (n : KnownMachine) (k : KnownNotes) → IsConsistent t w n → IsConsistent t w (record n { notes = k })
-consistent_noted t w n k ok = record {
-  sizes = let s = ok.sizes in record { frame_states = s.frame_states; links = s.links; lists = s.lists; killed = s.killed; cpus = s.cpus };
-  seats = ok.seats;
-  areas = ok.areas;
-  frame_states = ok.frame_states;
-  units = ok.units;
-  lists = ok.lists;
-  absorbed = ok.absorbed;
-  bounded = ok.bounded;
-  charged = ok.charged;
-  balances = ok.balances;
-}
+consistent_noted t w n k ok = search rules
 
 -- a visit goes on where another note was made
 pub visits_noted : (t : KnownTable) (n : KnownMachine) (d : KnownCpu) (k : KnownNotes) → Visits t (visit_state n d) → Visits t (visit_state (record n { notes = k }) d)
-visits_noted t n d k visit = record {
-  is_open = visit.is_open;
-  still = visit.still;
-  lent = visit.lent;
-  shown = shown_same t (visit_state n d) (visit_state (record n { notes = k }) d) visit.shown refl refl refl;
-}
+visits_noted t n d k visit =
+    let shown = shown_same t (visit_state n d) (visit_state (record n { notes = k }) d) visit.shown refl refl refl in
+    search rules
 
 pub open_noted : (t : KnownTable) (n : KnownMachine) (d : KnownCpu) (k : KnownNotes) → HasOpenVisit t (visit_state n d) → HasOpenVisit t (visit_state (record n { notes = k }) d)
 open_noted t n d k visit = record { is_open = visit.is_open; still = visit.still; lent = visit.lent }
