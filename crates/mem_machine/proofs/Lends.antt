@@ -11,8 +11,7 @@ use Rattle.zone_blocks.specs.Areas.{IsFree, AreMaximalBlocks, HasNoneFrom, IsFro
 use Rattle.zone_blocks.specs.Zone.{TakesFrames}
 use Rattle.frame_word.specs.declared.view.FrameNote.{FrameNote}
 use Rattle.frame_word.specs.Views.{note_of, in_hands, passed_out_to, took_in}
-use Rattle.frame_word.specs.Seats.{KnownTable, KnownSeat, seat_number, seat_references, seat_with, IsInOwnHand, IsLent}
-use Rattle.frame_word.specs.Seats.{IsBorrowed, NothingPasses}
+use Rattle.frame_word.specs.Seats.{KnownTable, KnownSeat, seat_number, seat_references, seat_with, IsInOwnHand, IsLent, IsBorrowed, NothingPasses}
 use Rattle.frame_word.proofs.Notes.{note_here, note_else}
 use Rattle.stock_word.specs.Stock.{KnownStockTable, KnownStockSeat, account_of}
 use Rattle.cpu_part.specs.Cpus.{KnownCpu, IsTied, times}
@@ -32,9 +31,8 @@ use Rattle.mem_machine.specs.declared.frame_state.FrameState.{FrameState}
 use Rattle.mem_machine.specs.declared.frame_state.FrameState.TheVariants.{Free, Lent, Head, Tail}
 use Rattle.mem_machine.specs.FrameStates.{frame_state_at, free_of, frame_state_group, head_group_of, is_in_hand}
 use Rattle.mem_machine.specs.Machines.{KnownMachine, FitsFrameState, IsConsistent, home_of, frames_charged, pages_booked}
-use Rattle.mem_machine.specs.Local.{Visits}
+use Rattle.mem_machine.specs.Local.{Visits, local_of, phase_of, part_of, part_with, group_of_fresh, visit_state}
 use Rattle.mem_machine.specs.Lending.{LendsNone}
-use Rattle.mem_machine.specs.Local.{local_of, phase_of, part_of, part_with, group_of_fresh, visit_state}
 use Rattle.mem_machine.specs.Steps.{lend_steps}
 use Rattle.mem_machine.proofs.Reaching.{zone_step, cpu_step}
 use Rattle.mem_machine.proofs.Holds.{IsSeated, zone_may_act, visits_open, seated_cpu}

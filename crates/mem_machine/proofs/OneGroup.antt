@@ -11,8 +11,7 @@ use Rattle.lru_lists.specs.declared.record.LruList.{LruList}
 use Rattle.lru_lists.specs.declared.lru.Lru.{Lru}
 use Rattle.lru_lists.specs.Lists.{OthersStayLinked, OneOfAllChanges, AreLinked, AllLinked, ChangesOwn, SameOwners, Ages, owner_of, list_of, list_at, entries_of}
 use Rattle.lru_lists.specs.Lists.{inactive_of, active_of, entries_without, entry_of, marked, first_entry, entry_after}
-use Rattle.mem_machine.specs.Machines.{KnownMachine, IsConsistent, OthersStay, UnlistedStay, home_of, lists_at}
-use Rattle.mem_machine.specs.Machines.{entries_in, no_lists, lists_of}
+use Rattle.mem_machine.specs.Machines.{KnownMachine, IsConsistent, OthersStay, UnlistedStay, home_of, lists_at, entries_in, no_lists, lists_of}
 use Rattle.mem_machine.specs.Ageing.{AgesGroup, RenewsUnit}
 use Rattle.mem_machine.specs.Local.{MakesForAny}
 use Rattle.mem_machine.proofs.Listed.{lists_consistent, others_stay, place_here, unlisted_stay}

@@ -1,8 +1,7 @@
 -- One frame's record and the zone's note of it change. Serves `lend_one`, `unlist_one` and all calls that move
 -- frames.
-use Rattle.std.proofs.Common.{◌≡◌, ℕ, ◌+◌, ◌<◌, ◌≤◌, Bool, true, false, Option, Some, None, List, [], ◌∷◌, length, get_or, refl, sym, ap, ◌∙◌, subst, inl, inr}
+use Rattle.std.proofs.Common.{◌≡◌, ℕ, ◌+◌, ◌<◌, ◌≤◌, Bool, true, false, Option, Some, None, List, [], ◌∷◌, length, get_or, refl, sym, ap, ◌∙◌, subst, inl, inr, arith, zero, suc}
 use Rattle.lru_lists.specs.declared.record.Home.{Home}
-use Rattle.std.proofs.Common.{arith, zero, suc}
 use Rattle.std.specs.Prelude.{slice_set}
 use Rattle.std.specs.Cmp.{both_ways}
 use Rattle.std.proofs.lemmas.Bool.{cases_eq, false≢true}

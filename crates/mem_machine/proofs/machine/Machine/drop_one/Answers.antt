@@ -68,7 +68,7 @@ returns g c =
     _ c.return_unit.ensures.notes in
     let makes = makes_noted _ _ _ _ c.self.view_is _ _ _ _ all.steps _ notes in
     record {
-      drops = drops_still _ _ _ _ _ _ all.drops;
+      drops = drops_still _ _ _ _ _ _ all.does;
       visit = visits_then _ _ _ _ c.requires.visit.shown makes (ap (λ (k : KnownCpu). k.number) e.cpu.2) (open_still _ _ _ _ all.visit);
       steps = makes;
     }

@@ -63,7 +63,7 @@ returns g c =
     _ c.args.tables.now.frames_are _ _ _ c.unfreeze.ensures.run c.unfroze.ensures c.publish.ensures.notes in
     let makes = makes_noted _ _ _ _ c.self.view_is _ _ _ _ all.steps _ notes in
     record {
-      keeps = keeps_still _ _ _ _ _ _ all.keeps;
+      keeps = keeps_still _ _ _ _ _ _ all.does;
       visit = visits_then _ _ _ _ c.requires.visit.shown makes (ap (λ (k : KnownCpu). k.number) e.cpu.2) (open_still _ _ _ _ all.visit);
       steps = makes;
     }

@@ -49,7 +49,7 @@ returns g c =
     c.passed_out.ensures c.took_in.ensures in
     let makes = makes_noted _ _ _ _ c.self.view_is _ _ _ _ all.steps _ notes in
     record {
-      lends = lends_still _ _ _ _ _ all.lends;
+      lends = lends_still _ _ _ _ _ all.does;
       visit = visits_then _ _ _ _ c.requires.visit.shown makes (ap (λ (e : KnownCpu). e.number) c.borrow.ensures.cpu) (open_still _ _ _ _ all.visit);
       steps = makes;
     }

@@ -98,7 +98,7 @@ returns g c =
     c.in-Some.ensures.run c.collect.ensures.run c.passed_back.ensures c.collected.ensures c.return_unit.ensures.notes in
     let makes = makes_noted _ _ _ _ c.self.view_is _ _ _ _ all.steps _ notes in
     record {
-      returns = returns_still _ _ _ _ _ all.returns;
+      returns = returns_still _ _ _ _ _ all.does;
       visit = visits_then _ _ _ _ c.requires.shown makes (ap (λ (e : KnownCpu). e.number) c.collect.ensures.cpu ∙ handed) (open_still _ _ _ _ all.visit);
       steps = makes;
     }

@@ -101,7 +101,7 @@ returns g c =
     c.grant.ensures.notes c.place.ensures.notes (made_at _ _ c.args.tables.now.frames_are 0 refl _ _ _ _ c.unfreeze.ensures.run) c.unfroze.ensures
     c.publish.ensures.notes) in
     record {
-      takes = takes_block_still _ _ _ _ _ _ all.takes;
+      takes = takes_block_still _ _ _ _ _ _ all.does;
       refuses = search rules;
       cpu = search rules;
       visit = visits_then _ _ _ _ c.requires.visit.shown makes refl (open_still _ _ _ _ all.visit);

@@ -72,7 +72,7 @@ returns g c =
     record {
       takes = record {
         frame = c.in-Some.frame;
-        takes = takes_still _ _ _ _ _ all.takes;
+        takes = takes_still _ _ _ _ _ all.does;
         steps = makes;
       };
       visit = visits_then _ _ _ _ c.requires.shown makes (ap (λ (e : KnownCpu). e.number) c.collect.ensures.cpu ∙ handed) (open_still _ _ _ _ all.visit);
