@@ -1,5 +1,5 @@
 -- What notes and drains keep: usage is no higher, no stock is filled, and groups stay. Serves all calls.
-use Rattle.std.proofs.Common.{◌≡◌, ℕ, zero, suc, ◌+◌, ◌-◌, ◌<◌, ◌≤◌, ◌==◌, Bool, true, false, Option, List, [], ◌∷◌, map, refl, sym, ap, ◌∙◌}
+use Rattle.std.proofs.Common.{◌≡◌, ℕ, zero, suc, ◌+◌, ◌-◌, ◌<◌, ◌≤◌, ◌==◌, Bool, true, false, Option, List, [], ◌∷◌, map, refl, sym, ap, ◌∙◌, rules}
 use Rattle.std.proofs.Common.{subst, inl, inr, arith, cond, eq-eqb}
 use Rattle.std.specs.List.{sum_by}
 use Rattle.std.proofs.lemmas.Bool.{cases_eq, cases_lt, ne_eqb, cond-true, cond-false, false≢true}
@@ -87,14 +87,7 @@ looked_lowers t m = record {
 below_lowers : (t : KnownTable) (g q : ℕ) (m n : KnownMachine) (drains : List Drain) → DrainsBelow g q drains m n → Lowers t m n
 below_lowers t g q m n [] h = subst (λ (x : KnownMachine). Lowers t m x) (sym h.1) (lowers_none t m)
 below_lowers t g q m n (drain ∷ []) h =
-    let l = drain_lowers t m (record n { notes = m.notes }) q drain.pages h.1.drains.drains in
-    record {
-      groups = l.groups;
-      killed = l.killed;
-      opened = l.opened;
-      falls = l.falls;
-      emptied = l.emptied;
-    }
+    let l = drain_lowers t m (record n { notes = m.notes }) q drain.pages h.1.drains.drains in search rules
 below_lowers t g q m n (one ∷ two ∷ more) h = absurd h
 
 pub all_lower : (t : KnownTable) (g k : ℕ) (m n : KnownMachine) (drains : List Drain) → DrainsAllBelow g k drains m n → Lowers t m n

@@ -1,17 +1,20 @@
 -- The misses that are noted are those among the steps. Serves the calls that name a command's steps.
-use Rattle.std.proofs.Common.{◌≡◌, ℕ, zero, suc, ◌-◌, ◌^◌, Bool, true, false, Option, Some, List, [], ◌∷◌, ◌++◌, refl, sym, ap, ◌∙◌, subst, inl, inr, arith}
+use Rattle.std.proofs.Common.{◌≡◌, ℕ, zero, suc, ◌-◌, ◌^◌, Bool, true, false, Option, Some, List, [], ◌∷◌, ◌++◌, refl, sym, ap, ◌∙◌, subst, inl, inr, arith, ◌||◌}
 use Rattle.std.specs.Prelude.{Result, Ok, Err}
 use Rattle.std.proofs.lemmas.Bool.{cases_Bool, cases_lt}
+use Rattle.std.proofs.lemmas.List.Folds.{list_any-append}
 use Rattle.frame_word.specs.Seats.{KnownTable, KnownSeat, misses_of}
 use Rattle.frame_word.specs.Views.{collected_from, passed_out_to, unfrozen}
 use Rattle.zone_blocks.specs.declared.config.Config.{Config}
+use Rattle.step_rules.specs.declared.step.Answer.{Answer}
+use Rattle.step_rules.specs.declared.step.Step.{Step}
 use Rattle.step_rules.specs.After.{Run}
 use Rattle.group_charge.specs.declared.note.Note.TheVariants.{Zone}
 use Rattle.mem_machine.specs.Machines.{KnownMachine, with_note, with_run}
 use Rattle.mem_machine.specs.Local.{VisitState, visit_state}
 use Rattle.mem_machine.specs.Blocks.{taken_steps, unplaced_steps}
 use Rattle.mem_machine.specs.Lending.{LendsMany, UnlistsMany}
-use Rattle.mem_machine.specs.Stocks.{Drains, DrainsAllBelow, stock_group, with_look}
+use Rattle.mem_machine.specs.Stocks.{DrainsAllBelow, stock_group, with_look}
 use Rattle.mem_machine.specs.Steps.{Drain, unlist_steps, drain_list_steps, drain_steps, drain_stocks_steps, fill_steps, lend_steps, note_max_steps, note_oom_steps, over_steps, refill_steps, take_front_steps}
 use Rattle.mem_reclaim.specs.declared.sets.Killed.{Killed}
 use Rattle.mem_reclaim.proofs.KillSets.{missed_both}
@@ -19,7 +22,7 @@ use Rattle.mem_reclaim.proofs.LettingGo.{AreQuiet, misses_put, quiet_both, quiet
 use Rattle.mem_alloc.specs.declared.faults.AllocFault.{AllocFault}
 use Rattle.mem_alloc.specs.declared.faults.AllocFault.TheVariants.{Over, NoFrames, RequesterKilled}
 use Rattle.mem_machine.specs.Transitions.{Finds, InTurn, OfMachineAlone, Stays, Transition, of_machine, transition}
-use Rattle.mem_reclaim.specs.Moves.{CountsMisses}
+use Rattle.mem_reclaim.specs.Moves.{CountsMisses, has_kill, is_kill}
 use Rattle.mem_alloc.specs.Kills.{KillsVictims, KillsForRoom, KillsOneVictim, has_room_at, with_oom_noted_at}
 use Rattle.mem_alloc.specs.Room.{AfterRoom, ClearsBelow, IsRefusedAt, IsRefusedFor, IsRefusedAtSome, KillsForFewPages, MakesRoom, RelievesLimit, with_max_noted_at}
 use Rattle.mem_alloc.specs.Charging.{ChargesAfterDrain, FillsDrainedStock, ChargesOne, DrainsStock, FillsStock, AfterBatchRefused, PaysForFrame}
@@ -63,10 +66,6 @@ counts_rest t m n steps same none =
     counts_as t m n steps [] none (counts_same t m n [] calm (ap (λ (x : KnownMachine). x.frame_seat) same))
 
 -- ---- drains, notes and kills
-
-counts_drain : (t : KnownTable) (q k : ℕ) (m n : KnownMachine) → Drains q k m n → CountsMisses (transition t m (drain_steps q (stock_group m q) k) n)
-counts_drain t q k m n d =
-    counts_same t m n (drain_steps q (stock_group m q) k) (quiet_drain q (stock_group m q) k) (ap (λ (x : KnownMachine). x.frame_seat) d.machine)
 
 pub counts_drains : (t : KnownTable) (g k : ℕ) (m n : KnownMachine) (drains : List Drain) → DrainsAllBelow g k drains m n
     → CountsMisses (transition t m (drain_stocks_steps drains) n)
@@ -197,69 +196,95 @@ refusal_counts g pages cause call h =
     after_room_counts g pages (OfMachineAlone (IsRefusedAtSome g pages cause))
     (counts_alone (IsRefusedAtSome g pages cause) (λ t m n steps r. counts_refused t g pages r.0 (Err cause) m n steps r.1)) call h
 
+-- ---- parts without a kill
+
+pub no_kill_both : (one two : Run) → has_kill one ≡ false → has_kill two ≡ false → has_kill (one ++ two) ≡ false
+no_kill_both one two a b = list_any-append (λ (e : Step × Answer). is_kill e.0.action) one two ∙ ap (λ (x : Bool). x || has_kill two) a ∙ b
+
+-- the misses are counted, and no step is a kill
+abbrev IsCalm : KnownTable → KnownMachine → Run → KnownMachine → Type 0
+IsCalm t m steps n = CountsMisses (transition t m steps n) × (has_kill steps ≡ false)
+
+calm_both : (t : KnownTable) (m x n : KnownMachine) (steps one two : Run) → steps ≡ one ++ two → IsCalm t m one x → IsCalm t x two n → IsCalm t m steps n
+calm_both t m x n steps one two is a b = (
+  counts_as t m n steps (one ++ two) is (counts_both t m x n one two a.0 b.0),
+  ap has_kill is ∙ no_kill_both one two a.1 b.1,
+)
+
+calm_steps : (t : KnownTable) (m n : KnownMachine) (steps told : Run) → steps ≡ told → AreQuiet told → ((f : ℕ) → misses_of n.frame_seat f ≡ misses_of m.frame_seat f)
+    → IsCalm t m steps n
+calm_steps t m n steps told is quiet same = (counts_as t m n steps told is (counts_none t m n told quiet same), ap has_kill is ∙ quiet.no_kill)
+
+abbrev pub AllCalm : (Transition VisitState → Type 0) → Type 0
+AllCalm P = (call : Transition VisitState) → P call → IsCalm call.table call.before.machine call.steps call.after.machine
+
+calm_stay : AllCalm Stays
+calm_stay call h = (counts_stay call h, ap has_kill h.steps_are)
+
+calm_turns : (First Second : Transition VisitState → Type 0) → AllCalm First → AllCalm Second → AllCalm (InTurn First Second)
+calm_turns First Second one two call h = calm_both call.table call.before.machine h.between.machine call.after.machine call.steps h.earlier h.later h.steps_are
+    (one (transition call.table call.before h.earlier h.between) h.first) (two (transition call.table h.between h.later call.after) h.second)
+
 -- ---- rounds of reclaim
 
-module _ (want : ℕ) (Fails : Transition VisitState → Type 0) (failing : AllCounted Fails) where
-  round_counts : (number freed : ℕ) (Tries : Transition VisitState → Type 0) → AllCounted Tries → AllCounted (MakesRound number want freed Tries)
-  round_counts number freed Tries trying call h =
-      let m = call.before.machine in
-      let n = call.after.machine in
-      counts_as call.table m n call.steps (h.reclaiming ++ h.trying) h.steps_are (counts_both call.table m h.reclaimed n h.reclaiming h.trying h.moves.misses
-      (trying (transition call.table (visit_state h.reclaimed call.before.cpu) h.trying call.after) h.tries))
+module _ (want : ℕ) (Fails : Transition VisitState → Type 0) (failing : AllCalm Fails) where
+  round_calm : (number freed : ℕ) (Tries : Transition VisitState → Type 0) → AllCalm Tries → AllCalm (MakesRound number want freed Tries)
+  round_calm number freed Tries trying call h =
+      calm_both call.table call.before.machine h.reclaimed call.after.machine call.steps h.reclaiming h.trying h.steps_are (h.moves.misses, h.moves.no_kill)
+      (trying (transition call.table (visit_state h.reclaimed call.before.cpu) h.trying call.after) h.tries)
 
-  gives_count : (number : ℕ) → AllCounted (FreesInRound number want Fails)
-  gives_count number call h = round_counts number h.freed Fails failing call h.round
+  gives_calm : (number : ℕ) → AllCalm (FreesInRound number want Fails)
+  gives_calm number call h = round_calm number h.freed Fails failing call h.round
 
-  fails_count : (rounds : ℕ) → AllCounted (FailsInRounds rounds want Fails)
-  fails_count zero call h = counts_stay call h
-  fails_count (suc more) call (inl h) = round_counts (16 - more) 0 Fails failing call h
-  fails_count (suc more) call (inr h) =
-      counts_turns (FreesInRound (16 - more) want Fails) (FailsInRounds more want Fails) (gives_count (16 - more)) (fails_count more) call h
+  fails_calm : (rounds : ℕ) → AllCalm (FailsInRounds rounds want Fails)
+  fails_calm zero call h = calm_stay call h
+  fails_calm (suc more) call (inl h) = round_calm (16 - more) 0 Fails failing call h
+  fails_calm (suc more) call (inr h) =
+      calm_turns (FreesInRound (16 - more) want Fails) (FailsInRounds more want Fails) (gives_calm (16 - more)) (fails_calm more) call h
 
-  succeeds_count : (rounds : ℕ) (Succeeds : Transition VisitState → Type 0) → AllCounted Succeeds → AllCounted (SucceedsInRounds rounds want Succeeds Fails)
-  succeeds_count zero Succeeds succeeding call h = absurd h
-  succeeds_count (suc more) Succeeds succeeding call (inl h) = round_counts (16 - more) h.0 Succeeds succeeding call h.1
-  succeeds_count (suc more) Succeeds succeeding call (inr h) =
-      counts_turns (FreesInRound (16 - more) want Fails) (SucceedsInRounds more want Succeeds Fails) (gives_count (16 - more))
-      (succeeds_count more Succeeds succeeding) call h
+  succeeds_calm : (rounds : ℕ) (Succeeds : Transition VisitState → Type 0) → AllCalm Succeeds → AllCalm (SucceedsInRounds rounds want Succeeds Fails)
+  succeeds_calm zero Succeeds succeeding call h = absurd h
+  succeeds_calm (suc more) Succeeds succeeding call (inl h) = round_calm (16 - more) h.0 Succeeds succeeding call h.1
+  succeeds_calm (suc more) Succeeds succeeding call (inr h) =
+      calm_turns (FreesInRound (16 - more) want Fails) (SucceedsInRounds more want Succeeds Fails) (gives_calm (16 - more))
+      (succeeds_calm more Succeeds succeeding) call h
 
 -- a note before them is no step
-noted_counts : (order : ℕ) (Does : Transition VisitState → Type 0) → AllCounted Does → AllCounted (AfterZoneNote order Does)
-noted_counts order Does counts call h =
+noted_calm : (order : ℕ) (Does : Transition VisitState → Type 0) → AllCalm Does → AllCalm (AfterZoneNote order Does)
+noted_calm order Does counts call h =
     counts (transition call.table (visit_state (with_note call.before.machine (Zone order)) call.before.cpu) call.steps call.after) h
 
 -- ---- a single frame
 
-lends_count : (batch : ℕ) → AllCounted (LendsBatch batch)
-lends_count batch call h =
+lends_calm : (batch : ℕ) → AllCalm (LendsBatch batch)
+lends_calm batch call h = calm_steps call.table call.before.machine call.after.machine call.steps (refill_steps call.before.cpu.number h.frames) h.steps_are
+    (refill_calm call.before.cpu.number h.frames) (lent_same h.frames call.before call.after h.lends)
+
+lends_none_calm : AllCalm LendsNoFrame
+lends_none_calm call h = calm_stay call h.does
+
+pub drains_calm : AllCalm DrainsStock
+drains_calm call h =
     let p = call.before.cpu.number in
-    counts_as call.table call.before.machine call.after.machine call.steps (refill_steps p h.frames) h.steps_are
-    (counts_none call.table call.before.machine call.after.machine (refill_steps p h.frames) (refill_calm p h.frames) (lent_same h.frames call.before call.after h.lends))
+    let m = call.before.machine in
+    calm_steps call.table m call.after.machine call.steps (drain_steps p (stock_group m p) h.drained) h.steps_are (quiet_drain p (stock_group m p) h.drained)
+    (λ f. ap (λ (x : KnownMachine). misses_of x.frame_seat f) h.drains.machine)
 
-lends_none_count : AllCounted LendsNoFrame
-lends_none_count call h = counts_stay call h.does
+refills_calm : (batch : ℕ) (filled : Bool) → AllCalm (RefillsInRounds batch filled)
+refills_calm batch true = noted_calm 0 (MakesRefillRounds batch true) (succeeds_calm 1 LendsNoFrame lends_none_calm 16 (LendsBatch batch) (lends_calm batch))
+refills_calm batch false = noted_calm 0 (MakesRefillRounds batch false) (fails_calm 1 LendsNoFrame lends_none_calm 16)
 
-drains_count : AllCounted DrainsStock
-drains_count call h =
-    counts_as call.table call.before.machine call.after.machine call.steps
-    (drain_steps call.before.cpu.number (stock_group call.before.machine call.before.cpu.number) h.drained) h.steps_are
-    (counts_drain call.table call.before.cpu.number h.drained call.before.machine call.after.machine h.drains)
-
-refills_count : (batch : ℕ) (filled : Bool) → AllCounted (RefillsInRounds batch filled)
-refills_count batch true = noted_counts 0 (MakesRefillRounds batch true) (succeeds_count 1 LendsNoFrame lends_none_count 16 (LendsBatch batch) (lends_count batch))
-refills_count batch false = noted_counts 0 (MakesRefillRounds batch false) (fails_count 1 LendsNoFrame lends_none_count 16)
-
-fills_count : (sizes : Config) (answer : Result (Unit {0}) AllocFault) → AllCounted (FillsList sizes answer)
-fills_count sizes (Ok v) call (inl h) = counts_stay call h.does
-fills_count sizes (Ok v) call (inr h) = elim h.does [
-  | inl lends ↦ lends_count sizes.batch call lends
-  | inr rounds ↦ refills_count sizes.batch true call rounds.does
+pub fills_calm : (sizes : Config) (answer : Result (Unit {0}) AllocFault) → AllCalm (FillsList sizes answer)
+fills_calm sizes (Ok v) call (inl h) = calm_stay call h.does
+fills_calm sizes (Ok v) call (inr h) = elim h.does [
+  | inl lends ↦ lends_calm sizes.batch call lends
+  | inr rounds ↦ refills_calm sizes.batch true call rounds.does
 ]
-fills_count sizes (Err NoFrames) call h =
-    counts_turns (RefillsInRounds sizes.batch false) (Finds HasNoFreeFrame DrainsStock) (refills_count sizes.batch false)
-    (λ last drains. drains_count last drains.does) call h.does.does
-fills_count sizes (Err (Over over)) call h = absurd h
-fills_count sizes (Err RequesterKilled) call h = absurd h
+fills_calm sizes (Err NoFrames) call h =
+    calm_turns (RefillsInRounds sizes.batch false) (Finds HasNoFreeFrame DrainsStock) (refills_calm sizes.batch false)
+    (λ last drains. drains_calm last drains.does) call h.does.does
+fills_calm sizes (Err (Over over)) call h = absurd h
+fills_calm sizes (Err RequesterKilled) call h = absurd h
 
 stock_counts : (g pages : ℕ) → AllCounted (FillsStock g pages)
 stock_counts g pages call h =
@@ -292,7 +317,7 @@ looked_call call = transition call.table (visit_state (with_look call.before.mac
 
 anew_counts : (sizes : Config) (g : ℕ) (answer : Result (Unit {0}) AllocFault) → AllCounted (ChargesAfterDrain sizes g answer)
 anew_counts sizes g answer call h =
-    counts_turns DrainsStock (FillsDrainedStock sizes g answer) drains_count (charges_count sizes g answer) (looked_call call) h.does
+    counts_turns DrainsStock (FillsDrainedStock sizes g answer) (λ first h. (drains_calm first h).0) (charges_count sizes g answer) (looked_call call) h.does
 
 pays_count : (sizes : Config) (g : ℕ) (answer : Result (Unit {0}) AllocFault) → AllCounted (PaysForFrame sizes g answer)
 pays_count sizes g (Ok v) call (inl h) = counts_stay (looked_call call) h.does
@@ -310,70 +335,62 @@ frame_counts sizes g (Ok f) call all =
     let last = take_front_steps call.before.cpu.number g in
     counts_as t m n call.steps (h.paying ++ (h.filling ++ last)) h.steps_are (counts_both t m x n h.paying (h.filling ++ last)
     (pays_count sizes g (Ok tt) (transition t call.before h.paying h.paid) h.pays) (counts_both t x y n h.filling last
-    (fills_count sizes (Ok tt) (transition t h.paid h.filling h.filled) h.fills)
+    (fills_calm sizes (Ok tt) (transition t h.paid h.filling h.filled) h.fills).0
     (counts_same t y n last (record { no_kill = refl; no_miss = λ f. refl }) (ap (λ (k : KnownMachine). k.frame_seat) h.takes.machine))))
 frame_counts sizes g (Err (Over over)) call h = pays_count sizes g (Err (Over over)) call h.does
 frame_counts sizes g (Err NoFrames) call h =
     counts_turns (PaysForFrame sizes g (Ok tt)) (FillsList sizes (Err NoFrames)) (pays_count sizes g (Ok tt))
-    (fills_count sizes (Err NoFrames)) call h.does
+    (λ last h. (fills_calm sizes (Err NoFrames) last h).0) call h.does
 frame_counts sizes g (Err RequesterKilled) call (inl h) = counts_stay call h.does
 frame_counts sizes g (Err RequesterKilled) call (inr h) = pays_count sizes g (Err RequesterKilled) call h.does
 
 -- ---- a block
 
-taken_counts : (t : KnownTable) (g k head : ℕ) (m n : KnownMachine) → ((f : ℕ) → misses_of n.frame_seat f ≡ misses_of m.frame_seat f)
-    → CountsMisses (transition t m (taken_steps g k head) n)
-taken_counts t g k head m n same = counts_none t m n (taken_steps g k head) (record { no_kill = refl; no_miss = λ f. refl }) same
+pub takes_calm : (g k head : ℕ) → AllCalm (TakesFreeBlock g k head)
+takes_calm g k head call h =
+    calm_steps call.table call.before.machine call.after.machine call.steps (taken_steps g k head) h.steps_are (record { no_kill = refl; no_miss = λ f. refl })
+    (λ f. ap (λ (x : KnownMachine). misses_of x.frame_seat f) h.takes.machine ∙ misses_put call.before.machine.frame_seat head f (unfrozen 1) (λ x. refl))
 
-takes_count : (g k head : ℕ) → AllCounted (TakesFreeBlock g k head)
-takes_count g k head call h =
+pub finds_none_calm : (g k : ℕ) → AllCalm (FindsNoBlock g k)
+finds_none_calm g k call h =
+    calm_steps call.table call.before.machine call.after.machine call.steps (unplaced_steps g k) h.steps_are (record { no_kill = refl; no_miss = λ f. refl })
+    (λ f. ap (λ (x : KnownMachine). misses_of x.frame_seat f) h.none.machine)
+
+take_rounds_calm : (g k : ℕ) (answer : Result ℕ AllocFault) → AllCalm (MakesTakeRounds g k answer)
+take_rounds_calm g k (Ok head) call h =
+    succeeds_calm (2 ^ k) (FindsNoBlock g k) (finds_none_calm g k) 16 (TakesFreeBlock g k head) (takes_calm g k head) call h
+take_rounds_calm g k (Err NoFrames) call h = fails_calm (2 ^ k) (FindsNoBlock g k) (finds_none_calm g k) 16 call h
+take_rounds_calm g k (Err (Over over)) call h = absurd h
+take_rounds_calm g k (Err RequesterKilled) call h = absurd h
+
+rounds_calm : (g k : ℕ) (answer : Result ℕ AllocFault) → AllCalm (TakesInRounds g k answer)
+rounds_calm g k answer = noted_calm k (MakesTakeRounds g k answer) (take_rounds_calm g k answer)
+
+or_reclaims_calm : (g k : ℕ) (answer : Result ℕ AllocFault) → AllCalm (TakesOrReclaims g k answer)
+or_reclaims_calm g k (Ok head) call (inl h) = takes_calm g k head call h
+or_reclaims_calm g k (Err cause) call (inl h) = absurd h
+or_reclaims_calm g k answer call (inr h) =
+    calm_turns (FindsNoBlock g k) (TakesInRounds g k answer) (finds_none_calm g k) (rounds_calm g k answer) call h
+
+pub drained_calm : (g k : ℕ) (answer : Result ℕ AllocFault) → AllCalm (TakesAfterDrain g k answer)
+drained_calm g k answer call h =
     let m = call.before.machine in
-    let n = call.after.machine in
-    counts_as call.table m n call.steps (taken_steps g k head) h.steps_are (taken_counts call.table g k head m n
-    (λ f. ap (λ (x : KnownMachine). misses_of x.frame_seat f) h.takes.machine ∙ misses_put m.frame_seat head f (unfrozen 1) (λ x. refl)))
-
-finds_none_counts : (g k : ℕ) → AllCounted (FindsNoBlock g k)
-finds_none_counts g k call h =
-    let m = call.before.machine in
-    let n = call.after.machine in
-    counts_as call.table m n call.steps (unplaced_steps g k) h.steps_are
-    (counts_same call.table m n (unplaced_steps g k) (record { no_kill = refl; no_miss = λ f. refl }) (ap (λ (x : KnownMachine). x.frame_seat) h.none.machine))
-
-take_rounds_count : (g k : ℕ) (answer : Result ℕ AllocFault) → AllCounted (MakesTakeRounds g k answer)
-take_rounds_count g k (Ok head) call h =
-    succeeds_count (2 ^ k) (FindsNoBlock g k) (finds_none_counts g k) 16 (TakesFreeBlock g k head) (takes_count g k head) call h
-take_rounds_count g k (Err NoFrames) call h = fails_count (2 ^ k) (FindsNoBlock g k) (finds_none_counts g k) 16 call h
-take_rounds_count g k (Err (Over over)) call h = absurd h
-take_rounds_count g k (Err RequesterKilled) call h = absurd h
-
-rounds_count : (g k : ℕ) (answer : Result ℕ AllocFault) → AllCounted (TakesInRounds g k answer)
-rounds_count g k answer = noted_counts k (MakesTakeRounds g k answer) (take_rounds_count g k answer)
-
-or_reclaims_count : (g k : ℕ) (answer : Result ℕ AllocFault) → AllCounted (TakesOrReclaims g k answer)
-or_reclaims_count g k (Ok head) call (inl h) = takes_count g k head call h
-or_reclaims_count g k (Err cause) call (inl h) = absurd h
-or_reclaims_count g k answer call (inr h) =
-    counts_turns (FindsNoBlock g k) (TakesInRounds g k answer) (finds_none_counts g k) (rounds_count g k answer) call h
-
-drained_counts : (g k : ℕ) (answer : Result ℕ AllocFault) → AllCounted (TakesAfterDrain g k answer)
-drained_counts g k answer call h =
     let first = drain_list_steps call.before.cpu.number call.before.cpu.list in
-    counts_as call.table call.before.machine call.after.machine call.steps (first ++ h.later) h.steps_are
-    (counts_both call.table call.before.machine h.drained call.after.machine first h.later
-    (counts_none call.table call.before.machine h.drained first (back_calm call.before.cpu.number call.before.cpu.list)
+    calm_both call.table m h.drained call.after.machine call.steps first h.later h.steps_are
+    (calm_steps call.table m h.drained first first refl (back_calm call.before.cpu.number call.before.cpu.list)
     (back_same call.before.cpu.list call.before (visit_state h.drained call.after.cpu) h.drains))
-    (or_reclaims_count g k answer (transition call.table (visit_state h.drained call.after.cpu) h.later call.after) h.takes))
+    (or_reclaims_calm g k answer (transition call.table (visit_state h.drained call.after.cpu) h.later call.after) h.takes)
 
 charged_counts : (g k : ℕ) (answer : Result ℕ AllocFault) → AllCounted (ChargesBlock g k answer)
-charged_counts g k (Ok head) call h = after_room_counts g (2 ^ k) (TakesFreeBlock g k head) (takes_count g k head) call h
+charged_counts g k (Ok head) call h = after_room_counts g (2 ^ k) (TakesFreeBlock g k head) (λ one h. (takes_calm g k head one h).0) call h
 charged_counts g k (Err (Over over)) call h = refusal_counts g (2 ^ k) (Over over) call h
-charged_counts g k (Err NoFrames) call h = after_room_counts g (2 ^ k) (FindsNoBlock g k) (finds_none_counts g k) call h
+charged_counts g k (Err NoFrames) call h = after_room_counts g (2 ^ k) (FindsNoBlock g k) (λ one h. (finds_none_calm g k one h).0) call h
 charged_counts g k (Err RequesterKilled) call h = refusal_counts g (2 ^ k) RequesterKilled call h
 
 retries_count : (g k : ℕ) (answer : Result ℕ AllocFault) → AllCounted (RetriesBlock g k answer)
 retries_count g k answer call h =
     counts_turns (ChargesBlock g k (Err NoFrames)) (TakesAfterDrain g k answer) (charged_counts g k (Err NoFrames))
-    (drained_counts g k answer) call h
+    (λ last h. (drained_calm g k answer last h).0) call h
 
 pub block_counts : (g k : ℕ) (answer : Result ℕ AllocFault) → AllCounted (AllocatesBlock g k answer)
 block_counts g k (Ok head) call (inl h) = charged_counts g k (Ok head) call h.does

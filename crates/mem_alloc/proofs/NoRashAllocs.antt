@@ -1,136 +1,30 @@
 -- No kill of an allocation comes before everything else was tried. Serves the calls that name the steps of an Alloc.
-use Rattle.std.proofs.Common.{◌≡◌, ℕ, zero, suc, ◌-◌, ◌≤◌, ◌^◌, Bool, true, false, List, [], ◌++◌, refl, sym, ap, ◌∙◌, subst, inl, inr, ◌||◌}
+use Rattle.std.proofs.Common.{◌≡◌, ℕ, ◌≤◌, ◌^◌, true, false, List, [], ◌++◌, refl, sym, ap, ◌∙◌, subst, inl, inr}
 use Rattle.std.specs.Prelude.{Result, Ok, Err}
 use Rattle.std.proofs.lemmas.List.{append_assoc, append-nil}
-use Rattle.std.proofs.lemmas.List.Folds.{list_any-append}
 use Rattle.frame_word.specs.Seats.{KnownTable}
 use Rattle.group_tree.specs.declared.group.Group.{Group}
 use Rattle.group_tree.specs.Groups.{in_subtree}
 use Rattle.zone_blocks.specs.declared.config.Config.{Config}
 use Rattle.cpu_part.specs.Cpus.{KnownCpu}
-use Rattle.step_rules.specs.declared.step.Answer.{Answer}
-use Rattle.step_rules.specs.declared.step.Step.{Step}
 use Rattle.step_rules.specs.State.{State}
 use Rattle.step_rules.specs.After.{Run}
-use Rattle.group_charge.specs.declared.note.Note.TheVariants.{Zone}
-use Rattle.mem_machine.specs.Machines.{KnownMachine, with_note, with_run}
+use Rattle.mem_machine.specs.Machines.{KnownMachine, with_run}
 use Rattle.mem_machine.specs.Local.{IsLocalRun, VisitState, local_of, visit_state}
 use Rattle.mem_machine.specs.Stocks.{stock_group, with_look}
-use Rattle.mem_machine.specs.Steps.{drain_list_steps, drain_steps, over_steps, take_front_steps}
-use Rattle.mem_reclaim.specs.Moves.{has_kill, is_kill}
+use Rattle.mem_machine.specs.Steps.{drain_steps, over_steps, take_front_steps}
+use Rattle.mem_reclaim.specs.Moves.{has_kill}
 use Rattle.mem_reclaim.proofs.LettingGo.{quiet_drain}
 use Rattle.mem_alloc.specs.declared.faults.AllocFault.{AllocFault}
 use Rattle.mem_alloc.specs.declared.faults.AllocFault.TheVariants.{Over, NoFrames, RequesterKilled}
-use Rattle.mem_machine.specs.Transitions.{Finds, InTurn, Transition, transition}
+use Rattle.mem_machine.specs.Transitions.{Transition, transition}
 use Rattle.mem_alloc.specs.Charging.{ChargesAfterDrain, FillsDrainedStock, ChargesOne, DrainsStock, FillsStock, AfterBatchRefused, PaysForFrame}
-use Rattle.mem_alloc.specs.Rounds.{AfterZoneNote, FailsInRounds, FreesInRound, MakesRound, SucceedsInRounds}
-use Rattle.mem_alloc.specs.Frames.{AllocatesFrame, FillsList, HasNoFreeFrame, LendsBatch, LendsNoFrame, MakesRefillRounds, RefillsInRounds}
-use Rattle.mem_alloc.specs.Blocks.{AllocatesBlock, ChargesBlock, FindsNoBlock, MakesTakeRounds, RetriesBlock, TakesAfterDrain, TakesFreeBlock, TakesInRounds, TakesOrReclaims}
+use Rattle.mem_alloc.specs.Frames.{AllocatesFrame}
+use Rattle.mem_alloc.specs.Blocks.{AllocatesBlock, ChargesBlock, FindsNoBlock, RetriesBlock, TakesFreeBlock}
 use Rattle.mem_alloc.specs.NoRash.{NoRashKill}
-use Rattle.mem_alloc.proofs.Missing.{back_calm, refill_calm}
+use Rattle.mem_alloc.proofs.Missing.{drained_calm, drains_calm, fills_calm, finds_none_calm, takes_calm}
+pub use Rattle.mem_alloc.proofs.Missing.{no_kill_both}
 use Rattle.mem_alloc.proofs.NoRash.{Passes, RashFree, drain_same, over_runs, passes_both, passes_none, passes_same, quiet_after_room, rash_both, rash_quiet, refusal_rash, run_rest}
-
--- ---- lists of steps without a kill
-
-pub no_kill_both : (one two : Run) → has_kill one ≡ false → has_kill two ≡ false → has_kill (one ++ two) ≡ false
-no_kill_both one two a b = list_any-append (λ (e : Step × Answer). is_kill e.0.action) one two ∙ ap (λ (x : Bool). x || has_kill two) a ∙ b
-
--- no step of such a transition is a kill
-abbrev AllQuiet : (Transition VisitState → Type 0) → Type 0
-AllQuiet P = (call : Transition VisitState) → P call → has_kill call.steps ≡ false
-
-turns_quiet : (First Second : Transition VisitState → Type 0) → AllQuiet First → AllQuiet Second → AllQuiet (InTurn First Second)
-turns_quiet First Second one two call h =
-    ap has_kill h.steps_are ∙ no_kill_both h.earlier h.later (one (transition call.table call.before h.earlier h.between) h.first)
-    (two (transition call.table h.between h.later call.after) h.second)
-
--- ---- rounds of reclaim
-
-module _ (want : ℕ) (Fails : Transition VisitState → Type 0) (failing : AllQuiet Fails) where
-  round_quiet : (number freed : ℕ) (Tries : Transition VisitState → Type 0) → AllQuiet Tries → (call : Transition VisitState)
-      → MakesRound number want freed Tries call → has_kill call.steps ≡ false
-  round_quiet number freed Tries trying call h =
-      ap has_kill h.steps_are ∙ no_kill_both h.reclaiming h.trying h.moves.no_kill
-      (trying (transition call.table (visit_state h.reclaimed call.before.cpu) h.trying call.after) h.tries)
-
-  gives_quiet : (number : ℕ) → AllQuiet (FreesInRound number want Fails)
-  gives_quiet number call h = round_quiet number h.freed Fails failing call h.round
-
-  fails_quiet : (rounds : ℕ) → AllQuiet (FailsInRounds rounds want Fails)
-  fails_quiet zero call h = ap has_kill h.steps_are
-  fails_quiet (suc more) call (inl h) = round_quiet (16 - more) 0 Fails failing call h
-  fails_quiet (suc more) call (inr h) =
-      turns_quiet (FreesInRound (16 - more) want Fails) (FailsInRounds more want Fails) (gives_quiet (16 - more)) (fails_quiet more) call h
-
-  succeeds_quiet : (rounds : ℕ) (Succeeds : Transition VisitState → Type 0) → AllQuiet Succeeds → AllQuiet (SucceedsInRounds rounds want Succeeds Fails)
-  succeeds_quiet zero Succeeds succeeding call h = absurd h
-  succeeds_quiet (suc more) Succeeds succeeding call (inl h) = round_quiet (16 - more) h.0 Succeeds succeeding call h.1
-  succeeds_quiet (suc more) Succeeds succeeding call (inr h) =
-      turns_quiet (FreesInRound (16 - more) want Fails) (SucceedsInRounds more want Succeeds Fails) (gives_quiet (16 - more))
-      (succeeds_quiet more Succeeds succeeding) call h
-
--- a note before them is no step
-noted_quiet : (order : ℕ) (Does : Transition VisitState → Type 0) → AllQuiet Does → AllQuiet (AfterZoneNote order Does)
-noted_quiet order Does quiet call h =
-    quiet (transition call.table (visit_state (with_note call.before.machine (Zone order)) call.before.cpu) call.steps call.after) h
-
--- ---- a frame of the list
-
-lends_quiet : (batch : ℕ) → AllQuiet (LendsBatch batch)
-lends_quiet batch call h = ap has_kill h.steps_are ∙ (refill_calm call.before.cpu.number h.frames).no_kill
-
-lends_none_quiet : AllQuiet LendsNoFrame
-lends_none_quiet call h = ap has_kill h.does.steps_are
-
-drains_quiet : AllQuiet DrainsStock
-drains_quiet call h =
-    ap has_kill h.steps_are ∙ (quiet_drain call.before.cpu.number (stock_group call.before.machine call.before.cpu.number) h.drained).no_kill
-
-refills_quiet : (batch : ℕ) (filled : Bool) → AllQuiet (RefillsInRounds batch filled)
-refills_quiet batch true = noted_quiet 0 (MakesRefillRounds batch true) (succeeds_quiet 1 LendsNoFrame lends_none_quiet 16 (LendsBatch batch) (lends_quiet batch))
-refills_quiet batch false = noted_quiet 0 (MakesRefillRounds batch false) (fails_quiet 1 LendsNoFrame lends_none_quiet 16)
-
-fills_quiet : (sizes : Config) (answer : Result (Unit {0}) AllocFault) → AllQuiet (FillsList sizes answer)
-fills_quiet sizes (Ok v) call (inl h) = ap has_kill h.does.steps_are
-fills_quiet sizes (Ok v) call (inr h) = elim h.does [
-  | inl lends ↦ lends_quiet sizes.batch call lends
-  | inr rounds ↦ refills_quiet sizes.batch true call rounds.does
-]
-fills_quiet sizes (Err NoFrames) call h =
-    turns_quiet (RefillsInRounds sizes.batch false) (Finds HasNoFreeFrame DrainsStock) (refills_quiet sizes.batch false)
-    (λ last drains. drains_quiet last drains.does) call h.does.does
-fills_quiet sizes (Err (Over over)) call h = absurd h
-fills_quiet sizes (Err RequesterKilled) call h = absurd h
-
--- ---- a block
-
-takes_quiet : (g k head : ℕ) → AllQuiet (TakesFreeBlock g k head)
-takes_quiet g k head call h = ap has_kill h.steps_are
-
-finds_none_quiet : (g k : ℕ) → AllQuiet (FindsNoBlock g k)
-finds_none_quiet g k call h = ap has_kill h.steps_are
-
-take_rounds_quiet : (g k : ℕ) (answer : Result ℕ AllocFault) → AllQuiet (MakesTakeRounds g k answer)
-take_rounds_quiet g k (Ok head) call h =
-    succeeds_quiet (2 ^ k) (FindsNoBlock g k) (finds_none_quiet g k) 16 (TakesFreeBlock g k head) (takes_quiet g k head) call h
-take_rounds_quiet g k (Err NoFrames) call h = fails_quiet (2 ^ k) (FindsNoBlock g k) (finds_none_quiet g k) 16 call h
-take_rounds_quiet g k (Err (Over over)) call h = absurd h
-take_rounds_quiet g k (Err RequesterKilled) call h = absurd h
-
-rounds_quiet : (g k : ℕ) (answer : Result ℕ AllocFault) → AllQuiet (TakesInRounds g k answer)
-rounds_quiet g k answer = noted_quiet k (MakesTakeRounds g k answer) (take_rounds_quiet g k answer)
-
-or_reclaims_quiet : (g k : ℕ) (answer : Result ℕ AllocFault) → AllQuiet (TakesOrReclaims g k answer)
-or_reclaims_quiet g k (Ok head) call (inl h) = takes_quiet g k head call h
-or_reclaims_quiet g k (Err cause) call (inl h) = absurd h
-or_reclaims_quiet g k answer call (inr h) =
-    turns_quiet (FindsNoBlock g k) (TakesInRounds g k answer) (finds_none_quiet g k) (rounds_quiet g k answer) call h
-
-drained_quiet : (g k : ℕ) (answer : Result ℕ AllocFault) → AllQuiet (TakesAfterDrain g k answer)
-drained_quiet g k answer call h =
-    ap has_kill h.steps_are ∙ no_kill_both (drain_list_steps call.before.cpu.number call.before.cpu.list) h.later
-    (back_calm call.before.cpu.number call.before.cpu.list).no_kill
-    (or_reclaims_quiet g k answer (transition call.table (visit_state h.drained call.after.cpu) h.later call.after) h.takes)
 
 -- ---- the whole of an allocation
 
@@ -140,7 +34,7 @@ module _ (t : KnownTable) (MayAsk : List Group → ℕ → ℕ → Type 0) (s : 
 
   -- ---- single frames
 
-  stock_quiet : (pages : ℕ) → AllQuiet (FillsStock g pages)
+  stock_quiet : (pages : ℕ) (call : Transition VisitState) → FillsStock g pages call → has_kill call.steps ≡ false
   stock_quiet pages call h = ap has_kill h.steps_are
 
   module _ (asks : Asks 1) where
@@ -196,7 +90,7 @@ module _ (t : KnownTable) (MayAsk : List Group → ℕ → ℕ → Type 0) (s : 
         let on = run_rest c.number h.earlier (h.later ++ rest) (local_of t s c) (local_of t x.machine c) z passes.runs told in
         let charges = subst (λ (y : KnownCpu). FillsDrainedStock sizes g answer (transition t (visit_state x.machine y) h.later n)) h.first.cpu h.second in
         subst (λ (k : Run). RashFree t MayAsk s c [] k) (sym h.steps_are) (rash_both t MayAsk s c [] h.earlier h.later
-        (rash_quiet t MayAsk s c [] h.earlier (drains_quiet (transition t (visit_state (with_look s) c) h.earlier x) h.first))
+        (rash_quiet t MayAsk s c [] h.earlier (drains_calm (transition t (visit_state (with_look s) c) h.earlier x) h.first).1)
         (charges_rash sizes answer h.earlier x.machine h.later rest n z (drain_same (with_look s) x.machine c.number h.first.drained h.first.drains).groups passes on charges))
 
     pays_rash : (sizes : Config) (answer : Result (Unit {0}) AllocFault) (steps rest : Run) (n : VisitState) (z : State)
@@ -217,14 +111,14 @@ module _ (t : KnownTable) (MayAsk : List Group → ℕ → ℕ → Type 0) (s : 
         let h = living.does in
         let last = h.filling ++ take_front_steps c.number g in
         let all = subst (λ (k : Run). IsLocalRun c.number (local_of t s c) k z) h.steps_are whole in
-        let quiet = no_kill_both h.filling (take_front_steps c.number g) (fills_quiet sizes (Ok tt) (transition t h.paid h.filling h.filled) h.fills) refl in
+        let quiet = no_kill_both h.filling (take_front_steps c.number g) (fills_calm sizes (Ok tt) (transition t h.paid h.filling h.filled) h.fills).1 refl in
         subst (λ (k : Run). RashFree t MayAsk s c [] k) (sym h.steps_are) (rash_both t MayAsk s c [] h.paying last
         (pays_rash sizes (Ok tt) h.paying last h.paid z all h.pays) (rash_quiet t MayAsk s c h.paying last quiet))
     frame_no_rash sizes (Err (Over over)) steps n z whole h = pays_all_rash sizes (Err (Over over)) steps n z whole h.does
     frame_no_rash sizes (Err NoFrames) steps n z whole living =
         let h = living.does in
         let all = subst (λ (k : Run). IsLocalRun c.number (local_of t s c) k z) h.steps_are whole in
-        let quiet = fills_quiet sizes (Err NoFrames) (transition t h.between h.later n) h.second in
+        let quiet = (fills_calm sizes (Err NoFrames) (transition t h.between h.later n) h.second).1 in
         subst (λ (k : Run). RashFree t MayAsk s c [] k) (sym h.steps_are) (rash_both t MayAsk s c [] h.earlier h.later
         (pays_rash sizes (Ok tt) h.earlier h.later h.between z all h.first) (rash_quiet t MayAsk s c h.earlier h.later quiet))
     frame_no_rash sizes (Err RequesterKilled) steps n z whole (inl h) = rash_quiet t MayAsk s c [] steps (ap has_kill h.does.steps_are)
@@ -237,12 +131,12 @@ module _ (t : KnownTable) (MayAsk : List Group → ℕ → ℕ → Type 0) (s : 
         → ChargesBlock g k answer (transition t (visit_state s c) steps n) → RashFree t MayAsk s c [] steps
     charged_rash (Ok head) steps rest n z whole h =
         quiet_after_room t MayAsk s c g (2 ^ k) s.ledger.groups asks (TakesFreeBlock g k head) [] s steps rest n z refl (passes_none t c s) whole
-        (takes_quiet g k head) h
+        (λ call h. (takes_calm g k head call h).1) h
     charged_rash (Err (Over over)) steps rest n z whole h =
         refusal_rash t MayAsk s c g (2 ^ k) s.ledger.groups asks (Over over) [] s steps rest n z refl (passes_none t c s) whole h
     charged_rash (Err NoFrames) steps rest n z whole h =
         quiet_after_room t MayAsk s c g (2 ^ k) s.ledger.groups asks (FindsNoBlock g k) [] s steps rest n z refl (passes_none t c s) whole
-        (finds_none_quiet g k) h
+        (λ call h. (finds_none_calm g k call h).1) h
     charged_rash (Err RequesterKilled) steps rest n z whole h =
         refusal_rash t MayAsk s c g (2 ^ k) s.ledger.groups asks RequesterKilled [] s steps rest n z refl (passes_none t c s) whole h
 
@@ -255,7 +149,7 @@ module _ (t : KnownTable) (MayAsk : List Group → ℕ → ℕ → Type 0) (s : 
         → RetriesBlock g k answer (transition t (visit_state s c) steps n) → RashFree t MayAsk s c [] steps
     retries_rash answer steps n z whole h =
         let all = subst (λ (r : Run). IsLocalRun c.number (local_of t s c) r z) h.steps_are whole in
-        let quiet = drained_quiet g k answer (transition t h.between h.later n) h.second in
+        let quiet = (drained_calm g k answer (transition t h.between h.later n) h.second).1 in
         subst (λ (r : Run). RashFree t MayAsk s c [] r) (sym h.steps_are) (rash_both t MayAsk s c [] h.earlier h.later
         (charged_rash (Err NoFrames) h.earlier h.later h.between z all h.first) (rash_quiet t MayAsk s c h.earlier h.later quiet))
 

@@ -1,6 +1,6 @@
 -- Rounds of reclaim with one more try each, as far as they were made, and what they keep. Serves `refill_in_rounds`,
 -- `take_after_drain`, and those who call them.
-use Rattle.std.proofs.Common.{◌≡◌, ◌≢◌, ℕ, zero, suc, ◌+◌, ◌-◌, ◌<◌, ◌≤◌, [], ◌++◌, refl, sym, ap, ◌∙◌, subst, inl, inr, arith}
+use Rattle.std.proofs.Common.{◌≡◌, ◌≢◌, ℕ, zero, suc, ◌+◌, ◌-◌, ◌<◌, ◌≤◌, [], ◌++◌, refl, sym, ap, ◌∙◌, subst, inl, inr, arith, rules}
 use Rattle.std.proofs.lemmas.List.{append_assoc, append-nil}
 use Rattle.frame_word.specs.Seats.{KnownTable}
 use Rattle.cpu_part.specs.Cpus.{KnownCpu}
@@ -109,19 +109,7 @@ module _ (t : KnownTable) (want : ℕ) (Fails : Transition VisitState → Type 0
 
 -- what is kept from a note on is kept from before it
 pub spares_after_note : (t : KnownTable) (m n : KnownMachine) (c d : KnownCpu) (note : Note) → Spares t (with_note m note) c n d → Spares t m c n d
-spares_after_note t m n c d note s =
-    let l = s.lowers in record {
-      lowers = record {
-        groups = l.groups;
-        killed = l.killed;
-        opened = l.opened;
-        falls = l.falls;
-        emptied = l.emptied;
-      };
-      killed = s.killed;
-      stock_seat = s.stock_seat;
-      cpu = s.cpu;
-    }
+spares_after_note t m n c d note s = search rules
 
 -- a visit stays open at a note
 pub noted_visit : (t : KnownTable) (m : KnownMachine) (c : KnownCpu) (note : Note) → Visits t (visit_state m c) → Visits t (visit_state (with_note m note) c)

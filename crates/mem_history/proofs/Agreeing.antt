@@ -1,18 +1,12 @@
 -- The ledger goes on telling the run, line by line. Serves `a_boot_agrees`, `lines_agree`, `fast_lines_agree`.
-use Rattle.std.proofs.Common.{◌≡◌, ℕ, ◌==◌, ◌||◌, Bool, true, false, cond, Option, Some, None, [], ◌∷◌, ◌++◌, length, take, refl, sym, ◌∙◌, ap, subst, inl, inr, zero, suc, eq-eqb}
+use Rattle.std.proofs.Common.{◌≡◌, ℕ, ◌==◌, Bool, true, cond, Option, Some, [], ◌∷◌, ◌++◌, length, take, refl, sym, ◌∙◌, ap, subst, inl, inr, zero, suc, eq-eqb}
 use Rattle.std.specs.Prelude.{IfSome}
 use Rattle.std.specs.List.{slice_get}
-use Rattle.std.specs.Option.{option_map_or}
-use Rattle.std.proofs.lemmas.Bool.{cases_eq, ne_eqb, or_left, or_right, true≢false, false≢true}
+use Rattle.std.proofs.lemmas.Bool.{or_left, or_right, true≢false, false≢true}
 use Rattle.std.proofs.lemmas.List.{append_assoc, append-nil}
 use Rattle.std.proofs.Math.Seq.{take-append_seam}
-use Rattle.group_tree.specs.declared.event.EventKey.{EventKey}
-use Rattle.group_tree.specs.Events.{count_of, no_events}
-use Rattle.group_tree.specs.Groups.{has_group, initial_groups}
-use Rattle.group_tree.proofs.EventLemmas.{none_counted}
-use Rattle.group_tree.proofs.GroupLemmas.{has_group-any}
-use Rattle.group_charge.specs.declared.account.Account.{Account}
-use Rattle.group_charge.specs.Charges.{Ledger, initial_ledger, empty_account, account_at, peak_of, events_of, events_local_of}
+use Rattle.group_tree.specs.Groups.{has_group}
+use Rattle.group_charge.specs.Charges.{Ledger, peak_of}
 use Rattle.frame_word.specs.Seats.{KnownTable}
 use Rattle.step_rules.specs.declared.step.Step.{Step}
 use Rattle.step_rules.specs.declared.step.Action.{Action}
@@ -38,6 +32,7 @@ use Rattle.mem_machine.specs.Local.{local_of}
 use Rattle.mem_machine.specs.Interleaving.{zone_of}
 use Rattle.mem_machine.specs.Steps.{cpu_makes}
 use Rattle.mem_machine.specs.Agreeing.{AgreesWithRun}
+use Rattle.mem_machine.proofs.Agreeing.{first_agrees}
 use Rattle.mem_machine.proofs.Followed.{is_still, still_peak, below_stays, at_stays}
 use Rattle.mem_machine.proofs.Tells.{ledgers_agree}
 use Rattle.mem_history.specs.Whole.{IsDecided, seen_together, under_lock, is_fast}
@@ -197,43 +192,5 @@ fast_lines_agree t run cpus k before action answer after_visit_state shows serve
 
 -- ---- a new boot
 
--- the one account there, or none
-abbrev found : Bool → Option Account
-found b = cond b (Some (empty_account 0)) None
-
-none_below : (key : EventKey) (b : Bool) → count_of (option_map_or (λ (a : Account). a.events) (found b) no_events) key ≡ 0
-none_below key true = none_counted key
-none_below key false = none_counted key
-
-none_at : (key : EventKey) (b : Bool) → count_of (option_map_or (λ (a : Account). a.events_local) (found b) no_events) key ≡ 0
-none_at key true = none_counted key
-none_at key false = none_counted key
-
-first_events : (key : EventKey) (m : ℕ) → count_of (events_of initial_ledger m) key ≡ 0
-unfolding events_of account_at
-first_events key m = none_below key (0 == m)
-
-first_events_local : (key : EventKey) (m : ℕ) → count_of (events_local_of initial_ledger m) key ≡ 0
-unfolding events_local_of account_at
-first_events_local key m = none_at key (0 == m)
-
-first_peak : peak_of initial_ledger 0 ≡ 0
-unfolding peak_of account_at
-first_peak = refl
-
--- there is the root alone
-root_alone : (m : ℕ) → has_group initial_groups m ≡ true → m ≡ 0
-root_alone m there = elim (cases_eq m 0) [
-  | inl e ↦ e
-  | inr ne ↦ absurd (true≢false (sym there ∙ has_group-any initial_groups m ∙ ap (λ (b : Bool). b || false) (ne_eqb 0 m (λ e. ne (sym e)))))
-]
-
 pub a_boot_agrees : ABootAgrees
-a_boot_agrees t w m first =
-    let zone = zone_of t in
-    subst (AgreesWithRun t []) (sym first.ledger) (record {
-      peak = λ g there. subst (λ (k : ℕ). IsPeak zone [] k (peak_of initial_ledger k)) (sym (root_alone g there))
-          (subst (IsPeak zone [] 0) (sym first_peak) (peaks_are_kept.boot zone));
-      events = λ key g there. first_events key g ∙ sym (events_are_counted.boot zone key g).0;
-      events_local = λ key g there. first_events_local key g ∙ sym (events_are_counted.boot zone key g).1;
-    })
+a_boot_agrees t w m first = subst (AgreesWithRun t []) (sym first.ledger) (first_agrees t)

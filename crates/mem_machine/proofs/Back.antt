@@ -1,6 +1,5 @@
 -- A back frame's unit is freed. Serves `return_one`.
-use Rattle.std.proofs.Common.{true, false, ◌≡◌, ℕ, ◌+◌, ◌^◌, ◌<◌, ◌≤◌, Bool, Option, Some, None, List, [], ◌∷◌, length, get_or}
-use Rattle.std.proofs.Common.{refl, sym, ap, ◌∙◌, subst, arith}
+use Rattle.std.proofs.Common.{true, false, ◌≡◌, ℕ, ◌+◌, ◌^◌, ◌<◌, ◌≤◌, Bool, Option, Some, None, List, [], ◌∷◌, length, get_or, refl, sym, ap, ◌∙◌, subst, arith}
 use Rattle.std.specs.Prelude.{is_some, IfSome}
 use Rattle.std.proofs.lemmas.List.{get_or_default}
 use Rattle.zone_blocks.specs.declared.block.Block.{Block}
@@ -25,8 +24,7 @@ use Rattle.mem_machine.specs.declared.frame_state.FrameState.TheVariants.{Free, 
 use Rattle.mem_machine.specs.declared.counts.Counts.{Counts}
 use Rattle.mem_machine.specs.FrameStates.{frame_state_at, free_of, head_group_of, some_cpu}
 use Rattle.mem_machine.specs.Machines.{KnownMachine, FitsFrameState, IsConsistent, BalancesCounts, home_of}
-use Rattle.mem_machine.specs.Local.{Visits}
-use Rattle.mem_machine.specs.Local.{IsLocalRun, local_of, visit_state}
+use Rattle.mem_machine.specs.Local.{Visits, IsLocalRun, local_of, visit_state}
 use Rattle.mem_machine.specs.Freeing.{FreesFrames}
 use Rattle.mem_machine.specs.Settling.{ReturnsBack, return_steps}
 use Rattle.mem_machine.specs.Counts.{with_last_put}
@@ -37,7 +35,7 @@ use Rattle.mem_machine.proofs.Freeing.{free_block_given, unit_in_use, head_insid
 use Rattle.mem_machine.proofs.HandOvers.{handed_visits, IsBackFront, back_front, return_run}
 use Rattle.mem_machine.proofs.Shown.{is_visited, back_phase, back_handed, back_else, phases_freed, parts_back, references_same}
 use Rattle.mem_machine.proofs.Balances.{balanced_last_put}
-use Rattle.mem_machine.proofs.Followed.{follows_still, LeadsAs}
+use Rattle.mem_machine.proofs.Followed.{follows_still}
 use Rattle.mem_machine.proofs.Counted.{comes_back}
 use Rattle.group_charge.proofs.CallerLemmas.{uncharge_peaks, uncharge_events}
 use Rattle.step_rules.specs.declared.step.Action.TheVariants.{PassBack, Collect, Return}
@@ -48,7 +46,7 @@ use Rattle.mem_machine.specs.Steps.{zone_makes, cpu_makes}
 use Rattle.mem_machine.specs.Noted.{AreLocal, KnownRun, MayTake, MayTakeAll, Notes}
 use Rattle.mem_machine.proofs.Noted.{notes_both, notes_one, run_steps}
 use Rattle.mem_machine.proofs.Reached.{may_make}
-use Rattle.mem_machine.proofs.Watched.{HasOpenVisit}
+use Rattle.mem_machine.proofs.Watched.{HasOpenVisit, AllDone}
 
 -- what is known of a back frame that was handed over
 pub record WasBack (t : KnownTable) (m : KnownMachine) (f : ℕ) : Type 0 where
@@ -208,14 +206,6 @@ returned_notes t run n f i p q index handed number back later mid watch last pas
 
 -- ---- all of it, of the machine as it was seen before
 
-pub record AllReturned (t : KnownTable) (w : KnownStockTable) (now : KnownMachine) (c : KnownCpu) (f : ℕ) (n : KnownMachine) (d : KnownCpu) (free : List Bool)
-    : Type 0 where
-  pub consistent : IsConsistent t w n
-  pub free_is : free ≡ free_of n.frame_states
-  pub returns : ReturnsBack f (visit_state now c) (visit_state n d)
-  pub visit : HasOpenVisit t (visit_state n d)
-  pub steps : LeadsAs t c.number (visit_state now c) (return_steps c.number f) (visit_state n d)
-
 pub return_all : (t : KnownTable) (w : KnownStockTable) (m now : KnownMachine) → m ≡ now → (c h d : KnownCpu) → IsTied t w c → IsConsistent t w m → Visits t (visit_state now c)
     → (before free : List Bool) → before ≡ free_of m.frame_states → (f : ℕ) → WasBack t m f → PassesBackUnit f c h → d ≡ h → (i : ℕ) → i ≡ f
     → (unit : ChargedUnit) → frame_state_at m.frame_states i ≡ Head unit
@@ -223,7 +213,7 @@ pub return_all : (t : KnownTable) (w : KnownStockTable) (m now : KnownMachine) �
     → (frame_states : List FrameState) → FreesFrames i (2 ^ unit.order) m.frame_states frame_states → (blocks : List Block)
     → GivesFrames before (record { at = i; order = unit.order }) free → AreMaximalBlocks free blocks
     → (ledger : Ledger) → ledger ≡ with_uncharge m.ledger unit.group (2 ^ unit.order) → (counts : Counts) → counts ≡ with_last_put m.counts
-    → AllReturned t w now c f (record m { blocks = blocks; frame_states = frame_states; ledger = ledger; frame_seat = seat; counts = counts }) d free
+    → AllDone t w now c (ReturnsBack f) (return_steps c.number f) (record m { blocks = blocks; frame_states = frame_states; ledger = ledger; frame_seat = seat; counts = counts }) d free
 return_all t w m now same c h d tied ok visit_now before free free_was f was hands stays i index unit heads_i seat collects frame_states frees_i blocks gives_i areas_i
     ledger uncharges counts counted =
     let visit : Visits t (visit_state m c) = subst (λ (x : KnownMachine). Visits t (visit_state x c)) (sym same) visit_now in
@@ -237,12 +227,12 @@ return_all t w m now same c h d tied ok visit_now before free free_was f was han
     let inside = head_inside t w m ok f unit heads in
     let free_is : free ≡ free_of frame_states = free_block_given before free m.frame_states frame_states f unit.order (omega (arith, sized, inside)) free_was gives frees in
     let areas : AreMaximalBlocks (free_of frame_states) blocks = subst (λ (l : List Bool). AreMaximalBlocks l blocks) free_is areas_i in
-    let one : AllReturned t w m c f (returned t w m c tied ok visit f was unit heads rest front frame_states frees blocks areas counts counted)
+    let one : AllDone t w m c (ReturnsBack f) (return_steps c.number f) (returned t w m c tied ok visit f was unit heads rest front frame_states frees blocks areas counts counted)
     (back_handed c f rest) free =
     record {
       consistent = returned_consistent t w m c tied ok visit f was unit heads rest front frame_states frees blocks areas counts counted;
       free_is = free_is;
-      returns = returned_does t w m c tied ok visit f was unit heads rest front frame_states frees blocks areas counts counted;
+      does = returned_does t w m c tied ok visit f was unit heads rest front frame_states frees blocks areas counts counted;
       visit = returned_visits t w m c tied ok visit f was unit heads rest front frame_states frees blocks areas counts counted;
       steps = record {
         leads = returned_steps t w m c tied ok visit f was unit heads rest front frame_states frees blocks areas counts counted;
@@ -253,7 +243,7 @@ return_all t w m now same c h d tied ok visit_now before free free_was f was han
     } in
     let number : h.number ≡ c.number = ap (λ (x : KnownCpu). x.number) hands.2 in
     let seat_is : seat ≡ seat_with m.frame_seat f (collected_from c.number) = collects ∙ ap (λ (x : ℕ). seat_with m.frame_seat f (collected_from x)) number in
-    subst (λ (x : KnownMachine × KnownMachine × KnownCpu). AllReturned t w x.0 c f x.1 x.2 free)
+    subst (λ (x : KnownMachine × KnownMachine × KnownCpu). AllDone t w x.0 c (ReturnsBack f) (return_steps c.number f) x.1 x.2 free)
     (λ j. (
       same j,
       record m { blocks = blocks; frame_states = frame_states; ledger = sym uncharges j; frame_seat = sym seat_is j; counts = counts },

@@ -217,12 +217,6 @@ module _ (t : KnownTable) (w : KnownStockTable) (m : KnownStockSeat) (sums : Lis
       (λ h. ap (λ (x : KnownStockSeat). pages_booked t x h) is ∙ filled_books t m q g k inside empty h)
       (omega (arith, b, read))
 
--- the group of the stock stays when a page is noted
-pub noted_group : (m n : KnownStockSeat) (p k : ℕ) → n ≡ with_view m (zone_after_report m.view p k) → (account_of n.view p).group ≡ (account_of m.view p).group
-noted_group m n p k is =
-    ap (λ (x : KnownStockSeat). (account_of x.view p).group) is
-    ∙ ap (λ (a : StockAccount). a.group) (account_of-with_account m.view p (let a = account_of m.view p in record a { unabsorbed = a.unabsorbed + k }))
-
 -- the pages of a group that is there leave its books room for as many as its root has
 pub room_booked : (t : KnownTable) (w : KnownStockTable) (m now : KnownMachine) → m ≡ now → IsConsistent t w m → AreCharges m.ledger → (g n : ℕ)
     → has_group now.ledger.groups g ≡ true → current_of now.ledger 0 + n < 2 ^ 32 → (h : ℕ) → h ≡ g → pages_booked t m.stock_seat h + n < 2 ^ 32

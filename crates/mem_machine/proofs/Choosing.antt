@@ -5,7 +5,7 @@ use Rattle.std.specs.Int.{bit_at}
 use Rattle.std.specs.Int.Bits.{bit_or}
 use Rattle.std.proofs.lemmas.Bool.{cases_eq, false≢true, eqb-true}
 use Rattle.std.proofs.lemmas.List.{get_or_default}
-use Rattle.std.proofs.lemmas.Nat.Bits.{bit_at-zero, bit_at-lt, bit_at_or}
+use Rattle.std.proofs.lemmas.Nat.Bits.{bit_at-lt, bit_at_or}
 use Rattle.frame_word.specs.Seats.{KnownTable}
 use Rattle.group_tree.specs.declared.group.Group.{Group}
 use Rattle.group_tree.specs.Groups.{in_subtree}
@@ -20,12 +20,6 @@ pub record FoundSoFar (t : KnownTable) (m : KnownMachine) (g : ℕ) (rows : List
   pub sound : (p : ℕ) → p < 64 → bit_at stocks p ≡ 1 → (p < t.cpus) × (is_in_subtree m.ledger.groups g (stock_group m (p + 1)) ≡ true)
   pub all : (j : ℕ) (x : Group) → j < k → get_or rows j x ≡ x → in_subtree m.ledger.groups g x.number ≡ true → (p : ℕ) → p < 64 → p < t.cpus
       → stock_group m (p + 1) ≡ Some x.number → bit_at stocks p ≡ 1
-
-pub found_first : (t : KnownTable) (m : KnownMachine) (g : ℕ) (rows : List Group) → FoundSoFar t m g rows 0 0
-found_first t m g rows = record {
-  sound = λ p few one. absurd (let zero_bit = bit_at-zero p in omega (arith, zero_bit, one));
-  all = λ j x before. absurd (omega (arith, before));
-}
 
 module _ (t : KnownTable) (m : KnownMachine) (g : ℕ) (rows : List Group) (k stocks : ℕ) (so_far : FoundSoFar t m g rows k stocks) (y : Group)
     (at : k < length rows) (read : y ≡ get_or rows k y) where

@@ -3,7 +3,6 @@ use Rattle.std.proofs.Common.{◌≡◌, ◌≢◌, ℕ, ◌<◌, Bool, Option, 
 use Rattle.std.specs.Prelude.{slice_set, option_map, IfSome}
 use Rattle.std.proofs.lemmas.List.{get_or_default, set-get_or}
 use Rattle.std.proofs.lemmas.Option.{none-some}
-use Rattle.frame_word.specs.Views.{note_of}
 use Rattle.frame_word.specs.Seats.{KnownTable}
 use Rattle.stock_word.specs.Stock.{KnownStockTable}
 use Rattle.lru_lists.specs.declared.record.Link.{Link}
@@ -17,7 +16,7 @@ use Rattle.mem_machine.specs.FrameStates.{frame_state_at, head_group_of}
 use Rattle.mem_machine.specs.Machines.{KnownMachine, IsConsistent, OthersStay, home_of, lists_at, no_lists, group_lists, lists_of}
 use Rattle.mem_machine.specs.Marks.{Dirties}
 use Rattle.mem_machine.specs.Local.{MakesAs, visit_state}
-use Rattle.mem_machine.proofs.Listed.{dirtied_owners, fits_home, place_here, unlisted_stay, others_stay}
+use Rattle.mem_machine.proofs.Listed.{dirtied_owners, lists_consistent, place_here, unlisted_stay, others_stay}
 use Rattle.mem_machine.proofs.Followed.{makes_stay}
 
 -- a home that is there is of a group number
@@ -58,18 +57,7 @@ module _ (t : KnownTable) (w : KnownStockTable) (m : KnownMachine) (ok : IsConsi
     owners = dirtied_owners m.links links lru f d stands now_stands changes entries
 
     pub dirty_consistent : IsConsistent t w (record m { links = links })
-    dirty_consistent = record {
-      sizes = let s = ok.sizes in record { frame_states = s.frame_states; links = changes.frames ∙ s.links; lists = s.lists; killed = s.killed; cpus = s.cpus };
-      seats = ok.seats;
-      areas = ok.areas;
-      frame_states = λ g within. fits_home t.cpus (note_of m.frame_seat.view g) (home_of m.links g) (home_of links g) (frame_state_at m.frame_states g) (owners g) (ok.frame_states g within);
-      units = ok.units;
-      lists = all_stand;
-      absorbed = ok.absorbed;
-      bounded = ok.bounded;
-      charged = ok.charged;
-      balances = ok.balances;
-    }
+    dirty_consistent = lists_consistent t w m ok links m.lists changes.frames refl owners all_stand
 
     pub dirty_does : Dirties f d m (record m { links = links })
     dirty_does = record {

@@ -1,6 +1,6 @@
 -- Stocks that are drained: the books and the charges, and the steps. Serves `drain_of`, `drain_stock` and all calls
 -- made of them.
-use Rattle.std.proofs.Common.{◌≡◌, ℕ, ◌+◌, ◌-◌, ◌<◌, ◌≤◌, ◌==◌, ◌&&◌, Bool, true, false, Option, Some, None, List, [], ◌∷◌, length, map, zero}
+use Rattle.std.proofs.Common.{◌≡◌, ℕ, ◌+◌, ◌-◌, ◌<◌, ◌≤◌, ◌==◌, ◌&&◌, Bool, true, false, Option, Some, None, List, [], ◌∷◌, length, map, zero, rules}
 use Rattle.std.proofs.Common.{suc, refl, sym, ap, ◌∙◌, subst, inl, inr, arith, cond, eq-eqb}
 use Rattle.std.specs.Prelude.{nat_le, is_some}
 use Rattle.std.specs.Option.{option_map_or}
@@ -145,18 +145,7 @@ pub stocks_consistent : (t : KnownTable) (w : KnownStockTable) (m : KnownMachine
     → ((p : ℕ) → (account_of stock.view p).unabsorbed ≡ 0) → ((p : ℕ) → (account_of stock.view p).book < 65536)
     → ((g : ℕ) → pages_of l g ≡ frames_charged m.frame_states g + pages_booked t stock g)
     → IsConsistent t w (record m { ledger = l; stock_seat = stock })
-stocks_consistent t w m l stock ok table machine noted bounded charged = record {
-  sizes = let s = ok.sizes in record { frame_states = s.frame_states; links = s.links; lists = s.lists; killed = s.killed; cpus = s.cpus };
-  seats = let s = ok.seats in record { frames = s.frames; table = table ∙ s.table; stocks = machine };
-  areas = ok.areas;
-  frame_states = ok.frame_states;
-  units = ok.units;
-  lists = ok.lists;
-  absorbed = noted;
-  bounded = bounded;
-  charged = charged;
-  balances = ok.balances;
-}
+stocks_consistent t w m l stock ok table machine noted bounded charged = let seated = table ∙ ok.seats.table in search rules
 
 module _ (t : KnownTable) (w : KnownStockTable) (m : KnownMachine) (ok : IsConsistent t w m) (s q k : ℕ) (inside : q ≤ t.cpus) (enough : k
     ≤ (account_of m.stock_seat.view q).book) where
@@ -419,9 +408,4 @@ drain_may t m now same c at q some inside =
 pub looked_visits : (t : KnownTable) (m now : KnownMachine) → m ≡ now → (stock : KnownStockSeat) → stock ≡ with_view m.stock_seat (with_steps 1 m.stock_seat.view)
     → StaysVisited t now (record m { stock_seat = stock })
 looked_visits t m now same stock is = subst (StaysVisited t now) (sym (looked_now m now same stock is))
-    (λ c visit. record {
-      is_open = visit.is_open;
-      still = visit.still;
-      lent = visit.lent;
-      shown = record { held = visit.shown.held; who = visit.shown.who; here = visit.shown.here };
-    })
+    (λ c visit. search rules)

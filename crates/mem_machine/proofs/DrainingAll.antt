@@ -176,14 +176,6 @@ pub record DrainedOfChosen (t : KnownTable) (m n : KnownMachine) (stocks rest pa
   pub left : (p : ℕ) → p < 64 → (bit_at rest p ≡ 1) ↔ (done ≤ p) × (bit_at stocks p ≡ 1)
   pub drained : (test : List Group → Option ℕ → Bool) → AreChosen t test m stocks → DrainedSoFar t test done pages m n
 
-pub none_drained : (t : KnownTable) (m : KnownMachine) (stocks : ℕ) → DrainedOfChosen t m m stocks stocks 0
-none_drained t m stocks = record {
-  done = 0;
-  inside = omega arith;
-  left = λ p few. ((λ one. (omega arith, one)), (λ both. both.1));
-  drained = λ test chosen. drained_first t test m;
-}
-
 module _ (t : KnownTable) (m n : KnownMachine) (stocks rest pages : ℕ) (so_far : DrainedOfChosen t m n stocks rest pages) (few : t.cpus ≤ 64) where
   -- those between the last one drained and the first one left aren't chosen
   passed : (p : ℕ) → so_far.done ≤ p → p ≤ t.cpus → ((i : ℕ) → i < p → bit_at rest i ≡ 0) → (test : List Group → Option ℕ → Bool) → AreChosen t test m stocks

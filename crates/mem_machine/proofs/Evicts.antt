@@ -1,12 +1,10 @@
 -- A kept unit is tried: it is missed, or it is frozen and freed. Serves `evict`.
-use Rattle.std.proofs.Common.{◌≡◌, ◌≢◌, ℕ, ◌^◌, ◌<◌, ◌==◌, Bool, true, false, Option, Some, None, List, [], ◌∷◌, length, refl, sym, ap, ◌∙◌}
-use Rattle.std.proofs.Common.{subst, arith, cond}
+use Rattle.std.proofs.Common.{◌≡◌, ◌≢◌, ℕ, ◌^◌, ◌<◌, ◌==◌, Bool, true, false, Option, Some, None, List, [], ◌∷◌, length, refl, sym, ap, ◌∙◌, subst, arith, cond}
 use Rattle.std.specs.Prelude.{IfSome}
 use Rattle.std.proofs.lemmas.Bool.{and_from, lt-ltb, le-leb}
 use Rattle.zone_blocks.specs.declared.block.Block.{Block}
 use Rattle.zone_blocks.specs.Areas.{AreMaximalBlocks}
-use Rattle.frame_word.specs.declared.view.FrameNote.{FrameNote}
-use Rattle.frame_word.specs.Views.{note_of, frozen, missed}
+use Rattle.frame_word.specs.Views.{frozen, missed}
 use Rattle.frame_word.specs.Seats.{KnownTable, KnownSeat, seat_with, seat_references, FreezeAnswers}
 use Rattle.stock_word.specs.Stock.{KnownStockTable}
 use Rattle.zone_blocks.specs.Zone.{GivesFrames}
@@ -24,8 +22,8 @@ use Rattle.step_rules.specs.Laws.{IsLocalStep}
 use Rattle.mem_machine.specs.declared.counts.Counts.{Counts}
 use Rattle.mem_machine.specs.declared.frame_state.FrameState.{FrameState}
 use Rattle.mem_machine.specs.declared.frame_state.FrameState.TheVariants.{Head}
-use Rattle.mem_machine.specs.FrameStates.{frame_state_at, free_of, head_group_of, some_cpu}
-use Rattle.mem_machine.specs.Machines.{KnownMachine, FitsFrameState, IsConsistent, home_of, group_lists, lists_of}
+use Rattle.mem_machine.specs.FrameStates.{frame_state_at, free_of, head_group_of}
+use Rattle.mem_machine.specs.Machines.{KnownMachine, IsConsistent, home_of, group_lists, lists_of}
 use Rattle.mem_machine.specs.Local.{IsSeenByRun, Visits, local_of, references_of, visit_state}
 use Rattle.mem_machine.specs.Noted.{AreLocal, MayTakeAll}
 use Rattle.mem_machine.specs.Steps.{zone_makes}
@@ -39,7 +37,7 @@ use Rattle.mem_machine.proofs.Balances.{balanced_freeze}
 use Rattle.mem_machine.proofs.Reaching.{zone_step}
 use Rattle.mem_machine.proofs.Holds.{zone_may_act}
 use Rattle.mem_machine.proofs.Reached.{may_make}
-use Rattle.mem_machine.proofs.Releases.{TakesInHand, note_keeps, visit_stays, held_once, back_all}
+use Rattle.mem_machine.proofs.Releases.{TakesInHand, note_keeps, visit_stays, held_once, back_all, noted_consistent}
 use Rattle.mem_machine.proofs.Followed.{follows_same, LeadsForAny}
 use Rattle.mem_machine.proofs.Watched.{HasOpenVisit, consistent_noted, open_noted}
 
@@ -69,20 +67,6 @@ pub record AllMissed (t : KnownTable) (w : KnownStockTable) (now : KnownMachine)
   pub visit : (c : KnownCpu) → Visits t (visit_state now c) → HasOpenVisit t (visit_state n c)
   pub steps : LeadsForAny t now (evict_steps f None) n
 
-missed_fits : (t : KnownTable) (w : KnownStockTable) (m : KnownMachine) → IsConsistent t w m → (f word g : ℕ) → g < t.frames
-    → FitsFrameState t.cpus (note_of (seat_with m.frame_seat f (missed word)).view g) (home_of m.links g) (frame_state_at m.frame_states g)
-missed_fits t w m ok f word g within =
-    let old = ok.frame_states g within in
-    let change : FrameNote → FrameNote = missed word in
-    record {
-      own = note_keeps m.frame_seat f change (λ k. k.own) (λ k. refl) g ∙ old.own;
-      borrowed = note_keeps m.frame_seat f change (λ k. k.borrowed) (λ k. refl) g ∙ old.borrowed;
-      lent = ap some_cpu (note_keeps m.frame_seat f change (λ k. k.lent) (λ k. refl) g) ∙ old.lent;
-      borrower = old.borrower;
-      references = note_keeps m.frame_seat f change (λ k. k.references) (λ k. refl) g ∙ old.references;
-      kept = old.kept;
-    }
-
 pub missed_all : (t : KnownTable) (w : KnownStockTable) (m now : KnownMachine) → m ≡ now → IsConsistent t w m → (f : ℕ) → f < t.frames → home_of now.links f ≢ None
     → (seat : KnownSeat) → FreezeAnswers m.frame_seat f 1 false seat → (counts : Counts) → counts ≡ with_miss m.counts
     → AllMissed t w now f (record m { frame_seat = seat; counts = counts })
@@ -91,18 +75,7 @@ missed_all t w m now same ok f inside kept seat answered counts counted =
     let held = kept_held t w m now same ok f inside kept in
     let n : KnownMachine = record m { frame_seat = seat_with m.frame_seat f (missed word); counts = with_miss m.counts } in
     let all : AllMissed t w m f n = record {
-      consistent = record {
-        sizes = let s = ok.sizes in record { frame_states = s.frame_states; links = s.links; lists = s.lists; killed = s.killed; cpus = s.cpus };
-        seats = let s = ok.seats in record { frames = s.frames; table = s.table; stocks = s.stocks };
-        areas = ok.areas;
-        frame_states = missed_fits t w m ok f word;
-        units = ok.units;
-        lists = ok.lists;
-        absorbed = ok.absorbed;
-        bounded = ok.bounded;
-        charged = ok.charged;
-        balances = ok.balances;
-      };
+      consistent = noted_consistent t w m ok f (missed word) (λ k. refl) (λ k. refl) (λ k. refl) (λ k. refl) (with_miss m.counts) ok.balances;
       misses = record { word = word; others = answered.1; machine = refl };
       visit = λ c visit. visit_stays t m n c f (missed word) refl (λ k. refl) (λ k. refl) (λ k. refl) visit;
       steps = λ c.

@@ -79,18 +79,10 @@ repeated n i x = elim (cases_lt i n) [ inl inside ↦ get_or-replicate n i x x i
     beyond (suc n) (suc i) x past = beyond n i x (omega arith)
 
 not_head : (unit : ChargedUnit) → Free ≡ Head unit → ⊥
-not_head unit e = subst (λ (x : FrameState). is_kind x) e tt
-  where
-    is_kind : FrameState → Type 0
-    is_kind Free = Unit {0}
-    is_kind _ = ⊥
+not_head unit e = cc
 
 not_tail : (g : ℕ) → Free ≡ Tail g → ⊥
-not_tail g e = subst (λ (x : FrameState). is_kind x) e tt
-  where
-    is_kind : FrameState → Type 0
-    is_kind Free = Unit {0}
-    is_kind _ = ⊥
+not_tail g e = cc
 
 no_pages : (g : ℕ) → pages_of initial_ledger g ≡ 0
 unfolding pages_of account_at

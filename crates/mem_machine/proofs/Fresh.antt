@@ -1,7 +1,7 @@
 -- A fresh frame is kept for its group, or dropped. Serves `keep_one` and `drop_one`.
-use Rattle.std.proofs.Common.{◌++◌, ◌≡◌, ℕ, ◌+◌, ◌^◌, ◌<◌, ◌≤◌, ◌==◌, Bool, true, false, cond, Option, Some, None, List, [], ◌∷◌, length}
+use Rattle.std.proofs.Common.{◌++◌, ◌≡◌, ℕ, ◌+◌, ◌^◌, ◌<◌, ◌≤◌, ◌==◌, Bool, true, false, cond, Some, List, [], ◌∷◌, length, rules}
 use Rattle.std.proofs.Common.{refl, sym, ap, ◌∙◌, subst, arith, inl, inr, eq-eqb}
-use Rattle.std.specs.Prelude.{slice_set, nat_le, IfSome}
+use Rattle.std.specs.Prelude.{slice_set, nat_le}
 use Rattle.std.proofs.lemmas.Bool.{cases_eq, cond-true, false≢true}
 use Rattle.std.proofs.lemmas.List.{get_or-set_same, get_or-set_other, length-set, ext_get_or}
 use Rattle.zone_blocks.specs.declared.block.Block.{Block}
@@ -15,7 +15,6 @@ use Rattle.stock_word.specs.Stock.{KnownStockTable, KnownStockSeat, account_of, 
 use Rattle.group_charge.specs.Charges.{Ledger, pages_of, with_uncharge}
 use Rattle.group_charge.proofs.CallerLemmas.{uncharge_pages, uncharge_peaks, uncharge_events}
 use Rattle.lru_lists.specs.declared.record.Link.{Link}
-use Rattle.lru_lists.specs.declared.record.Home.{Home}
 use Rattle.lru_lists.specs.declared.lru.Lru.{Lru}
 use Rattle.cpu_part.specs.Cpus.{KnownCpu, IsTied}
 use Rattle.cpu_part.specs.Calls.{PassesFresh}
@@ -24,15 +23,13 @@ use Rattle.step_rules.specs.declared.phase.Phase.TheVariants as phase
 use Rattle.step_rules.specs.declared.step.Action.TheVariants.{Unfreeze, Publish, Return}
 use Rattle.step_rules.specs.declared.step.Answer.TheVariants.{Done}
 use Rattle.step_rules.specs.State.{State}
-use Rattle.step_rules.specs.After.{is_within}
+use Rattle.step_rules.specs.After.{is_within, Run}
 use Rattle.mem_machine.specs.declared.frame_state.FrameState.{FrameState}
 use Rattle.mem_machine.specs.declared.frame_state.FrameState.TheVariants.{Free, Lent, Head}
 use Rattle.mem_machine.specs.declared.counts.Counts.{Counts}
-use Rattle.mem_machine.specs.FrameStates.{frame_state_at, is_free_state, free_of, frame_state_group, head_group_of}
-use Rattle.mem_machine.specs.FrameStates.{some_cpu}
+use Rattle.mem_machine.specs.FrameStates.{frame_state_at, is_free_state, free_of, frame_state_group, some_cpu}
 use Rattle.mem_machine.specs.Machines.{KnownMachine, FitsFrameState, IsConsistent, BalancesCounts, home_of, is_killed, pages_booked}
-use Rattle.mem_machine.specs.Local.{Visits}
-use Rattle.mem_machine.specs.Local.{IsLocalRun, local_of, group_of_fresh, number_or_0, visit_state}
+use Rattle.mem_machine.specs.Local.{Visits, IsLocalRun, local_of, group_of_fresh, number_or_0, visit_state}
 use Rattle.mem_machine.specs.Steps.{zone_makes}
 use Rattle.mem_machine.specs.Blocks.{PlacesUnit}
 use Rattle.mem_machine.specs.Counts.{with_killed_fresh}
@@ -40,7 +37,7 @@ use Rattle.mem_machine.specs.Counting.{counts_along}
 use Rattle.mem_machine.specs.Freeing.{FreesFrames}
 use Rattle.mem_machine.specs.Settling.{KeepsFresh, DropsFresh, with_page_absorbed, collect_steps, keep_steps, drop_steps}
 use Rattle.mem_machine.proofs.Holds.{own_part}
-use Rattle.mem_machine.proofs.Records.{free_at, free_set, lent_frame_state, frame_states_changed, units_stay, charges_stay}
+use Rattle.mem_machine.proofs.Records.{free_at, free_set, lent_frame_state, frame_states_changed, units_stay, charges_stay, collected_fits}
 use Rattle.mem_machine.proofs.PlacesUnits.{head_of_block, off_block}
 use Rattle.mem_machine.proofs.Joins.{AllJoin}
 use Rattle.mem_machine.proofs.KeptUnits.{unit_kept}
@@ -49,12 +46,10 @@ use Rattle.mem_machine.proofs.Takes.{may_give}
 use Rattle.mem_machine.proofs.Draining.{booked_within}
 use Rattle.mem_machine.proofs.Absorbs.{none_noted, still_bounded, books_fall}
 use Rattle.mem_machine.proofs.HandOvers.{handed_visits, IsFreshFront, fresh_front, collect_run, keep_run, drop_run}
-use Rattle.mem_machine.proofs.Shown.{is_visited, fresh_unit, fresh_phase, fresh_handed, fresh_else, phases_set, phases_freed, parts_absorbed, references_used}
-use Rattle.mem_machine.proofs.Shown.{references_same}
+use Rattle.mem_machine.proofs.Shown.{is_visited, fresh_unit, fresh_phase, fresh_handed, fresh_else, phases_set, phases_freed, parts_absorbed, references_used, references_same}
 use Rattle.mem_machine.proofs.Balances.{balanced_killed_fresh}
-use Rattle.mem_machine.proofs.Followed.{follows_same, follows_still, LeadsAs}
+use Rattle.mem_machine.proofs.Followed.{follows_same, follows_still}
 use Rattle.mem_machine.proofs.Counted.{collects_none, comes_back}
-use Rattle.step_rules.specs.After.{Run}
 use Rattle.boot_words.specs.Pasts.{KnownPasts, MakesStep, MayMake, local_by_pasts}
 use Rattle.boot_words.specs.Composed.{AreLegal}
 use Rattle.cpu_part.specs.Made.{MakesAll}
@@ -63,7 +58,7 @@ use Rattle.mem_machine.specs.Noted.{AreLocal, KnownRun, MayTake, MayTakeAll, Not
 use Rattle.mem_machine.proofs.Noted.{all_grow, may_behind, notes_both, notes_one, run_steps}
 use Rattle.mem_machine.proofs.Reached.{are_legal, may_make}
 use Rattle.mem_machine.proofs.Holder.{fresh_lent}
-use Rattle.mem_machine.proofs.Watched.{HasOpenVisit}
+use Rattle.mem_machine.proofs.Watched.{HasOpenVisit, AllDone}
 
 -- what is known of a frame that was collected fresh, and of its page
 pub record WasFresh (t : KnownTable) (m : KnownMachine) (c : KnownCpu) (f g : ℕ) : Type 0 where
@@ -215,17 +210,8 @@ module _ (t : KnownTable) (w : KnownStockTable) (m : KnownMachine) (c : KnownCpu
     one_set : new ≡ slice_set m.frame_states f Free
     one_set = frees_one m.frame_states new f 0 refl within frees
 
-    -- a lent frame has no list
-    homeless : (h : Option Home) → IfSome h (λ x. (x.owner < 64) × (head_group_of (Lent c.number) ≡ Some x.owner))
-        → IfSome h (λ x. (x.owner < 64) × (head_group_of Free ≡ Some x.owner))
-    homeless None is = tt
-    homeless (Some x) is = is
-
     dropped_fits : FitsFrameState t.cpus (collected_from c.number (note_of m.frame_seat.view f)) (home_of m.links f) Free
-    dropped_fits =
-        let old : FitsFrameState t.cpus (note_of m.frame_seat.view f) (home_of m.links f) (Lent c.number) =
-        subst (λ (x : FrameState). FitsFrameState t.cpus (note_of m.frame_seat.view f) (home_of m.links f) x) is_lent (ok.frame_states f was.inside) in
-        record { own = refl; borrowed = old.borrowed; lent = refl; borrower = tt; references = old.references; kept = homeless (home_of m.links f) old.kept }
+    dropped_fits = collected_fits t.cpus c.number _ _ (subst (λ (x : FrameState). FitsFrameState t.cpus (note_of m.frame_seat.view f) (home_of m.links f) x) is_lent (ok.frame_states f was.inside))
 
     charged_one : 1 ≤ pages_of m.ledger g
     charged_one =
@@ -236,13 +222,7 @@ module _ (t : KnownTable) (w : KnownStockTable) (m : KnownMachine) (c : KnownCpu
 
     dropped_set : IsConsistent t w (record dropped { frame_states = slice_set m.frame_states f Free })
     dropped_set = record {
-      sizes = let z = ok.sizes in record {
-        frame_states = length-set m.frame_states f Free ∙ z.frame_states;
-        links = z.links;
-        lists = z.lists;
-        killed = z.killed;
-        cpus = z.cpus;
-      };
+      sizes = let sized = length-set m.frame_states f Free ∙ ok.sizes.frame_states in search rules;
       seats = let z = ok.seats in record { frames = z.frames; table = z.table; stocks = z.stocks };
       areas = subst (λ (l : List FrameState). AreMaximalBlocks (free_of l) blocks) one_set areas;
       frame_states = frame_states_changed t.cpus m.frame_seat m.links m.frame_states f (collected_from c.number) Free t.frames within ok.frame_states dropped_fits;
@@ -383,20 +363,12 @@ module _ (t : KnownTable) (run : KnownRun) (p f i q : ℕ) (index : i ≡ f) (nu
 
 -- ---- all of it, of the machine as it was seen before
 
-pub record AllKept (t : KnownTable) (w : KnownStockTable) (now : KnownMachine) (c : KnownCpu) (g f : ℕ) (n : KnownMachine) (d : KnownCpu) (free : List Bool)
-    : Type 0 where
-  pub consistent : IsConsistent t w n
-  pub free_is : free ≡ free_of n.frame_states
-  pub keeps : KeepsFresh g f (visit_state now c) (visit_state n d)
-  pub visit : HasOpenVisit t (visit_state n d)
-  pub steps : LeadsAs t c.number (visit_state now c) (keep_steps c.number f) (visit_state n d)
-
 pub keep_all : (t : KnownTable) (w : KnownStockTable) (m now : KnownMachine) → m ≡ now → (c h : KnownCpu) → IsTied t w c → IsConsistent t w m → Visits t (visit_state now c)
     → (free : List Bool) → free ≡ free_of m.frame_states → (f g : ℕ) → WasFresh t m c f g → PassesFresh f c h → (i k : ℕ) → i ≡ f → k ≡ 0
     → (mid seat : KnownSeat) → mid ≡ seat_with m.frame_seat f (collected_from c.number) → seat ≡ seat_with mid f (unfrozen 1)
     → (stock : KnownStockSeat) → stock ≡ with_page_absorbed m.stock_seat c.number
     → (links : List Link) (lists : List Lru) → AllJoin m.links m.lists g i links lists
-    → AllKept t w now c g f (record m {
+    → AllDone t w now c (KeepsFresh g f) (keep_steps c.number f) (record m {
       frame_states = slice_set m.frame_states i (Head (record { group = g; order = k }));
       links = links;
       lists = lists;
@@ -412,11 +384,11 @@ keep_all t w m now same c h tied ok visit_now free free_is f g was hands i k ind
     let seat_is : seat ≡ seat_with m.frame_seat f (λ n. unfrozen 1 (collected_from c.number n)) =
     unfreezes ∙ ap (λ (x : KnownSeat). seat_with x f (unfrozen 1)) collects
     ∙ (λ j. record { table = m.frame_seat.table; view = changed_twice m.frame_seat.view f (collected_from c.number) (unfrozen 1) j }) in
-    let one : AllKept t w m c g f (kept t w m c tied ok visit f g was rest front links lists joined) (fresh_handed c f rest) free =
+    let one : AllDone t w m c (KeepsFresh g f) (keep_steps c.number f) (kept t w m c tied ok visit f g was rest front links lists joined) (fresh_handed c f rest) free =
     record {
       consistent = kept_consistent t w m c tied ok visit f g was rest front links lists joined;
       free_is = free_is ∙ kept_free t w m c tied ok visit f g was rest front links lists joined;
-      keeps = kept_does t w m c tied ok visit f g was rest front links lists joined;
+      does = kept_does t w m c tied ok visit f g was rest front links lists joined;
       visit = kept_visits t w m c tied ok visit f g was rest front links lists joined;
       steps = record {
         leads = kept_steps t w m c tied ok visit f g was rest front links lists joined;
@@ -424,7 +396,7 @@ keep_all t w m now same c h tied ok visit_now free free_is f g was hands i k ind
         counts = kept_counts t w m c tied ok visit f g was rest front;
       };
     } in
-    subst (λ (x : KnownMachine × KnownMachine × KnownCpu). AllKept t w x.0 c g f x.1 x.2 free)
+    subst (λ (x : KnownMachine × KnownMachine × KnownCpu). AllDone t w x.0 c (KeepsFresh g f) (keep_steps c.number f) x.1 x.2 free)
     (λ j. (
       same j,
       record m {
@@ -437,14 +409,6 @@ keep_all t w m now same c h tied ok visit_now free free_is f g was hands i k ind
       sym hands.2 j,
     )) one
 
-pub record AllDropped (t : KnownTable) (w : KnownStockTable) (now : KnownMachine) (c : KnownCpu) (g f : ℕ) (n : KnownMachine) (d : KnownCpu) (free : List Bool)
-    : Type 0 where
-  pub consistent : IsConsistent t w n
-  pub free_is : free ≡ free_of n.frame_states
-  pub drops : DropsFresh g f (visit_state now c) (visit_state n d)
-  pub visit : HasOpenVisit t (visit_state n d)
-  pub steps : LeadsAs t c.number (visit_state now c) (drop_steps c.number f) (visit_state n d)
-
 pub drop_all : (t : KnownTable) (w : KnownStockTable) (m now : KnownMachine) → m ≡ now → (c h : KnownCpu) → IsTied t w c → IsConsistent t w m → Visits t (visit_state now c)
     → (before free : List Bool) → before ≡ free_of m.frame_states → (f g : ℕ) → WasFresh t m c f g → is_killed now.killed g ≡ true → PassesFresh f c h
     → (i k : ℕ) → i ≡ f → k ≡ 0
@@ -452,7 +416,7 @@ pub drop_all : (t : KnownTable) (w : KnownStockTable) (m now : KnownMachine) →
     → (stock : KnownStockSeat) → stock ≡ with_page_absorbed m.stock_seat c.number
     → (frame_states : List FrameState) → FreesFrames i (2 ^ k) m.frame_states frame_states → (blocks : List Block) → GivesFrames before (record { at = i; order = k }) free
     → AreMaximalBlocks free blocks → (ledger : Ledger) → ledger ≡ with_uncharge m.ledger g (2 ^ k) → (counts : Counts) → counts ≡ with_killed_fresh m.counts
-    → AllDropped t w now c g f (record m { blocks = blocks; frame_states = frame_states; ledger = ledger; frame_seat = seat; stock_seat = stock; counts = counts }) h free
+    → AllDone t w now c (DropsFresh g f) (drop_steps c.number f) (record m { blocks = blocks; frame_states = frame_states; ledger = ledger; frame_seat = seat; stock_seat = stock; counts = counts }) h free
 drop_all t w m now same c h tied ok visit_now before free free_was f g was killed_now hands i k index zero_is seat collects stock absorbs frame_states frees_i blocks
     gives_i areas_i ledger uncharges counts counted =
     let visit : Visits t (visit_state m c) = subst (λ (x : KnownMachine). Visits t (visit_state x c)) (sym same) visit_now in
@@ -466,11 +430,11 @@ drop_all t w m now same c h tied ok visit_now before free free_was f g was kille
     let inside = was.inside in
     let free_is : free ≡ free_of frame_states = free_block_given before free m.frame_states frame_states f 0 (omega (arith, sized, inside)) free_was gives frees in
     let areas : AreMaximalBlocks (free_of frame_states) blocks = subst (λ (l : List Bool). AreMaximalBlocks l blocks) free_is areas_i in
-    let one : AllDropped t w m c g f (dropped t w m c tied ok visit f g was rest front frame_states frees blocks areas counts counted) (fresh_handed c f rest) free =
+    let one : AllDone t w m c (DropsFresh g f) (drop_steps c.number f) (dropped t w m c tied ok visit f g was rest front frame_states frees blocks areas counts counted) (fresh_handed c f rest) free =
     record {
       consistent = dropped_consistent t w m c tied ok visit f g was rest front frame_states frees blocks areas counts counted;
       free_is = free_is;
-      drops = dropped_does t w m c tied ok visit f g was rest front frame_states frees blocks areas counts counted;
+      does = dropped_does t w m c tied ok visit f g was rest front frame_states frees blocks areas counts counted;
       visit = dropped_visits t w m c tied ok visit f g was rest front frame_states frees blocks areas counts counted;
       steps = record {
         leads = dropped_steps t w m c tied ok visit f g was rest front frame_states frees blocks areas counts counted killed;
@@ -479,7 +443,7 @@ drop_all t w m now same c h tied ok visit_now before free free_was f g was kille
       };
     } in
     let uncharged_one : ledger ≡ with_uncharge m.ledger g 1 = uncharges ∙ ap (λ (j : ℕ). with_uncharge m.ledger g (2 ^ j)) zero_is in
-    subst (λ (x : KnownMachine × KnownMachine × KnownCpu). AllDropped t w x.0 c g f x.1 x.2 free)
+    subst (λ (x : KnownMachine × KnownMachine × KnownCpu). AllDone t w x.0 c (DropsFresh g f) (drop_steps c.number f) x.1 x.2 free)
     (λ j. (
       same j,
       record m { blocks = blocks; frame_states = frame_states; ledger = sym uncharged_one j; frame_seat = sym collects j; stock_seat = sym absorbs j; counts = counts },

@@ -8,8 +8,7 @@ use Rattle.group_charge.specs.Charges.{AreCharges, current_of}
 use Rattle.frame_word.specs.Views.{note_of}
 use Rattle.frame_word.specs.Seats.{KnownTable}
 use Rattle.stock_word.specs.declared.view.Stock.{Stock}
-use Rattle.stock_word.specs.Stock.{KnownStockTable, KnownStockSeat, account_of, stocked, stock_pages_of, group_of}
-use Rattle.stock_word.specs.Stock.{is_held}
+use Rattle.stock_word.specs.Stock.{KnownStockTable, KnownStockSeat, account_of, stocked, stock_pages_of, group_of, is_held}
 use Rattle.stock_word.specs.Kinds.{after_took}
 use Rattle.stock_word.specs.Calls.{with_view}
 use Rattle.boot_words.specs.Pasts.{MayMake}
@@ -26,8 +25,7 @@ use Rattle.step_rules.proofs.Basics.{at_same, at_other}
 use Rattle.step_rules.proofs.Lists.{times_other, times_same, without_front}
 use Rattle.mem_machine.specs.declared.frame_state.FrameState.{FrameState}
 use Rattle.mem_machine.specs.declared.frame_state.FrameState.TheVariants.{Free, Lent, Head, Tail}
-use Rattle.mem_machine.specs.FrameStates.{frame_state_at, some_cpu}
-use Rattle.mem_machine.specs.FrameStates.{frame_state_group as charged_to}
+use Rattle.mem_machine.specs.FrameStates.{frame_state_at, some_cpu, frame_state_group as charged_to}
 use Rattle.mem_machine.proofs.Ledgers.{ledger_visit_state}
 use Rattle.mem_machine.specs.Machines.{KnownMachine, IsConsistent}
 use Rattle.mem_machine.specs.Noted.{AreLocal}

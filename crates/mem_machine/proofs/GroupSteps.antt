@@ -1,8 +1,7 @@
 -- Steps on the groups alone. Serves `note_max`, `note_oom`, `note_group_kill`, `mark_killed`, `set_max`,
 -- `set_oom_group`, `make`, `remove`, and `fill_stock`, which leaves the visit open.
 use Rattle.std.proofs.Common.{◌≡◌, ◌≢◌, ℕ, ◌<◌, Bool, true, false, Option, Some, List, [], ◌∷◌, length, get_or, refl, sym, ap, ◌∙◌, subst}
-use Rattle.std.specs.Prelude.{not, None, is_none}
-use Rattle.std.specs.Prelude.{slice_set}
+use Rattle.std.specs.Prelude.{not, None, is_none, slice_set}
 use Rattle.std.proofs.lemmas.Bool.{and_from, ne_eqb, eq-eqb}
 use Rattle.std.proofs.lemmas.List.{get_or-set_same, get_or-set_other}
 use Rattle.frame_word.specs.Seats.{KnownSeat, KnownTable}
@@ -10,8 +9,7 @@ use Rattle.group_tree.specs.Groups.{has_group, has_child, with_group, make_fault
 use Rattle.group_tree.specs.declared.event.EventKey.{EventKey}
 use Rattle.group_tree.specs.declared.event.EventKey.TheVariants.{Max, Oom, OomKill, OomGroupKill}
 use Rattle.group_tree.specs.declared.fault.Fault.{Fault}
-use Rattle.group_charge.specs.Charges.{AreCharges, CountsEvent, SamePeaks}
-use Rattle.group_charge.specs.Charges.{Ledger, current_of, with_noted, with_kill_noted, with_max_noted, with_oom_noted, with_group_kill_noted}
+use Rattle.group_charge.specs.Charges.{AreCharges, CountsEvent, SamePeaks, Ledger, current_of, with_noted, with_kill_noted, with_max_noted, with_oom_noted, with_group_kill_noted}
 use Rattle.group_charge.specs.Charges.{with_group_limit, with_oom_flag, with_new_group, with_group_removed}
 use Rattle.cpu_part.specs.Cpus.{KnownCpu}
 use Rattle.step_rules.specs.declared.step.Action.{Action}

@@ -1,7 +1,6 @@
 -- A fresh or a back frame of the visited CPU moves into the zone's hand: what the CPU sees then, and the steps by which
 -- the frame is kept, dropped or freed. Serves `settle`.
-use Rattle.std.proofs.Common.{◌≡◌, ◌≢◌, ℕ, ◌+◌, ◌-◌, ◌<◌, ◌==◌, Bool, true, false, cond, List, [], ◌∷◌, ◌++◌, get_or}
-use Rattle.std.proofs.Common.{refl, sym, ap, ◌∙◌, subst, arith, inl, inr, eq-eqb}
+use Rattle.std.proofs.Common.{◌≡◌, ◌≢◌, ℕ, ◌+◌, ◌-◌, ◌<◌, ◌==◌, Bool, true, false, cond, List, [], ◌∷◌, ◌++◌, get_or, refl, sym, ap, ◌∙◌, subst, arith, inl, inr, eq-eqb}
 use Rattle.std.specs.Prelude.{nat_le}
 use Rattle.std.proofs.lemmas.Bool.{cases_eq, and_from, or_left, or_right, le-leb}
 use Rattle.frame_word.specs.declared.view.FrameNote.{FrameNote}
@@ -12,8 +11,7 @@ use Rattle.stock_word.specs.Stock.{KnownStockTable}
 use Rattle.cpu_part.specs.Cpus.{KnownCpu, IsTied}
 use Rattle.cpu_part.proofs.CallerLemmas.{collected_is_still}
 use Rattle.step_rules.specs.declared.phase.ChargedUnit.{ChargedUnit}
-use Rattle.step_rules.specs.declared.phase.Stage.TheVariants.{FreshAt, FreshPassing, Collected, Live, BackAt}
-use Rattle.step_rules.specs.declared.phase.Stage.TheVariants.{BackPassing, AwaitsReturn}
+use Rattle.step_rules.specs.declared.phase.Stage.TheVariants.{FreshAt, FreshPassing, Collected, Live, BackAt, BackPassing, AwaitsReturn}
 use Rattle.step_rules.specs.declared.phase.Phase.{Phase}
 use Rattle.step_rules.specs.declared.phase.Phase.TheVariants as phase
 use Rattle.step_rules.specs.declared.step.Action.{Action}
@@ -28,8 +26,7 @@ use Rattle.step_rules.specs.Laws.{IsLocalStep}
 use Rattle.step_rules.proofs.Basics.{at_same}
 use Rattle.step_rules.proofs.Lists.{times_other, times_same}
 use Rattle.mem_machine.specs.Machines.{KnownMachine}
-use Rattle.mem_machine.specs.Local.{Visits}
-use Rattle.mem_machine.specs.Local.{IsLocalRun, visit_state}
+use Rattle.mem_machine.specs.Local.{Visits, IsLocalRun, visit_state}
 use Rattle.mem_machine.specs.Steps.{zone_makes, cpu_makes}
 use Rattle.mem_machine.specs.Settling.{collect_steps, return_steps}
 use Rattle.mem_machine.proofs.Reaching.{zone_step, cpu_step}
@@ -111,12 +108,7 @@ fresh_front t w c tied f rest front =
     let r = n.borrowed_is in
     let o = n.own_is in
     let h = n.once in
-    record {
-      once = omega (arith, a, b, r, o, h);
-      none_in_rest = omega (arith, a, b, r, o, h);
-      none_listed = omega (arith, a, b, r, o, h);
-      none_back = omega (arith, a, b, r, o, h);
-    }
+    omega (arith, a, b, r, o, h)
 
 -- the frame is the front of the back frames
 pub record IsBackFront (c : KnownCpu) (f : ℕ) (rest : List ℕ) : Type 0 where
@@ -133,12 +125,7 @@ back_front t w c tied f rest front =
     let r = n.borrowed_is in
     let o = n.own_is in
     let h = n.once in
-    record {
-      once = omega (arith, a, b, r, o, h);
-      none_in_rest = omega (arith, a, b, r, o, h);
-      none_listed = omega (arith, a, b, r, o, h);
-      none_fresh = omega (arith, a, b, r, o, h);
-    }
+    omega (arith, a, b, r, o, h)
 
 -- each other frame is as often in the rest as it was before
 pub times_rest : (g f : ℕ) (xs rest : List ℕ) → xs ≡ f ∷ rest → g ≢ f → times g rest ≡ times g xs

@@ -23,8 +23,7 @@ use Rattle.mem_machine.specs.declared.frame_state.FrameState.{FrameState}
 use Rattle.mem_machine.specs.declared.frame_state.FrameState.TheVariants.{Free, Lent, Head, Tail}
 use Rattle.mem_machine.specs.FrameStates.{frame_state_at}
 use Rattle.mem_machine.specs.Machines.{KnownMachine}
-use Rattle.mem_machine.specs.Local.{Visits}
-use Rattle.mem_machine.specs.Local.{hold_of_cpu, local_of, phase_of, part_of, part_with, group_of_fresh, visit_state}
+use Rattle.mem_machine.specs.Local.{Visits, hold_of_cpu, local_of, phase_of, part_of, part_with, group_of_fresh, visit_state}
 use Rattle.mem_machine.specs.Steps.{open_steps, shut_steps}
 use Rattle.mem_machine.proofs.Reaching.{zone_step, run_one}
 use Rattle.mem_machine.proofs.Followed.{follows_same, LeadsAs}

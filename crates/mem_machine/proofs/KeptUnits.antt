@@ -1,7 +1,6 @@
 -- Frames that were charged to no group become a unit of one, whose head comes to the newest end of the group's inactive
 -- list: the machine is consistent again. Serves all calls that put a unit into use, of one frame or of a block.
-use Rattle.std.proofs.Common.{◌≡◌, ◌≢◌, ℕ, ◌+◌, ◌^◌, ◌≤◌, ◌<◌, ◌==◌, cond, Option, Some, None, List, length, get_or}
-use Rattle.std.proofs.Common.{refl, sym, ap, ◌∙◌, subst, arith, inl, inr}
+use Rattle.std.proofs.Common.{◌≡◌, ◌≢◌, ℕ, ◌+◌, ◌^◌, ◌≤◌, ◌<◌, ◌==◌, cond, Option, Some, None, List, length, get_or, rules, refl, sym, ap, ◌∙◌, subst, arith, inl, inr}
 use Rattle.std.specs.Prelude.{IfSome}
 use Rattle.std.proofs.lemmas.Bool.{cases_eq}
 use Rattle.std.proofs.lemmas.List.{get_or_default}
@@ -68,14 +67,9 @@ fits_with cpus note now home here frame_state x a b c fits =
 
 -- a free frame that becomes a tail is in the zone's hand as before
 tail_fits : (cpus : ℕ) (note : FrameNote) (home : Option Home) (g : ℕ) → FitsFrameState cpus note home Free → FitsFrameState cpus note home (Tail g)
-tail_fits cpus note home g fits = record {
-  own = fits.own;
-  borrowed = fits.borrowed;
-  lent = fits.lent;
-  borrower = tt;
-  references = fits.references;
-  kept = subst (λ (h : Option Home). IfSome h (λ k. (k.owner < 64) × (head_group_of (Tail g) ≡ Some k.owner))) (sym (homeless home Free refl fits.kept)) tt;
-}
+tail_fits cpus note home g fits =
+    let kept = subst (λ (h : Option Home). IfSome h (λ k. (k.owner < 64) × (head_group_of (Tail g) ≡ Some k.owner))) (sym (homeless home Free refl fits.kept)) tt in
+    search rules
 
 -- the zone's note of a frame in use: it is in no hand, lent to no one, and the zone has one reference on it
 pub record IsUsed (note : FrameNote) : Type 0 where
@@ -158,13 +152,7 @@ unit_kept t w m ok g fits b block frame_states placed first rest links lists joi
       | inr ne ↦ ap frame_state_group (rest f low high ne)
     ] in
     record {
-      sizes = let s = ok.sizes in record {
-        frame_states = placed.frames ∙ s.frame_states;
-        links = joined.frames ∙ s.links;
-        lists = joined.groups;
-        killed = s.killed;
-        cpus = s.cpus;
-      };
+      sizes = let sized = placed.frames ∙ ok.sizes.frame_states in let linked = joined.frames ∙ ok.sizes.links in let listed = joined.groups in search rules;
       seats = record { frames = ok.seats.frames; table = joins.table; stocks = joins.stocks };
       areas = joins.areas;
       frame_states = unit_fits t w m ok g fits b frame_states placed rest links joined.joins.home joined.joins.homes change used;

@@ -1,5 +1,6 @@
 -- One frame goes from the free areas to the list of the CPU that is visited. Serves `lend_one`.
-use Rattle.std.proofs.Common.{◌≡◌, ℕ, ◌<◌, ◌==◌, ◌&&◌, Bool, true, false, Option, Some, None, List, [], ◌∷◌, ◌++◌, length, refl, sym, ap, ◌∙◌, subst}
+use Rattle.std.proofs.Common.{◌≡◌, ℕ, ◌<◌, ◌==◌, ◌&&◌, Bool, true, false, Option, Some, None, List, [], ◌∷◌, ◌++◌, length, refl, sym, ap, ◌∙◌, subst, rules, ◌+◌}
+use Rattle.group_charge.specs.Charges.{pages_of}
 use Rattle.std.proofs.Common.{inl, inr, arith, cond, eq-eqb}
 use Rattle.std.specs.Prelude.{slice_set, nat_le, IfSome}
 use Rattle.lru_lists.specs.declared.record.Home.{Home}
@@ -10,8 +11,7 @@ use Rattle.zone_blocks.specs.Areas.{IsFree, AreMaximalBlocks, HasNoneFrom, IsFro
 use Rattle.zone_blocks.specs.Zone.{TakesFrames}
 use Rattle.frame_word.specs.declared.view.FrameNote.{FrameNote}
 use Rattle.frame_word.specs.Views.{note_of, in_hands, passed_out_to, took_in}
-use Rattle.frame_word.specs.Seats.{KnownTable, KnownSeat, seat_number, seat_references, seat_with, IsInOwnHand, IsLent}
-use Rattle.frame_word.specs.Seats.{IsBorrowed, NothingPasses}
+use Rattle.frame_word.specs.Seats.{KnownTable, KnownSeat, seat_number, seat_references, seat_with, IsInOwnHand, IsLent, IsBorrowed, NothingPasses}
 use Rattle.frame_word.proofs.Notes.{note_here, note_else}
 use Rattle.stock_word.specs.Stock.{KnownStockTable, KnownStockSeat, account_of}
 use Rattle.cpu_part.specs.Cpus.{KnownCpu, IsTied}
@@ -30,14 +30,13 @@ use Rattle.step_rules.proofs.Basics.{at_same, at_other}
 use Rattle.mem_machine.specs.declared.frame_state.FrameState.{FrameState}
 use Rattle.mem_machine.specs.declared.frame_state.FrameState.TheVariants.{Free, Lent, Head, Tail}
 use Rattle.mem_machine.specs.FrameStates.{frame_state_at, free_of, frame_state_group, head_group_of, is_in_hand}
-use Rattle.mem_machine.specs.Machines.{KnownMachine, FitsFrameState, IsConsistent, home_of}
-use Rattle.mem_machine.specs.Local.{Visits}
-use Rattle.mem_machine.specs.Lending.{LendsOne, LendsNone}
-use Rattle.mem_machine.specs.Local.{local_of, phase_of, part_of, part_with, group_of_fresh, visit_state}
+use Rattle.mem_machine.specs.Machines.{KnownMachine, FitsFrameState, IsConsistent, home_of, frames_charged, pages_booked}
+use Rattle.mem_machine.specs.Local.{Visits, local_of, phase_of, part_of, part_with, group_of_fresh, visit_state}
+use Rattle.mem_machine.specs.Lending.{LendsNone}
 use Rattle.mem_machine.specs.Steps.{lend_steps}
 use Rattle.mem_machine.proofs.Reaching.{zone_step, cpu_step}
 use Rattle.mem_machine.proofs.Holds.{IsSeated, zone_may_act, visits_open, seated_cpu}
-use Rattle.mem_machine.proofs.Records.{free_at, free_is, free_inside, covers_one, free_taken, some_cpu_is, frame_states_changed, holds_same, units_stay, charges_stay}
+use Rattle.mem_machine.proofs.Records.{free_at, free_is, free_inside, covers_one, some_cpu_is, frame_states_changed, holds_same, units_stay, charges_stay}
 use Rattle.mem_machine.proofs.Followed.{follows_same, LeadsAs}
 use Rattle.boot_words.specs.Composed.{AreLegal}
 use Rattle.boot_words.specs.Pasts.{KnownPasts, MakesStep, local_by_pasts}
@@ -89,6 +88,19 @@ phases_changed c d frame_states f x a b inside here others g =
           ∙ sym (at_other (with_at h f a) f b g ne ∙ at_other h f a g ne)
     ]
 
+-- the machine is consistent again after the record and the note of one frame changed, which is charged neither before nor after
+pub frame_changed : (t : KnownTable) (w : KnownStockTable) (m : KnownMachine) → IsConsistent t w m → (f : ℕ) → f < length m.frame_states → (x : FrameState)
+    → frame_state_group (frame_state_at m.frame_states f) ≡ None → frame_state_group x ≡ None → (change : FrameNote → FrameNote)
+    → FitsFrameState t.cpus (change (note_of m.frame_seat.view f)) (home_of m.links f) x → (blocks : List Block) → AreMaximalBlocks (free_of (slice_set m.frame_states f x)) blocks
+    → IsConsistent t w (record m { blocks = blocks; frame_states = slice_set m.frame_states f x; frame_seat = seat_with m.frame_seat f change })
+frame_changed t w m ok f within x was now change fits blocks areas =
+    let sized = length-set m.frame_states f x ∙ ok.sizes.frame_states in
+    let all = frame_states_changed t.cpus m.frame_seat m.links m.frame_states f change x t.frames within ok.frame_states fits in
+    let units = units_stay m.frame_states f x within was now ok.units in
+    let charged : (g : ℕ) → pages_of m.ledger g ≡ frames_charged (slice_set m.frame_states f x) g + pages_booked t m.stock_seat g =
+    λ g. let a = ok.charged g in let b = charges_stay m.frame_states f x within was now g in omega (arith, a, b) in
+    search rules
+
 -- ---- before the frame is lent
 
 pub front_is : (k : ℕ) (b : Block) (blocks : List Block) → IsFrontOfSmallest blocks k b → k ≡ 0 → b ≡ record { at = b.at; order = 0 }
@@ -131,24 +143,7 @@ module _ (t : KnownTable) (w : KnownStockTable) (m : KnownMachine) (c : KnownCpu
 
   pub lend_consistent : (blocks : List Block) → AreMaximalBlocks (free_of (slice_set m.frame_states f (Lent c.number))) blocks
       → IsConsistent t w (record m { blocks = blocks; frame_states = slice_set m.frame_states f (Lent c.number); frame_seat = seat_with m.frame_seat f (passed_out_to c.number) })
-  lend_consistent blocks areas = record {
-    sizes = let s = ok.sizes in record {
-      frame_states = length-set m.frame_states f (Lent c.number) ∙ s.frame_states;
-      links = s.links;
-      lists = s.lists;
-      killed = s.killed;
-      cpus = s.cpus;
-    };
-    seats = let s = ok.seats in record { frames = s.frames; table = s.table; stocks = s.stocks };
-    areas = areas;
-    frame_states = frame_states_changed t.cpus m.frame_seat m.links m.frame_states f (passed_out_to c.number) (Lent c.number) t.frames within ok.frame_states lent_fits;
-    units = units_stay m.frame_states f (Lent c.number) within (ap frame_state_group free) refl ok.units;
-    lists = ok.lists;
-    absorbed = ok.absorbed;
-    bounded = ok.bounded;
-    charged = λ g. let a = ok.charged g in let b = charges_stay m.frame_states f (Lent c.number) within (ap frame_state_group free) refl g in omega (arith, a, b);
-    balances = ok.balances;
-  }
+  lend_consistent = frame_changed t w m ok f within (Lent c.number) (ap frame_state_group free) refl (passed_out_to c.number) lent_fits
 
   pub lend_visits : (blocks : List Block) → HasOpenVisit t (visit_state (record m { blocks = blocks; frame_states = slice_set m.frame_states f (Lent c.number); frame_seat = seat_with m.frame_seat f (passed_out_to c.number) }) (record c { list = c.list ++ f ∷ []; frame_seat = seat_with c.frame_seat f took_in }))
   lend_visits blocks = record {
@@ -213,52 +208,6 @@ module _ (t : KnownTable) (w : KnownStockTable) (m : KnownMachine) (c : KnownCpu
       same_phase g (Lent q) = refl
       same_phase g (Head unit) = refl
       same_phase g (Tail h) = refl
-
--- all of it, of the machine as it was seen before
-pub record AllLent (t : KnownTable) (w : KnownStockTable) (now : KnownMachine) (c : KnownCpu) (f : ℕ) (n : KnownMachine) (d : KnownCpu) (free : List Bool) : Type 0 where
-  pub consistent : IsConsistent t w n
-  pub free_is : free ≡ free_of n.frame_states
-  pub lends : LendsOne f (visit_state now c) (visit_state n d)
-  pub steps : LeadsAs t c.number (visit_state now c) (lend_steps c.number f) (visit_state n d)
-  pub visit : HasOpenVisit t (visit_state n d)
-
-pub lend_all : (t : KnownTable) (w : KnownStockTable) (m now : KnownMachine) → m ≡ now → (c d : KnownCpu) → IsTied t w c → IsConsistent t w m → Visits t (visit_state now c)
-    → (before free : List Bool) (k : ℕ) (b : Block) (blocks : List Block) (f i q : ℕ) (seat : KnownSeat)
-    → before ≡ free_of m.frame_states → k ≡ 0 → IsFrontOfSmallest m.blocks k b → TakesFrames before b free → AreMaximalBlocks free blocks
-    → f ≡ b.at → i ≡ f → q ≡ c.number → seat ≡ seat_with m.frame_seat f (passed_out_to c.number)
-    → d ≡ record c { list = c.list ++ f ∷ []; frame_seat = seat_with c.frame_seat f took_in } → in_hands (note_of c.frame_seat.view f) ≡ 0
-    → AllLent t w now c f (record m { blocks = blocks; frame_states = slice_set m.frame_states i (Lent q); frame_seat = seat }) d free
-lend_all t w m now same c d tied ok visit_now before free k b blocks f i q seat was zero_is taken takes areas at index number passed cpu none =
-    let visit : Visits t (visit_state m c) = subst (λ (x : KnownMachine). Visits t (visit_state x c)) (sym same) visit_now in
-    let block : b ≡ record { at = f; order = 0 } = λ j. record { at = sym at j; order = (taken.order_is ∙ zero_is) j } in
-    let takes_f : TakesFrames before (record { at = f; order = 0 }) free = subst (λ (x : Block). TakesFrames before x free) block takes in
-    let front : IsFrontOfSmallest m.blocks 0 (record { at = f; order = 0 }) = subst (λ (x : ℕ × Block). IsFrontOfSmallest m.blocks x.0 x.1) (λ j.
-    (zero_is j, block j)) taken in
-    let there = taken_free before free m.frame_states f was takes_f in
-    let sized = ok.sizes.frame_states in
-    let inside : f < t.frames = let h = there.0 in omega (arith, h, sized) in
-    let free_is : free ≡ free_of (slice_set m.frame_states f (Lent c.number)) = free_taken before free m.frame_states f (Lent c.number) there.0 was takes_f refl in
-    let n : KnownMachine = record m { blocks = blocks; frame_states = slice_set m.frame_states f (Lent c.number); frame_seat = seat_with m.frame_seat f (passed_out_to c.number) } in
-    let e : KnownCpu = record c { list = c.list ++ f ∷ []; frame_seat = seat_with c.frame_seat f took_in } in
-    let areas_f : AreMaximalBlocks (free_of (slice_set m.frame_states f (Lent c.number))) blocks = subst (λ
-    (l : List Bool). AreMaximalBlocks l blocks) free_is areas in
-    let all : AllLent t w m c f n e free = record {
-      consistent = lend_consistent t w m c tied ok visit f inside there.1 blocks areas_f;
-      free_is = free_is;
-      lends = record { front = front; lends = record { areas = areas_f; machine = refl; cpu = refl } };
-      steps = lend_runs t w m c tied ok visit f inside there.1 blocks none;
-      visit = lend_visits t w m c tied ok visit f inside there.1 blocks;
-    } in
-    subst (λ (x : KnownMachine × KnownMachine × KnownCpu). AllLent t w x.0 c f x.1 x.2 free)
-    (λ j. (
-      same j,
-      record m {
-        blocks = blocks;
-        frame_states = slice_set m.frame_states (sym index j) (Lent (sym number j));
-        frame_seat = sym passed j;
-      },
-      sym cpu j,
-    )) all
 
 -- ---- what the steps on the way ask for
 

@@ -4,6 +4,7 @@ pub mod Reaching
 pub mod Followed
 pub mod Noted
 pub mod Reached
+pub mod Agreeing
 pub mod AtTable
 pub mod Watched
 pub mod Counted

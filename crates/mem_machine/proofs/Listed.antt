@@ -1,6 +1,10 @@
 -- The lists of one group changed: its units were marked, moved or dirtied. Each frame is on a list of the same group as
 -- before, and the lists of all other groups stay. Serves all calls that change a list.
-use Rattle.std.proofs.Common.{◌≡◌, ◌≢◌, ℕ, ◌<◌, ◌==◌, ◌||◌, ◌⊎◌, Bool, true, false, Option, Some, None, List, [], ◌∷◌, ◌++◌, length, map, refl, sym, ap, ◌∙◌}
+use Rattle.std.proofs.Common.{◌≡◌, ◌≢◌, ℕ, ◌<◌, ◌==◌, ◌||◌, ◌⊎◌, Bool, true, false, Option, Some, None, List, [], ◌∷◌, ◌++◌, length, map, refl, sym, ap, ◌∙◌, rules}
+use Rattle.mem_machine.specs.FrameStates.{frame_state_at, head_group_of}
+use Rattle.stock_word.specs.Stock.{KnownStockTable}
+use Rattle.frame_word.specs.Views.{note_of}
+use Rattle.frame_word.specs.Seats.{KnownTable}
 use Rattle.std.proofs.Common.{subst, inl, inr, eq-eqb, cond, get_or, arith}
 use Rattle.std.specs.Prelude.{option_map, slice_set}
 use Rattle.std.proofs.lemmas.List.{get_or-set_other}
@@ -20,7 +24,7 @@ use Rattle.lru_lists.specs.Lists.{entries_without, dirtied, marked}
 use Rattle.lru_lists.specs.declared.lru.Touched.{Touched}
 use Rattle.lru_lists.specs.declared.lru.Touched.TheVariants as touch
 use Rattle.mem_machine.specs.declared.frame_state.FrameState.{FrameState}
-use Rattle.mem_machine.specs.Machines.{FitsFrameState, OthersStay, no_lists, group_lists}
+use Rattle.mem_machine.specs.Machines.{FitsFrameState, OthersStay, no_lists, group_lists, KnownMachine, IsConsistent, home_of}
 
 cases_none : (o : Option LruList) → (o ≡ None) ⊎ (o ≢ None)
 cases_none None = inl refl
@@ -60,14 +64,9 @@ pub fits_home : (cpus : ℕ) (note : FrameNote) (h k : Option Home) (frame_state
 fits_home cpus note None None frame_state same fits = fits
 fits_home cpus note None (Some k) frame_state same fits = absurd (none-some k.owner (sym same))
 fits_home cpus note (Some h) None frame_state same fits = absurd (none-some h.owner same)
-fits_home cpus note (Some h) (Some k) frame_state same fits = record {
-  own = fits.own;
-  borrowed = fits.borrowed;
-  lent = fits.lent;
-  borrower = fits.borrower;
-  references = fits.references;
-  kept = (subst (λ (n : ℕ). n < 64) (sym (some_same 0 k.owner h.owner same)) fits.kept.0, fits.kept.1 ∙ sym same);
-}
+fits_home cpus note (Some h) (Some k) frame_state same fits =
+    let kept : (k.owner < 64) × (head_group_of frame_state ≡ Some k.owner) = (subst (λ (n : ℕ). n < 64) (sym (some_same 0 k.owner h.owner same)) fits.kept.0, fits.kept.1 ∙ sym same) in
+    search rules
 
 -- a frame on no list, which no owner has afterwards, has the record that it had
 none_stays : (h k : Option Home) → option_map (λ (x : Home). x.owner) k ≡ option_map (λ (x : Home). x.owner) h → h ≡ None → k ≡ None
@@ -258,3 +257,14 @@ others_stay before after lists g lru new all sized own changes others_stay_linke
     let same = (others_stay_linked before after lru.owner (get_or lists h no_lists) changes apart (all h no_lists inside).1).1 in
     let stays : get_or (slice_set lists g new) h no_lists ≡ get_or lists h no_lists = get_or-set_other lists g h new no_lists ne in
     ap (λ (x : Lru). entries_of after x list) stays ∙ same list
+
+-- if each frame is on a list of the same group as before, the machine is consistent again
+pub lists_consistent : (t : KnownTable) (w : KnownStockTable) (m : KnownMachine) → IsConsistent t w m → (links : List Link) (lists : List Lru) → length links ≡ length m.links
+    → length lists ≡ length m.lists → ((f : ℕ) → option_map (λ (x : Home). x.owner) (home_of links f) ≡ option_map (λ (x : Home). x.owner) (home_of m.links f))
+    → AllLinked links lists → IsConsistent t w (record m { links = links; lists = lists })
+lists_consistent t w m ok links lists linked listed owners all =
+    let long = linked ∙ ok.sizes.links in
+    let many = listed ∙ ok.sizes.lists in
+    let fits : (f : ℕ) → f < t.frames → FitsFrameState t.cpus (note_of m.frame_seat.view f) (home_of links f) (frame_state_at m.frame_states f) =
+    λ f within. fits_home t.cpus (note_of m.frame_seat.view f) (home_of m.links f) (home_of links f) (frame_state_at m.frame_states f) (owners f) (ok.frame_states f within) in
+    search rules

@@ -1,18 +1,16 @@
 -- The zone's seat looks at words, and nothing else changes. Serves `pins_on`, and the crates above.
-use Rattle.std.proofs.Common.{◌≡◌, ℕ, ◌+◌, ◌<◌, ◌==◌, cond, List, [], ◌∷◌, refl, sym, ap, ◌∙◌, subst}
-use Rattle.frame_word.specs.Views.{note_of, looked}
+use Rattle.std.proofs.Common.{◌≡◌, ℕ, ◌+◌, ◌==◌, cond, List, [], ◌∷◌, refl, sym, ap, ◌∙◌, subst}
+use Rattle.frame_word.specs.Views.{looked}
 use Rattle.frame_word.specs.Seats.{KnownTable, KnownSeat, seat_with, seat_references}
 use Rattle.stock_word.specs.declared.view.Stock.{Stock}
 use Rattle.stock_word.specs.declared.view.Stock.TheVariants.{NoGroup, HeldBy, DrainedOf}
 use Rattle.stock_word.specs.Stock.{KnownStockTable, group_of, is_held, stock_pages_of}
 use Rattle.cpu_part.specs.Cpus.{KnownCpu}
-use Rattle.mem_machine.specs.FrameStates.{frame_state_at, some_cpu}
-use Rattle.mem_machine.specs.Machines.{KnownMachine, FitsFrameState, IsConsistent, VisitState, home_of, visit_state}
-use Rattle.mem_machine.specs.Local.{StaysVisited}
+use Rattle.mem_machine.specs.Machines.{KnownMachine, IsConsistent, VisitState, visit_state}
+use Rattle.mem_machine.specs.Local.{StaysVisited, local_of, references_of, MakesForAny}
 use Rattle.mem_machine.specs.Paying.{IsOwnStock}
 use Rattle.mem_machine.specs.Showing.{ListedUnit, seat_with_look, seat_with_looks, stock_as, stock_now, with_look_at, with_looks_at}
-use Rattle.mem_machine.specs.Local.{local_of, references_of, MakesForAny}
-use Rattle.mem_machine.proofs.Releases.{note_keeps, visit_stays}
+use Rattle.mem_machine.proofs.Releases.{note_keeps, visit_stays, noted_consistent}
 use Rattle.mem_machine.proofs.Followed.{makes_stay}
 use Rattle.mem_machine.proofs.Watched.{visits_then}
 
@@ -27,19 +25,6 @@ references_stay seat c f word q x =
 pub look_unseen : (t : KnownTable) (m : KnownMachine) (f pins : ℕ) (c : KnownCpu) → local_of t (with_look_at m f pins) c ≡ local_of t m c
 look_unseen t m f pins c i = record (local_of t m c) { references = λ q x. references_stay m.frame_seat c f (pins + 1) q x i }
 
-looked_fits : (t : KnownTable) (w : KnownStockTable) (m : KnownMachine) → IsConsistent t w m → (f word g : ℕ) → g < t.frames
-    → FitsFrameState t.cpus (note_of (seat_with m.frame_seat f (looked word)).view g) (home_of m.links g) (frame_state_at m.frame_states g)
-looked_fits t w m ok f word g within =
-    let old = ok.frame_states g within in
-    record {
-      own = note_keeps m.frame_seat f (looked word) (λ k. k.own) (λ k. refl) g ∙ old.own;
-      borrowed = note_keeps m.frame_seat f (looked word) (λ k. k.borrowed) (λ k. refl) g ∙ old.borrowed;
-      lent = ap some_cpu (note_keeps m.frame_seat f (looked word) (λ k. k.lent) (λ k. refl) g) ∙ old.lent;
-      borrower = old.borrower;
-      references = note_keeps m.frame_seat f (looked word) (λ k. k.references) (λ k. refl) g ∙ old.references;
-      kept = old.kept;
-    }
-
 pub record AllLooked (t : KnownTable) (w : KnownStockTable) (now : KnownMachine) (f pins : ℕ) (n : KnownMachine) : Type 0 where
   pub consistent : IsConsistent t w n
   pub machine : n ≡ with_look_at now f pins
@@ -51,18 +36,7 @@ looked_once t w m ok f pins =
     let n : KnownMachine = with_look_at m f pins in
     let makes : MakesForAny t m [] n = λ c. makes_stay t m n c c (sym (look_unseen t m f pins c)) refl refl refl in
     record {
-      consistent = record {
-        sizes = let s = ok.sizes in record { frame_states = s.frame_states; links = s.links; lists = s.lists; killed = s.killed; cpus = s.cpus };
-        seats = let s = ok.seats in record { frames = s.frames; table = s.table; stocks = s.stocks };
-        areas = ok.areas;
-        frame_states = looked_fits t w m ok f (pins + 1);
-        units = ok.units;
-        lists = ok.lists;
-        absorbed = ok.absorbed;
-        bounded = ok.bounded;
-        charged = ok.charged;
-        balances = ok.balances;
-      };
+      consistent = noted_consistent t w m ok f (looked (pins + 1)) (λ k. refl) (λ k. refl) (λ k. refl) (λ k. refl) m.counts ok.balances;
       machine = refl;
       visit = λ c visit. visits_then t (visit_state m c) (visit_state n c) [] visit.shown (makes c) refl
           (visit_stays t m n c f (looked (pins + 1)) refl (λ k. refl) (λ k. refl) (λ k. refl) visit);

@@ -8,11 +8,9 @@ use Rattle.zone_blocks.specs.Areas.{HasNoneFrom}
 use Rattle.frame_word.specs.Seats.{KnownTable}
 use Rattle.cpu_part.specs.Cpus.{KnownCpu}
 use Rattle.step_rules.specs.After.{Run}
-use Rattle.mem_machine.specs.Machines.{KnownMachine, VisitStateStays}
-use Rattle.mem_machine.specs.Local.{Visits}
-use Rattle.mem_machine.specs.Lending.{LendsOne, LendsNone, LendsMany, LendsByStep, Refills, UnlistsOne, UnlistsNone}
-use Rattle.mem_machine.specs.Lending.{UnlistsMany, UnlistsByStep}
-use Rattle.mem_machine.specs.Local.{MakesAs, VisitState, visit_state}
+use Rattle.mem_machine.specs.Machines.{KnownMachine, VisitStateStays, OneByOne}
+use Rattle.mem_machine.specs.Local.{Visits, MakesAs, VisitState, visit_state}
+use Rattle.mem_machine.specs.Lending.{LendsOne, LendsNone, LendsByStep, Refills, UnlistsOne, UnlistsNone, UnlistsMany, UnlistsByStep}
 use Rattle.mem_machine.specs.Steps.{lend_steps, unlist_steps, drain_list_steps}
 use Rattle.mem_machine.proofs.Followed.{makes_none, makes_both}
 
@@ -31,19 +29,19 @@ steps_more t p steps frames f a b c before one =
 length_more : (frames : List ℕ) (f k : ℕ) → k ≡ length frames → k + 1 ≡ length (frames ++ f ∷ [])
 length_more frames f k all = let a = length-append frames (f ∷ []) in omega (arith, a, all)
 
--- frames that are lent, and then one more
-lends_more : (frames : List ℕ) (f : ℕ) (m : KnownMachine) (c : KnownCpu) (x : KnownMachine) (y : KnownCpu) (n : KnownMachine) (d : KnownCpu)
-    → LendsMany frames (visit_state m c) (visit_state x y) → LendsOne f (visit_state x y) (visit_state n d) → LendsMany (frames ++ f ∷ []) (visit_state m c) (visit_state n d)
-lends_more [] f m c x y n d before one =
+-- one after another, and then one more
+one_more : (IsDone : ℕ → VisitState → VisitState → Type 0) (frames : List ℕ) (f : ℕ) (m : KnownMachine) (c : KnownCpu) (x : KnownMachine) (y : KnownCpu) (n : KnownMachine) (d : KnownCpu)
+    → OneByOne IsDone frames (visit_state m c) (visit_state x y) → IsDone f (visit_state x y) (visit_state n d) → OneByOne IsDone (frames ++ f ∷ []) (visit_state m c) (visit_state n d)
+one_more IsDone [] f m c x y n d before one =
     record {
       between = visit_state n d;
-      first = subst (λ (z : KnownMachine × KnownCpu). LendsOne f (visit_state z.0 z.1) (visit_state n d)) (λ i. (before.machine i, before.cpu i)) one;
+      first = subst (λ (z : KnownMachine × KnownCpu). IsDone f (visit_state z.0 z.1) (visit_state n d)) (λ i. (before.machine i, before.cpu i)) one;
       rest = visit_state_stays (visit_state n d);
     }
-lends_more (g ∷ frames) f m c x y n d before one = record {
+one_more IsDone (g ∷ frames) f m c x y n d before one = record {
   between = before.between;
   first = before.first;
-  rest = lends_more frames f before.between.machine before.between.cpu x y n d before.rest one;
+  rest = one_more IsDone frames f before.between.machine before.between.cpu x y n d before.rest one;
 }
 
 -- what the loop of `refill` keeps after k frames
@@ -65,7 +63,7 @@ lent_more t k m c x y n d before one visit =
       refills = record {
         frames = so_far.frames ++ f ∷ [];
         all = length_more so_far.frames f k so_far.all;
-        lends = lends_more so_far.frames f m c x y n d so_far.lends one.lends;
+        lends = one_more LendsOne so_far.frames f m c x y n d so_far.lends one.lends;
         steps = steps_more t c.number (lend_steps c.number) so_far.frames f (visit_state m c) (visit_state x y) (visit_state n d) so_far.steps
             (subst (λ (p : ℕ). MakesAs t p (visit_state x y) (lend_steps p f) (visit_state n d)) before.number one.steps);
       };
@@ -83,21 +81,6 @@ lent_end t k m c x y n d before none = (
 )
 
 -- ---- frames returned to the zone
-
--- frames that are returned to the zone, and then one more
-takes_more : (frames : List ℕ) (f : ℕ) (m : KnownMachine) (c : KnownCpu) (x : KnownMachine) (y : KnownCpu) (n : KnownMachine) (d : KnownCpu)
-    → UnlistsMany frames (visit_state m c) (visit_state x y) → UnlistsOne f (visit_state x y) (visit_state n d) → UnlistsMany (frames ++ f ∷ []) (visit_state m c) (visit_state n d)
-takes_more [] f m c x y n d before one =
-    record {
-      between = visit_state n d;
-      first = subst (λ (z : KnownMachine × KnownCpu). UnlistsOne f (visit_state z.0 z.1) (visit_state n d)) (λ i. (before.machine i, before.cpu i)) one;
-      rest = visit_state_stays (visit_state n d);
-    }
-takes_more (g ∷ frames) f m c x y n d before one = record {
-  between = before.between;
-  first = before.first;
-  rest = takes_more frames f before.between.machine before.between.cpu x y n d before.rest one;
-}
 
 -- what the loop of `drain_list` keeps after k frames
 pub record TakenSoFar (t : KnownTable) (k : ℕ) (m : KnownMachine) (c : KnownCpu) (n : KnownMachine) (d : KnownCpu) : Type 0 where
@@ -122,7 +105,7 @@ taken_more t k m c x y n d before one visit =
       frames = before.frames ++ f ∷ [];
       all = length_more before.frames f k before.all;
       split = before.split ∙ ap (λ (l : List ℕ). before.frames ++ l) left ∙ sym (append_assoc before.frames (f ∷ []) d.list);
-      takes = takes_more before.frames f m c x y n d before.takes one.takes;
+      takes = one_more UnlistsOne before.frames f m c x y n d before.takes one.takes;
       visit = visit;
       steps = steps_more t c.number (unlist_steps c.number) before.frames f (visit_state m c) (visit_state x y) (visit_state n d) before.steps
           (subst (λ (p : ℕ). MakesAs t p (visit_state x y) (unlist_steps p f) (visit_state n d)) before.number one.steps);

@@ -2,7 +2,6 @@
 use Rattle.std.proofs.Common.{◌≡◌, ℕ, ◌<◌, false, Option, Some, None, List, [], ◌∷◌, ◌++◌, length, get_or, refl, sym, ap, ◌∙◌, subst}
 use Rattle.std.specs.Prelude.{slice_set, option_map}
 use Rattle.std.proofs.lemmas.List.{get_or-set_same, length-set}
-use Rattle.frame_word.specs.Views.{note_of}
 use Rattle.frame_word.specs.Seats.{KnownTable}
 use Rattle.stock_word.specs.Stock.{KnownStockTable}
 use Rattle.lru_lists.specs.declared.record.Link.{Link}
@@ -12,12 +11,10 @@ use Rattle.lru_lists.specs.declared.record.LruList.{LruList}
 use Rattle.lru_lists.specs.declared.lru.Lru.{Lru}
 use Rattle.lru_lists.specs.Lists.{OthersStayLinked, OneOfAllChanges, AreLinked, AllLinked, ChangesOwn, SameOwners, Ages, owner_of, list_of, list_at, entries_of}
 use Rattle.lru_lists.specs.Lists.{inactive_of, active_of, entries_without, entry_of, marked, first_entry, entry_after}
-use Rattle.mem_machine.specs.FrameStates.{frame_state_at}
-use Rattle.mem_machine.specs.Machines.{KnownMachine, IsConsistent, OthersStay, UnlistedStay, home_of, lists_at}
-use Rattle.mem_machine.specs.Machines.{entries_in, no_lists, lists_of}
+use Rattle.mem_machine.specs.Machines.{KnownMachine, IsConsistent, OthersStay, UnlistedStay, home_of, lists_at, entries_in, no_lists, lists_of}
 use Rattle.mem_machine.specs.Ageing.{AgesGroup, RenewsUnit}
 use Rattle.mem_machine.specs.Local.{MakesForAny}
-use Rattle.mem_machine.proofs.Listed.{fits_home, others_stay, place_here, unlisted_stay}
+use Rattle.mem_machine.proofs.Listed.{lists_consistent, others_stay, place_here, unlisted_stay}
 use Rattle.mem_machine.proofs.KeptUnits.{there, read_owner, read_stands, read_is}
 use Rattle.mem_machine.proofs.Followed.{makes_stay}
 
@@ -93,24 +90,7 @@ module _ (t : KnownTable) (w : KnownStockTable) (m : KnownMachine) (ok : IsConsi
 
   group_changed : GroupChanged t w m g lru new (record m { links = links; lists = slice_set m.lists g new })
   group_changed = record {
-    consistent = record {
-      sizes = let s = ok.sizes in record {
-        frame_states = s.frame_states;
-        links = changes.frames ∙ s.links;
-        lists = length-set m.lists g new ∙ s.lists;
-        killed = s.killed;
-        cpus = s.cpus;
-      };
-      seats = ok.seats;
-      areas = ok.areas;
-      frame_states = λ f within. fits_home t.cpus (note_of m.frame_seat.view f) (home_of m.links f) (home_of links f) (frame_state_at m.frame_states f) (mapped f) (ok.frame_states f within);
-      units = ok.units;
-      lists = all_stand;
-      absorbed = ok.absorbed;
-      bounded = ok.bounded;
-      charged = ok.charged;
-      balances = ok.balances;
-    };
+    consistent = lists_consistent t w m ok links (slice_set m.lists g new) changes.frames (length-set m.lists g new) mapped all_stand;
     machine = refl;
     before = read_is t w m ok g fits any lru read;
     after = get_or-set_same m.lists g new no_lists room;

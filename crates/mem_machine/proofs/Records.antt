@@ -1,7 +1,7 @@
 -- One frame's record and the zone's note of it change. Serves `lend_one`, `unlist_one` and all calls that move
 -- frames.
-use Rattle.std.proofs.Common.{◌≡◌, ℕ, ◌+◌, ◌<◌, ◌≤◌, Bool, true, false, Option, Some, None, List, [], ◌∷◌, length, get_or, refl, sym, ap, ◌∙◌, subst, inl, inr}
-use Rattle.std.proofs.Common.{arith, zero, suc}
+use Rattle.std.proofs.Common.{◌≡◌, ℕ, ◌+◌, ◌<◌, ◌≤◌, Bool, true, false, Option, Some, None, List, [], ◌∷◌, length, get_or, refl, sym, ap, ◌∙◌, subst, inl, inr, arith, zero, suc}
+use Rattle.lru_lists.specs.declared.record.Home.{Home}
 use Rattle.std.specs.Prelude.{slice_set}
 use Rattle.std.specs.Cmp.{both_ways}
 use Rattle.std.proofs.lemmas.Bool.{cases_eq, false≢true}
@@ -11,7 +11,7 @@ use Rattle.zone_blocks.specs.Block.{IsBlock, Covers}
 use Rattle.zone_blocks.specs.Areas.{IsFree}
 use Rattle.zone_blocks.specs.Zone.{TakesFrames}
 use Rattle.frame_word.specs.declared.view.FrameNote.{FrameNote}
-use Rattle.frame_word.specs.Views.{note_of}
+use Rattle.frame_word.specs.Views.{note_of, collected_from}
 use Rattle.frame_word.specs.Seats.{KnownSeat, seat_with, seat_references}
 use Rattle.frame_word.proofs.Notes.{note_here, note_else}
 use Rattle.step_rules.specs.declared.phase.ChargedUnit.{ChargedUnit}
@@ -117,6 +117,11 @@ heads_one Free is hand = absurd (omega (arith, hand))
 heads_one (Lent q) is hand = absurd (none-some q is)
 heads_one (Head unit) is hand = (unit, refl)
 heads_one (Tail g) is hand = absurd (omega (arith, hand))
+
+-- a lent frame has no list, and fits in the zone's hand
+pub collected_fits : (cpus p : ℕ) (note : FrameNote) (home : Option Home) → FitsFrameState cpus note home (Lent p) → FitsFrameState cpus (collected_from p note) home Free
+collected_fits cpus p note None old = record { own = refl; borrowed = old.borrowed; lent = refl; borrower = tt; references = old.references; kept = tt }
+collected_fits cpus p note (Some x) old = record { own = refl; borrowed = old.borrowed; lent = refl; borrower = tt; references = old.references; kept = old.kept }
 
 pub frame_states_changed : (cpus : ℕ) (seat : KnownSeat) (links : List Link) (frame_states : List FrameState) (f : ℕ) (change : FrameNote → FrameNote) (x : FrameState) (frames : ℕ)
     → f < length frame_states

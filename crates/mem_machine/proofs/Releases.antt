@@ -1,5 +1,5 @@
 -- The zone's reference on a kept unit is given up. Serves `release` and `evict`.
-use Rattle.std.proofs.Common.{◌≡◌, ◌≢◌, ℕ, ◌+◌, ◌-◌, ◌^◌, ◌<◌, ◌==◌, Bool, true, false, Option, Some, None, List, [], ◌∷◌, length, get_or, refl, sym, ap, ◌∙◌}
+use Rattle.std.proofs.Common.{◌≡◌, ◌≢◌, ℕ, ◌+◌, ◌-◌, ◌^◌, ◌<◌, ◌==◌, Bool, true, false, Option, Some, None, List, [], ◌∷◌, length, get_or, refl, sym, ap, ◌∙◌, rules}
 use Rattle.std.proofs.Common.{subst, inl, inr, arith, cond}
 use Rattle.std.specs.Prelude.{IfSome, is_some, nat_le}
 use Rattle.std.proofs.lemmas.Bool.{cases_eq, ne_eqb, and_from, lt-ltb, le-leb}
@@ -72,6 +72,25 @@ module _ (s : KnownSeat) (f : ℕ) (change : FrameNote → FrameNote) where
         (ap read (note_here s.view f change) ∙ same (note_of s.view f))
     | inr ne ↦ ap read (note_else s.view f g change ne)
   ]
+
+-- the machine is consistent again, if the change leaves all that a record says
+pub noted_consistent : (t : KnownTable) (w : KnownStockTable) (m : KnownMachine) → IsConsistent t w m → (f : ℕ) (change : FrameNote → FrameNote)
+    → ((k : FrameNote) → (change k).own ≡ k.own) → ((k : FrameNote) → (change k).borrowed ≡ k.borrowed) → ((k : FrameNote) → (change k).lent ≡ k.lent)
+    → ((k : FrameNote) → (change k).references ≡ k.references) → (counts : Counts) → BalancesCounts counts
+    → IsConsistent t w (record m { frame_seat = seat_with m.frame_seat f change; counts = counts })
+noted_consistent t w m ok f change own borrowed lent references counts balances =
+    let fits : (g : ℕ) → g < t.frames → FitsFrameState t.cpus (note_of (seat_with m.frame_seat f change).view g) (home_of m.links g) (frame_state_at m.frame_states g) =
+    λ g within.
+    let old = ok.frame_states g within in
+    record {
+      own = note_keeps m.frame_seat f change (λ k. k.own) own g ∙ old.own;
+      borrowed = note_keeps m.frame_seat f change (λ k. k.borrowed) borrowed g ∙ old.borrowed;
+      lent = ap some_cpu (note_keeps m.frame_seat f change (λ k. k.lent) lent g) ∙ old.lent;
+      borrower = old.borrower;
+      references = note_keeps m.frame_seat f change (λ k. k.references) references g ∙ old.references;
+      kept = old.kept;
+    } in
+    search rules
 
 -- a visit stays open, with no frame in transit, if the change leaves what was lent and handed over
 pub visit_stays : (t : KnownTable) (m n : KnownMachine) (c : KnownCpu) (f : ℕ) (change : FrameNote → FrameNote) → n.frame_seat ≡ seat_with m.frame_seat f change
@@ -175,18 +194,7 @@ module _ (t : KnownTable) (w : KnownStockTable) (m : KnownMachine) (ok : IsConsi
       ]
 
       pub left_consistent : IsConsistent t w (record m { links = links; lists = lists; frame_seat = left_seat })
-      left_consistent = record {
-        sizes = let s = ok.sizes in record { frame_states = s.frame_states; links = linked; lists = listed; killed = s.killed; cpus = s.cpus };
-        seats = let s = ok.seats in record { frames = s.frames; table = s.table; stocks = s.stocks };
-        areas = ok.areas;
-        frame_states = left_fits;
-        units = ok.units;
-        lists = stand;
-        absorbed = ok.absorbed;
-        bounded = ok.bounded;
-        charged = ok.charged;
-        balances = ok.balances;
-      }
+      left_consistent = search (rules, left_fits)
 
       pub left_runs : (c : KnownCpu) → LeadsAs t c.number (visit_state m c) (release_steps f (Left left))
           (visit_state (record m { links = links; lists = lists; frame_seat = left_seat }) c)

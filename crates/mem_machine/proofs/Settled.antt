@@ -1,7 +1,6 @@
 -- All fresh frames and then all back frames are settled. Serves `settle_one` and the loops of `settle_fresh` and
 -- `settle_back`.
-use Rattle.std.proofs.Common.{◌≡◌, ◌≢◌, ℕ, ◌<◌, Bool, true, false, List, [], ◌∷◌, length, refl, sym, ap, ◌∙◌, subst}
-use Rattle.std.proofs.Common.{arith, inl, inr, slice_index_or}
+use Rattle.std.proofs.Common.{◌≡◌, ℕ, ◌<◌, Bool, true, false, List, [], ◌∷◌, length, refl, sym, ap, ◌∙◌, subst, arith, inl, inr, slice_index_or}
 use Rattle.std.specs.List.{flat_map}
 use Rattle.std.proofs.lemmas.Bool.{cases_Bool, false≢true}
 use Rattle.std.proofs.lemmas.List.{get_or_default}
@@ -9,8 +8,7 @@ use Rattle.group_tree.specs.Bounds.{most_groups}
 use Rattle.frame_word.specs.Seats.{KnownTable}
 use Rattle.cpu_part.specs.Cpus.{KnownCpu}
 use Rattle.mem_machine.specs.Machines.{KnownMachine, is_killed}
-use Rattle.mem_machine.specs.Local.{Visits}
-use Rattle.mem_machine.specs.Local.{group_of_fresh, visit_state, MakesAs, VisitState}
+use Rattle.mem_machine.specs.Local.{Visits, group_of_fresh, visit_state, MakesAs, VisitState}
 use Rattle.mem_machine.specs.Settling.{FindsNoneBack, FindsNoneFresh, HandsOver, KeepsFresh, DropsFresh, SettlesFresh, SettlesAllFresh, ReturnsBack, ReturnsAllBack, LeavesOthers, Settles}
 use Rattle.mem_machine.specs.Settling.{fresh_steps, return_steps, settle_steps}
 use Rattle.mem_machine.proofs.Followed.{makes_both, makes_none}

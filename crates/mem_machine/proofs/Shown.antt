@@ -1,6 +1,5 @@
 -- What the CPU sees after a fresh or a back frame came into the zone's hand. Serves `settle`.
-use Rattle.std.proofs.Common.{◌≡◌, ℕ, ◌+◌, ◌-◌, ◌^◌, ◌<◌, ◌==◌, ◌&&◌, Bool, true, false, cond, List, [], ◌∷◌, length}
-use Rattle.std.proofs.Common.{refl, sym, ap, ◌∙◌, subst, arith, inl, inr, eq-eqb}
+use Rattle.std.proofs.Common.{◌≡◌, ℕ, ◌+◌, ◌-◌, ◌^◌, ◌<◌, ◌==◌, ◌&&◌, Bool, true, false, cond, List, [], ◌∷◌, length, refl, sym, ap, ◌∙◌, subst, arith, inl, inr, eq-eqb}
 use Rattle.std.specs.Prelude.{nat_le, slice_set}
 use Rattle.std.proofs.lemmas.Bool.{cases_eq, ne_eqb, and_from, cond-true, lt-ltb, le-leb}
 use Rattle.std.proofs.lemmas.Nat.{pow_pos}
@@ -30,8 +29,7 @@ use Rattle.mem_machine.specs.declared.frame_state.FrameState.{FrameState}
 use Rattle.mem_machine.specs.declared.frame_state.FrameState.TheVariants.{Free, Lent, Head, Tail}
 use Rattle.mem_machine.specs.FrameStates.{frame_state_at}
 use Rattle.mem_machine.specs.Machines.{KnownMachine}
-use Rattle.mem_machine.specs.Local.{Visits}
-use Rattle.mem_machine.specs.Local.{local_of, phase_of, part_of, part_with, references_of, group_of_fresh, visit_state}
+use Rattle.mem_machine.specs.Local.{Visits, local_of, phase_of, part_of, part_with, references_of, group_of_fresh, visit_state}
 use Rattle.mem_machine.specs.Freeing.{FreesFrames}
 use Rattle.mem_machine.specs.Settling.{with_page_absorbed}
 use Rattle.mem_machine.proofs.Holds.{zone_may_act, visits_open, seated_cpu}

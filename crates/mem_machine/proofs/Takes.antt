@@ -1,9 +1,7 @@
 -- The front of the visited CPU's list is returned to the free areas. Serves `unlist_one`.
-use Rattle.std.proofs.Common.{◌≡◌, ℕ, ◌+◌, ◌<◌, ◌==◌, Bool, true, false, Option, Some, None, List, [], ◌∷◌, length, get_or, refl, sym, ap, ◌∙◌}
-use Rattle.std.proofs.Common.{subst, inl, inr, arith, eq-eqb}
-use Rattle.std.specs.Prelude.{slice_set, IfSome}
+use Rattle.std.proofs.Common.{◌≡◌, ℕ, ◌+◌, ◌<◌, ◌==◌, Bool, true, false, List, [], ◌∷◌, length, get_or, refl, sym, ap, ◌∙◌, subst, inl, inr, arith, eq-eqb}
+use Rattle.std.specs.Prelude.{slice_set}
 use Rattle.std.proofs.lemmas.Bool.{cases_eq, and_from, cond-true, lt-ltb, or_left, false≢true}
-use Rattle.std.proofs.lemmas.List.{length-set}
 use Rattle.zone_blocks.specs.declared.block.Block.{Block}
 use Rattle.zone_blocks.specs.Areas.{AreMaximalBlocks}
 use Rattle.zone_blocks.specs.Zone.{GivesFrames, IsInUse}
@@ -15,7 +13,6 @@ use Rattle.stock_word.specs.Stock.{KnownStockTable, account_of}
 use Rattle.cpu_part.specs.Cpus.{KnownCpu, IsTied}
 use Rattle.cpu_part.specs.Calls.{PassesFront}
 use Rattle.cpu_part.proofs.CallerLemmas.{handed_passes, collected_is_still}
-use Rattle.lru_lists.specs.declared.record.Home.{Home}
 use Rattle.step_rules.specs.declared.phase.Way.TheVariants.{OnList, PassingBack}
 use Rattle.step_rules.specs.declared.phase.Phase.TheVariants as phase
 use Rattle.step_rules.specs.declared.step.Action.TheVariants.{PassBack, Collect}
@@ -28,17 +25,15 @@ use Rattle.step_rules.proofs.Basics.{at_same}
 use Rattle.step_rules.proofs.Lists.{times_same, without_front, without_none}
 use Rattle.mem_machine.specs.declared.frame_state.FrameState.{FrameState}
 use Rattle.mem_machine.specs.declared.frame_state.FrameState.TheVariants.{Free, Lent, Head, Tail}
-use Rattle.mem_machine.specs.FrameStates.{frame_state_at, is_free_state, free_of, frame_state_group, head_group_of}
-use Rattle.mem_machine.specs.FrameStates.{some_cpu}
+use Rattle.mem_machine.specs.FrameStates.{frame_state_at, is_free_state, free_of, frame_state_group, some_cpu}
 use Rattle.mem_machine.specs.Machines.{KnownMachine, FitsFrameState, IsConsistent, home_of}
-use Rattle.mem_machine.specs.Local.{Visits}
+use Rattle.mem_machine.specs.Local.{Visits, local_of, phase_of, part_of, part_with, visit_state}
 use Rattle.mem_machine.specs.Lending.{UnlistsOne}
-use Rattle.mem_machine.specs.Local.{local_of, phase_of, part_of, part_with, visit_state}
 use Rattle.mem_machine.specs.Steps.{unlist_steps}
 use Rattle.mem_machine.proofs.Reaching.{zone_step, cpu_step}
 use Rattle.mem_machine.proofs.Holds.{IsSeated, zone_may_act, visits_open, seated_cpu}
-use Rattle.mem_machine.proofs.Records.{free_at, one_covered, length_free, free_given, lent_frame_state, frame_states_changed, holds_same, units_stay, charges_stay}
-use Rattle.mem_machine.proofs.Lends.{parts_changed, references_stay, lent_listed, phases_changed}
+use Rattle.mem_machine.proofs.Records.{free_at, one_covered, length_free, free_given, lent_frame_state, holds_same, collected_fits}
+use Rattle.mem_machine.proofs.Lends.{parts_changed, references_stay, lent_listed, phases_changed, frame_changed}
 use Rattle.mem_machine.proofs.Followed.{follows_same, LeadsAs}
 use Rattle.mem_machine.proofs.Counted.{collects_none}
 use Rattle.boot_words.specs.Pasts.{KnownPasts, MakesStep, MayMake}
@@ -47,7 +42,7 @@ use Rattle.mem_machine.specs.Noted.{AreLocal, MayTakeAll, Notes}
 use Rattle.mem_machine.proofs.Noted.{notes_both, notes_one, run_steps}
 use Rattle.mem_machine.proofs.Reached.{may_make}
 use Rattle.mem_machine.proofs.Holder.{listed_lent}
-use Rattle.mem_machine.proofs.Watched.{HasOpenVisit}
+use Rattle.mem_machine.proofs.Watched.{HasOpenVisit, AllDone}
 
 module _ (t : KnownTable) (w : KnownStockTable) (m : KnownMachine) (c : KnownCpu) (tied : IsTied t w c) (ok : IsConsistent t w m) (visit : Visits t (visit_state m c))
     (f : ℕ) (rest : List ℕ) (front : c.list ≡ f ∷ rest) (inside : f < t.frames) (lent : IsLent m.frame_seat f c.number) where
@@ -73,38 +68,12 @@ module _ (t : KnownTable) (w : KnownStockTable) (m : KnownMachine) (c : KnownCpu
   seated : IsSeated t c
   seated = record { some_number = tied.seats.some_number; cpus = tied.seats.frame_cpus }
 
-  -- a lent frame has no list
-  homeless : (h : Option Home) → IfSome h (λ x. (x.owner < 64) × (head_group_of (Lent c.number) ≡ Some x.owner))
-      → IfSome h (λ x. (x.owner < 64) × (head_group_of Free ≡ Some x.owner))
-  homeless None is = tt
-  homeless (Some x) is = is
-
   taken_fits : FitsFrameState t.cpus (collected_from c.number (note_of m.frame_seat.view f)) (home_of m.links f) Free
-  taken_fits =
-      let old : FitsFrameState t.cpus (note_of m.frame_seat.view f) (home_of m.links f) (Lent c.number) =
-      subst (λ (x : FrameState). FitsFrameState t.cpus (note_of m.frame_seat.view f) (home_of m.links f) x) is_lent_frame_state (ok.frame_states f inside) in
-      record { own = refl; borrowed = old.borrowed; lent = refl; borrower = tt; references = old.references; kept = homeless (home_of m.links f) old.kept }
+  taken_fits = collected_fits t.cpus c.number _ _ (subst (λ (x : FrameState). FitsFrameState t.cpus (note_of m.frame_seat.view f) (home_of m.links f) x) is_lent_frame_state (ok.frame_states f inside))
 
   pub take_consistent : (blocks : List Block) → AreMaximalBlocks (free_of (slice_set m.frame_states f Free)) blocks
       → IsConsistent t w (record m { blocks = blocks; frame_states = slice_set m.frame_states f Free; frame_seat = seat_with m.frame_seat f (collected_from c.number) })
-  take_consistent blocks areas = record {
-    sizes = let s = ok.sizes in record {
-      frame_states = length-set m.frame_states f Free ∙ s.frame_states;
-      links = s.links;
-      lists = s.lists;
-      killed = s.killed;
-      cpus = s.cpus;
-    };
-    seats = let s = ok.seats in record { frames = s.frames; table = s.table; stocks = s.stocks };
-    areas = areas;
-    frame_states = frame_states_changed t.cpus m.frame_seat m.links m.frame_states f (collected_from c.number) Free t.frames within ok.frame_states taken_fits;
-    units = units_stay m.frame_states f Free within (ap frame_state_group is_lent_frame_state) refl ok.units;
-    lists = ok.lists;
-    absorbed = ok.absorbed;
-    bounded = ok.bounded;
-    charged = λ g. let a = ok.charged g in let b = charges_stay m.frame_states f Free within (ap frame_state_group is_lent_frame_state) refl g in omega (arith, a, b);
-    balances = ok.balances;
-  }
+  take_consistent = frame_changed t w m ok f within Free (ap frame_state_group is_lent_frame_state) refl (collected_from c.number) taken_fits
 
   -- what was not lent before isn't after
   not_lent_to : (0 ≡ seat_number c.frame_seat) → ⊥
@@ -180,19 +149,11 @@ module _ (t : KnownTable) (w : KnownStockTable) (m : KnownMachine) (c : KnownCpu
         counts = collects_none s f (phase.Lent p OnList) was refl m.counts;
       }
 
--- all of it, of the machine as it was seen before
-pub record AllTaken (t : KnownTable) (w : KnownStockTable) (now : KnownMachine) (c : KnownCpu) (f : ℕ) (n : KnownMachine) (d : KnownCpu) (free : List Bool) : Type 0 where
-  pub consistent : IsConsistent t w n
-  pub free_is : free ≡ free_of n.frame_states
-  pub takes : UnlistsOne f (visit_state now c) (visit_state n d)
-  pub steps : LeadsAs t c.number (visit_state now c) (unlist_steps c.number f) (visit_state n d)
-  pub visit : HasOpenVisit t (visit_state n d)
-
 pub take_all : (t : KnownTable) (w : KnownStockTable) (m now : KnownMachine) → m ≡ now → (c h d : KnownCpu) → IsTied t w c → IsConsistent t w m → Visits t (visit_state now c)
     → (before free : List Bool) (k : ℕ) (blocks : List Block) (f i : ℕ) (seat : KnownSeat)
     → before ≡ free_of m.frame_states → k ≡ 0 → GivesFrames before (record { at = i; order = k }) free → AreMaximalBlocks free blocks
     → f < t.frames → IsLent m.frame_seat f c.number → i ≡ f → PassesFront f c h → seat ≡ seat_with m.frame_seat f (collected_from h.number) → d ≡ h
-    → AllTaken t w now c f (record m { blocks = blocks; frame_states = slice_set m.frame_states i Free; frame_seat = seat }) d free
+    → AllDone t w now c (UnlistsOne f) (unlist_steps c.number f) (record m { blocks = blocks; frame_states = slice_set m.frame_states i Free; frame_seat = seat }) d free
 take_all t w m now same c h d tied ok visit_now before free k blocks f i seat was zero_is gives areas inside lent index hands collected stays =
     let visit : Visits t (visit_state m c) = subst (λ (x : KnownMachine). Visits t (visit_state x c)) (sym same) visit_now in
     let rest = hands.0 in
@@ -204,15 +165,15 @@ take_all t w m now same c h d tied ok visit_now before free k blocks f i seat wa
     let within : f < length m.frame_states = omega (arith, inside, sized) in
     let free_is : free ≡ free_of (slice_set m.frame_states f Free) = free_given before free m.frame_states f Free within was gives_f refl in
     let areas_f : AreMaximalBlocks (free_of (slice_set m.frame_states f Free)) blocks = subst (λ (l : List Bool). AreMaximalBlocks l blocks) free_is areas in
-    let all : AllTaken t w m c f n e free = record {
+    let all : AllDone t w m c (UnlistsOne f) (unlist_steps c.number f) n e free = record {
       consistent = take_consistent t w m c tied ok visit f rest hands.1 inside lent blocks areas_f;
       free_is = free_is;
-      takes = record { rest = rest; front = hands.1; areas = areas_f; machine = refl; cpu = refl };
+      does = record { rest = rest; front = hands.1; areas = areas_f; machine = refl; cpu = refl };
       steps = take_runs t w m c tied ok visit f rest hands.1 inside lent blocks;
       visit = take_visits t w m c tied ok visit f rest hands.1 inside lent blocks;
     } in
     let number : h.number ≡ c.number = ap (λ (x : KnownCpu). x.number) hands.2 in
-    subst (λ (x : KnownMachine × KnownMachine × KnownCpu). AllTaken t w x.0 c f x.1 x.2 free)
+    subst (λ (x : KnownMachine × KnownMachine × KnownCpu). AllDone t w x.0 c (UnlistsOne f) (unlist_steps c.number f) x.1 x.2 free)
     (λ j. (
       same j,
       record m {

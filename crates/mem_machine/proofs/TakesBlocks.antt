@@ -1,6 +1,7 @@
 -- A block is charged to a group and taken, or none is there. Serves `take_block`.
-use Rattle.std.proofs.Common.{◌≡◌, ℕ, zero, suc, ◌+◌, ◌-◌, ◌^◌, ◌≤◌, ◌<◌, ◌==◌, Bool, true, false, cond, List, [], ◌∷◌, length, get_or}
-use Rattle.std.proofs.Common.{refl, sym, ap, ◌∙◌, subst, arith, inl, inr}
+use Rattle.std.proofs.Common.{◌≡◌, ℕ, zero, suc, ◌+◌, ◌-◌, ◌^◌, ◌≤◌, ◌<◌, ◌==◌, Bool, true, false, cond, List, [], ◌∷◌, length, get_or, refl, sym, ap, ◌∙◌, subst, arith, inl, inr}
+use Rattle.mem_machine.proofs.Usage.{usage_seen, balanced_alone}
+use Rattle.mem_machine.specs.Paying.{MayCharge}
 use Rattle.std.specs.Prelude.{slice_index}
 use Rattle.std.specs.Cmp.{both_ways}
 use Rattle.std.proofs.lemmas.Bool.{cases_eq, false≢true}
@@ -14,8 +15,7 @@ use Rattle.zone_blocks.specs.Zone.{TakesFrames, block_at}
 use Rattle.zone_blocks.proofs.Halves.{lower_half}
 use Rattle.frame_word.specs.declared.view.FrameNote.{FrameNote}
 use Rattle.frame_word.specs.Views.{note_of, unfrozen}
-use Rattle.frame_word.specs.Seats.{KnownTable, KnownSeat, seat_with, seat_references, IsInOwnHand, NothingPasses}
-use Rattle.frame_word.specs.Seats.{LentIsBorrowed}
+use Rattle.frame_word.specs.Seats.{KnownTable, KnownSeat, seat_with, seat_references, IsInOwnHand, NothingPasses, LentIsBorrowed}
 use Rattle.frame_word.proofs.Notes.{note_here, note_else}
 use Rattle.stock_word.specs.Stock.{KnownStockTable}
 use Rattle.group_tree.specs.Groups.{has_group}
@@ -23,7 +23,7 @@ use Rattle.group_tree.specs.Room.{PathHasRoom}
 use Rattle.group_charge.specs.Charges.{Ledger, current_of, with_charge, with_uncharge, PagesRise, AreCharges}
 use Rattle.lru_lists.specs.declared.record.Link.{Link}
 use Rattle.lru_lists.specs.declared.lru.Lru.{Lru}
-use Rattle.cpu_part.specs.Cpus.{KnownCpu}
+use Rattle.cpu_part.specs.Cpus.{KnownCpu, IsTied}
 use Rattle.step_rules.specs.Phases as phases
 use Rattle.step_rules.specs.State.{with_at, free_in, one_if, times}
 use Rattle.step_rules.specs.Usage.{usage_of}
@@ -31,8 +31,7 @@ use Rattle.step_rules.proofs.Basics.{at_same, at_other}
 use Rattle.step_rules.proofs.Placing.{within_cases}
 use Rattle.mem_machine.specs.declared.frame_state.FrameState.{FrameState}
 use Rattle.mem_machine.specs.declared.frame_state.FrameState.TheVariants.{Free, Head, Tail}
-use Rattle.mem_machine.specs.FrameStates.{frame_state_at, is_free_state, is_in_hand, cpu_lent_to, free_of}
-use Rattle.mem_machine.specs.FrameStates.{frame_state_group}
+use Rattle.mem_machine.specs.FrameStates.{frame_state_at, is_free_state, is_in_hand, cpu_lent_to, free_of, frame_state_group}
 use Rattle.mem_machine.specs.Machines.{KnownMachine, IsConsistent, is_killed}
 use Rattle.boot_words.specs.Pasts.{MakesStep}
 use Rattle.step_watch.specs.Watched.{Watches}
@@ -44,7 +43,7 @@ use Rattle.step_rules.specs.After.{Run}
 use Rattle.step_rules.specs.declared.step.Action.TheVariants.{Grant, PlaceBlock, Publish, Ungrant, Unfreeze}
 use Rattle.step_rules.specs.declared.step.Answer.TheVariants.{Done, Granted, NoFreeBlock, Placed}
 use Rattle.mem_machine.specs.Blocks.{PlacesUnit, TakesBlock, TakesNoBlock, taken_steps, unplaced_steps}
-use Rattle.mem_machine.specs.Local.{IsSeenByRun, MakesAs, Visits, local_of, phase_of, visit_state}
+use Rattle.mem_machine.specs.Local.{IsSeenByRun, Visits, local_of, phase_of, visit_state}
 use Rattle.mem_machine.proofs.Records.{length_free, free_at, free_is, free_inside, no_cpu_is}
 use Rattle.mem_machine.proofs.PlacesUnits.{in_block, off_block}
 use Rattle.mem_machine.proofs.Joins.{AllJoin}
@@ -52,7 +51,7 @@ use Rattle.mem_machine.proofs.KeptUnits.{IsUsed, JoinsCharges, unit_kept}
 use Rattle.mem_machine.proofs.Placed.{place_local, taken_run}
 use Rattle.mem_machine.proofs.Grants.{is_granted, unplaced_run}
 use Rattle.mem_machine.proofs.Reached.{may_lead_all, may_make}
-use Rattle.mem_machine.proofs.Watched.{HasOpenVisit, visits_then}
+use Rattle.mem_machine.proofs.Watched.{HasOpenVisit, AllDone}
 use Rattle.mem_machine.proofs.Followed.{same_events, LeadsAs}
 use Rattle.group_charge.proofs.CallerLemmas.{uncharge_peaks, uncharge_events}
 
@@ -179,14 +178,6 @@ free_in_hand t w m ok f g inside is named =
 
 -- ---- all of it
 
--- what `take_block` leaves if there is a block, of the machine as it was seen before
-pub record AllTaken (t : KnownTable) (w : KnownStockTable) (now : KnownMachine) (c : KnownCpu) (g k at : ℕ) (n : KnownMachine) (d : KnownCpu) (free : List Bool) : Type 0 where
-  pub consistent : IsConsistent t w n
-  pub free_is : free ≡ free_of n.frame_states
-  pub takes : TakesBlock g k at now n
-  pub visit : HasOpenVisit t (visit_state n d)
-  pub steps : LeadsAs t c.number (visit_state now c) (taken_steps g k at) (visit_state n d)
-
 -- what is asked of the CPU and of the group
 pub record MayTake (t : KnownTable) (m : KnownMachine) (c : KnownCpu) (g : ℕ) : Type 0 where
   pub visit : Visits t (visit_state m c)
@@ -194,6 +185,16 @@ pub record MayTake (t : KnownTable) (m : KnownMachine) (c : KnownCpu) (g : ℕ) 
   pub usage : (h : ℕ) → usage_of (local_of t m c) h ≡ current_of m.ledger h
   pub there : has_group m.ledger.groups g ≡ true
   pub alive : is_killed m.killed g ≡ false
+
+pub may_take : (t : KnownTable) (w : KnownStockTable) (m now : KnownMachine) → m ≡ now → (c : KnownCpu) → IsConsistent t w m → AreCharges m.ledger → IsTied t w c
+    → Visits t (visit_state now c) → c.fresh ≡ [] → c.back ≡ [] → (g pages : ℕ) → MayCharge now g pages → MayTake t now c g
+may_take t w m now same c ok facts tied visit none_fresh none_back g pages charges = record {
+  visit = visit;
+  none_back = none_back;
+  usage = usage_seen t w m now same c ok facts visit.lent tied (balanced_alone _ _ none_fresh);
+  there = charges.there;
+  alive = charges.alive;
+}
 
 abbrev taken_machine : KnownMachine → ℕ → Block → List Block → List FrameState → List Link → List Lru → KnownMachine
 taken_machine m g b blocks frame_states links lists = record {
@@ -215,7 +216,7 @@ taken_here : (t : KnownTable) (w : KnownStockTable) (m : KnownMachine) (c : Know
     → (before free : List Bool) (blocks : List Block) → before ≡ free_of m.frame_states → IsFrontOfSmallest m.blocks b.order b → TakesFrames before b free
     → AreMaximalBlocks free blocks → (frame_states : List FrameState) → PlacesUnit g b m.frame_states frame_states → seat_references m.frame_seat b.at ≡ 0
     → (links : List Link) (lists : List Lru) → AllJoin m.links m.lists g b.at links lists
-    → AllTaken t w m c g b.order b.at (taken_machine m g b blocks frame_states links lists) c free
+    → AllDone t w m c (λ p q. TakesBlock g b.order b.at p.machine q.machine) (taken_steps g b.order b.at) (taken_machine m g b blocks frame_states links lists) c free
 taken_here t w m c ok facts g fits b may room rise before free blocks was front takes areas frame_states placed unreferred links lists joined =
     let n = taken_machine m g b blocks frame_states links lists in
     let block = taken_inside m.frame_states m.blocks ok.areas before free was b.order b front takes in
@@ -243,7 +244,7 @@ taken_here t w m c ok facts g fits b may room rise before free blocks was front 
       consistent = unit_kept t w m ok g fits b block frame_states placed (ap frame_state_group head) (λ x low high ne. were_free x low high) links lists joined
           (unfrozen 1) used blocks (with_charge m.ledger g (2 ^ b.order)) m.stock_seat m.counts joins ok.balances;
       free_is = frees;
-      takes = record {
+      does = record {
         room = room;
         front = front;
         areas = maximal;
@@ -270,7 +271,7 @@ pub taken_all : (t : KnownTable) (w : KnownStockTable) (m now : KnownMachine) �
     → IsFrontOfSmallest m.blocks k b → TakesFrames before b free → AreMaximalBlocks free blocks → (frame_states : List FrameState) → PlacesUnit g b m.frame_states frame_states
     → (f u : ℕ) → f ≡ b.at → u ≡ f → seat_references m.frame_seat f ≡ 0 → (seat : KnownSeat) → seat ≡ seat_with m.frame_seat f (unfrozen 1)
     → (links : List Link) (lists : List Lru) → AllJoin m.links m.lists g u links lists
-    → AllTaken t w now c g k f (record m { blocks = blocks; frame_states = frame_states; ledger = ledger; links = links; lists = lists; frame_seat = seat }) d free
+    → AllDone t w now c (λ p q. TakesBlock g k f p.machine q.machine) (taken_steps g k f) (record m { blocks = blocks; frame_states = frame_states; ledger = ledger; links = links; lists = lists; frame_seat = seat }) d free
 taken_all t w m now same c d stays ok facts g fits k pages size may room ledger charged rise before free b blocks was front takes areas frame_states placed f u at unit
     unreferred seat seat_is links lists joined =
     let order : k ≡ b.order = sym front.order_is in
@@ -285,7 +286,7 @@ taken_all t w m now same c d stays ok facts g fits k pages size may room ledger 
     let unreferred_here : seat_references m.frame_seat b.at ≡ 0 = subst (λ (x : ℕ). seat_references m.frame_seat x ≡ 0) at unreferred in
     let joined_here : AllJoin m.links m.lists g b.at links lists = subst (λ (x : ℕ). AllJoin m.links m.lists g x links lists) (unit ∙ at) joined in
     let seat_here : seat ≡ seat_with m.frame_seat b.at (unfrozen 1) = seat_is ∙ ap (λ (x : ℕ). seat_with m.frame_seat x (unfrozen 1)) at in
-    subst (λ (x : KnownMachine × KnownMachine × KnownCpu × ℕ × ℕ). AllTaken t w x.0 c g x.3 x.4 x.1 x.2 free)
+    subst (λ (x : KnownMachine × KnownMachine × KnownCpu × ℕ × ℕ). AllDone t w x.0 c (λ p q. TakesBlock g x.3 x.4 p.machine q.machine) (taken_steps g x.3 x.4) x.1 x.2 free)
     (λ j. (
       same j,
       record m {
@@ -387,12 +388,3 @@ unplaced_may t w m now same c at ok facts g k pages size may room none =
     let all = none_all t w m now same c c refl ok facts g k pages size may room _ _ refl refl m.blocks refl none in
     subst (λ (x : ℕ). MayTakeAll t m.run.past (unplaced_as g x k)) (sym size)
     (may_lead_all t m now same c at (unplaced_steps g k) _ all.steps)
-
--- steps that leave the zone's seat at the frames leave the CPU's visit open
-pub visit_kept : (t : KnownTable) (m now : KnownMachine) → m ≡ now → (c : KnownCpu) (n : KnownMachine) → n.frame_seat ≡ m.frame_seat → (steps : Run)
-    → MakesAs t c.number (visit_state now c) steps (visit_state n c) → Visits t (visit_state now c) → Visits t (visit_state n c)
-visit_kept t m now same c n seat steps makes visit =
-    let seat_now : now.frame_seat ≡ n.frame_seat = sym (seat ∙ ap (λ (k : KnownMachine). k.frame_seat) same) in
-    visits_then t (visit_state now c) (visit_state n c) steps visit.shown makes refl
-    (subst (λ (x : KnownSeat). HasOpenVisit t (visit_state (record n { frame_seat = x }) c)) seat_now
-    (record { is_open = visit.is_open; still = visit.still; lent = visit.lent }))

@@ -2,7 +2,6 @@
 use Rattle.std.proofs.Common.{◌≡◌, ℕ, ◌<◌, Some, List, [], length, get_or, refl, sym, ap, ◌∙◌, subst, arith}
 use Rattle.std.specs.Prelude.{slice_set, option_map}
 use Rattle.std.proofs.lemmas.List.{get_or-set_same, length-set}
-use Rattle.frame_word.specs.Views.{note_of}
 use Rattle.frame_word.specs.Seats.{KnownTable}
 use Rattle.stock_word.specs.Stock.{KnownStockTable}
 use Rattle.lru_lists.specs.declared.record.Link.{Link}
@@ -11,11 +10,10 @@ use Rattle.lru_lists.specs.declared.lru.Lru.{Lru}
 use Rattle.lru_lists.specs.declared.lru.Touched.{Touched}
 use Rattle.lru_lists.specs.Lists.{OthersStayLinked, OneOfAllChanges, AreLinked, AllLinked, ChangesOwn, Touches, list_of}
 use Rattle.cpu_part.specs.Cpus.{KnownCpu}
-use Rattle.mem_machine.specs.FrameStates.{frame_state_at}
 use Rattle.mem_machine.specs.Machines.{KnownMachine, IsConsistent, home_of, no_lists}
 use Rattle.mem_machine.specs.Marks.{TouchesUnit}
 use Rattle.mem_machine.specs.Local.{MakesAs, visit_state}
-use Rattle.mem_machine.proofs.Listed.{touched_owners, fits_home, unlisted_stay, others_stay}
+use Rattle.mem_machine.proofs.Listed.{touched_owners, lists_consistent, unlisted_stay, others_stay}
 use Rattle.mem_machine.proofs.Dirties.{owner_bound, on_list, owned, stands, its_lists}
 use Rattle.mem_machine.proofs.Followed.{makes_stay}
 
@@ -40,24 +38,7 @@ module _ (t : KnownTable) (w : KnownStockTable) (m : KnownMachine) (ok : IsConsi
       (λ none. on_list m.links f h home (ap (λ (k : ℕ). list_of m.links k f) (sym own) ∙ none)) touches
 
   pub touch_consistent : IsConsistent t w (record m { links = links; lists = slice_set m.lists h.owner new })
-  touch_consistent = record {
-    sizes = let s = ok.sizes in record {
-      frame_states = s.frame_states;
-      links = changes.frames ∙ s.links;
-      lists = length-set m.lists h.owner new ∙ s.lists;
-      killed = s.killed;
-      cpus = s.cpus;
-    };
-    seats = ok.seats;
-    areas = ok.areas;
-    frame_states = λ g within. fits_home t.cpus (note_of m.frame_seat.view g) (home_of m.links g) (home_of links g) (frame_state_at m.frame_states g) (owners g) (ok.frame_states g within);
-    units = ok.units;
-    lists = all_stand;
-    absorbed = ok.absorbed;
-    bounded = ok.bounded;
-    charged = ok.charged;
-    balances = ok.balances;
-  }
+  touch_consistent = lists_consistent t w m ok links (slice_set m.lists h.owner new) changes.frames (length-set m.lists h.owner new) owners all_stand
 
   pub touch_does : TouchesUnit f touched m (record m { links = links; lists = slice_set m.lists h.owner new })
   touch_does = record {

@@ -1,8 +1,7 @@
 -- How the two lists of a group are aged and renewed, and how they are read.
 use Rattle.std.specs.Prelude.{◌≡◌, ℕ, false, [], ◌∷◌, ◌++◌}
 use Rattle.lru_lists.specs.Lists.{SameOwners, Ages, entries_without, entry_of, marked}
-use Rattle.mem_machine.specs.Machines.{KnownMachine, OthersStay, UnlistedStay, lists_at, lists_of, inactive_in}
-use Rattle.mem_machine.specs.Machines.{active_in}
+use Rattle.mem_machine.specs.Machines.{KnownMachine, OthersStay, UnlistedStay, lists_at, lists_of, inactive_in, active_in}
 -- one of the two lists of the group, from the oldest unit to the newest
 pub use Rattle.mem_machine.specs.Machines.{entries_in}
 

@@ -1,6 +1,5 @@
 -- How blocks are taken and charged to a group.
-use Rattle.std.specs.Prelude.{◌≡◌, ℕ, ◌^◌, ◌==◌, Result, Ok, Err}
-use Rattle.std.specs.Prelude.{List, [], ◌∷◌, length, if◌then◌else◌}
+use Rattle.std.specs.Prelude.{◌≡◌, ℕ, ◌^◌, ◌==◌, Result, Ok, Err, List, [], ◌∷◌, length, if◌then◌else◌}
 use Rattle.zone_blocks.specs.declared.block.Block.{Block}
 use Rattle.zone_blocks.specs.Areas.{AreMaximalBlocks, HasNoneFrom, IsFrontOfSmallest}
 use Rattle.frame_word.specs.Views.{unfrozen}

@@ -1,6 +1,5 @@
 -- The local state: what the CPU that holds the lock sees of the machine and its own part, in the words of the rules.
-use Rattle.std.specs.Prelude.{◌≡◌, ℕ, ◌-◌, ◌==◌, ◌&&◌, nat_le, not, Option, Some, None, is_some}
-use Rattle.std.specs.Prelude.{List, [], length, slice_index, if◌then◌else◌}
+use Rattle.std.specs.Prelude.{◌≡◌, ℕ, ◌-◌, ◌==◌, ◌&&◌, nat_le, not, Option, Some, None, is_some, List, [], length, slice_index, if◌then◌else◌}
 use Rattle.frame_word.specs.Seats.{KnownTable, KnownSeat, IsOpen, LentIsBorrowed, NothingPasses, seat_references}
 use Rattle.stock_word.specs.declared.view.StockAccount.{StockAccount}
 use Rattle.stock_word.specs.Stock.{KnownStockSeat, account_of}

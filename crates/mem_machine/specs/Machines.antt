@@ -1,13 +1,11 @@
 -- What contracts see of the machine, and what always holds of it.
-use Rattle.std.specs.Prelude.{◌≡◌, ◌≢◌, ℕ, ◌+◌, ◌<◌, ◌≤◌, ◌==◌, Bool, false, Option, Some, None}
-use Rattle.std.specs.Prelude.{is_some, IfSome, List, [], ◌∷◌, length, replicate, slice_set, if◌then◌else◌}
+use Rattle.std.specs.Prelude.{◌≡◌, ◌≢◌, ℕ, ◌+◌, ◌<◌, ◌≤◌, ◌==◌, Bool, false, Option, Some, None, is_some, IfSome, List, [], ◌∷◌, length, replicate, slice_set, if◌then◌else◌}
 use Rattle.std.specs.List.{slice_index_or}
 use Rattle.zone_blocks.specs.declared.block.Block.{Block}
 use Rattle.zone_blocks.specs.Areas.{AreMaximalBlocks}
 use Rattle.frame_word.specs.declared.view.FrameNote.{FrameNote}
 use Rattle.frame_word.specs.Views.{note_of}
-use Rattle.frame_word.specs.Seats.{KnownTable, KnownSeat, IsZoneSeat}
-use Rattle.frame_word.specs.Seats.{first_zone_view}
+use Rattle.frame_word.specs.Seats.{KnownTable, KnownSeat, IsZoneSeat, first_zone_view}
 use Rattle.stock_word.specs.declared.view.StockAccount.{StockAccount}
 use Rattle.stock_word.specs.Stock.{KnownStockTable, KnownStockSeat, IsZoneView, account_of, first_zone_stock_view}
 use Rattle.group_charge.specs.Charges.{Ledger, pages_of, current_of, initial_ledger, with_new_group}
@@ -37,8 +35,7 @@ use Rattle.group_charge.specs.Notes.{KnownNotes, forgotten, no_notes, noted}
 -- is less
 pub use Rattle.mem_machine.specs.Counts.{BalancesCounts}
 use Rattle.mem_machine.specs.Counts.{no_counts}
-use Rattle.mem_machine.specs.FrameStates.{AreUnits, frame_state_at, free_of, is_in_hand, some_cpu, cpu_lent_to}
-use Rattle.mem_machine.specs.FrameStates.{frame_state_group, head_group_of, one_if_is}
+use Rattle.mem_machine.specs.FrameStates.{AreUnits, frame_state_at, free_of, is_in_hand, some_cpu, cpu_lent_to, frame_state_group, head_group_of, one_if_is}
 
 -- The machine holds the free areas, a record for each frame, and the groups with their charges. It holds the links of
 -- all kept units, and two lists for each group number. It holds the zone's two seats at the table, and which group

@@ -3,8 +3,7 @@ use Rattle.std.specs.Prelude.{◌≡◌, ℕ, Bool, Some}
 use Rattle.lru_lists.specs.declared.record.LruList.{LruList}
 use Rattle.lru_lists.specs.Lists.{Touches, changed_at, dirtied}
 use Rattle.lru_lists.specs.declared.lru.Touched.{Touched}
-use Rattle.mem_machine.specs.Machines.{KnownMachine, OthersStay, UnlistedStay}
-use Rattle.mem_machine.specs.Machines.{home_of, lists_at, lists_of, inactive_in, active_in}
+use Rattle.mem_machine.specs.Machines.{KnownMachine, OthersStay, UnlistedStay, home_of, lists_at, lists_of, inactive_in, active_in}
 
 -- the unit is dirty or clean as `is_dirty` says, at the same place of its list, and nothing else changed
 pub record Dirties (frame : ℕ) (is_dirty : Bool) (before after : KnownMachine) : Type 0 where

@@ -1,11 +1,9 @@
 -- How the fresh and back frames of the visited CPU are settled, one after the other.
-use Rattle.std.specs.Prelude.{◌≡◌, ℕ, ◌+◌, ◌^◌, ◌<◌, ◌≤◌, Bool, true, false, Option, Some, None, IfSome}
-use Rattle.std.specs.Prelude.{List, [], ◌∷◌, ◌++◌, slice_set, if◌then◌else◌}
+use Rattle.std.specs.Prelude.{◌≡◌, ℕ, ◌+◌, ◌^◌, ◌<◌, ◌≤◌, Bool, true, false, Option, Some, None, IfSome, List, [], ◌∷◌, ◌++◌, slice_set, if◌then◌else◌}
 use Rattle.std.specs.List.{flat_map}
 use Rattle.zone_blocks.specs.Areas.{AreMaximalBlocks}
 use Rattle.frame_word.specs.Views.{passed_back_by_cpu, collected_from, unfrozen}
-use Rattle.frame_word.specs.Seats.{KnownTable, KnownSeat, seat_with}
-use Rattle.frame_word.specs.Seats.{IsZoneSeat, IsOpen, NothingPasses, HasNothingOf, IsLent}
+use Rattle.frame_word.specs.Seats.{KnownTable, KnownSeat, seat_with, IsZoneSeat, IsOpen, NothingPasses, HasNothingOf, IsLent}
 use Rattle.stock_word.specs.declared.view.StockAccount.{StockAccount}
 use Rattle.stock_word.specs.Stock.{KnownStockSeat, account_of, group_of}
 use Rattle.stock_word.specs.Kinds.{after_report, zone_after_report, zone_after_absorb, with_steps}
@@ -13,8 +11,7 @@ use Rattle.stock_word.specs.Calls.{with_view}
 use Rattle.group_charge.specs.Charges.{with_uncharge}
 use Rattle.cpu_part.specs.Cpus.{KnownCpu}
 use Rattle.step_rules.specs.declared.phase.ChargedUnit.{ChargedUnit}
-use Rattle.step_rules.specs.declared.step.Action.TheVariants.{PassBack, Collect, Report, Absorb}
-use Rattle.step_rules.specs.declared.step.Action.TheVariants.{Unfreeze, Publish, Return}
+use Rattle.step_rules.specs.declared.step.Action.TheVariants.{PassBack, Collect, Report, Absorb, Unfreeze, Publish, Return}
 use Rattle.step_rules.specs.declared.step.Answer.TheVariants.{Done, Pages}
 use Rattle.step_rules.specs.After.{Run}
 use Rattle.mem_machine.specs.declared.frame_state.FrameState.TheVariants.{Head}

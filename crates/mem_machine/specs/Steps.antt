@@ -1,10 +1,8 @@
 -- The list of steps of each call, with the answer of each step.
 use Rattle.std.specs.Prelude.{ℕ, zero, suc, Bool, Option, Some, None, List, [], ◌∷◌, sum_by}
 use Rattle.std.specs.List.{flat_map}
-use Rattle.step_rules.specs.declared.step.Action.TheVariants.{OpenVisit, ShutVisit, PassOut, TakeIn, PassBack, Collect}
-use Rattle.step_rules.specs.declared.step.Action.TheVariants.{Fill, DrainStock, Grant, Ungrant, Consume, NoteMax}
+use Rattle.step_rules.specs.declared.step.Action.TheVariants.{OpenVisit, ShutVisit, PassOut, TakeIn, PassBack, Collect, Fill, DrainStock, Grant, Ungrant, Consume, NoteMax, Kill}
 use Rattle.step_rules.specs.declared.step.Action.TheVariants.{NoteOom, NoteGroupKill, SetMax, SetFlag, Make, Remove}
-use Rattle.step_rules.specs.declared.step.Action.TheVariants.{Kill}
 use Rattle.step_rules.specs.declared.step.Answer.TheVariants.{Done, Took, Pages, Granted, Over, Number}
 use Rattle.step_rules.specs.After.{Run}
 -- a step of the zone's seat or of a CPU's, with its answer

@@ -1,22 +1,16 @@
 -- The machine counts what its run counts: from the boot on, through each visit, and through steps of others. Serves the
 -- invariant of `Locked`.
-use Rattle.std.proofs.Common.{◌≡◌, ◌≢◌, ℕ, ◌==◌, ◌||◌, Bool, true, false, Option, Some, None, List, [], ◌∷◌, ◌++◌, cond, take, refl, sym, ap, ◌∙◌, subst, inl, inr, zero, suc, append_assoc}
+use Rattle.std.proofs.Common.{◌≡◌, ◌≢◌, ℕ, ◌==◌, Bool, true, false, List, [], ◌∷◌, ◌++◌, cond, take, refl, sym, ap, ◌∙◌, subst, inl, inr, zero, suc, append_assoc}
 use Rattle.std.specs.Prelude.{IfSome}
 use Rattle.std.specs.List.{fold, slice_get}
-use Rattle.std.specs.Option.{option_map_or}
 use Rattle.std.proofs.Common.{arith, eq-eqb}
-use Rattle.std.proofs.lemmas.Bool.{cases_Bool, cases_eq, ne_eqb, or_left, or_right, true≢false}
+use Rattle.std.proofs.lemmas.Bool.{cases_Bool, or_left, or_right, true≢false}
 use Rattle.std.proofs.lemmas.List.{append_cancel_left}
 use Rattle.frame_word.specs.Seats.{KnownTable}
 use Rattle.stock_word.specs.Stock.{KnownStockTable}
-use Rattle.group_tree.specs.declared.event.EventKey.{EventKey}
 use Rattle.group_tree.specs.declared.group.Group.{Group}
-use Rattle.group_tree.specs.Events.{count_of, no_events}
-use Rattle.group_tree.specs.Groups.{has_group, initial_groups}
-use Rattle.group_tree.proofs.EventLemmas.{none_counted}
-use Rattle.group_tree.proofs.GroupLemmas.{has_group-any}
-use Rattle.group_charge.specs.declared.account.Account.{Account}
-use Rattle.group_charge.specs.Charges.{Ledger, account_at, empty_account, events_local_of, events_of, initial_ledger, peak_of}
+use Rattle.group_tree.specs.Groups.{has_group}
+use Rattle.group_charge.specs.Charges.{Ledger, peak_of}
 use Rattle.step_rules.specs.declared.phase.ChargedUnit.{ChargedUnit}
 use Rattle.step_rules.specs.declared.phase.Way.TheVariants.{OnList}
 use Rattle.step_rules.specs.declared.phase.Stage.{Stage}
@@ -35,9 +29,7 @@ use Rattle.step_rules.specs.Views.{phase_seen_by, seen_by, stage_seen_by}
 use Rattle.step_rules.specs.Laws.{ShowsLocal, pushed}
 use Rattle.step_rules.specs.Reaches.{IsInterleaved, IsLocalRun, MayFollow, is_own, own_steps}
 use Rattle.step_rules.specs.Returns.{is_killed_return_phase}
-use Rattle.step_rules.specs.Peaks.{IsPeak}
 use Rattle.step_rules.proofs.LocalLaws.{other_step_is_hidden, own_step_is_legal}
-use Rattle.step_rules.proofs.Noting.{events_are_counted}
 use Rattle.step_rules.proofs.Peaking.{peaks_are_kept}
 use Rattle.step_rules.proofs.Runs.{allowed, state_more}
 use Rattle.boot_words.specs.Pasts.{IsHeld, KnownPasts, Locks, Meets, Unlocks, cpu_past, local_by_pasts, own_past}
@@ -55,6 +47,7 @@ use Rattle.mem_machine.specs.Machines.{IsFirst, KnownMachine}
 use Rattle.mem_machine.specs.Noted.{after_made}
 use Rattle.mem_machine.specs.Resting.{Rests}
 use Rattle.mem_machine.proofs.Noted.{run_ends}
+use Rattle.mem_machine.proofs.Agreeing.{first_agrees}
 use Rattle.mem_machine.proofs.Reached.{with_past}
 use Rattle.mem_machine.proofs.Tells.{ledgers_agree}
 use Rattle.mem_system.specs.Counted.{VisitsFindCounts}
@@ -209,13 +202,6 @@ agreed t run l x groups told =
       events_local = λ key m is. told.events_local key m (there m ∙ is);
     }
 
-pub same_counted : (t : KnownTable) (m n : KnownMachine) → n.ledger ≡ m.ledger → n.counts ≡ m.counts → n.run.past ≡ m.run.past → CountsItsRun t m
-    → CountsItsRun t n
-same_counted t m n ledger counts past told = record {
-  agrees = subst (λ (v : KnownPasts × Ledger). AgreesWithRun t (own_past v.0).seen v.1) (λ i. (sym past i, sym ledger i)) told.agrees;
-  counts = counts ∙ told.counts ∙ ap (λ (s : KnownPasts). counts_in t (own_past s).seen) (sym past);
-}
-
 -- the run went on by steps of others, and the machine is the same otherwise
 grown : (t : KnownTable) (run rest : Run) (l : Ledger) (x : Counts) (k : KnownMachine) → (own_past k.run.past).seen ≡ run ++ rest → Rests t k
     → HasNoStepOf 0 rest → k.ledger ≡ l → k.counts ≡ x → CountsRun t run l x → CountsItsRun t k
@@ -308,47 +294,6 @@ visit_counted t m n k c d steps past past' held rests told locks shown makes giv
     still.holds.cpu_is) (ap (λ (y : KnownMachine). y.ledger) is) (ap (λ (y : KnownMachine). y.counts) is) told_two
 
 -- ---- a boot
-
--- the one account there, or none
-abbrev found : Bool → Option Account
-found b = cond b (Some (empty_account 0)) None
-
-none_below : (key : EventKey) (b : Bool) → count_of (option_map_or (λ (a : Account). a.events) (found b) no_events) key ≡ 0
-none_below key true = none_counted key
-none_below key false = none_counted key
-
-none_at : (key : EventKey) (b : Bool) → count_of (option_map_or (λ (a : Account). a.events_local) (found b) no_events) key ≡ 0
-none_at key true = none_counted key
-none_at key false = none_counted key
-
-first_events : (key : EventKey) (m : ℕ) → count_of (events_of initial_ledger m) key ≡ 0
-unfolding events_of account_at
-first_events key m = none_below key (0 == m)
-
-first_events_local : (key : EventKey) (m : ℕ) → count_of (events_local_of initial_ledger m) key ≡ 0
-unfolding events_local_of account_at
-first_events_local key m = none_at key (0 == m)
-
-first_peak : peak_of initial_ledger 0 ≡ 0
-unfolding peak_of account_at
-first_peak = refl
-
--- there is the root alone
-root_alone : (m : ℕ) → has_group initial_groups m ≡ true → m ≡ 0
-root_alone m there = elim (cases_eq m 0) [
-  | inl e ↦ e
-  | inr ne ↦ absurd (true≢false (sym there ∙ has_group-any initial_groups m ∙ ap (λ (b : Bool). b || false) (ne_eqb 0 m (λ e. ne (sym e)))))
-]
-
-first_agrees : (t : KnownTable) → AgreesWithRun t [] initial_ledger
-first_agrees t =
-    let zone = zone_of t in
-    record {
-      peak = λ g there. subst (λ (k : ℕ). IsPeak zone [] k (peak_of initial_ledger k)) (sym (root_alone g there))
-          (subst (IsPeak zone [] 0) (sym first_peak) (peaks_are_kept.boot zone));
-      events = λ key g there. first_events key g ∙ sym (events_are_counted.boot zone key g).0;
-      events_local = λ key g there. first_events_local key g ∙ sym (events_are_counted.boot zone key g).1;
-    }
 
 pub first_counted : (t : KnownTable) (w : KnownStockTable) (m : KnownMachine) → IsFirst t w m → (own_past m.run.past).seen ≡ [] → CountsItsRun t m
 first_counted t w m first none = record {

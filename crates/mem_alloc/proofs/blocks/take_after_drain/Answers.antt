@@ -36,69 +36,47 @@ unreachable-requires g c =
     (is_refused c.drain_list.new.self c.take_block.new.self c.args.group c.args.order c.in-Err-Over.field-0 c.in-Err-Over.field-0-0
     c.in-Err-Over.field-0-is c.in-Err-Over.ensures.refuses).0
 
-pub returns-in-Ok-clause-takes : goal.returns-in-Ok-clause-takes
-returns-in-Ok-clause-takes g c =
-    takes_after g.N.BootName.frames c.args.group c.args.order _ _ _ _ _ _ c.drain_list.result c.list_len-listed.result c.list_len-listed.ensures.count
-    c.drain_list.ensures.at_most c.drain_list.ensures.takes c.drain_list.ensures.fewer_only_at_the_end c.in-Ok.ensures.cpu c.drain_list.ensures.steps
-    c.in-Ok.head c.in-Ok.ensures.takes c.in-Ok.ensures.steps
+pub returns-in-Ok : goal.returns-in-Ok
+returns-in-Ok g c = record {
+  takes = takes_after g.N.BootName.frames c.args.group c.args.order _ _ _ _ _ _ c.drain_list.result c.list_len-listed.result c.list_len-listed.ensures.count
+      c.drain_list.ensures.at_most c.drain_list.ensures.takes c.drain_list.ensures.fewer_only_at_the_end c.in-Ok.ensures.cpu c.drain_list.ensures.steps
+      c.in-Ok.head c.in-Ok.ensures.takes c.in-Ok.ensures.steps;
+  stays =
+      let part = back_part _ _ _ _ _ c.drain_list.ensures.takes in
+      record {
+        visit = c.take_block.ensures.visit;
+        opened = ap (λ (z : KnownMachine). z.frame_seat.view.opened) c.in-Ok.ensures.takes.machine ∙ part.opened;
+        number = ap (λ (e : KnownCpu). e.number) c.take_block.ensures.cpu ∙ part.number;
+        back = ap (λ (e : KnownCpu). e.back) c.take_block.ensures.cpu ∙ part.back;
+      };
+  fresh = ap (λ (e : KnownCpu). e.fresh) c.take_block.ensures.cpu ∙ (back_part _ _ _ _ _ c.drain_list.ensures.takes).fresh ∙ c.requires.settled.0;
+  list = list_shrinks g.N.BootName.frames c.args.group c.args.order _ _ c.take_block.new.self _ _ _ c.drain_list.result c.list_len-listed.result
+      c.list_len-listed.ensures.count
+      c.drain_list.ensures.at_most c.drain_list.ensures.takes c.drain_list.ensures.fewer_only_at_the_end c.in-Ok.ensures.cpu c.drain_list.ensures.steps;
+}
 
-pub returns-in-Ok-clause-stays : goal.returns-in-Ok-clause-stays
-returns-in-Ok-clause-stays g c =
-    let part = back_part _ _ _ _ _ c.drain_list.ensures.takes in
-    record {
-      visit = c.take_block.ensures.visit;
-      opened = ap (λ (z : KnownMachine). z.frame_seat.view.opened) c.in-Ok.ensures.takes.machine ∙ part.opened;
-      number = ap (λ (e : KnownCpu). e.number) c.take_block.ensures.cpu ∙ part.number;
-      back = ap (λ (e : KnownCpu). e.back) c.take_block.ensures.cpu ∙ part.back;
-    }
+pub reclaim_until_taken-requires : goal.reclaim_until_taken-requires
+reclaim_until_taken-requires g c = record {
+  visit = subst (λ (x : KnownMachine). Visits g.N.BootName.frames (visit_state x c.take_block.new.cpu)) (sym c.note.ensures)
+      (noted_visit g.N.BootName.frames c.take_block.new.self c.take_block.new.cpu _ c.take_block.ensures.visit);
+  room =
+      let none = is_none _ _ c.args.group c.args.order c.in-Err-NoBlock.field-0 c.in-Err-NoBlock.field-0-is c.in-Err-NoBlock.ensures.refuses in
+      let part = back_part _ _ _ _ _ c.drain_list.ensures.takes in
+      let there = ap (λ l. has_group l.groups c.args.group) part.ledger ∙ c.requires.room.charges.there in
+      let fits = subst (λ l. current_of l 0 + 2 ^ c.args.order < 2 ^ 32) (sym part.ledger) c.requires.room.charges.fits in
+      subst (λ (x : KnownMachine). MayHaveBlock x c.args.group c.args.order) (sym c.note.ensures)
+      (noted_room c.take_block.new.self _ c.args.group c.args.order
+      (none_leaves g.N.BootName.frames c.args.group c.args.order c.drain_list.new.self c.take_block.new.self c.drain_list.new.cpu
+      c.take_block.new.cpu none (ap (λ l. is_killed l c.args.group) part.killed ∙ c.requires.room.charges.alive) there fits));
+  settled =
+      let part = back_part _ _ _ _ _ c.drain_list.ensures.takes in (
+        ap (λ (e : KnownCpu). e.fresh) c.in-Err-NoBlock.ensures.cpu ∙ part.fresh ∙ c.requires.settled.0,
+        ap (λ (e : KnownCpu). e.back) c.in-Err-NoBlock.ensures.cpu ∙ part.back ∙ c.requires.settled.1,
+      );
+}
 
-pub returns-in-Ok-clause-fresh : goal.returns-in-Ok-clause-fresh
-returns-in-Ok-clause-fresh g c =
-    ap (λ (e : KnownCpu). e.fresh) c.take_block.ensures.cpu ∙ (back_part _ _ _ _ _ c.drain_list.ensures.takes).fresh ∙ c.requires.settled.0
-
-pub returns-in-Ok-clause-list : goal.returns-in-Ok-clause-list
-returns-in-Ok-clause-list g c =
-    list_shrinks g.N.BootName.frames c.args.group c.args.order _ _ c.take_block.new.self _ _ _ c.drain_list.result c.list_len-listed.result
-    c.list_len-listed.ensures.count
-    c.drain_list.ensures.at_most c.drain_list.ensures.takes c.drain_list.ensures.fewer_only_at_the_end c.in-Ok.ensures.cpu c.drain_list.ensures.steps
-
-pub reclaim_until_taken-requires-clause-visit : goal.reclaim_until_taken-requires-clause-visit
-reclaim_until_taken-requires-clause-visit g c =
-    subst (λ (x : KnownMachine). Visits g.N.BootName.frames (visit_state x c.take_block.new.cpu)) (sym c.note.ensures)
-    (noted_visit g.N.BootName.frames c.take_block.new.self c.take_block.new.cpu _ c.take_block.ensures.visit)
-
-pub reclaim_until_taken-requires-clause-room : goal.reclaim_until_taken-requires-clause-room
-reclaim_until_taken-requires-clause-room g c =
-    let none = is_none _ _ c.args.group c.args.order c.in-Err-NoBlock.field-0 c.in-Err-NoBlock.field-0-is c.in-Err-NoBlock.ensures.refuses in
-    let part = back_part _ _ _ _ _ c.drain_list.ensures.takes in
-    let there = ap (λ l. has_group l.groups c.args.group) part.ledger ∙ c.requires.room.charges.there in
-    let fits = subst (λ l. current_of l 0 + 2 ^ c.args.order < 2 ^ 32) (sym part.ledger) c.requires.room.charges.fits in
-    subst (λ (x : KnownMachine). MayHaveBlock x c.args.group c.args.order) (sym c.note.ensures)
-    (noted_room c.take_block.new.self _ c.args.group c.args.order
-    (none_leaves g.N.BootName.frames c.args.group c.args.order c.drain_list.new.self c.take_block.new.self c.drain_list.new.cpu
-    c.take_block.new.cpu none (ap (λ l. is_killed l c.args.group) part.killed ∙ c.requires.room.charges.alive) there fits))
-
-pub reclaim_until_taken-requires-clause-settled : goal.reclaim_until_taken-requires-clause-settled
-reclaim_until_taken-requires-clause-settled g c =
-    let part = back_part _ _ _ _ _ c.drain_list.ensures.takes in (
-      ap (λ (e : KnownCpu). e.fresh) c.in-Err-NoBlock.ensures.cpu ∙ part.fresh ∙ c.requires.settled.0,
-      ap (λ (e : KnownCpu). e.back) c.in-Err-NoBlock.ensures.cpu ∙ part.back ∙ c.requires.settled.1,
-    )
-
-pub returns-in-Err-NoBlock-clause-takes : goal.returns-in-Err-NoBlock-clause-takes
-returns-in-Err-NoBlock-clause-takes g c =
-    let rounds = zone_noted g.N.BootName.frames c.args.order (MakesTakeRounds c.args.group c.args.order c.reclaim_until_taken.result)
-    c.take_block.new.self c.note.new.self c.take_block.new.cpu (visit_state c.reclaim_until_taken.new.machine c.reclaim_until_taken.new.cpu)
-    (c.note.ensures ∙ ap (λ k. with_note c.take_block.new.self (Zone k)) c.exponent.ensures.exponent) c.reclaim_until_taken.ensures.takes in
-    let none = is_none _ _ c.args.group c.args.order c.in-Err-NoBlock.field-0 c.in-Err-NoBlock.field-0-is c.in-Err-NoBlock.ensures.refuses in
-    let vain = by_none _ c.args.group c.args.order _ _ c.in-Err-NoBlock.field-0 c.in-Err-NoBlock.field-0-is c.in-Err-NoBlock.ensures.steps in
-    reclaims_after g.N.BootName.frames c.args.group c.args.order _ _ _ _ _ _ c.drain_list.result c.list_len-listed.result
-    c.list_len-listed.ensures.count c.drain_list.ensures.at_most c.drain_list.ensures.takes c.drain_list.ensures.fewer_only_at_the_end
-    (c.reclaim_until_taken.ensures.cpu ∙ c.in-Err-NoBlock.ensures.cpu) c.drain_list.ensures.steps _ _ none c.in-Err-NoBlock.ensures.cpu vain
-    c.reclaim_until_taken.result rounds
-
-pub returns-in-Err-NoBlock-clause-stays : goal.returns-in-Err-NoBlock-clause-stays
-returns-in-Err-NoBlock-clause-stays g c =
+pub returns-in-Err-NoBlock : goal.returns-in-Err-NoBlock
+returns-in-Err-NoBlock g c =
     let rounds = zone_noted g.N.BootName.frames c.args.order (MakesTakeRounds c.args.group c.args.order c.reclaim_until_taken.result)
     c.take_block.new.self c.note.new.self c.take_block.new.cpu (visit_state c.reclaim_until_taken.new.machine c.reclaim_until_taken.new.cpu)
     (c.note.ensures ∙ ap (λ k. with_note c.take_block.new.self (Zone k)) c.exponent.ensures.exponent) c.reclaim_until_taken.ensures.takes in
@@ -107,21 +85,20 @@ returns-in-Err-NoBlock-clause-stays g c =
     let part = back_part _ _ _ _ _ c.drain_list.ensures.takes in
     let cpu = c.reclaim_until_taken.ensures.cpu ∙ c.in-Err-NoBlock.ensures.cpu in
     record {
-      visit = c.reclaim_until_taken.ensures.visit;
-      opened = reclaims_open g.N.BootName.frames c.args.group c.args.order _ _ _ _ _ _ c.drain_list.result c.list_len-listed.result
+      takes = reclaims_after g.N.BootName.frames c.args.group c.args.order _ _ _ _ _ _ c.drain_list.result c.list_len-listed.result
           c.list_len-listed.ensures.count c.drain_list.ensures.at_most c.drain_list.ensures.takes c.drain_list.ensures.fewer_only_at_the_end
-          cpu c.drain_list.ensures.steps _ _ none c.in-Err-NoBlock.ensures.cpu vain c.reclaim_until_taken.result rounds;
-      number = ap (λ (e : KnownCpu). e.number) cpu ∙ part.number;
-      back = ap (λ (e : KnownCpu). e.back) cpu ∙ part.back;
+          cpu c.drain_list.ensures.steps _ _ none c.in-Err-NoBlock.ensures.cpu vain
+          c.reclaim_until_taken.result rounds;
+      stays = record {
+        visit = c.reclaim_until_taken.ensures.visit;
+        opened = reclaims_open g.N.BootName.frames c.args.group c.args.order _ _ _ _ _ _ c.drain_list.result c.list_len-listed.result
+            c.list_len-listed.ensures.count c.drain_list.ensures.at_most c.drain_list.ensures.takes c.drain_list.ensures.fewer_only_at_the_end
+            cpu c.drain_list.ensures.steps _ _ none c.in-Err-NoBlock.ensures.cpu vain c.reclaim_until_taken.result rounds;
+        number = ap (λ (e : KnownCpu). e.number) cpu ∙ part.number;
+        back = ap (λ (e : KnownCpu). e.back) cpu ∙ part.back;
+      };
+      fresh = ap (λ (e : KnownCpu). e.fresh) cpu ∙ part.fresh ∙ c.requires.settled.0;
+      list = list_shrinks g.N.BootName.frames c.args.group c.args.order _ _ c.reclaim_until_taken.new.machine _ _ _ c.drain_list.result
+          c.list_len-listed.result c.list_len-listed.ensures.count c.drain_list.ensures.at_most c.drain_list.ensures.takes
+          c.drain_list.ensures.fewer_only_at_the_end cpu c.drain_list.ensures.steps;
     }
-
-pub returns-in-Err-NoBlock-clause-fresh : goal.returns-in-Err-NoBlock-clause-fresh
-returns-in-Err-NoBlock-clause-fresh g c =
-    ap (λ (e : KnownCpu). e.fresh) (c.reclaim_until_taken.ensures.cpu ∙ c.in-Err-NoBlock.ensures.cpu)
-    ∙ (back_part _ _ _ _ _ c.drain_list.ensures.takes).fresh ∙ c.requires.settled.0
-
-pub returns-in-Err-NoBlock-clause-list : goal.returns-in-Err-NoBlock-clause-list
-returns-in-Err-NoBlock-clause-list g c =
-    list_shrinks g.N.BootName.frames c.args.group c.args.order _ _ c.reclaim_until_taken.new.machine _ _ _ c.drain_list.result
-    c.list_len-listed.result c.list_len-listed.ensures.count c.drain_list.ensures.at_most c.drain_list.ensures.takes
-    c.drain_list.ensures.fewer_only_at_the_end (c.reclaim_until_taken.ensures.cpu ∙ c.in-Err-NoBlock.ensures.cpu) c.drain_list.ensures.steps

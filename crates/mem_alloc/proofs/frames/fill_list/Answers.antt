@@ -1,4 +1,4 @@
-use Rattle.std.proofs.Common.{[], length, inl, inr, ap, refl, ◌∙◌, arith, length-append}
+use Rattle.std.proofs.Common.{[], length, inl, inr, ap, refl, ◌∙◌, arith, length-append, rules}
 use Rattle.std.proofs.lemmas.List.{nil_from_length}
 use Rattle.mem_machine.specs.Local.{visit_state}
 use Rattle.mem_machine.specs.Steps.{refill_steps}
@@ -31,43 +31,27 @@ returns-then-refill-gt0-clause-front g c =
     let a = ap length l.list ∙ length-append c.args.cpu.now.list done.refills.frames in
     omega (arith, all, a)
 
-pub returns-then-refill_in_rounds-clause-fills : goal.returns-then-refill_in_rounds-clause-fills
-returns-then-refill_in_rounds-clause-fills g c =
+pub returns-then-refill_in_rounds : goal.returns-then-refill_in_rounds
+returns-then-refill_in_rounds g c =
     let t = g.N.BootName.frames in
     let done = c.refill.ensures in
     let first = lent_none t c.refill.result c.args.sizes.batch c.args.machine.now c.refill.new.self c.args.cpu.now c.refill.new.cpu
     done.refills c.if-refill-gt0.false done.fewer_only_at_the_end c.requires.sizes.batch_low in
     let reclaims = reclaims_for t c.args.sizes c.args.machine.now c.refill.new.self c.refill_in_rounds.new.machine
     c.refill_in_rounds.new.machine c.args.cpu.now c.refill.new.cpu c.refill_in_rounds.new.cpu
-    (nil_from_length c.args.cpu.now.list (omega (arith, c.list_len.ensures.count))) first c.if-refill_in_rounds.ensures.refills in record {
-      steps = reclaims.steps;
-      does = inr (record { is = nil_from_length c.args.cpu.now.list (omega (arith, c.list_len.ensures.count)); does = inr reclaims.does });
-      makes = reclaims.makes;
+    (nil_from_length c.args.cpu.now.list (omega (arith, c.list_len.ensures.count))) first c.if-refill_in_rounds.ensures.refills in
+    record {
+      fills = record {
+        steps = reclaims.steps;
+        does = inr (record { is = nil_from_length c.args.cpu.now.list (omega (arith, c.list_len.ensures.count)); does = inr reclaims.does });
+        makes = reclaims.makes;
+      };
+      visit = search rules;
+      page = reclaimed_page t c.args.sizes c.args.machine.now c.refill_in_rounds.new.machine c.args.cpu.now c.refill_in_rounds.new.cpu
+          reclaims.steps reclaims.does c.args.group c.requires.page;
+      front = reclaimed_front t c.args.sizes c.args.machine.now c.refill_in_rounds.new.machine c.args.cpu.now c.refill_in_rounds.new.cpu
+          reclaims.steps reclaims.does;
     }
-
-pub returns-then-refill_in_rounds-clause-page : goal.returns-then-refill_in_rounds-clause-page
-returns-then-refill_in_rounds-clause-page g c =
-    let t = g.N.BootName.frames in
-    let done = c.refill.ensures in
-    let first = lent_none t c.refill.result c.args.sizes.batch c.args.machine.now c.refill.new.self c.args.cpu.now c.refill.new.cpu
-    done.refills c.if-refill-gt0.false done.fewer_only_at_the_end c.requires.sizes.batch_low in
-    let reclaims = reclaims_for t c.args.sizes c.args.machine.now c.refill.new.self c.refill_in_rounds.new.machine
-    c.refill_in_rounds.new.machine c.args.cpu.now c.refill.new.cpu c.refill_in_rounds.new.cpu
-    (nil_from_length c.args.cpu.now.list (omega (arith, c.list_len.ensures.count))) first c.if-refill_in_rounds.ensures.refills in
-    reclaimed_page t c.args.sizes c.args.machine.now c.refill_in_rounds.new.machine c.args.cpu.now c.refill_in_rounds.new.cpu
-    reclaims.steps reclaims.does c.args.group c.requires.page
-
-pub returns-then-refill_in_rounds-clause-front : goal.returns-then-refill_in_rounds-clause-front
-returns-then-refill_in_rounds-clause-front g c =
-    let t = g.N.BootName.frames in
-    let done = c.refill.ensures in
-    let first = lent_none t c.refill.result c.args.sizes.batch c.args.machine.now c.refill.new.self c.args.cpu.now c.refill.new.cpu
-    done.refills c.if-refill-gt0.false done.fewer_only_at_the_end c.requires.sizes.batch_low in
-    let reclaims = reclaims_for t c.args.sizes c.args.machine.now c.refill.new.self c.refill_in_rounds.new.machine
-    c.refill_in_rounds.new.machine c.args.cpu.now c.refill.new.cpu c.refill_in_rounds.new.cpu
-    (nil_from_length c.args.cpu.now.list (omega (arith, c.list_len.ensures.count))) first c.if-refill_in_rounds.ensures.refills in
-    reclaimed_front t c.args.sizes c.args.machine.now c.refill_in_rounds.new.machine c.args.cpu.now c.refill_in_rounds.new.cpu
-    reclaims.steps reclaims.does
 
 pub returns-clause-fills : goal.returns-clause-fills
 returns-clause-fills g c =

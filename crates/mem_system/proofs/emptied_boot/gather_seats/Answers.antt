@@ -61,17 +61,12 @@ loop-seats-preserved g c =
           (of_more (AreAt id) _ _ was.seated (record { past = ap (λ s. s.table) given.past ∙ given.past_is.table_is; frames = ap (λ s. s.table) given.frames ∙ its.frames; stocks = ap (λ s. s.table) given.stocks ∙ its.stocks }));
     }
 
-pub returns-clause-frames : goal.returns-clause-frames
-returns-clause-frames g c =
+pub returns : goal.returns
+returns g c =
     let none : length c.loop-seats.cpus.items ≡ 0 = search rules in
-    sym (frames_end c.loop-seats.seats.items c.loop-seats.cpus.items none) ∙ c.loop-seats.invariant.frames
-
-pub returns-clause-stocks : goal.returns-clause-stocks
-returns-clause-stocks g c =
-    let none : length c.loop-seats.cpus.items ≡ 0 = search rules in
-    sym (stocks_end c.loop-seats.seats.items c.loop-seats.cpus.items none) ∙ c.loop-seats.invariant.stocks
-
-pub returns-clause-pasts : goal.returns-clause-pasts
-returns-clause-pasts g c =
-    let none : length c.loop-seats.cpus.items ≡ 0 = search rules in
-    sym (pasts_end c.loop-seats.seats.items c.loop-seats.cpus.items none) ∙ c.loop-seats.invariant.pasts
+    record {
+      frames = sym (frames_end c.loop-seats.seats.items c.loop-seats.cpus.items none) ∙ c.loop-seats.invariant.frames;
+      stocks = sym (stocks_end c.loop-seats.seats.items c.loop-seats.cpus.items none) ∙ c.loop-seats.invariant.stocks;
+      pasts = sym (pasts_end c.loop-seats.seats.items c.loop-seats.cpus.items none) ∙ c.loop-seats.invariant.pasts;
+      at = search rules;
+    }

@@ -1,4 +1,4 @@
-use Rattle.std.proofs.Common.{◌≡◌, ℕ, List, length, ◌+◌, Some, arith, ◌≤◌, refl, sym, ap, ◌∙◌, subst}
+use Rattle.std.proofs.Common.{◌≡◌, ℕ, List, length, ◌+◌, Some, arith, ◌≤◌, refl, sym, ap, ◌∙◌, subst, rules}
 use Rattle.stock_word.specs.declared.view.StockAccount.{StockAccount}
 use Rattle.stock_word.specs.Calls.{with_view}
 use Rattle.stock_word.specs.Kinds.{zone_after_report}
@@ -51,14 +51,11 @@ invariant_of-self g c =
 pub give_back_fresh-requires-clause-legal : goal.give_back_fresh-requires-clause-legal
 give_back_fresh-requires-clause-legal g c = c.requires.legal
 
-pub returns-clause-run : goal.returns-clause-run
-returns-clause-run g c = c.in-Some.ensures.run
-
-pub returns-clause-cpu : goal.returns-clause-cpu
-returns-clause-cpu g c = c.in-Some.ensures.answer
-
-pub returns-clause-zone : goal.returns-clause-zone
-returns-clause-zone g c = c.in-Some.ensures.zone
-
-pub returns-clause-seat : goal.returns-clause-seat
-returns-clause-seat g c = c.in-Some.ensures.zone_stock ∙ ap (λ (s : KnownStockSeat). with_page_absorbed s c.args.cpu.now.number) c.self.view_is
+pub returns : goal.returns
+returns g c = record {
+  known = search rules;
+  run = c.in-Some.ensures.run;
+  cpu = c.in-Some.ensures.answer;
+  zone = c.in-Some.ensures.zone;
+  seat = c.in-Some.ensures.zone_stock ∙ ap (λ (s : KnownStockSeat). with_page_absorbed s c.args.cpu.now.number) c.self.view_is;
+}

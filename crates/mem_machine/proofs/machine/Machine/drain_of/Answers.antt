@@ -38,19 +38,12 @@ ungrant-requires-clause-legal g c =
     (subst (λ (r : Run). MayTakeAll g.N.BootName.frames c.drain-pages.new.held r) (ungrants_some c.args.group c.drain-pages.result some)
     (may.1 _ c.drain-pages.ensures.run)).0
 
-pub uncharge-requires-clause-there : goal.uncharge-requires-clause-there
-uncharge-requires-clause-there g c =
+pub uncharge-requires : goal.uncharge-requires
+uncharge-requires g c =
     let some : 1 ≤ c.drain-pages.result = search rules in
-    (drained_within g.N.BootName.frames g.N.BootName.stocks _ _ c.self.view_is c.self.invariant.consistent c.prove_charges.ensures.legal _ _
-    c.requires.cpu.1 c.drain-pages.ensures.booked
-    _ c.requires.group some _ refl).0
-
-pub uncharge-requires-clause-charged : goal.uncharge-requires-clause-charged
-uncharge-requires-clause-charged g c =
-    let some : 1 ≤ c.drain-pages.result = search rules in
-    (drained_within g.N.BootName.frames g.N.BootName.stocks _ _ c.self.view_is c.self.invariant.consistent c.prove_charges.ensures.legal _ _
-    c.requires.cpu.1 c.drain-pages.ensures.booked
-    _ c.requires.group some _ refl).1
+    let within = drained_within g.N.BootName.frames g.N.BootName.stocks _ _ c.self.view_is c.self.invariant.consistent c.prove_charges.ensures.legal _ _
+    c.requires.cpu.1 c.drain-pages.ensures.booked _ c.requires.group some _ refl in
+    record { there = within.0; charged = within.1 }
 
 pub invariant_of-self : goal.invariant_of-self
 invariant_of-self g c = record {

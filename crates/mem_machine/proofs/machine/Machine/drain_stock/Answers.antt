@@ -1,4 +1,4 @@
-use Rattle.std.proofs.Common.{◌≡◌, ℕ, Option, None, Some, ap, refl, sym, ◌∙◌, subst}
+use Rattle.std.proofs.Common.{◌≡◌, ℕ, Option, None, Some, ap, refl, sym, ◌∙◌, subst, rules}
 use Rattle.step_rules.specs.declared.step.Action.TheVariants.{DrainStock}
 use Rattle.step_rules.specs.declared.step.Answer.TheVariants.{Pages}
 use Rattle.mem_machine.proofs.Draining.{drain_may, drained_never, drained_some, never_drained}
@@ -15,18 +15,14 @@ use Rattle.mem_machine.proofs.Reached.{held_here}
 use Rattle.mem_machine.proofs.Watched.{drains_still, consistent_still, stays_then}
 use Rattle.mem_machine.proofs.machine.Machine.drain_stock.Goals as goal
 
-pub drain_none-requires-clause-held : goal.drain_none-requires-clause-held
-drain_none-requires-clause-held g c = held_here g.N.BootName.frames _ _ c.self.view_is c.requires.shown.cpu c.requires.shown.is
-
-pub drain_none-requires-clause-legal : goal.drain_none-requires-clause-legal
-drain_none-requires-clause-legal g c =
-    drain_may g.N.BootName.frames _ _ c.self.view_is c.requires.shown.cpu c.requires.shown.is c.args.cpu c.requires.cpu.0 c.requires.cpu.1
-
-pub drain_none-requires-clause-group : goal.drain_none-requires-clause-group
-drain_none-requires-clause-group g c = sym c.in-None.ensures.group
-
-pub drain_none-requires-clause-drained : goal.drain_none-requires-clause-drained
-drain_none-requires-clause-drained g c = c.in-None.ensures.unfilled refl
+pub drain_none-requires : goal.drain_none-requires
+drain_none-requires g c = record {
+  held = held_here g.N.BootName.frames _ _ c.self.view_is c.requires.shown.cpu c.requires.shown.is;
+  legal = drain_may g.N.BootName.frames _ _ c.self.view_is c.requires.shown.cpu c.requires.shown.is c.args.cpu c.requires.cpu.0 c.requires.cpu.1;
+  cpu = search rules;
+  group = sym c.in-None.ensures.group;
+  drained = c.in-None.ensures.unfilled refl;
+}
 
 pub invariant_of-self : goal.invariant_of-self
 invariant_of-self g c = record {

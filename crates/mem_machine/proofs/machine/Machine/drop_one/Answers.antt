@@ -23,25 +23,20 @@ return_unit-requires-clause-legal g c =
     may_return_dropped g.N.BootName.frames g.N.BootName.stocks _ _ c.self.view_is c.args.cpu.now c.number-cpu_number.ensures.tied c.self.invariant.consistent c.requires.visit
     c.collect_fresh-frame.result e.cpu.0 e.cpu.1 killed _ c.number-at.ensures _ e.run
 
-pub free_unit-requires-clause-in_use : goal.free_unit-requires-clause-in_use
-free_unit-requires-clause-in_use g c =
+pub free_unit-requires : goal.free_unit-requires
+free_unit-requires g c =
     let k0 : c.single_order-order.result ≡ 0 = c.single_order-order.ensures in
     let fits : c.args.group < 64 = search rules in
     let e = c.collect_fresh-frame.ensures in
     let was = was_fresh g.N.BootName.frames g.N.BootName.stocks _ c.args.cpu.now _ c.args.group e.known.inside e.known.nothing e.known.lent
     e.known.booked e.known.group c.requires.group fits in
-    drop_in_use g.N.BootName.frames g.N.BootName.stocks _ c.args.cpu.now c.number-cpu_number.ensures.tied c.self.invariant.consistent _ _ c.args.group _
-    c.single_order-order.result c.self.invariant.free was c.number-at.ensures k0
-
-pub free_unit-requires-clause-charged : goal.free_unit-requires-clause-charged
-free_unit-requires-clause-charged g c =
-    let k0 : c.single_order-order.result ≡ 0 = c.single_order-order.ensures in
-    let fits : c.args.group < 64 = search rules in
-    let e = c.collect_fresh-frame.ensures in
-    let was = was_fresh g.N.BootName.frames g.N.BootName.stocks _ c.args.cpu.now _ c.args.group e.known.inside e.known.nothing e.known.lent
-    e.known.booked e.known.group c.requires.group fits in
-    drop_charged g.N.BootName.frames g.N.BootName.stocks _ c.args.cpu.now c.number-cpu_number.ensures.tied c.self.invariant.consistent _ c.args.group was
-    c.single_order-order.result k0
+    record {
+      in_use = drop_in_use g.N.BootName.frames g.N.BootName.stocks _ c.args.cpu.now c.number-cpu_number.ensures.tied c.self.invariant.consistent _ _ c.args.group _
+          c.single_order-order.result c.self.invariant.free was c.number-at.ensures k0;
+      inside = search rules;
+      charged = drop_charged g.N.BootName.frames g.N.BootName.stocks _ c.args.cpu.now c.number-cpu_number.ensures.tied c.self.invariant.consistent _ c.args.group was
+          c.single_order-order.result k0;
+    }
 
 pub invariant_of-self : goal.invariant_of-self
 invariant_of-self g c =
@@ -73,7 +68,7 @@ returns g c =
     _ c.return_unit.ensures.notes in
     let makes = makes_noted _ _ _ _ c.self.view_is _ _ _ _ all.steps _ notes in
     record {
-      drops = drops_still _ _ _ _ _ _ all.drops;
+      drops = drops_still _ _ _ _ _ _ all.does;
       visit = visits_then _ _ _ _ c.requires.visit.shown makes (ap (λ (k : KnownCpu). k.number) e.cpu.2) (open_still _ _ _ _ all.visit);
       steps = makes;
     }

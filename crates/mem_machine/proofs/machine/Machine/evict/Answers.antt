@@ -19,14 +19,18 @@ invariant_of-self g c = record {
   free = c.self.invariant.free;
 }
 
-pub freeze-requires-clause-held : goal.freeze-requires-clause-held
-freeze-requires-clause-held g c = held_at _ _ c.args.tables.now.frames_are _ (held_here g.N.BootName.frames _ _ c.self.view_is c.requires.shown.cpu c.requires.shown.is)
-
-pub freeze-requires-clause-legal : goal.freeze-requires-clause-legal
-freeze-requires-clause-legal g c =
-    may_at _ _ c.args.tables.now.frames_are 0 refl c.self.inside.past (Freeze c.args.head 1)
-    (freeze_may g.N.BootName.frames g.N.BootName.stocks _ _ c.self.view_is c.requires.shown.cpu c.requires.shown.is c.self.invariant.consistent c.args.head c.requires.frame
-    c.requires.kept).0.legal
+pub freeze-requires : goal.freeze-requires
+freeze-requires g c = record {
+  table = c.self.invariant.consistent.seats.frames.0 ∙ sym (ap (λ (t : KnownTable). t.table) c.args.tables.now.frames_are);
+  held = held_at _ _ c.args.tables.now.frames_are _ (held_here g.N.BootName.frames _ _ c.self.view_is c.requires.shown.cpu c.requires.shown.is);
+  frame = subst (λ (t : KnownTable). c.args.head < t.frames) (sym c.args.tables.now.frames_are) c.requires.frame;
+  count =
+      let one = kept_held g.N.BootName.frames g.N.BootName.stocks _ _ c.self.view_is c.self.invariant.consistent c.args.head c.requires.frame c.requires.kept in
+      (omega arith, omega (arith, one));
+  legal = may_at _ _ c.args.tables.now.frames_are 0 refl c.self.inside.past (Freeze c.args.head 1)
+      (freeze_may g.N.BootName.frames g.N.BootName.stocks _ _ c.self.view_is c.requires.shown.cpu c.requires.shown.is c.self.invariant.consistent c.args.head c.requires.frame
+      c.requires.kept).0.legal;
+}
 
 pub returns-then-not-freeze : goal.returns-then-not-freeze
 returns-then-not-freeze g c =
@@ -41,23 +45,15 @@ returns-then-not-freeze g c =
       steps = makes;
     }
 
-pub free_unit-requires-clause-in_use : goal.free_unit-requires-clause-in_use
-free_unit-requires-clause-in_use g c =
+pub free_unit-requires : goal.free_unit-requires
+free_unit-requires g c =
     let head = read_head g.N.BootName.frames g.N.BootName.stocks _ c.self.invariant.consistent c.args.head _ c.requires.frame c.number-at.ensures _ c.in-Head.unit
     c.index.ensures c.in-Head.is in
-    unit_in_use _ _ _ c.in-Head.unit c.self.invariant.free c.self.invariant.consistent.units head
-
-pub free_unit-requires-clause-inside : goal.free_unit-requires-clause-inside
-free_unit-requires-clause-inside g c =
-    let head = read_head g.N.BootName.frames g.N.BootName.stocks _ c.self.invariant.consistent c.args.head _ c.requires.frame c.number-at.ensures _ c.in-Head.unit
-    c.index.ensures c.in-Head.is in
-    (c.self.invariant.consistent.units.heads _ c.in-Head.unit head).block.inside
-
-pub free_unit-requires-clause-charged : goal.free_unit-requires-clause-charged
-free_unit-requires-clause-charged g c =
-    let head = read_head g.N.BootName.frames g.N.BootName.stocks _ c.self.invariant.consistent c.args.head _ c.requires.frame c.number-at.ensures _ c.in-Head.unit
-    c.index.ensures c.in-Head.is in
-    unit_charged g.N.BootName.frames g.N.BootName.stocks _ c.self.invariant.consistent _ c.in-Head.unit head
+    record {
+      in_use = unit_in_use _ _ _ c.in-Head.unit c.self.invariant.free c.self.invariant.consistent.units head;
+      inside = (c.self.invariant.consistent.units.heads _ c.in-Head.unit head).block.inside;
+      charged = unit_charged g.N.BootName.frames g.N.BootName.stocks _ c.self.invariant.consistent _ c.in-Head.unit head;
+    }
 
 pub invariant_of-self-2 : goal.invariant_of-self-2
 invariant_of-self-2 g c =
@@ -104,20 +100,5 @@ returns g c =
       steps = makes;
     }
 
-pub freeze-requires-clause-table : goal.freeze-requires-clause-table
-freeze-requires-clause-table g c = c.self.invariant.consistent.seats.frames.0 ∙ sym (ap (λ (t : KnownTable). t.table) c.args.tables.now.frames_are)
-
-pub freeze-requires-clause-frame : goal.freeze-requires-clause-frame
-freeze-requires-clause-frame g c = subst (λ (t : KnownTable). c.args.head < t.frames) (sym c.args.tables.now.frames_are) c.requires.frame
-
 pub index-requires : goal.index-requires
-index-requires g c =
-    let inside = c.requires.frame in
-    let same = c.number-at.ensures in
-    let sized = c.self.invariant.consistent.sizes.frame_states in
-    omega (arith, inside, same, sized)
-
-pub freeze-requires-clause-count : goal.freeze-requires-clause-count
-freeze-requires-clause-count g c =
-    let one = kept_held g.N.BootName.frames g.N.BootName.stocks _ _ c.self.view_is c.self.invariant.consistent c.args.head c.requires.frame c.requires.kept in
-    (omega arith, omega (arith, one))
+index-requires g c = omega (arith, c.requires.frame, c.number-at.ensures, c.self.invariant.consistent.sizes.frame_states)

@@ -14,20 +14,24 @@ pub collect_fresh-frame-requires-clause-legal : goal.collect_fresh-frame-require
 collect_fresh-frame-requires-clause-legal g c =
     may_collect_kept g.N.BootName.frames g.N.BootName.stocks _ _ c.self.view_is c.args.cpu.now c.number-cpu_number.ensures.tied c.self.invariant.consistent c.requires.visit
 
-pub unfreeze-requires-clause-legal : goal.unfreeze-requires-clause-legal
-unfreeze-requires-clause-legal g c =
-    let e = c.collect_fresh-frame.ensures in
-    may_unfreeze g.N.BootName.frames g.N.BootName.stocks _ _ c.self.view_is c.args.cpu.now c.number-cpu_number.ensures.tied c.self.invariant.consistent c.requires.visit
-    c.collect_fresh-frame.result e.cpu.0 e.cpu.1 _ c.args.tables.now.frames_are _ e.run
+pub unfreeze-requires : goal.unfreeze-requires
+unfreeze-requires g c = record {
+  table = ap (λ (s : KnownSeat). s.table) c.collect_fresh-frame.ensures.zone ∙ c.self.invariant.consistent.seats.frames.0 ∙ sym (ap (λ (t : KnownTable). t.table) c.args.tables.now.frames_are);
+  held = held_at _ _ c.args.tables.now.frames_are _ (held_collected _ _ _ _ _ c.collect_fresh-frame.ensures.run);
+  frame = subst (λ (t : KnownTable). c.collect_fresh-frame.result < t.frames) (sym c.args.tables.now.frames_are) c.collect_fresh-frame.ensures.known.inside;
+  hand = in_hand_then _ _ _ _ c.collect_fresh-frame.ensures.zone;
+  count = search rules;
+  legal =
+      let e = c.collect_fresh-frame.ensures in
+      may_unfreeze g.N.BootName.frames g.N.BootName.stocks _ _ c.self.view_is c.args.cpu.now c.number-cpu_number.ensures.tied c.self.invariant.consistent c.requires.visit
+      c.collect_fresh-frame.result e.cpu.0 e.cpu.1 _ c.args.tables.now.frames_are _ e.run;
+}
 
 pub publish-requires-clause-legal : goal.publish-requires-clause-legal
 publish-requires-clause-legal g c =
     let e = c.collect_fresh-frame.ensures in
     may_publish g.N.BootName.frames g.N.BootName.stocks _ _ c.self.view_is c.args.cpu.now c.number-cpu_number.ensures.tied c.self.invariant.consistent c.requires.visit
     c.collect_fresh-frame.result e.cpu.0 e.cpu.1 _ c.args.tables.now.frames_are _ c.number-at.ensures _ _ e.run c.unfreeze.ensures.run
-
-pub unfreeze-requires-clause-hand : goal.unfreeze-requires-clause-hand
-unfreeze-requires-clause-hand g c = in_hand_then _ _ _ _ c.collect_fresh-frame.ensures.zone
 
 pub invariant_of-self : goal.invariant_of-self
 invariant_of-self g c =
@@ -59,7 +63,7 @@ returns g c =
     _ c.args.tables.now.frames_are _ _ _ c.unfreeze.ensures.run c.unfroze.ensures c.publish.ensures.notes in
     let makes = makes_noted _ _ _ _ c.self.view_is _ _ _ _ all.steps _ notes in
     record {
-      keeps = keeps_still _ _ _ _ _ _ all.keeps;
+      keeps = keeps_still _ _ _ _ _ _ all.does;
       visit = visits_then _ _ _ _ c.requires.visit.shown makes (ap (λ (k : KnownCpu). k.number) e.cpu.2) (open_still _ _ _ _ all.visit);
       steps = makes;
     }
@@ -77,18 +81,5 @@ pub collect_fresh-frame-requires-clause-visited : goal.collect_fresh-frame-requi
 collect_fresh-frame-requires-clause-visited g c =
     visited_here g.N.BootName.frames g.N.BootName.stocks _ _ c.self.view_is c.args.cpu.now c.self.invariant.consistent c.requires.visit
 
-pub unfreeze-requires-clause-held : goal.unfreeze-requires-clause-held
-unfreeze-requires-clause-held g c = held_at _ _ c.args.tables.now.frames_are _ (held_collected _ _ _ _ _ c.collect_fresh-frame.ensures.run)
-
-pub unfreeze-requires-clause-table : goal.unfreeze-requires-clause-table
-unfreeze-requires-clause-table g c = ap (λ (s : KnownSeat). s.table) c.collect_fresh-frame.ensures.zone ∙ c.self.invariant.consistent.seats.frames.0 ∙ sym (ap (λ (t : KnownTable). t.table) c.args.tables.now.frames_are)
-
-pub unfreeze-requires-clause-frame : goal.unfreeze-requires-clause-frame
-unfreeze-requires-clause-frame g c = subst (λ (t : KnownTable). c.collect_fresh-frame.result < t.frames) (sym c.args.tables.now.frames_are) c.collect_fresh-frame.ensures.known.inside
-
 pub index_mut-requires : goal.index_mut-requires
-index_mut-requires g c =
-    let inside = c.collect_fresh-frame.ensures.known.inside in
-    let same = c.number-at.ensures in
-    let sized = c.self.invariant.consistent.sizes.frame_states in
-    omega (arith, inside, same, sized)
+index_mut-requires g c = omega (arith, c.collect_fresh-frame.ensures.known.inside, c.number-at.ensures, c.self.invariant.consistent.sizes.frame_states)

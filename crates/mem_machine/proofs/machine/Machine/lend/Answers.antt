@@ -1,4 +1,4 @@
-use Rattle.std.proofs.Common.{◌≡◌, ◌<◌, ap, sym, subst, ◌∙◌, arith}
+use Rattle.std.proofs.Common.{◌≡◌, ap, sym, subst, ◌∙◌, arith, rules}
 use Rattle.frame_word.specs.Seats.{IsOpen}
 use Rattle.mem_machine.specs.declared.frame_state.FrameState.TheVariants.{Free}
 use Rattle.mem_machine.specs.FrameStates.{frame_state_at}
@@ -17,31 +17,21 @@ take_frame-requires g c =
     given_free g.N.BootName.frames g.N.BootName.stocks _ _ c.self.view_is c.self.invariant.consistent _ c.args.frame _ c.self.invariant.free c.requires.frame
     c.requires.free c.number-given.ensures
 
-pub borrow-requires-clause-hand : goal.borrow-requires-clause-hand
-borrow-requires-clause-hand g c =
-    given_hand g.N.BootName.frames g.N.BootName.stocks _ _ c.self.view_is c.self.invariant.consistent _ c.requires.frame c.requires.free
-
-pub borrow-requires-clause-held : goal.borrow-requires-clause-held
-borrow-requires-clause-held g c = held_here g.N.BootName.frames _ _ c.self.view_is c.args.cpu.now c.requires.visit.shown
-
-pub borrow-requires-clause-holder : goal.borrow-requires-clause-holder
-borrow-requires-clause-holder g c = holder_here g.N.BootName.frames _ _ c.self.view_is c.args.cpu.now c.requires.visit.shown
-
-pub borrow-requires-clause-legal : goal.borrow-requires-clause-legal
-borrow-requires-clause-legal g c =
-    let free : frame_state_at c.self.inside.frame_states.items c.args.frame ≡ Free = ap (λ (x : KnownMachine). frame_state_at x.frame_states c.args.frame) c.self.view_is ∙ c.requires.free in
-    may_lend g.N.BootName.frames g.N.BootName.stocks _ _ c.self.view_is c.args.cpu.now c.number-cpu_number.ensures.tied c.self.invariant.consistent
-    c.requires.visit c.args.frame c.requires.frame free
-
-pub borrow-requires-clause-zone : goal.borrow-requires-clause-zone
-borrow-requires-clause-zone g c = c.self.invariant.consistent.seats.frames
-
-pub borrow-requires-clause-open : goal.borrow-requires-clause-open
-borrow-requires-clause-open g c =
-    subst (λ (x : KnownMachine). IsOpen x.frame_seat c.args.cpu.now.number) (sym c.self.view_is) c.requires.visit.is_open
-
-pub borrow-requires-clause-still : goal.borrow-requires-clause-still
-borrow-requires-clause-still g c = still_here _ _ _ c.self.view_is c.args.cpu.now c.requires.visit
+pub borrow-requires : goal.borrow-requires
+borrow-requires g c = record {
+  held = held_here g.N.BootName.frames _ _ c.self.view_is c.args.cpu.now c.requires.visit.shown;
+  holder = holder_here g.N.BootName.frames _ _ c.self.view_is c.args.cpu.now c.requires.visit.shown;
+  legal =
+      let free : frame_state_at c.self.inside.frame_states.items c.args.frame ≡ Free = ap (λ (x : KnownMachine). frame_state_at x.frame_states c.args.frame) c.self.view_is ∙ c.requires.free in
+      may_lend g.N.BootName.frames g.N.BootName.stocks _ _ c.self.view_is c.args.cpu.now c.number-cpu_number.ensures.tied c.self.invariant.consistent
+      c.requires.visit c.args.frame c.requires.frame free;
+  zone = c.self.invariant.consistent.seats.frames;
+  frame = c.requires.frame;
+  «open» = subst (λ (x : KnownMachine). IsOpen x.frame_seat c.args.cpu.now.number) (sym c.self.view_is) c.requires.visit.is_open;
+  hand = given_hand g.N.BootName.frames g.N.BootName.stocks _ _ c.self.view_is c.self.invariant.consistent _ c.requires.frame c.requires.free;
+  still = still_here _ _ _ c.self.view_is c.args.cpu.now c.requires.visit;
+  room = search rules;
+}
 
 pub invariant_of-self : goal.invariant_of-self
 invariant_of-self g c =
@@ -59,17 +49,10 @@ returns g c =
     c.passed_out.ensures c.took_in.ensures in
     let makes = makes_noted _ _ _ _ c.self.view_is _ _ _ _ all.steps _ notes in
     record {
-      lends = lends_still _ _ _ _ _ all.lends;
+      lends = lends_still _ _ _ _ _ all.does;
       visit = visits_then _ _ _ _ c.requires.visit.shown makes (ap (λ (e : KnownCpu). e.number) c.borrow.ensures.cpu) (open_still _ _ _ _ all.visit);
       steps = makes;
     }
 
-pub borrow-requires-clause-frame : goal.borrow-requires-clause-frame
-borrow-requires-clause-frame g c = c.requires.frame
-
 pub index_mut-requires : goal.index_mut-requires
-index_mut-requires g c =
-    let inside : c.args.frame < g.N.BootName.frames.frames = c.requires.frame in
-    let same = c.number-given.ensures in
-    let sized = c.self.invariant.consistent.sizes.frame_states in
-    omega (arith, inside, same, sized)
+index_mut-requires g c = omega (arith, c.requires.frame, c.number-given.ensures, c.self.invariant.consistent.sizes.frame_states)

@@ -22,49 +22,31 @@ fill_stock-requires-clause-drained g c =
     (λ i. (sym c.look_at_stock-emptied.ensures.machine i, sym c.look_at_stock-emptied.ensures.cpu i))
     (emptied_drained _ _ _ _ _ c.number-cpu_number.ensures.number c.drain_stock.ensures.drains)
 
-pub returns-clause-prepays : goal.returns-clause-prepays
-returns-clause-prepays g c =
+pub returns : goal.returns
+returns g c =
     let number = c.number-cpu_number.ensures.number in
     let drains = c.drain_stock.ensures.drains in
     let whole = emptied_whole _ _ _ _ _ number drains c.args.cpu.now _ _ refl refl c.requires.none_fresh c.look_at_stock-emptied.ensures.stock in
     let steps = c.drain_stock.ensures.steps c.args.cpu.now in
-    on_ok_both c.fill_stock.result
-    (λ fills run. prepays _ _ _ _ _ number drains g.N.BootName.frames c.args.cpu.now refl whole steps _ _ c.look_at_stock-emptied.ensures.machine c.look_at_stock-emptied.ensures.cpu
-    c.args.group c.args.pages _ _ fills)
-    c.fill_stock.ensures.fills c.fill_stock.ensures.steps
-
-pub returns-clause-steps : goal.returns-clause-steps
-returns-clause-steps g c =
-    let number = c.number-cpu_number.ensures.number in
-    let drains = c.drain_stock.ensures.drains in
-    let whole = emptied_whole _ _ _ _ _ number drains c.args.cpu.now _ _ refl refl c.requires.none_fresh c.look_at_stock-emptied.ensures.stock in
-    let steps = c.drain_stock.ensures.steps c.args.cpu.now in
-    on_ok_both c.fill_stock.result
-    (λ fills run. prepay_runs _ _ _ _ _ number drains g.N.BootName.frames c.args.cpu.now refl whole steps _ _ c.look_at_stock-emptied.ensures.machine
-    c.look_at_stock-emptied.ensures.cpu c.args.group c.args.pages c.fill_stock.new.self c.fill_stock.new.cpu run)
-    c.fill_stock.ensures.fills c.fill_stock.ensures.steps
-
-pub returns-clause-over : goal.returns-clause-over
-returns-clause-over g c =
-    let number = c.number-cpu_number.ensures.number in
-    let drains = c.drain_stock.ensures.drains in
-    let whole = emptied_whole _ _ _ _ _ number drains c.args.cpu.now _ _ refl refl c.requires.none_fresh c.look_at_stock-emptied.ensures.stock in
-    let steps = c.drain_stock.ensures.steps c.args.cpu.now in
-    if_err_both c.fill_stock.result
-    (λ e same low run. is_refused _ _ _ _ _ number drains g.N.BootName.frames c.args.cpu.now refl whole steps _ _ c.look_at_stock-emptied.ensures.machine
-    c.look_at_stock-emptied.ensures.cpu c.args.group c.args.pages _ _ e.group same.machine same.cpu low)
-    c.fill_stock.ensures.unchanged c.fill_stock.ensures.over c.fill_stock.ensures.refused
-
-pub returns-clause-refused : goal.returns-clause-refused
-returns-clause-refused g c =
-    let number = c.number-cpu_number.ensures.number in
-    let drains = c.drain_stock.ensures.drains in
-    let whole = emptied_whole _ _ _ _ _ number drains c.args.cpu.now _ _ refl refl c.requires.none_fresh c.look_at_stock-emptied.ensures.stock in
-    let steps = c.drain_stock.ensures.steps c.args.cpu.now in
-    if_err_both c.fill_stock.result
-    (λ e same low run. refused_runs _ _ _ _ _ number drains g.N.BootName.frames c.args.cpu.now refl whole steps _ _ c.look_at_stock-emptied.ensures.machine
-    c.look_at_stock-emptied.ensures.cpu c.args.group c.args.pages _ _ e.group same.machine same.cpu run)
-    c.fill_stock.ensures.unchanged c.fill_stock.ensures.over c.fill_stock.ensures.refused
+    record {
+      prepays = on_ok_both c.fill_stock.result
+          (λ fills run. prepays _ _ _ _ _ number drains g.N.BootName.frames c.args.cpu.now refl whole steps _ _ c.look_at_stock-emptied.ensures.machine c.look_at_stock-emptied.ensures.cpu
+          c.args.group c.args.pages _ _ fills)
+          c.fill_stock.ensures.fills c.fill_stock.ensures.steps;
+      over = if_err_both c.fill_stock.result
+          (λ e same low run. is_refused _ _ _ _ _ number drains g.N.BootName.frames c.args.cpu.now refl whole steps _ _ c.look_at_stock-emptied.ensures.machine
+          c.look_at_stock-emptied.ensures.cpu c.args.group c.args.pages _ _ e.group same.machine same.cpu low)
+          c.fill_stock.ensures.unchanged c.fill_stock.ensures.over c.fill_stock.ensures.refused;
+      visit = search rules;
+      steps = on_ok_both c.fill_stock.result
+          (λ fills run. prepay_runs _ _ _ _ _ number drains g.N.BootName.frames c.args.cpu.now refl whole steps _ _ c.look_at_stock-emptied.ensures.machine
+          c.look_at_stock-emptied.ensures.cpu c.args.group c.args.pages c.fill_stock.new.self c.fill_stock.new.cpu run)
+          c.fill_stock.ensures.fills c.fill_stock.ensures.steps;
+      refused = if_err_both c.fill_stock.result
+          (λ e same low run. refused_runs _ _ _ _ _ number drains g.N.BootName.frames c.args.cpu.now refl whole steps _ _ c.look_at_stock-emptied.ensures.machine
+          c.look_at_stock-emptied.ensures.cpu c.args.group c.args.pages _ _ e.group same.machine same.cpu run)
+          c.fill_stock.ensures.unchanged c.fill_stock.ensures.over c.fill_stock.ensures.refused;
+    }
 
 pub drain_stock-requires-clause-shown : goal.drain_stock-requires-clause-shown
 drain_stock-requires-clause-shown g c = record { cpu = c.args.cpu.now; is = c.requires.visit.shown }
@@ -73,9 +55,4 @@ pub fill_stock-requires-clause-visit : goal.fill_stock-requires-clause-visit
 fill_stock-requires-clause-visit g c =
     let visit = c.drain_stock.ensures.visit c.args.cpu.now c.requires.visit in
     subst (λ (z : KnownMachine × KnownCpu). Visits g.N.BootName.frames (visit_state z.0 z.1))
-    (λ i. (sym c.look_at_stock-emptied.ensures.machine i, sym c.look_at_stock-emptied.ensures.cpu i)) (record {
-      is_open = visit.is_open;
-      still = visit.still;
-      lent = visit.lent;
-      shown = record { held = visit.shown.held; who = visit.shown.who; here = visit.shown.here };
-    })
+    (λ i. (sym c.look_at_stock-emptied.ensures.machine i, sym c.look_at_stock-emptied.ensures.cpu i)) (search rules)

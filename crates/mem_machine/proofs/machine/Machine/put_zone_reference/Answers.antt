@@ -12,23 +12,15 @@ use Rattle.mem_machine.proofs.Reached.{held_here, may_lead_all}
 use Rattle.mem_machine.proofs.Watched.{consistent_still, open_still, returned_still, visits_then}
 use Rattle.mem_machine.proofs.machine.Machine.put_zone_reference.Goals as goal
 
-pub free_unit-requires-clause-in_use : goal.free_unit-requires-clause-in_use
-free_unit-requires-clause-in_use g c =
+pub free_unit-requires : goal.free_unit-requires
+free_unit-requires g c =
     let head = read_head g.N.BootName.frames g.N.BootName.stocks _ c.self.invariant.consistent c.args.head _ c.requires.frame c.number-at.ensures _ c.in-Head.unit
     c.index.ensures c.in-Head.is in
-    unit_in_use _ _ _ c.in-Head.unit c.self.invariant.free c.self.invariant.consistent.units head
-
-pub free_unit-requires-clause-inside : goal.free_unit-requires-clause-inside
-free_unit-requires-clause-inside g c =
-    let head = read_head g.N.BootName.frames g.N.BootName.stocks _ c.self.invariant.consistent c.args.head _ c.requires.frame c.number-at.ensures _ c.in-Head.unit
-    c.index.ensures c.in-Head.is in
-    (c.self.invariant.consistent.units.heads _ c.in-Head.unit head).block.inside
-
-pub free_unit-requires-clause-charged : goal.free_unit-requires-clause-charged
-free_unit-requires-clause-charged g c =
-    let head = read_head g.N.BootName.frames g.N.BootName.stocks _ c.self.invariant.consistent c.args.head _ c.requires.frame c.number-at.ensures _ c.in-Head.unit
-    c.index.ensures c.in-Head.is in
-    unit_charged g.N.BootName.frames g.N.BootName.stocks _ c.self.invariant.consistent _ c.in-Head.unit head
+    record {
+      in_use = unit_in_use _ _ _ c.in-Head.unit c.self.invariant.free c.self.invariant.consistent.units head;
+      inside = (c.self.invariant.consistent.units.heads _ c.in-Head.unit head).block.inside;
+      charged = unit_charged g.N.BootName.frames g.N.BootName.stocks _ c.self.invariant.consistent _ c.in-Head.unit head;
+    }
 
 pub invariant_of-self : goal.invariant_of-self
 invariant_of-self g c = record {
@@ -38,18 +30,19 @@ invariant_of-self g c = record {
   free = c.self.invariant.free;
 }
 
-pub put_held-requires-clause-held : goal.put_held-requires-clause-held
-put_held-requires-clause-held g c =
-    held_at _ _ c.args.tables.now.frames_are _ (held_here g.N.BootName.frames _ _ c.self.view_is c.requires.shown.cpu c.requires.shown.is)
-
-pub put_held-requires-clause-number : goal.put_held-requires-clause-number
-put_held-requires-clause-number g c = inl c.self.invariant.consistent.seats.frames.1
-
-pub put_held-requires-clause-legal : goal.put_held-requires-clause-legal
-put_held-requires-clause-legal g c =
-    may_at _ _ c.args.tables.now.frames_are _ c.self.invariant.consistent.seats.frames.1 c.self.inside.past (Put c.args.head)
-    (put_may g.N.BootName.frames g.N.BootName.stocks _ _ c.self.view_is c.requires.shown.cpu c.requires.shown.is c.self.invariant.consistent c.args.head c.requires.frame
-    c.requires.kept).0.legal
+pub put_held-requires : goal.put_held-requires
+put_held-requires g c = record {
+  table = c.self.invariant.consistent.seats.frames.0 ∙ sym (ap (λ (t : KnownTable). t.table) c.args.tables.now.frames_are);
+  held = held_at _ _ c.args.tables.now.frames_are _ (held_here g.N.BootName.frames _ _ c.self.view_is c.requires.shown.cpu c.requires.shown.is);
+  number = inl c.self.invariant.consistent.seats.frames.1;
+  frame = subst (λ (t : KnownTable). c.args.head < t.frames) (sym c.args.tables.now.frames_are) c.requires.frame;
+  reference =
+      let one = kept_held g.N.BootName.frames g.N.BootName.stocks _ _ c.self.view_is c.self.invariant.consistent c.args.head c.requires.frame c.requires.kept in
+      omega (arith, one);
+  legal = may_at _ _ c.args.tables.now.frames_are _ c.self.invariant.consistent.seats.frames.1 c.self.inside.past (Put c.args.head)
+      (put_may g.N.BootName.frames g.N.BootName.stocks _ _ c.self.view_is c.requires.shown.cpu c.requires.shown.is c.self.invariant.consistent c.args.head c.requires.frame
+      c.requires.kept).0.legal;
+}
 
 pub returns-in-Left : goal.returns-in-Left
 returns-in-Left g c =
@@ -108,20 +101,5 @@ returns-in-Head g c =
       steps = makes;
     }
 
-pub put_held-requires-clause-table : goal.put_held-requires-clause-table
-put_held-requires-clause-table g c = c.self.invariant.consistent.seats.frames.0 ∙ sym (ap (λ (t : KnownTable). t.table) c.args.tables.now.frames_are)
-
-pub put_held-requires-clause-frame : goal.put_held-requires-clause-frame
-put_held-requires-clause-frame g c = subst (λ (t : KnownTable). c.args.head < t.frames) (sym c.args.tables.now.frames_are) c.requires.frame
-
 pub index-requires : goal.index-requires
-index-requires g c =
-    let inside = c.requires.frame in
-    let same = c.number-at.ensures in
-    let sized = c.self.invariant.consistent.sizes.frame_states in
-    omega (arith, inside, same, sized)
-
-pub put_held-requires-clause-reference : goal.put_held-requires-clause-reference
-put_held-requires-clause-reference g c =
-    let one = kept_held g.N.BootName.frames g.N.BootName.stocks _ _ c.self.view_is c.self.invariant.consistent c.args.head c.requires.frame c.requires.kept in
-    omega (arith, one)
+index-requires g c = omega (arith, c.requires.frame, c.number-at.ensures, c.self.invariant.consistent.sizes.frame_states)

@@ -11,30 +11,35 @@ use Rattle.mem_machine.proofs.Followed.{makes_noted}
 use Rattle.mem_machine.proofs.Watched.{consistent_still, returns_still, open_still, visits_then}
 use Rattle.mem_machine.proofs.machine.Machine.return_one.Goals as goal
 
-pub pass_back_unit-requires-clause-held : goal.pass_back_unit-requires-clause-held
-pass_back_unit-requires-clause-held g c = held_here g.N.BootName.frames _ _ c.self.view_is c.args.cpu.now c.requires.shown
+pub pass_back_unit-requires : goal.pass_back_unit-requires
+pass_back_unit-requires g c = record {
+  held = held_here g.N.BootName.frames _ _ c.self.view_is c.args.cpu.now c.requires.shown;
+  holder = holder_here g.N.BootName.frames _ _ c.self.view_is c.args.cpu.now c.requires.shown;
+  legal = back_may_pass g.N.BootName.frames _ _ c.self.view_is c.args.cpu.now c.requires;
+  zone = c.self.invariant.consistent.seats.frames;
+  «open» = subst (λ (k : KnownMachine). IsOpen k.frame_seat c.args.cpu.now.number) (sym c.self.view_is) c.requires.is_open;
+}
 
-pub pass_back_unit-requires-clause-holder : goal.pass_back_unit-requires-clause-holder
-pass_back_unit-requires-clause-holder g c = holder_here g.N.BootName.frames _ _ c.self.view_is c.args.cpu.now c.requires.shown
-
-pub pass_back_unit-requires-clause-legal : goal.pass_back_unit-requires-clause-legal
-pass_back_unit-requires-clause-legal g c = back_may_pass g.N.BootName.frames _ _ c.self.view_is c.args.cpu.now c.requires
-
-pub collect-requires-clause-held : goal.collect-requires-clause-held
-collect-requires-clause-held g c = c.in-Some.ensures.run.held
-
-pub collect-requires-clause-holder : goal.collect-requires-clause-holder
-collect-requires-clause-holder g c = back_number _ _ _ c.in-Some.ensures.answer
-    ∙ holder_then _ _ _ _ _ _ _ c.in-Some.ensures.run (holder_here g.N.BootName.frames _ _ c.self.view_is c.args.cpu.now c.requires.shown)
-
-pub collect-requires-clause-legal : goal.collect-requires-clause-legal
-collect-requires-clause-legal g c =
-    let inside : c.in-Some.frame < g.N.BootName.frames.frames = c.in-Some.ensures.frame in
-    let was : WasBack g.N.BootName.frames _ c.in-Some.frame =
-    record { inside = inside; nothing = c.in-Some.ensures.own.0; lent = c.in-Some.ensures.own.1 } in
-    let hands = c.in-Some.ensures.answer in
-    may_collect_back g.N.BootName.frames g.N.BootName.stocks _ _ c.self.view_is c.args.cpu.now c.number-cpu_number.ensures.tied c.self.invariant.consistent c.requires
-    c.in-Some.frame was hands.0 hands.1 _ (back_number _ _ _ hands) _ c.in-Some.ensures.run
+pub collect-requires : goal.collect-requires
+collect-requires g c = record {
+  held = c.in-Some.ensures.run.held;
+  holder = back_number _ _ _ c.in-Some.ensures.answer
+      ∙ holder_then _ _ _ _ _ _ _ c.in-Some.ensures.run (holder_here g.N.BootName.frames _ _ c.self.view_is c.args.cpu.now c.requires.shown);
+  legal =
+      let inside : c.in-Some.frame < g.N.BootName.frames.frames = c.in-Some.ensures.frame in
+      let was : WasBack g.N.BootName.frames _ c.in-Some.frame =
+      record { inside = inside; nothing = c.in-Some.ensures.own.0; lent = c.in-Some.ensures.own.1 } in
+      let hands = c.in-Some.ensures.answer in
+      may_collect_back g.N.BootName.frames g.N.BootName.stocks _ _ c.self.view_is c.args.cpu.now c.number-cpu_number.ensures.tied c.self.invariant.consistent c.requires
+      c.in-Some.frame was hands.0 hands.1 _ (back_number _ _ _ hands) _ c.in-Some.ensures.run;
+  zone = subst (IsZoneSeat g.N.BootName.frames) (sym c.in-Some.ensures.zone) c.self.invariant.consistent.seats.frames;
+  frame = c.in-Some.ensures.frame;
+  passes =
+      let inside : c.in-Some.frame < g.N.BootName.frames.frames = c.in-Some.ensures.frame in
+      back_passes g.N.BootName.frames g.N.BootName.stocks _ _ c.self.view_is c.args.cpu.now _ c.number-cpu_number.ensures.tied c.requires _ _ inside
+      c.in-Some.ensures.answer
+      c.in-Some.ensures.zone;
+}
 
 pub return_unit-requires-clause-held : goal.return_unit-requires-clause-held
 return_unit-requires-clause-held g c = c.collect.ensures.run.held
@@ -48,36 +53,17 @@ return_unit-requires-clause-legal g c =
     may_return_back g.N.BootName.frames g.N.BootName.stocks _ _ c.self.view_is c.args.cpu.now c.number-cpu_number.ensures.tied c.self.invariant.consistent c.requires
     c.in-Some.frame was hands.0 hands.1 _ (back_number _ _ _ hands) _ c.in-Some.ensures.run _ c.number-at.ensures _ c.collect.ensures.run
 
-pub collect-requires-clause-passes : goal.collect-requires-clause-passes
-collect-requires-clause-passes g c =
-    let inside : c.in-Some.frame < g.N.BootName.frames.frames = c.in-Some.ensures.frame in
-    back_passes g.N.BootName.frames g.N.BootName.stocks _ _ c.self.view_is c.args.cpu.now _ c.number-cpu_number.ensures.tied c.requires _ _ inside
-    c.in-Some.ensures.answer
-    c.in-Some.ensures.zone
-
-pub free_unit-requires-clause-in_use : goal.free_unit-requires-clause-in_use
-free_unit-requires-clause-in_use g c =
+pub free_unit-requires : goal.free_unit-requires
+free_unit-requires g c =
     let inside : c.in-Some.frame < g.N.BootName.frames.frames = c.in-Some.ensures.frame in
     let was : WasBack g.N.BootName.frames _ c.in-Some.frame =
     record { inside = inside; nothing = c.in-Some.ensures.own.0; lent = c.in-Some.ensures.own.1 } in
     let heads = read_head g.N.BootName.frames g.N.BootName.stocks _ c.self.invariant.consistent _ _ was c.number-at.ensures _ c.index.ensures _ c.in-Head.is in
-    back_in_use g.N.BootName.frames g.N.BootName.stocks _ c.self.invariant.consistent _ _ _ c.self.invariant.free heads
-
-pub free_unit-requires-clause-inside : goal.free_unit-requires-clause-inside
-free_unit-requires-clause-inside g c =
-    let inside : c.in-Some.frame < g.N.BootName.frames.frames = c.in-Some.ensures.frame in
-    let was : WasBack g.N.BootName.frames _ c.in-Some.frame =
-    record { inside = inside; nothing = c.in-Some.ensures.own.0; lent = c.in-Some.ensures.own.1 } in
-    let heads = read_head g.N.BootName.frames g.N.BootName.stocks _ c.self.invariant.consistent _ _ was c.number-at.ensures _ c.index.ensures _ c.in-Head.is in
-    back_inside g.N.BootName.frames g.N.BootName.stocks _ c.self.invariant.consistent _ _ heads
-
-pub free_unit-requires-clause-charged : goal.free_unit-requires-clause-charged
-free_unit-requires-clause-charged g c =
-    let inside : c.in-Some.frame < g.N.BootName.frames.frames = c.in-Some.ensures.frame in
-    let was : WasBack g.N.BootName.frames _ c.in-Some.frame =
-    record { inside = inside; nothing = c.in-Some.ensures.own.0; lent = c.in-Some.ensures.own.1 } in
-    let heads = read_head g.N.BootName.frames g.N.BootName.stocks _ c.self.invariant.consistent _ _ was c.number-at.ensures _ c.index.ensures _ c.in-Head.is in
-    unit_charged g.N.BootName.frames g.N.BootName.stocks _ c.self.invariant.consistent _ _ heads
+    record {
+      in_use = back_in_use g.N.BootName.frames g.N.BootName.stocks _ c.self.invariant.consistent _ _ _ c.self.invariant.free heads;
+      inside = back_inside g.N.BootName.frames g.N.BootName.stocks _ c.self.invariant.consistent _ _ heads;
+      charged = unit_charged g.N.BootName.frames g.N.BootName.stocks _ c.self.invariant.consistent _ _ heads;
+    }
 
 pub invariant_of-self-2 : goal.invariant_of-self-2
 invariant_of-self-2 g c =
@@ -112,26 +98,10 @@ returns g c =
     c.in-Some.ensures.run c.collect.ensures.run c.passed_back.ensures c.collected.ensures c.return_unit.ensures.notes in
     let makes = makes_noted _ _ _ _ c.self.view_is _ _ _ _ all.steps _ notes in
     record {
-      returns = returns_still _ _ _ _ _ all.returns;
+      returns = returns_still _ _ _ _ _ all.does;
       visit = visits_then _ _ _ _ c.requires.shown makes (ap (λ (e : KnownCpu). e.number) c.collect.ensures.cpu ∙ handed) (open_still _ _ _ _ all.visit);
       steps = makes;
     }
 
-pub pass_back_unit-requires-clause-zone : goal.pass_back_unit-requires-clause-zone
-pass_back_unit-requires-clause-zone g c = c.self.invariant.consistent.seats.frames
-
-pub pass_back_unit-requires-clause-open : goal.pass_back_unit-requires-clause-open
-pass_back_unit-requires-clause-open g c = subst (λ (k : KnownMachine). IsOpen k.frame_seat c.args.cpu.now.number) (sym c.self.view_is) c.requires.is_open
-
-pub collect-requires-clause-zone : goal.collect-requires-clause-zone
-collect-requires-clause-zone g c = subst (IsZoneSeat g.N.BootName.frames) (sym c.in-Some.ensures.zone) c.self.invariant.consistent.seats.frames
-
-pub collect-requires-clause-frame : goal.collect-requires-clause-frame
-collect-requires-clause-frame g c = c.in-Some.ensures.frame
-
 pub index-requires : goal.index-requires
-index-requires g c =
-    let inside = c.in-Some.ensures.frame in
-    let same = c.number-at.ensures in
-    let sized = c.self.invariant.consistent.sizes.frame_states in
-    omega (arith, inside, same, sized)
+index-requires g c = omega (arith, c.in-Some.ensures.frame, c.number-at.ensures, c.self.invariant.consistent.sizes.frame_states)

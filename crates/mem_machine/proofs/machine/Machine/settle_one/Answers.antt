@@ -6,15 +6,19 @@ use Rattle.mem_machine.specs.Local.{number_or_0}
 use Rattle.mem_machine.proofs.Settled.{killed_read, settles_kept, settles_dropped, steps_of}
 use Rattle.mem_machine.proofs.machine.Machine.settle_one.Goals as goal
 
-pub returns-then-index-clause-steps : goal.returns-then-index-clause-steps
-returns-then-index-clause-steps g c =
+pub returns-then-index : goal.returns-then-index
+returns-then-index g c =
     let of_group : group_of c.args.cpu.now.stock_seat.view.last ≡ Some c.unwrap-group.result = search rules in
     let same : c.in-Some.group_number ≡ c.unwrap-group.result = search rules in
     let few : c.unwrap-group.result < most_groups = search rules in
     let killed : is_killed c.args.self.now.killed c.unwrap-group.result ≡ true =
     ap (λ (m : KnownMachine). is_killed m.killed c.unwrap-group.result) (sym c.self.view_is)
     ∙ killed_read c.self.inside.killed.items _ _ c.index.result.now same c.self.invariant.consistent.sizes.killed few c.index.ensures c.if-index.true in
-    steps_of true _ _ c.unwrap-group.result c.args.self.now c.args.cpu.now _ _ _ (ap number_or_0 of_group) killed c.drop_one.ensures.steps
+    record {
+      settles = settles_dropped _ _ c.args.self.now c.args.cpu.now _ _ (ap number_or_0 of_group) killed c.drop_one.ensures.drops;
+      visit = search rules;
+      steps = steps_of true _ _ c.unwrap-group.result c.args.self.now c.args.cpu.now _ _ _ (ap number_or_0 of_group) killed c.drop_one.ensures.steps;
+    }
 
 pub returns-else-index-clause-steps : goal.returns-else-index-clause-steps
 returns-else-index-clause-steps g c =
@@ -27,13 +31,3 @@ returns-else-index-clause-settles g c =
     let of_group : group_of c.args.cpu.now.stock_seat.view.last ≡ Some c.unwrap-group.result = search rules in
     let alive : is_killed c.args.self.now.killed c.unwrap-group.result ≡ false = search rules in
     settles_kept _ _ c.args.self.now c.args.cpu.now _ _ (ap number_or_0 of_group) alive c.keep_one.ensures.keeps
-
-pub returns-then-index-clause-settles : goal.returns-then-index-clause-settles
-returns-then-index-clause-settles g c =
-    let of_group : group_of c.args.cpu.now.stock_seat.view.last ≡ Some c.unwrap-group.result = search rules in
-    let same : c.in-Some.group_number ≡ c.unwrap-group.result = search rules in
-    let few : c.unwrap-group.result < most_groups = search rules in
-    let killed : is_killed c.args.self.now.killed c.unwrap-group.result ≡ true =
-    ap (λ (m : KnownMachine). is_killed m.killed c.unwrap-group.result) (sym c.self.view_is)
-    ∙ killed_read c.self.inside.killed.items _ _ c.index.result.now same c.self.invariant.consistent.sizes.killed few c.index.ensures c.if-index.true in
-    settles_dropped _ _ c.args.self.now c.args.cpu.now _ _ (ap number_or_0 of_group) killed c.drop_one.ensures.drops

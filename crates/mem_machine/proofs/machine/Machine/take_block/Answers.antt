@@ -9,9 +9,8 @@ use Rattle.mem_machine.specs.Local.{visit_state}
 use Rattle.mem_machine.specs.Steps.{over_steps, zone_makes}
 use Rattle.mem_machine.proofs.Prepaying.{refused_all}
 use Rattle.zone_blocks.specs.Zone.{BuddyZone}
-use Rattle.mem_machine.proofs.Usage.{usage_seen, balanced_alone}
 use Rattle.mem_machine.proofs.TakesBlocks.{taken_all, none_all, taken_inside, head_inside, head_free, free_in_hand}
-use Rattle.mem_machine.proofs.TakesBlocks.{granted_may, taken_may, taken_notes, unplaced_may, unplaced_notes, visit_kept}
+use Rattle.mem_machine.proofs.TakesBlocks.{granted_may, may_take, taken_may, taken_notes, unplaced_may, unplaced_notes}
 use Rattle.boot_words.specs.Pasts.{MakesStep}
 use Rattle.step_rules.specs.declared.step.Action.TheVariants.{Unfreeze}
 use Rattle.step_rules.specs.declared.step.Answer.TheVariants.{Done}
@@ -19,21 +18,15 @@ use Rattle.mem_machine.specs.Noted.{MayTake, Notes}
 use Rattle.mem_machine.proofs.AtTable.{held_at, made_at, may_at}
 use Rattle.mem_machine.proofs.Followed.{LeadsAs, makes_noted}
 use Rattle.mem_machine.proofs.Reached.{held_here, may_lead}
-use Rattle.mem_machine.proofs.Watched.{consistent_still, open_still, takes_block_still, takes_none_still, visits_then}
+use Rattle.mem_machine.proofs.Watched.{consistent_still, open_still, takes_block_still, takes_none_still, visit_kept, visits_then}
 use Rattle.mem_machine.proofs.machine.Machine.take_block.Goals as goal
 
 pub returns-in_default-take : goal.returns-in_default-take
 returns-in_default-take g c =
     let all = none_all g.N.BootName.frames g.N.BootName.stocks _ _ c.self.view_is c.args.cpu.now _ refl
     c.self.invariant.consistent c.prove_charges.ensures.legal c.args.group c.args.order _ c.frames-pages.ensures.frames
-    (record {
-      visit = c.requires.visit;
-      none_back = c.requires.none_back;
-      usage = usage_seen g.N.BootName.frames g.N.BootName.stocks _ _ c.self.view_is c.args.cpu.now c.self.invariant.consistent c.prove_charges.ensures.legal
-          c.requires.visit.lent c.prove_tied.ensures (balanced_alone _ _ c.requires.none_fresh);
-      there = c.requires.charges.there;
-      alive = c.requires.charges.alive;
-    }) (c.in_default.ensures.granted.0 refl) _ _ c.in_default.ensures.charged c.uncharge.ensures.uncharged _
+    (may_take g.N.BootName.frames g.N.BootName.stocks _ _ c.self.view_is c.args.cpu.now c.self.invariant.consistent c.prove_charges.ensures.legal c.prove_tied.ensures
+    c.requires.visit c.requires.none_fresh c.requires.none_back _ _ c.requires.charges) (c.in_default.ensures.granted.0 refl) _ _ c.in_default.ensures.charged c.uncharge.ensures.uncharged _
     (ap (λ (z : BuddyZone). z.blocks) c.in_default-take.ensures.none) c.in_default-take.ensures.taken in
     let makes = makes_noted _ _ _ _ c.self.view_is _ _ _ _ all.steps _
     (unplaced_notes g.N.BootName.frames _ _ _ _ c.args.group c.args.order _ c.frames-pages.ensures.frames c.grant.ensures.notes
@@ -57,12 +50,27 @@ pub place_unit-requires : goal.place_unit-requires
 place_unit-requires g c =
     (taken_inside _ _ c.self.invariant.consistent.areas _ _ c.self.invariant.free _ c.in-Some.block c.in-Some.ensures.taken c.in-Some.ensures.frames).inside
 
-pub unfreeze-requires-clause-hand : goal.unfreeze-requires-clause-hand
-unfreeze-requires-clause-hand g c =
-    free_in_hand _ _ _ c.self.invariant.consistent c.in-Some.block.at c.in-Some-frame.head
-    (head_inside _ _ c.self.invariant.consistent.areas _ _ c.self.invariant.free _ c.in-Some.block c.in-Some.ensures.taken c.in-Some.ensures.frames)
-    (head_free _ _ c.self.invariant.consistent.areas _ _ c.self.invariant.free _ c.in-Some.block c.in-Some.ensures.taken c.in-Some.ensures.frames)
-    c.in-Some-frame.ensures.0
+pub unfreeze-requires : goal.unfreeze-requires
+unfreeze-requires g c = record {
+  table = c.self.invariant.consistent.seats.frames.0 ∙ sym (ap (λ (t : KnownTable). t.table) c.args.tables.now.frames_are);
+  held = held_at _ _ c.args.tables.now.frames_are _ c.place.ensures.run.held;
+  frame = c.in-Some-frame.ensures.1;
+  hand = free_in_hand _ _ _ c.self.invariant.consistent c.in-Some.block.at c.in-Some-frame.head
+      (head_inside _ _ c.self.invariant.consistent.areas _ _ c.self.invariant.free _ c.in-Some.block c.in-Some.ensures.taken c.in-Some.ensures.frames)
+      (head_free _ _ c.self.invariant.consistent.areas _ _ c.self.invariant.free _ c.in-Some.block c.in-Some.ensures.taken c.in-Some.ensures.frames)
+      c.in-Some-frame.ensures.0;
+  count = search rules;
+  legal =
+      let may = taken_may g.N.BootName.frames g.N.BootName.stocks _ _ c.self.view_is c.args.cpu.now c.requires.visit.shown
+      c.self.invariant.consistent c.args.group c.args.order _ c.frames-pages.ensures.frames
+      (may_take g.N.BootName.frames g.N.BootName.stocks _ _ c.self.view_is c.args.cpu.now c.self.invariant.consistent c.prove_charges.ensures.legal c.prove_tied.ensures
+      c.requires.visit c.requires.none_fresh c.requires.none_back _ _ c.requires.charges)
+      (c.in_default.ensures.granted.0 refl) _ _ c.in-Some.block c.self.invariant.free
+      c.in-Some.ensures.taken c.in-Some.ensures.frames c.in-Some-frame.head _ c.in-Some-frame.ensures.0 c.number-at.ensures in
+      may_at _ _ c.args.tables.now.frames_are 0 refl c.place.new.past (Unfreeze c.in-Some-frame.head 1)
+      (subst (λ (x : ℕ). MayTake g.N.BootName.frames c.place.new.past (zone_makes (Unfreeze x 1) Done)) c.number-at.ensures
+      ((may.1 _ c.grant.ensures.run).1 _ c.place.ensures.run).0).legal;
+}
 
 pub invariant_of-self-2 : goal.invariant_of-self-2
 invariant_of-self-2 g c =
@@ -70,14 +78,8 @@ invariant_of-self-2 g c =
     let j = c.join_list.ensures in
     let all = taken_all g.N.BootName.frames g.N.BootName.stocks _ _ c.self.view_is c.args.cpu.now _ refl
     c.self.invariant.consistent c.prove_charges.ensures.legal c.args.group fits c.args.order _ c.frames-pages.ensures.frames
-    (record {
-      visit = c.requires.visit;
-      none_back = c.requires.none_back;
-      usage = usage_seen g.N.BootName.frames g.N.BootName.stocks _ _ c.self.view_is c.args.cpu.now c.self.invariant.consistent c.prove_charges.ensures.legal
-          c.requires.visit.lent c.prove_tied.ensures (balanced_alone _ _ c.requires.none_fresh);
-      there = c.requires.charges.there;
-      alive = c.requires.charges.alive;
-    }) (c.in_default.ensures.granted.0 refl) _ c.in_default.ensures.charged c.in_default.ensures.pages _ _ c.in-Some.block _ c.self.invariant.free
+    (may_take g.N.BootName.frames g.N.BootName.stocks _ _ c.self.view_is c.args.cpu.now c.self.invariant.consistent c.prove_charges.ensures.legal c.prove_tied.ensures
+    c.requires.visit c.requires.none_fresh c.requires.none_back _ _ c.requires.charges) (c.in_default.ensures.granted.0 refl) _ c.in_default.ensures.charged c.in_default.ensures.pages _ _ c.in-Some.block _ c.self.invariant.free
     c.in-Some.ensures.taken c.in-Some.ensures.frames c.in-Some.ensures.areas _ c.place_unit.ensures c.in-Some-frame.head _ c.in-Some-frame.ensures.0
     c.number-at.ensures c.unfreeze.ensures.no_reference _ c.unfreeze.ensures.seat _ _
     (record { joins = j.joins; stand = j.lists.stand; frames = j.frames; groups = j.lists.groups }) in
@@ -89,14 +91,8 @@ returns g c =
     let j = c.join_list.ensures in
     let all = taken_all g.N.BootName.frames g.N.BootName.stocks _ _ c.self.view_is c.args.cpu.now _ refl
     c.self.invariant.consistent c.prove_charges.ensures.legal c.args.group fits c.args.order _ c.frames-pages.ensures.frames
-    (record {
-      visit = c.requires.visit;
-      none_back = c.requires.none_back;
-      usage = usage_seen g.N.BootName.frames g.N.BootName.stocks _ _ c.self.view_is c.args.cpu.now c.self.invariant.consistent c.prove_charges.ensures.legal
-          c.requires.visit.lent c.prove_tied.ensures (balanced_alone _ _ c.requires.none_fresh);
-      there = c.requires.charges.there;
-      alive = c.requires.charges.alive;
-    }) (c.in_default.ensures.granted.0 refl) _ c.in_default.ensures.charged c.in_default.ensures.pages _ _ c.in-Some.block _ c.self.invariant.free
+    (may_take g.N.BootName.frames g.N.BootName.stocks _ _ c.self.view_is c.args.cpu.now c.self.invariant.consistent c.prove_charges.ensures.legal c.prove_tied.ensures
+    c.requires.visit c.requires.none_fresh c.requires.none_back _ _ c.requires.charges) (c.in_default.ensures.granted.0 refl) _ c.in_default.ensures.charged c.in_default.ensures.pages _ _ c.in-Some.block _ c.self.invariant.free
     c.in-Some.ensures.taken c.in-Some.ensures.frames c.in-Some.ensures.areas _ c.place_unit.ensures c.in-Some-frame.head _ c.in-Some-frame.ensures.0
     c.number-at.ensures c.unfreeze.ensures.no_reference _ c.unfreeze.ensures.seat _ _
     (record { joins = j.joins; stand = j.lists.stand; frames = j.frames; groups = j.lists.groups }) in
@@ -105,7 +101,7 @@ returns g c =
     c.grant.ensures.notes c.place.ensures.notes (made_at _ _ c.args.tables.now.frames_are 0 refl _ _ _ _ c.unfreeze.ensures.run) c.unfroze.ensures
     c.publish.ensures.notes) in
     record {
-      takes = takes_block_still _ _ _ _ _ _ all.takes;
+      takes = takes_block_still _ _ _ _ _ _ all.does;
       refuses = search rules;
       cpu = search rules;
       visit = visits_then _ _ _ _ c.requires.visit.shown makes refl (open_still _ _ _ _ all.visit);
@@ -153,28 +149,16 @@ refuse-requires-clause-legal g c =
 pub grant-requires-clause-legal : goal.grant-requires-clause-legal
 grant-requires-clause-legal g c =
     (granted_may g.N.BootName.frames _ _ c.self.view_is c.args.cpu.now c.requires.visit.shown c.args.group c.frames-pages.result
-    (record {
-      visit = c.requires.visit;
-      none_back = c.requires.none_back;
-      usage = usage_seen g.N.BootName.frames g.N.BootName.stocks _ _ c.self.view_is c.args.cpu.now c.self.invariant.consistent c.prove_charges.ensures.legal
-          c.requires.visit.lent c.prove_tied.ensures (balanced_alone _ _ c.requires.none_fresh);
-      there = c.requires.charges.there;
-      alive = c.requires.charges.alive;
-    })
+    (may_take g.N.BootName.frames g.N.BootName.stocks _ _ c.self.view_is c.args.cpu.now c.self.invariant.consistent c.prove_charges.ensures.legal c.prove_tied.ensures
+    c.requires.visit c.requires.none_fresh c.requires.none_back _ _ c.requires.charges)
     (c.in_default.ensures.granted.0 refl)).0
 
 pub find_no_block-requires-clause-legal : goal.find_no_block-requires-clause-legal
 find_no_block-requires-clause-legal g c =
     let may = unplaced_may g.N.BootName.frames g.N.BootName.stocks _ _ c.self.view_is c.args.cpu.now c.requires.visit.shown
     c.self.invariant.consistent c.prove_charges.ensures.legal c.args.group c.args.order _ c.frames-pages.ensures.frames
-    (record {
-      visit = c.requires.visit;
-      none_back = c.requires.none_back;
-      usage = usage_seen g.N.BootName.frames g.N.BootName.stocks _ _ c.self.view_is c.args.cpu.now c.self.invariant.consistent c.prove_charges.ensures.legal
-          c.requires.visit.lent c.prove_tied.ensures (balanced_alone _ _ c.requires.none_fresh);
-      there = c.requires.charges.there;
-      alive = c.requires.charges.alive;
-    })
+    (may_take g.N.BootName.frames g.N.BootName.stocks _ _ c.self.view_is c.args.cpu.now c.self.invariant.consistent c.prove_charges.ensures.legal c.prove_tied.ensures
+    c.requires.visit c.requires.none_fresh c.requires.none_back _ _ c.requires.charges)
     (c.in_default.ensures.granted.0 refl) c.in_default-take.ensures.taken in
     (may.1 _ c.grant.ensures.run).0
 
@@ -182,14 +166,8 @@ pub ungrant-requires-clause-legal : goal.ungrant-requires-clause-legal
 ungrant-requires-clause-legal g c =
     let may = unplaced_may g.N.BootName.frames g.N.BootName.stocks _ _ c.self.view_is c.args.cpu.now c.requires.visit.shown
     c.self.invariant.consistent c.prove_charges.ensures.legal c.args.group c.args.order _ c.frames-pages.ensures.frames
-    (record {
-      visit = c.requires.visit;
-      none_back = c.requires.none_back;
-      usage = usage_seen g.N.BootName.frames g.N.BootName.stocks _ _ c.self.view_is c.args.cpu.now c.self.invariant.consistent c.prove_charges.ensures.legal
-          c.requires.visit.lent c.prove_tied.ensures (balanced_alone _ _ c.requires.none_fresh);
-      there = c.requires.charges.there;
-      alive = c.requires.charges.alive;
-    })
+    (may_take g.N.BootName.frames g.N.BootName.stocks _ _ c.self.view_is c.args.cpu.now c.self.invariant.consistent c.prove_charges.ensures.legal c.prove_tied.ensures
+    c.requires.visit c.requires.none_fresh c.requires.none_back _ _ c.requires.charges)
     (c.in_default.ensures.granted.0 refl) c.in_default-take.ensures.taken in
     ((may.1 _ c.grant.ensures.run).1 _ c.find_no_block.ensures.run).0
 
@@ -197,48 +175,18 @@ pub place-requires-clause-legal : goal.place-requires-clause-legal
 place-requires-clause-legal g c =
     let may = taken_may g.N.BootName.frames g.N.BootName.stocks _ _ c.self.view_is c.args.cpu.now c.requires.visit.shown
     c.self.invariant.consistent c.args.group c.args.order _ c.frames-pages.ensures.frames
-    (record {
-      visit = c.requires.visit;
-      none_back = c.requires.none_back;
-      usage = usage_seen g.N.BootName.frames g.N.BootName.stocks _ _ c.self.view_is c.args.cpu.now c.self.invariant.consistent c.prove_charges.ensures.legal
-          c.requires.visit.lent c.prove_tied.ensures (balanced_alone _ _ c.requires.none_fresh);
-      there = c.requires.charges.there;
-      alive = c.requires.charges.alive;
-    })
+    (may_take g.N.BootName.frames g.N.BootName.stocks _ _ c.self.view_is c.args.cpu.now c.self.invariant.consistent c.prove_charges.ensures.legal c.prove_tied.ensures
+    c.requires.visit c.requires.none_fresh c.requires.none_back _ _ c.requires.charges)
     (c.in_default.ensures.granted.0 refl) _ _ c.in-Some.block c.self.invariant.free
     c.in-Some.ensures.taken c.in-Some.ensures.frames c.in-Some-frame.head _ c.in-Some-frame.ensures.0 c.number-at.ensures in
     (may.1 _ c.grant.ensures.run).0
-
-pub unfreeze-requires-clause-legal : goal.unfreeze-requires-clause-legal
-unfreeze-requires-clause-legal g c =
-    let may = taken_may g.N.BootName.frames g.N.BootName.stocks _ _ c.self.view_is c.args.cpu.now c.requires.visit.shown
-    c.self.invariant.consistent c.args.group c.args.order _ c.frames-pages.ensures.frames
-    (record {
-      visit = c.requires.visit;
-      none_back = c.requires.none_back;
-      usage = usage_seen g.N.BootName.frames g.N.BootName.stocks _ _ c.self.view_is c.args.cpu.now c.self.invariant.consistent c.prove_charges.ensures.legal
-          c.requires.visit.lent c.prove_tied.ensures (balanced_alone _ _ c.requires.none_fresh);
-      there = c.requires.charges.there;
-      alive = c.requires.charges.alive;
-    })
-    (c.in_default.ensures.granted.0 refl) _ _ c.in-Some.block c.self.invariant.free
-    c.in-Some.ensures.taken c.in-Some.ensures.frames c.in-Some-frame.head _ c.in-Some-frame.ensures.0 c.number-at.ensures in
-    may_at _ _ c.args.tables.now.frames_are 0 refl c.place.new.past (Unfreeze c.in-Some-frame.head 1)
-    (subst (λ (x : ℕ). MayTake g.N.BootName.frames c.place.new.past (zone_makes (Unfreeze x 1) Done)) c.number-at.ensures
-    ((may.1 _ c.grant.ensures.run).1 _ c.place.ensures.run).0).legal
 
 pub publish-requires-clause-legal : goal.publish-requires-clause-legal
 publish-requires-clause-legal g c =
     let may = taken_may g.N.BootName.frames g.N.BootName.stocks _ _ c.self.view_is c.args.cpu.now c.requires.visit.shown
     c.self.invariant.consistent c.args.group c.args.order _ c.frames-pages.ensures.frames
-    (record {
-      visit = c.requires.visit;
-      none_back = c.requires.none_back;
-      usage = usage_seen g.N.BootName.frames g.N.BootName.stocks _ _ c.self.view_is c.args.cpu.now c.self.invariant.consistent c.prove_charges.ensures.legal
-          c.requires.visit.lent c.prove_tied.ensures (balanced_alone _ _ c.requires.none_fresh);
-      there = c.requires.charges.there;
-      alive = c.requires.charges.alive;
-    })
+    (may_take g.N.BootName.frames g.N.BootName.stocks _ _ c.self.view_is c.args.cpu.now c.self.invariant.consistent c.prove_charges.ensures.legal c.prove_tied.ensures
+    c.requires.visit c.requires.none_fresh c.requires.none_back _ _ c.requires.charges)
     (c.in_default.ensures.granted.0 refl) _ _ c.in-Some.block c.self.invariant.free
     c.in-Some.ensures.taken c.in-Some.ensures.frames c.in-Some-frame.head _ c.in-Some-frame.ensures.0 c.number-at.ensures in
     (((may.1 _ c.grant.ensures.run).1 _ c.place.ensures.run).1 _
@@ -260,17 +208,8 @@ ungrant-requires-clause-held g c = c.find_no_block.ensures.run.held
 pub place-requires-clause-held : goal.place-requires-clause-held
 place-requires-clause-held g c = c.grant.ensures.run.held
 
-pub unfreeze-requires-clause-held : goal.unfreeze-requires-clause-held
-unfreeze-requires-clause-held g c = held_at _ _ c.args.tables.now.frames_are _ c.place.ensures.run.held
-
 pub publish-requires-clause-held : goal.publish-requires-clause-held
 publish-requires-clause-held g c = (made_at _ _ c.args.tables.now.frames_are 0 refl _ _ _ _ c.unfreeze.ensures.run).held
-
-pub unfreeze-requires-clause-table : goal.unfreeze-requires-clause-table
-unfreeze-requires-clause-table g c = c.self.invariant.consistent.seats.frames.0 ∙ sym (ap (λ (t : KnownTable). t.table) c.args.tables.now.frames_are)
-
-pub unfreeze-requires-clause-frame : goal.unfreeze-requires-clause-frame
-unfreeze-requires-clause-frame g c = c.in-Some-frame.ensures.1
 
 pub try_charge-requires-clause-there : goal.try_charge-requires-clause-there
 try_charge-requires-clause-there g c = subst (λ (m : KnownMachine). IsTrue (has_group m.ledger.groups c.args.group)) (sym c.self.view_is) c.requires.charges.there

@@ -1,4 +1,4 @@
-use Rattle.std.proofs.Common.{ℕ, refl, sym, ap, [], ◌∷◌, subst}
+use Rattle.std.proofs.Common.{ℕ, refl, sym, ap, [], ◌∷◌, subst, rules}
 use Rattle.step_rules.specs.declared.step.Action.TheVariants.{Consume}
 use Rattle.step_rules.specs.declared.step.Answer.TheVariants.{Took}
 use Rattle.cpu_part.specs.Cpus.{KnownCpu}
@@ -12,21 +12,17 @@ use Rattle.mem_machine.proofs.Reached.{held_here, who_here}
 use Rattle.mem_machine.proofs.Watched.{consistent_still, open_still, pays_still, visits_then}
 use Rattle.mem_machine.proofs.machine.Machine.take_front.Goals as goal
 
-pub take_front-frame-requires-clause-held : goal.take_front-frame-requires-clause-held
-take_front-frame-requires-clause-held g c = held_here g.N.BootName.frames _ _ c.self.view_is c.args.cpu.now c.requires.visit.shown
-
-pub take_front-frame-requires-clause-holder : goal.take_front-frame-requires-clause-holder
-take_front-frame-requires-clause-holder g c = sym (who_here g.N.BootName.frames _ _ c.self.view_is c.args.cpu.now c.requires.visit.shown)
-
-pub take_front-frame-requires-clause-legal : goal.take_front-frame-requires-clause-legal
-take_front-frame-requires-clause-legal g c =
-    front_may g.N.BootName.frames g.N.BootName.stocks _ _ c.self.view_is c.args.cpu.now c.requires.visit.shown c.number-cpu_number.ensures.tied c.self.invariant.consistent
-    c.args.group c.requires.page c.requires.none_fresh c.requires.front
-
-pub take_front-frame-requires-clause-page : goal.take_front-frame-requires-clause-page
-take_front-frame-requires-clause-page g c =
-    has_page g.N.BootName.frames g.N.BootName.stocks _ _ c.self.view_is c.args.cpu.now c.args.group c.number-cpu_number.ensures.tied c.self.invariant.consistent
-    c.requires.page
+pub take_front-frame-requires : goal.take_front-frame-requires
+take_front-frame-requires g c = record {
+  held = held_here g.N.BootName.frames _ _ c.self.view_is c.args.cpu.now c.requires.visit.shown;
+  holder = sym (who_here g.N.BootName.frames _ _ c.self.view_is c.args.cpu.now c.requires.visit.shown);
+  legal = front_may g.N.BootName.frames g.N.BootName.stocks _ _ c.self.view_is c.args.cpu.now c.requires.visit.shown c.number-cpu_number.ensures.tied c.self.invariant.consistent
+      c.args.group c.requires.page c.requires.none_fresh c.requires.front;
+  group = search rules;
+  page = has_page g.N.BootName.frames g.N.BootName.stocks _ _ c.self.view_is c.args.cpu.now c.args.group c.number-cpu_number.ensures.tied c.self.invariant.consistent
+      c.requires.page;
+  front = search rules;
+}
 
 pub invariant_of-self : goal.invariant_of-self
 invariant_of-self g c = record {

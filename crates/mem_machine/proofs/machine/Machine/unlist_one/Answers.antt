@@ -10,35 +10,32 @@ use Rattle.mem_machine.proofs.Followed.{makes_noted}
 use Rattle.mem_machine.proofs.Watched.{consistent_still, takes_still, open_still, visits_then}
 use Rattle.mem_machine.proofs.machine.Machine.unlist_one.Goals as goal
 
-pub pass_front-requires-clause-held : goal.pass_front-requires-clause-held
-pass_front-requires-clause-held g c = held_here g.N.BootName.frames _ _ c.self.view_is c.args.cpu.now c.requires.shown
+pub pass_front-requires : goal.pass_front-requires
+pass_front-requires g c = record {
+  held = held_here g.N.BootName.frames _ _ c.self.view_is c.args.cpu.now c.requires.shown;
+  holder = holder_here g.N.BootName.frames _ _ c.self.view_is c.args.cpu.now c.requires.shown;
+  legal = may_pass_front g.N.BootName.frames g.N.BootName.stocks _ _ c.self.view_is c.args.cpu.now c.number-cpu_number.ensures.tied c.self.invariant.consistent c.requires;
+  zone = c.self.invariant.consistent.seats.frames;
+  «open» = subst (λ (k : KnownMachine). IsOpen k.frame_seat c.args.cpu.now.number) (sym c.self.view_is) c.requires.is_open;
+}
 
-pub pass_front-requires-clause-holder : goal.pass_front-requires-clause-holder
-pass_front-requires-clause-holder g c = holder_here g.N.BootName.frames _ _ c.self.view_is c.args.cpu.now c.requires.shown
-
-pub pass_front-requires-clause-legal : goal.pass_front-requires-clause-legal
-pass_front-requires-clause-legal g c =
-    may_pass_front g.N.BootName.frames g.N.BootName.stocks _ _ c.self.view_is c.args.cpu.now c.number-cpu_number.ensures.tied c.self.invariant.consistent c.requires
-
-pub collect-requires-clause-held : goal.collect-requires-clause-held
-collect-requires-clause-held g c = c.in-Some.ensures.run.held
-
-pub collect-requires-clause-holder : goal.collect-requires-clause-holder
-collect-requires-clause-holder g c = front_number _ _ _ c.in-Some.ensures.answer
-    ∙ holder_then _ _ _ _ _ _ _ c.in-Some.ensures.run (holder_here g.N.BootName.frames _ _ c.self.view_is c.args.cpu.now c.requires.shown)
-
-pub collect-requires-clause-legal : goal.collect-requires-clause-legal
-collect-requires-clause-legal g c =
-    let hands = c.in-Some.ensures.answer in
-    may_collect_front g.N.BootName.frames g.N.BootName.stocks _ _ c.self.view_is c.args.cpu.now c.number-cpu_number.ensures.tied c.self.invariant.consistent c.requires
-    c.in-Some.frame hands.0 hands.1 _ (front_number _ _ _ hands) _ c.in-Some.ensures.run
-
-pub collect-requires-clause-passes : goal.collect-requires-clause-passes
-collect-requires-clause-passes g c =
-    let inside : c.in-Some.frame < g.N.BootName.frames.frames = c.in-Some.ensures.frame in
-    passes_back_to g.N.BootName.frames g.N.BootName.stocks _ _ c.self.view_is c.args.cpu.now _ c.number-cpu_number.ensures.tied c.requires _ _ inside
-    c.in-Some.ensures.answer
-    c.in-Some.ensures.zone
+pub collect-requires : goal.collect-requires
+collect-requires g c = record {
+  held = c.in-Some.ensures.run.held;
+  holder = front_number _ _ _ c.in-Some.ensures.answer
+      ∙ holder_then _ _ _ _ _ _ _ c.in-Some.ensures.run (holder_here g.N.BootName.frames _ _ c.self.view_is c.args.cpu.now c.requires.shown);
+  legal =
+      let hands = c.in-Some.ensures.answer in
+      may_collect_front g.N.BootName.frames g.N.BootName.stocks _ _ c.self.view_is c.args.cpu.now c.number-cpu_number.ensures.tied c.self.invariant.consistent c.requires
+      c.in-Some.frame hands.0 hands.1 _ (front_number _ _ _ hands) _ c.in-Some.ensures.run;
+  zone = subst (IsZoneSeat g.N.BootName.frames) (sym c.in-Some.ensures.zone) c.self.invariant.consistent.seats.frames;
+  frame = c.in-Some.ensures.frame;
+  passes =
+      let inside : c.in-Some.frame < g.N.BootName.frames.frames = c.in-Some.ensures.frame in
+      passes_back_to g.N.BootName.frames g.N.BootName.stocks _ _ c.self.view_is c.args.cpu.now _ c.number-cpu_number.ensures.tied c.requires _ _ inside
+      c.in-Some.ensures.answer
+      c.in-Some.ensures.zone;
+}
 
 pub give-requires : goal.give-requires
 give-requires g c =
@@ -75,7 +72,7 @@ returns g c =
     record {
       takes = record {
         frame = c.in-Some.frame;
-        takes = takes_still _ _ _ _ _ all.takes;
+        takes = takes_still _ _ _ _ _ all.does;
         steps = makes;
       };
       visit = visits_then _ _ _ _ c.requires.shown makes (ap (λ (e : KnownCpu). e.number) c.collect.ensures.cpu ∙ handed) (open_still _ _ _ _ all.visit);
@@ -84,21 +81,5 @@ returns g c =
 pub invariant_of-self : goal.invariant_of-self
 invariant_of-self g c = search rules
 
-pub pass_front-requires-clause-zone : goal.pass_front-requires-clause-zone
-pass_front-requires-clause-zone g c = c.self.invariant.consistent.seats.frames
-
-pub pass_front-requires-clause-open : goal.pass_front-requires-clause-open
-pass_front-requires-clause-open g c = subst (λ (k : KnownMachine). IsOpen k.frame_seat c.args.cpu.now.number) (sym c.self.view_is) c.requires.is_open
-
-pub collect-requires-clause-zone : goal.collect-requires-clause-zone
-collect-requires-clause-zone g c = subst (IsZoneSeat g.N.BootName.frames) (sym c.in-Some.ensures.zone) c.self.invariant.consistent.seats.frames
-
-pub collect-requires-clause-frame : goal.collect-requires-clause-frame
-collect-requires-clause-frame g c = c.in-Some.ensures.frame
-
 pub index_mut-requires : goal.index_mut-requires
-index_mut-requires g c =
-    let inside = c.in-Some.ensures.frame in
-    let same = c.number-at.ensures in
-    let sized = c.self.invariant.consistent.sizes.frame_states in
-    omega (arith, inside, same, sized)
+index_mut-requires g c = omega (arith, c.in-Some.ensures.frame, c.number-at.ensures, c.self.invariant.consistent.sizes.frame_states)

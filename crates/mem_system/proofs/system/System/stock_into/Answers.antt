@@ -1,4 +1,4 @@
-use Rattle.std.proofs.Common.{◌≡◌, ◌++◌, IfOk, ap, subst, sym}
+use Rattle.std.proofs.Common.{◌≡◌, ◌++◌, IfOk, ap, subst, sym, rules}
 use Rattle.std.specs.String.{string_bytes}
 use Rattle.machine_texts.specs.Stock.{stock_line_text}
 use Rattle.mem_machine.specs.Local.{visit_state}
@@ -16,23 +16,11 @@ returns-clause-text g c =
       found = found;
       settled = settled;
       left = line.new.locked;
-      sound_before = record {
-        quiet = c.prove_quiet.ensures.quiet;
-        consistent = c.prove_quiet.ensures.consistent;
-        charges = c.prove_quiet.ensures.charges;
-      };
+      sound_before = search rules;
       settles = subst (λ (x : CpuInRun). SettlesCaller g.N.BootName.frames (locked_state found c.args.cpu.now) (locked_state settled x))
           (sym line.ensures.cpu) c.settle.ensures.served;
-      sound_settled = record {
-        quiet = c.prove_quiet-2.ensures.quiet;
-        consistent = c.prove_quiet-2.ensures.consistent;
-        charges = c.prove_quiet-2.ensures.charges;
-      };
-      sound_after = record {
-        quiet = c.prove_quiet-3.ensures.quiet;
-        consistent = c.prove_quiet-3.ensures.consistent;
-        charges = c.prove_quiet-3.ensures.charges;
-      };
+      sound_settled = search rules;
+      sound_after = search rules;
       told = (
         subst (λ (x : CpuInRun). IfOk line.result (λ _. string_bytes line.new.text ≡ string_bytes c.args.text.now
             ++ stock_line_text (visit_state settled.machine x.part))) (sym line.ensures.cpu) line.ensures.text,

@@ -1,3 +1,4 @@
+use Rattle.std.proofs.Common.{rules}
 use Rattle.mem_system.proofs.system.System.units_into.Goals as goal
 
 pub returns-clause-text : goal.returns-clause-text
@@ -5,21 +6,9 @@ returns-clause-text g c = record {
   found = c.deref_mut-locked.result.now;
   settled = c.settle.new.locked;
   left = c.write_units_at-told.new.locked;
-  sound_before = record {
-    quiet = c.prove_quiet.ensures.quiet;
-    consistent = c.prove_quiet.ensures.consistent;
-    charges = c.prove_quiet.ensures.charges;
-  };
+  sound_before = search rules;
   settles = c.settle.ensures.served;
-  sound_settled = record {
-    quiet = c.prove_quiet-2.ensures.quiet;
-    consistent = c.prove_quiet-2.ensures.consistent;
-    charges = c.prove_quiet-2.ensures.charges;
-  };
-  sound_after = record {
-    quiet = c.prove_quiet-3.ensures.quiet;
-    consistent = c.prove_quiet-3.ensures.consistent;
-    charges = c.prove_quiet-3.ensures.charges;
-  };
+  sound_settled = search rules;
+  sound_after = search rules;
   told = c.write_units_at-told.ensures.units;
 }
