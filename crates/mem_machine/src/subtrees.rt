@@ -9,8 +9,8 @@ use crate::proving::prove_groups;
 use group_tree::group::GroupId;
 use group_tree::tree::Tree;
 
-/// Whether `other` is `group` or a descendant of it. Another group that is no deeper is neither, and most stocks are of
-/// such a group: the depths spare the walk up from it.
+/// Whether `other` is `group` or a descendant of it. Another group that is no deeper is neither, and most groups are
+/// such: the depths spare the walk up from them.
 #[tactic(auto, using(crate::proofs::Depths::below_itself, crate::proofs::Depths::not_below))]
 pub(crate) fn is_at_or_below(tree: &Tree, group: GroupId, other: GroupId) -> bool
     requires group { IsTrue (has_group tree.now group) }
