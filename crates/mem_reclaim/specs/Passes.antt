@@ -1,5 +1,5 @@
 -- Reclaim in two passes over the groups of a subtree, by ascending number.
-use Rattle.std.specs.Prelude.{◌≡◌, ℕ, Bool, true, false, List, [], ◌∷◌, filter}
+use Rattle.std.specs.Prelude.{ℕ, Bool, true, false, List, [], ◌∷◌, filter}
 use Rattle.std.specs.List.{range_with_len}
 use Rattle.group_tree.specs.Bounds.{most_groups}
 use Rattle.group_tree.specs.declared.group.Group.{Group}
