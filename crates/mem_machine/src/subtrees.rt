@@ -9,22 +9,26 @@ use crate::proving::prove_groups;
 use group_tree::group::GroupId;
 use group_tree::tree::Tree;
 
-/// Whether `other` is `group` or a descendant of it. Another group that is no deeper is neither, and most groups are
-/// such: the depths spare the walk up from them.
-#[tactic(auto, using(crate::proofs::Depths::below_itself, crate::proofs::Depths::not_below))]
+/// Whether `other` is `group` or a descendant of it. The walk up from it ends where it is no deeper than `group`.
+#[tactic(auto, using(crate::proofs::Depths::below_itself, crate::proofs::Depths::root_not_below))]
 pub(crate) fn is_at_or_below(tree: &Tree, group: GroupId, other: GroupId) -> bool
     requires group { IsTrue (has_group tree.now group) }
     requires other { IsTrue (has_group tree.now other) }
     ensures { result ≡ in_subtree tree.now group other }
 {
     prove_groups(tree);
-    if other.number() == group.number() {
-        return true;
+    let depth = tree.depth(group);
+    let mut above = other;
+    while above.number() != group.number() {
+        if tree.depth(above) <= depth {
+            return false;
+        }
+        let Some(parent) = tree.parent(above) else {
+            return false;
+        };
+        above = parent;
     }
-    if tree.depth(other) <= tree.depth(group) {
-        return false;
-    }
-    tree.in_subtree(group, other)
+    true
 }
 
 /// The groups of the subtree of `group`, each a 1 in the place of its number.
