@@ -1,11 +1,11 @@
 -- A descendant is deeper. Serves `is_at_or_below`.
 use Rattle.std.proofs.Common.{◌≡◌, ◌≢◌, ℕ, zero, suc, ◌<◌, ◌≤◌, ◌⊎◌, inl, inr, ⊎_elim, List, Option, Some, None, true, false, IsTrue, refl, sym, ap, ◌∙◌, arith}
-use Rattle.std.proofs.lemmas.Bool.{false_from_ne_true}
+use Rattle.std.proofs.lemmas.Bool.{cases_Bool, false_from_ne_true, false≢true}
 use Rattle.group_tree.specs.declared.group.Group.{Group}
 use Rattle.group_tree.specs.Ancestors.{depth_at}
 use Rattle.group_tree.specs.Groups.{AreGroups, has_group, in_subtree, parent_of}
 use Rattle.group_tree.proofs.AncestorLemmas.{parent-depth_at, parent_of-none_root}
-use Rattle.group_tree.proofs.CallerLemmas.{in_subtree-above, in_subtree-above_parent, in_subtree-antisym, in_subtree-below, in_subtree-refl, in_subtree-root}
+use Rattle.group_tree.proofs.CallerLemmas.{in_subtree-above, in_subtree-above_parent, in_subtree-antisym, in_subtree-below, in_subtree-parent_of, in_subtree-refl, in_subtree-root, in_subtree-trans}
 
 -- by the walk up from the lower group
 deeper_from : (groups : List Group) (k g h : ℕ) (up : Option ℕ) → AreGroups groups → in_subtree groups g h ≡ true
@@ -39,6 +39,21 @@ not_below groups g h facts other shallow = false_from_ne_true (in_subtree groups
     (λ same. other (sym same))
     (λ less. absurd (omega (arith, shallow, less)))
     (deeper_from groups (depth_at groups h) g h (parent_of groups h) facts below refl refl))
+
+-- nor is the root
+pub root_not_below : (groups : List Group) (g h : ℕ) → AreGroups groups → IsTrue (has_group groups g) → IsTrue (has_group groups h) → h ≢ g
+    → parent_of groups h ≡ None → in_subtree groups g h ≡ false
+root_not_below groups g h facts there here other none = false_from_ne_true (in_subtree groups g h) (λ below.
+    let above : in_subtree groups h g ≡ true = ap (λ (x : ℕ). in_subtree groups x g) (parent_of-none_root groups h facts here none) ∙ in_subtree-root groups g facts there in
+    other (in_subtree-antisym groups h g facts above below))
+
+-- another group is below if its parent is
+pub parent_below : (groups : List Group) (g h p : ℕ) → AreGroups groups → h ≢ g → parent_of groups h ≡ Some p → in_subtree groups g p ≡ in_subtree groups g h
+parent_below groups g h p facts other e = elim (cases_Bool (in_subtree groups g p)) [
+  | inl is ↦ is ∙ sym (in_subtree-trans groups g p h is (in_subtree-parent_of groups h p facts e))
+  | inr not ↦ not ∙ sym (false_from_ne_true (in_subtree groups g h) (λ below. ⊎_elim (λ same. other (sym same)) (λ is. false≢true (sym not ∙ is))
+      (in_subtree-above_parent groups g h p facts e below)))
+]
 
 -- a group is in its own subtree
 pub below_itself : (groups : List Group) (g h : ℕ) → IsTrue (has_group groups g) → h ≡ g → in_subtree groups g h ≡ true

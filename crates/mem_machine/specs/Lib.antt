@@ -12,6 +12,7 @@ pub mod Lending
 pub mod Owners
 pub mod Booked
 pub mod Stocks
+pub mod Subtrees
 pub mod Marks
 pub mod Ageing
 pub mod Freeing

@@ -24,10 +24,10 @@
 #![tactic(auto)]
 
 mod ageing;
+pub mod bit_set;
 mod blocks;
 mod booked_seat;
 mod counts;
-mod cpu_set;
 mod ending;
 mod evicting;
 mod frame_state;
@@ -50,6 +50,7 @@ mod showing;
 mod start;
 mod stepping;
 mod stocks;
+mod subtrees;
 mod visits;
 mod watching;
 
@@ -62,3 +63,4 @@ pub use proving::{
 };
 pub use releasing::Released;
 pub use step_rules::laws::{other_step, own_step};
+pub use subtrees::subtree;

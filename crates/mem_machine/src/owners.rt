@@ -4,7 +4,7 @@ ghost use Rattle.std.specs.Prelude.{◌≡◌, ◌<◌, ◌↔◌, ℕ, None, So
 ghost use Rattle.std.specs.List.{slice_index_or};
 ghost use Rattle.std.specs.Int.{bit_at};
 
-use crate::cpu_set;
+use crate::bit_set;
 use group_tree::group::{GroupId, MAX_GROUPS};
 use std::marker::Model;
 
@@ -64,7 +64,7 @@ impl StockOwners {
     {
         if let Some(owner) = self.groups[cpu] {
             let number = owner.number() as usize;
-            self.stocks[number] = cpu_set::without(self.stocks[number], cpu as u32);
+            self.stocks[number] = bit_set::without(self.stocks[number], cpu as u32);
             self.groups[cpu] = None;
         }
     }
@@ -76,7 +76,7 @@ impl StockOwners {
     {
         self.clear(cpu);
         let number = group.number() as usize;
-        self.stocks[number] = cpu_set::with(self.stocks[number], cpu as u32);
+        self.stocks[number] = bit_set::with(self.stocks[number], cpu as u32);
         self.groups[cpu] = Some(group);
     }
 }

@@ -1,7 +1,7 @@
 //! Draining and filling the CPUs' stocks.
 
 ghost use Rattle.std.specs.Prelude.{◌≡◌, ◌<◌, [], Some, IsTrue, OnOk, OnErr, IfErr};
-ghost use Rattle.group_tree.specs.Groups.{has_group, in_subtree};
+ghost use Rattle.group_tree.specs.Groups.{has_group};
 ghost use Rattle.mem_machine.specs.Machines.{IsCpuOf, LacksRoom, OnlyWatches};
 ghost use Rattle.mem_machine.specs.Local.{SomeSeenByRun, StaysVisited, Visits};
 ghost use Rattle.mem_machine.specs.Stocks.{IsDrained, AreDrained, AreOwnDrained, FitsStock, stock_group};
@@ -14,31 +14,13 @@ ghost use Rattle.mem_machine.specs.Local.{Makes, MakesForAny, visit_state};
 ghost use Rattle.mem_machine.specs.Steps.{drain_steps, fill_steps};
 
 use crate::machine::Machine;
-use crate::proving::{prove_charges, prove_groups, prove_sizes};
-use crate::{cpu_set, stepping};
+use crate::proving::{prove_charges, prove_sizes};
+use crate::subtrees::is_at_or_below;
+use crate::{bit_set, stepping};
 use cpu_part::{BootName, Cpu, Tables};
 use group_charge::charges::Over;
 use group_charge::note::Note;
 use group_tree::group::GroupId;
-use group_tree::tree::Tree;
-
-// Whether `other` is `group` or a descendant of it. Another group that is no deeper is neither, and most stocks are of
-// such a group: the depths spare the walk up from it.
-#[tactic(auto, using(crate::proofs::Depths::below_itself, crate::proofs::Depths::not_below))]
-fn is_at_or_below(tree: &Tree, group: GroupId, other: GroupId) -> bool
-    requires group { IsTrue (has_group tree.now group) }
-    requires other { IsTrue (has_group tree.now other) }
-    ensures { result ≡ in_subtree tree.now group other }
-{
-    prove_groups(tree);
-    if other.number() == group.number() {
-        return true;
-    }
-    if tree.depth(other) <= tree.depth(group) {
-        return false;
-    }
-    tree.in_subtree(group, other)
-}
 
 impl<N: BootName> Machine<N> {
     // Drains the stock of the CPU, which is of this group, and returns how many pages were in it.
@@ -124,7 +106,7 @@ impl<N: BootName> Machine<N> {
         prove_sizes(tables); // At most 64 stocks have at most 65,535 pages each.
         let mut rest = stocks;
         let mut pages = 0;
-        while let Some(place) = cpu_set::take_first(&mut rest) {
+        while let Some(place) = bit_set::take_first(&mut rest) {
             let cpu = place + 1;
             let Some(owner) = self.stock_seat.owner(cpu) else {
                 unreachable!()

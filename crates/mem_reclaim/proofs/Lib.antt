@@ -4,6 +4,7 @@ pub mod Keeping
 pub mod Shown
 pub mod Meeting
 pub mod Scanning
+pub mod Members
 pub mod Passing
 pub mod Rounding
 pub mod Choosing

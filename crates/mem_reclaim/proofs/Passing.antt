@@ -1,8 +1,9 @@
 -- Passes over a group and over the groups of a subtree. Serves all of `passes` and `reclaim`.
-use Rattle.std.proofs.Common.{◌≡◌, ℕ, suc, ◌+◌, ◌-◌, ◌^◌, ◌<◌, ◌≤◌, Bool, true, false, List, [], ◌∷◌}
-use Rattle.std.proofs.Common.{refl, sym, ap, ◌∙◌, subst, inl, inr, arith, nat_lt}
-use Rattle.std.specs.List.{range_with_len}
+use Rattle.std.proofs.Common.{◌≡◌, ◌≢◌, ℕ, ◌+◌, ◌-◌, ◌^◌, ◌<◌, ◌≤◌, Bool, true, false, List, [], ◌∷◌}
+use Rattle.std.proofs.Common.{sym, ap, ◌∙◌, subst, inl, inr, arith, nat_lt}
+use Rattle.std.specs.Int.{bit_at}
 use Rattle.std.proofs.lemmas.Bool.{cases_eq, ltb-true}
+use Rattle.std.proofs.lemmas.Nat.Bits.{bit_at-zero}
 use Rattle.frame_word.specs.Seats.{KnownTable}
 use Rattle.stock_word.specs.Stock.{KnownStockTable}
 use Rattle.group_tree.specs.declared.group.Group.{Group}
@@ -14,14 +15,16 @@ use Rattle.lru_lists.specs.declared.record.LruList.TheVariants.{Inactive, Active
 use Rattle.mem_machine.specs.Machines.{KnownMachine, IsConsistent}
 use Rattle.mem_machine.specs.Local.{MakesForAny}
 use Rattle.mem_machine.specs.Ageing.{AgesGroup}
+use Rattle.mem_machine.specs.Subtrees.{IsSubtree}
 use Rattle.mem_machine.proofs.Dirties.{owner_bound}
 use Rattle.mem_reclaim.specs.Wanted.{WhileWanted}
 use Rattle.mem_reclaim.specs.Moves.{FreesPages, FreesBySteps}
 use Rattle.mem_reclaim.specs.Units.{ScansList}
-use Rattle.mem_reclaim.specs.Passes.{AgesAndScans, ReclaimsGroup, ReclaimsPass}
-use Rattle.mem_reclaim.specs.Staying.{Keeps, OnlyLeave, IsMissed, MissedAll}
-use Rattle.mem_reclaim.proofs.Wanting.{SoFar, so_far_none, so_far_more, so_far_done, so_far_enough, rested}
-use Rattle.mem_reclaim.proofs.Moving.{moves_none, moves_both, moves_rest}
+use Rattle.mem_reclaim.specs.Passes.{AgesAndScans, PassesGroup, ReclaimsPass, subtree_of}
+use Rattle.mem_reclaim.specs.Staying.{Keeps, OnlyLeave, IsMissed, MissedAll, MissedOfGroup, UsageFalls}
+use Rattle.mem_reclaim.proofs.Members.{first_taken, members, no_members, same_members}
+use Rattle.mem_reclaim.proofs.Wanting.{SoFar, so_far_none, so_far_more, so_far_done, so_far_enough}
+use Rattle.mem_reclaim.proofs.Moving.{moves_none, moves_both}
 use Rattle.mem_reclaim.proofs.Keeping.{keeps_none, keeps_both, keeps_owners, only_both, missed_still}
 use Rattle.mem_machine.proofs.Listing.{home_inside}
 
@@ -71,103 +74,92 @@ both_missed t m k n g first last only inactive active f Inactive =
 both_missed t m k n g first last only inactive active f Active =
     missed_still t m k n n first (keeps_none t n) (λ x h home. home) f (record { owner = g; list = Active }) (active f)
 
--- ---- a turn
-
-pub turn_first : (t : KnownTable) (g k want freed : ℕ) (m n : KnownMachine) → in_subtree m.ledger.groups g k ≡ true
-    → FreesBySteps t freed m n (AgesAndScans k want) → FreesBySteps t freed m n (ReclaimsGroup true g k want)
-turn_first t g k want freed m n inside leads = record { steps = leads.steps; does = inl (inside, leads.does); moves = leads.moves }
-
-pub turn_second : (t : KnownTable) (g k want freed : ℕ) (m n : KnownMachine) → in_subtree m.ledger.groups g k ≡ true
-    → FreesBySteps t freed m n (WhileWanted (ScansList false k) (Inactive ∷ Active ∷ []) want)
-    → FreesBySteps t freed m n (ReclaimsGroup false g k want)
-turn_second t g k want freed m n inside leads = record { steps = leads.steps; does = inl (inside, leads.does); moves = leads.moves }
-
-pub turn_none : (t : KnownTable) (first : Bool) (g k want : ℕ) (m : KnownMachine) → in_subtree m.ledger.groups g k ≡ false
-    → FreesBySteps t 0 m m (ReclaimsGroup first g k want)
-turn_none t first g k want m outside = record { steps = []; does = inr (outside, rested m); moves = moves_rest t m }
-
 -- ---- a pass
 
--- the numbers below k had their turn
-pub record PassSoFar (t : KnownTable) (first : Bool) (g want : ℕ) (m : KnownMachine) (k freed : ℕ) (now : KnownMachine) : Type 0 where
-  pub so_far : SoFar t (ReclaimsGroup first g) (range_with_len 0 64) want m (range_with_len k (64 - k)) freed now
+-- the groups before those that are left had their turn
+pub record PassSoFar (t : KnownTable) (first : Bool) (g want : ℕ) (m : KnownMachine) (rest freed : ℕ) (now : KnownMachine) : Type 0 where
+  pub so_far : SoFar t (PassesGroup first) (subtree_of m.ledger.groups g) want m (members rest 0 64) freed now
+  pub left : (k : ℕ) → k < 64 → bit_at rest k ≡ 1 → in_subtree m.ledger.groups g k ≡ true
   pub keeps : Keeps t m now
   pub usage : current_of now.ledger g + freed ≡ current_of m.ledger g
   pub few : freed < want + 2 ^ 32
   pub leaves : first ≡ false → OnlyLeave m now
-  pub missed : first ≡ false → freed < want → (f : ℕ) (h : Home) → h.owner < k → in_subtree m.ledger.groups g h.owner ≡ true → IsMissed m now f h
+  pub missed : first ≡ false → freed < want → (f : ℕ) (h : Home) → h.owner < 64 → in_subtree m.ledger.groups g h.owner ≡ true → bit_at rest h.owner ≢ 1
+      → IsMissed m now f h
 
-pub pass_none : (t : KnownTable) (first : Bool) (g want : ℕ) (m : KnownMachine) → PassSoFar t first g want m 0 0 m
-pass_none t first g want m = record {
-  so_far = so_far_none t (ReclaimsGroup first g) (range_with_len 0 64) want m;
+pub pass_none : (t : KnownTable) (first : Bool) (g want : ℕ) (m : KnownMachine) (groups : ℕ) → IsSubtree m.ledger.groups g groups → PassSoFar t first g want m groups 0 m
+unfolding subtree_of
+pass_none t first g want m groups are = record {
+  so_far = subst (λ (l : List ℕ). SoFar t (PassesGroup first) l want m (members groups 0 64) 0 m)
+      (sym (same_members groups (in_subtree m.ledger.groups g) 0 64 (λ k from low. are k low))) (so_far_none t (PassesGroup first) (members groups 0 64) want m);
+  left = λ k low. (are k low).0;
   keeps = keeps_none t m;
   usage = omega arith;
   few = omega arith;
   leaves = λ off f h home. home;
-  missed = λ off less f h below. absurd (omega (arith, below));
+  missed = λ off less f h low inside other. absurd (other ((are h.owner low).1 inside));
 }
-
-range_next : (k : ℕ) → k < 64 → range_with_len k (64 - k) ≡ k ∷ range_with_len (k + 1) (64 - (k + 1))
-range_next k lt =
-    let e : suc (64 - (k + 1)) ≡ 64 - k = omega (arith, lt) in
-    subst (λ (n : ℕ). range_with_len k n ≡ k ∷ range_with_len (k + 1) (64 - (k + 1))) e refl
-
-pub pass_more : (t : KnownTable) (first : Bool) (g want : ℕ) (m : KnownMachine) (k freed : ℕ) (now : KnownMachine) → PassSoFar t first g want m k freed now
-    → k < 64 → freed < want → (turn : ℕ) → turn ≡ k → (some : ℕ) (then : KnownMachine)
-    → FreesBySteps t some now then (ReclaimsGroup first g turn (want - freed))
-    → Keeps t now then → current_of then.ledger g + some ≡ current_of now.ledger g → some < want - freed + 2 ^ 32 → (first ≡ false → OnlyLeave now then)
-    → (first ≡ false → some < want - freed → in_subtree now.ledger.groups g turn ≡ true
-    → (f : ℕ) (list : LruList) → IsMissed now then f (record { owner = turn; list = list }))
-    → PassSoFar t first g want m (k + 1) (freed + some) then
-pass_more t first g want m k freed now s lt wanted turn at some then leads_turn keeps usage few leaves missed_turn =
-    let leads : FreesBySteps t some now then (ReclaimsGroup first g k (want - freed)) =
-    subst (λ (x : ℕ). FreesBySteps t some now then (ReclaimsGroup first g x (want - freed))) at leads_turn in
-    let missed : first ≡ false → some < want - freed → in_subtree now.ledger.groups g k ≡ true
-    → (f : ℕ) (list : LruList) → IsMissed now then f (record { owner = k; list = list }) =
-    subst (λ (x : ℕ). first ≡ false → some < want - freed → in_subtree now.ledger.groups g x ≡ true
-    → (f : ℕ) (list : LruList) → IsMissed now then f (record { owner = x; list = list })) at missed_turn in
-    record {
-      so_far = so_far_more t (ReclaimsGroup first g) (range_with_len 0 64) want m k (range_with_len (k + 1) (64 - (k + 1))) freed now
-          (subst (λ (l : List ℕ). SoFar t (ReclaimsGroup first g) (range_with_len 0 64) want m l freed now) (range_next k lt) s.so_far) wanted some then leads;
-      keeps = keeps_both t m now then s.keeps keeps;
-      usage = let a = s.usage in omega (arith, a, usage);
-      few = omega (arith, wanted, few);
-      leaves = λ off. only_both m now then (s.leaves off) (leaves off);
-      missed = λ off less f h below inside. elim (cases_eq h.owner k) [
-        | inl e ↦
-            let there : in_subtree now.ledger.groups g k ≡ true = (λ i. in_subtree (s.keeps.groups i) g (sym e i)) ∙ inside in
-            let rose = missed off (omega (arith, less, wanted)) there f h.list in
-            missed_still t m now then then s.keeps (keeps_none t then) (λ x y home. home) f h
-            (subst (λ (x : ℕ). IsMissed now then f (record { owner = x; list = h.list })) (sym e) rose)
-        | inr ne ↦
-            missed_still t m m now then (keeps_none t m) keeps (leaves off) f h
-            (s.missed off (omega (arith, less)) f h (omega (arith, below, ne)) inside)
-      ];
-    }
 
 pub record PassEnds (t : KnownTable) (first : Bool) (g want : ℕ) (m : KnownMachine) (freed : ℕ) (now : KnownMachine) : Type 0 where
   pub passes : FreesBySteps t freed m now (ReclaimsPass g first want)
   pub missed : first ≡ false → freed < want → MissedAll g m now
 
-pub pass_enough : (t : KnownTable) (first : Bool) (g want : ℕ) (m : KnownMachine) (k freed : ℕ) (now : KnownMachine) → PassSoFar t first g want m k freed now
-    → want ≤ freed → PassEnds t first g want m freed now
-pass_enough t first g want m k freed now s enough = record {
-  passes = so_far_enough t (ReclaimsGroup first g) (range_with_len 0 64) want m (range_with_len k (64 - k)) freed now s.so_far enough;
-  missed = λ off less. absurd (omega (arith, less, enough));
-}
+as_pass : (t : KnownTable) (first : Bool) (g want freed : ℕ) (m now : KnownMachine) → FreesBySteps t freed m now (WhileWanted (PassesGroup first) (subtree_of m.ledger.groups g) want)
+    → FreesBySteps t freed m now (ReclaimsPass g first want)
+as_pass t first g want freed m now leads = record { steps = leads.steps; does = leads.does; moves = leads.moves }
 
-range_none : (k : ℕ) → 64 ≤ k → range_with_len k (64 - k) ≡ []
-range_none k le = let e : 0 ≡ 64 - k = omega (arith, le) in subst (λ (n : ℕ). range_with_len k n ≡ []) e refl
+module _ (t : KnownTable) (first : Bool) (g want : ℕ) (m : KnownMachine) (rest freed : ℕ) (now : KnownMachine) (s : PassSoFar t first g want m rest freed now) where
+  -- the next group is in the subtree
+  pub turn_inside : (turn k : ℕ) → turn ≡ k → k < 64 → bit_at rest k ≡ 1 → in_subtree now.ledger.groups g turn ≡ true
+  turn_inside turn k at low here = (λ i. in_subtree (s.keeps.groups i) g (at i)) ∙ s.left k low here
 
-pub pass_done : (t : KnownTable) (w : KnownStockTable) (first : Bool) (g want : ℕ) (m : KnownMachine) (k freed : ℕ) (now : KnownMachine) → IsConsistent t w now
-    → PassSoFar t first g want m k freed now → 64 ≤ k → PassEnds t first g want m freed now
-pass_done t w first g want m k freed now ok s all = record {
-  passes = so_far_done t (ReclaimsGroup first g) (range_with_len 0 64) want m freed now
-      (subst (λ (l : List ℕ). SoFar t (ReclaimsGroup first g) (range_with_len 0 64) want m l freed now) (range_none k all) s.so_far);
-  missed = λ off less f h inside home clean.
-      let fits : h.owner < 64 = owner_bound t w now ok f h (home_inside t w now ok f h home) home in
-      s.missed off less f h (omega (arith, fits, all)) (ap (λ (l : List Group). in_subtree l g h.owner) (sym s.keeps.groups) ∙ inside) home clean;
-}
+  pub pass_more : freed < want → (turn k : ℕ) → turn ≡ k → (k < 64) × (bit_at rest k ≡ 1) × ((i : ℕ) → i < k → bit_at rest i ≡ 0)
+      → (left : ℕ) → (bit_at left k ≡ 0) × (left < rest) × ((i : ℕ) → i < 64 → i ≢ k → bit_at left i ≡ bit_at rest i)
+      → (some : ℕ) (then : KnownMachine) → FreesBySteps t some now then (PassesGroup first turn (want - freed))
+      → Keeps t now then → UsageFalls turn some now then → some < want - freed + 2 ^ 32 → (first ≡ false → OnlyLeave now then)
+      → (first ≡ false → some < want - freed → MissedOfGroup turn now then) → PassSoFar t first g want m left (freed + some) then
+  pass_more wanted turn k at found left taken some then leads keeps usage few leaves missed =
+      let inside = turn_inside turn k at found.0 found.1 in
+      record {
+        so_far = so_far_more t (PassesGroup first) (subtree_of m.ledger.groups g) want m turn (members left 0 64) freed now
+            (subst (λ (l : List ℕ). SoFar t (PassesGroup first) (subtree_of m.ledger.groups g) want m l freed now)
+            (first_taken rest left k 0 64 (omega arith) found.0 (omega arith) found.1 found.2 taken.0 taken.2 ∙ ap (λ (x : ℕ). x ∷ members left 0 64) (sym at)) s.so_far) wanted some then leads;
+        left = λ i low one. elim (cases_eq i k) [
+          | inl e ↦ absurd (let zero_bit = taken.0 in let one' : bit_at left k ≡ 1 = ap (bit_at left) (sym e) ∙ one in omega (arith, zero_bit, one'))
+          | inr ne ↦ s.left i low (sym (taken.2 i low ne) ∙ one)
+        ];
+        keeps = keeps_both t m now then s.keeps keeps;
+        usage = let a = s.usage in let b = usage g inside in omega (arith, a, b);
+        few = omega (arith, wanted, few);
+        leaves = λ off. only_both m now then (s.leaves off) (leaves off);
+        missed = λ off less f h low below other. elim (cases_eq h.owner k) [
+          | inl e ↦
+              missed_still t m now then then s.keeps (keeps_none t then) (λ x y home. home) f h
+              (subst (λ (x : ℕ). IsMissed now then f (record { owner = x; list = h.list })) (at ∙ sym e) (missed off (omega (arith, less, wanted)) f h.list))
+          | inr ne ↦
+              missed_still t m m now then (keeps_none t m) keeps (leaves off) f h
+              (s.missed off (omega (arith, less)) f h low below (λ one. other (taken.2 h.owner low ne ∙ one)))
+        ];
+      }
+
+  pub pass_enough : want ≤ freed → PassEnds t first g want m freed now
+  pass_enough enough = record {
+    passes = as_pass t first g want freed m now (so_far_enough t (PassesGroup first) (subtree_of m.ledger.groups g) want m (members rest 0 64) freed now s.so_far enough);
+    missed = λ off less. absurd (omega (arith, less, enough));
+  }
+
+  pub pass_done : (w : KnownStockTable) → IsConsistent t w now → rest ≡ 0 → PassEnds t first g want m freed now
+  pass_done w ok all =
+      let none : (i : ℕ) → bit_at rest i ≡ 0 = λ i. ap (λ (x : ℕ). bit_at x i) all ∙ bit_at-zero i in
+      record {
+        passes = as_pass t first g want freed m now (so_far_done t (PassesGroup first) (subtree_of m.ledger.groups g) want m freed now
+            (subst (λ (l : List ℕ). SoFar t (PassesGroup first) (subtree_of m.ledger.groups g) want m l freed now)
+            (no_members rest 0 64 none) s.so_far));
+        missed = λ off less f h inside home clean.
+            let fits : h.owner < 64 = owner_bound t w now ok f h (home_inside t w now ok f h home) home in
+            s.missed off less f h fits (ap (λ (l : List Group). in_subtree l g h.owner) (sym s.keeps.groups) ∙ inside)
+            (λ one. let zero_bit = none h.owner in absurd (omega (arith, one, zero_bit))) home clean;
+      }
 
 -- what the second pass missed was missed in the whole
 pub all_missed : (t : KnownTable) (g : ℕ) (m k n : KnownMachine) → Keeps t m k → MissedAll g k n → MissedAll g m n

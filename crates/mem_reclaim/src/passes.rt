@@ -1,19 +1,19 @@
 //! The two passes over the groups of a subtree, by ascending number.
 
 ghost use Rattle.std.specs.Prelude.{◌≡◌, ◌<◌, ◌+◌, ◌^◌, true, false, IsTrue};
-ghost use Rattle.group_tree.specs.Groups.{has_group, in_subtree};
+ghost use Rattle.group_tree.specs.Groups.{has_group};
 ghost use Rattle.group_charge.specs.Charges.{current_of};
 ghost use Rattle.mem_machine.specs.Local.{SomeSeenByRun};
+ghost use Rattle.mem_machine.specs.Subtrees.{IsSubtree};
 ghost use Rattle.mem_reclaim.specs.Moves.{FreesBySteps};
-ghost use Rattle.mem_reclaim.specs.Passes.{PassesGroup, ReclaimsGroup, ReclaimsPass};
+ghost use Rattle.mem_reclaim.specs.Passes.{PassesGroup, ReclaimsPass};
 ghost use Rattle.mem_reclaim.specs.Staying.{Keeps, MissedAll, MissedOfGroup, OnlyLeave, UsageFalls};
 
 use crate::scan::scan;
 use cpu_part::{BootName, Tables};
-use group_charge::charges::Charges;
-use group_tree::group::{GroupId, MAX_GROUPS};
+use group_tree::group::GroupId;
 use lru_lists::record::LruList;
-use mem_machine::Machine;
+use mem_machine::{Machine, bit_set};
 
 // The first pass over a group: its lists are aged, and then its inactive units are scanned; marked ones are spared.
 fn age_and_scan<N: BootName>(
@@ -66,55 +66,43 @@ fn scan_both<N: BootName>(
     inactive + active
 }
 
-/// Whether `other` exists and is `group` or a descendant of it.
-pub(crate) fn is_in_subtree(charges: &Charges, group: GroupId, other: GroupId) -> bool
-    requires { IsTrue (has_group charges.now.groups group) }
-    ensures { result ≡ in_subtree charges.now.groups group other }
-{
-    let tree = charges.tree();
-    tree.contains(other) && tree.in_subtree(group, other)
-}
-
-// The turn of a group number in a pass over the subtree of `group`.
+// The turn of a group in a pass.
 fn reclaim_group<N: BootName>(
     machine: &mut Machine<N>,
     tables: &Tables<N>,
     group: GroupId,
-    turn: GroupId,
     want: u64,
     is_first: bool,
 ) -> u64
     requires there { IsTrue (has_group machine.old.ledger.groups group) }
     requires wanted { 0 < want }
     requires shown { SomeSeenByRun N.frames machine.old }
-    ensures turns { FreesBySteps N.frames result machine.old machine.new (ReclaimsGroup is_first group turn want) }
+    ensures passes { FreesBySteps N.frames result machine.old machine.new (PassesGroup is_first group want) }
     ensures keeps { Keeps N.frames machine.old machine.new }
-    ensures usage { current_of machine.new.ledger group + result ≡ current_of machine.old.ledger group }
+    ensures usage { UsageFalls group result machine.old machine.new }
     ensures few { result < want + 2 ^ 32 }
     ensures leaves { is_first ≡ false → OnlyLeave machine.old machine.new }
-    ensures missed { is_first ≡ false → result < want → in_subtree machine.old.ledger.groups group turn ≡ true
-        → MissedOfGroup turn machine.old machine.new }
+    ensures missed { is_first ≡ false → result < want → MissedOfGroup group machine.old machine.new }
 {
-    if !is_in_subtree(machine.charges(), group, turn) {
-        return 0;
-    }
     if is_first {
-        age_and_scan(machine, tables, turn, want)
+        age_and_scan(machine, tables, group, want)
     } else {
-        scan_both(machine, tables, turn, want)
+        scan_both(machine, tables, group, want)
     }
 }
 
-/// One pass over the groups of the subtree of `group`, by ascending number, as long as pages are wanted. Returns how
-/// many pages were freed.
+/// One pass over `groups`, those of the subtree of `group`, by ascending number, as long as pages are wanted. Returns
+/// how many pages were freed.
 pub(crate) fn reclaim_pass<N: BootName>(
     machine: &mut Machine<N>,
     tables: &Tables<N>,
     group: GroupId,
+    groups: u64,
     want: u64,
     is_first: bool,
 ) -> u64
     requires there { IsTrue (has_group machine.old.ledger.groups group) }
+    requires subtree { IsSubtree machine.old.ledger.groups group groups }
     requires shown { SomeSeenByRun N.frames machine.old }
     ensures passes { FreesBySteps N.frames result machine.old machine.new (ReclaimsPass group is_first want) }
     ensures keeps { Keeps N.frames machine.old machine.new }
@@ -124,15 +112,16 @@ pub(crate) fn reclaim_pass<N: BootName>(
     ensures missed { is_first ≡ false → result < want → MissedAll group machine.old machine.new }
 {
     machine.prove_usage(group); // At most this many pages are freed.
+    let mut rest = groups;
     let mut freed = 0;
-    for number in 0..MAX_GROUPS as u32 {
+    while let Some(number) = bit_set::take_first(&mut rest) {
         if want <= freed {
             return freed;
         }
         let Some(turn) = GroupId::of(number) else {
             unreachable!()
         };
-        freed += reclaim_group(machine, tables, group, turn, want - freed, is_first);
+        freed += reclaim_group(machine, tables, turn, want - freed, is_first);
     }
     machine.prove_consistent();
     freed

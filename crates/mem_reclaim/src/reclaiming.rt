@@ -11,7 +11,7 @@ ghost use Rattle.mem_reclaim.specs.Staying.{Keeps, MissedAll};
 use crate::passes::reclaim_pass;
 use cpu_part::{BootName, Tables};
 use group_tree::group::GroupId;
-use mem_machine::Machine;
+use mem_machine::{Machine, subtree};
 
 /// The result of a reclaim.
 #[derive(Clone, Copy, Debug, PartialEq, Eq)]
@@ -49,14 +49,15 @@ pub fn reclaim<N: BootName>(
         };
     }
     machine.prove_usage(group); // At most this many pages are freed.
-    let first = reclaim_pass(machine, tables, group, want, true);
+    let groups = subtree(machine.charges().tree(), group);
+    let first = reclaim_pass(machine, tables, group, groups, want, true);
     if want <= first {
         return Reclaimed {
             pages: first,
             tried_all: false,
         };
     }
-    let pages = first + reclaim_pass(machine, tables, group, want - first, false);
+    let pages = first + reclaim_pass(machine, tables, group, groups, want - first, false);
     Reclaimed {
         pages,
         tried_all: pages < want,

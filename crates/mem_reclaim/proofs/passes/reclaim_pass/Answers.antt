@@ -1,15 +1,20 @@
 use Rattle.std.proofs.Common.{rules}
-use Rattle.mem_reclaim.proofs.Passing.{pass_none, pass_more, pass_enough, pass_done}
+use Rattle.group_tree.proofs.CallerLemmas.{in_subtree-below}
+use Rattle.mem_reclaim.proofs.Passing.{pass_none, pass_more, pass_enough, pass_done, turn_inside}
 use Rattle.mem_reclaim.proofs.Shown.{shown_after}
 use Rattle.mem_reclaim.proofs.passes.reclaim_pass.Goals as goal
 
 pub loop-number-init : goal.loop-number-init
-loop-number-init g c = pass_none g.N.BootName.frames c.args.is_first c.args.group c.args.want c.args.machine.now
+loop-number-init g c = pass_none g.N.BootName.frames c.args.is_first c.args.group c.args.want c.args.machine.now c.args.groups c.requires.subtree
 
 pub returns-then-want-freed-clause-passes : goal.returns-then-want-freed-clause-passes
-returns-then-want-freed-clause-passes g c =
-    (pass_enough g.N.BootName.frames c.args.is_first c.args.group c.args.want c.args.machine.now c.loop-number.number c.loop-number.freed c.loop-number.machine
-    c.loop-number.invariant c.if-want-freed.true).passes
+returns-then-want-freed-clause-passes g c = (pass_enough _ _ _ _ _ _ _ _ c.loop-number.invariant c.if-want-freed.true).passes
+
+pub reclaim_group-freed-requires-clause-there : goal.reclaim_group-freed-requires-clause-there
+reclaim_group-freed-requires-clause-there g c =
+    let found = c.in-Some.ensures.first in
+    in_subtree-below c.loop-number.machine.ledger.groups c.args.group c.in-Some-of.turn
+    (turn_inside _ _ _ _ _ _ _ _ c.loop-number.invariant c.in-Some-of.turn c.in-Some.number c.in-Some-of.ensures.1 found.0 found.1)
 
 pub reclaim_group-freed-requires-clause-shown : goal.reclaim_group-freed-requires-clause-shown
 reclaim_group-freed-requires-clause-shown g c =
@@ -19,14 +24,12 @@ reclaim_group-freed-requires-clause-shown g c =
 pub loop-number-preserved : goal.loop-number-preserved
 loop-number-preserved g c =
     let e = c.reclaim_group-freed.ensures in
-    pass_more g.N.BootName.frames c.args.is_first c.args.group c.args.want c.args.machine.now c.loop-number.number c.loop-number.freed c.loop-number.machine
-    c.loop-number.invariant c.loop-number-test.true c.if-want-freed.false c.in-Some.turn c.in-Some.ensures.1 c.reclaim_group-freed.result
-    c.reclaim_group-freed.new.machine e.turns e.keeps e.usage e.few e.leaves e.missed
+    pass_more _ _ _ _ _ _ _ _ c.loop-number.invariant c.if-want-freed.false c.in-Some-of.turn c.in-Some.number c.in-Some-of.ensures.1 c.in-Some.ensures.first
+    c.take_first.new.word c.in-Some.ensures.taken c.reclaim_group-freed.result c.reclaim_group-freed.new.machine e.passes e.keeps e.usage e.few e.leaves e.missed
 
 pub returns : goal.returns
 returns g c =
-    let all = pass_done g.N.BootName.frames g.N.BootName.stocks c.args.is_first c.args.group c.args.want c.args.machine.now c.loop-number.number c.loop-number.freed
-    c.loop-number.machine c.prove_consistent.ensures c.loop-number.invariant c.loop-number-test.false in
+    let all = pass_done _ _ _ _ _ _ _ _ c.loop-number.invariant g.N.BootName.stocks c.prove_consistent.ensures c.in_default.ensures.first in
     record { passes = all.passes; keeps = search rules; usage = search rules; few = search rules; leaves = search rules; missed = all.missed }
 
 pub returns-then-want-freed-clause-few : goal.returns-then-want-freed-clause-few

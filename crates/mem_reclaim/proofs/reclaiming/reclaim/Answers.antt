@@ -1,4 +1,7 @@
-use Rattle.std.proofs.Common.{false, true, [], refl, inl, arith}
+use Rattle.std.proofs.Common.{false, true, List, [], refl, sym, ap, ◌∙◌, subst, inl, arith, rules}
+use Rattle.group_tree.specs.declared.group.Group.{Group}
+use Rattle.group_charge.specs.Charges.{Ledger}
+use Rattle.mem_machine.specs.Subtrees.{IsSubtree}
 use Rattle.mem_reclaim.specs.Passes.{ReclaimsPass}
 use Rattle.mem_reclaim.proofs.Wanting.{first_enough, both_done}
 use Rattle.mem_reclaim.proofs.Keeping.{keeps_both}
@@ -12,6 +15,14 @@ returns-then-want-first-clause-reclaims g c =
     first_enough g.N.BootName.frames (ReclaimsPass c.args.group) true false c.args.want c.args.machine.now
     (let ne = c.if-want-eq0.false in omega (arith, ne)) c.reclaim_pass-first.result
     c.reclaim_pass-first.new.machine c.reclaim_pass-first.ensures.passes c.if-want-first.true
+
+pub reclaim_pass-first-requires-clause-subtree : goal.reclaim_pass-first-requires-clause-subtree
+reclaim_pass-first-requires-clause-subtree g c = search rules
+
+pub reclaim_pass-requires-clause-subtree : goal.reclaim_pass-requires-clause-subtree
+reclaim_pass-requires-clause-subtree g c =
+    subst (λ (groups : List Group). IsSubtree groups c.args.group c.subtree-groups.result)
+    (c.tree.ensures.tree ∙ ap (λ (l : Ledger). l.groups) c.charges.ensures ∙ sym c.reclaim_pass-first.ensures.keeps.groups) c.subtree-groups.ensures
 
 pub reclaim_pass-requires-clause-shown : goal.reclaim_pass-requires-clause-shown
 reclaim_pass-requires-clause-shown g c =

@@ -5,7 +5,7 @@ use Rattle.group_tree.specs.Groups.{in_subtree}
 use Rattle.group_tree.proofs.GroupLemmas.{has_group-contains}
 use Rattle.mem_machine.specs.Machines.{KnownMachine}
 use Rattle.mem_machine.specs.Stocks.{stock_group}
-use Rattle.mem_machine.proofs.Choosing.{FoundSoFar, found_all, found_more, found_not}
+use Rattle.mem_machine.proofs.Choosing.{FoundSoFar, OwnsStock, stocks_found, found_more, found_not}
 use Rattle.mem_machine.proofs.machine.Machine.stocks_below.Goals.{then-is_at_or_below, else-is_at_or_below}
 use Rattle.mem_machine.proofs.machine.Machine.stocks_below.Goals as goal
 
@@ -24,12 +24,12 @@ loop-row-preserved g c =
       | then-is_at_or_below w ↦
           let owned = subst (λ (x : KnownMachine). (p : ℕ) → p < 64 → (bit_at w.stocks_of-stocks.result p ≡ 1)
           ↔ (p < g.N.BootName.frames.cpus) × (stock_group x (p + 1) ≡ Some c.row-item.result.number)) c.self.view_is w.stocks_of-stocks.ensures in
-          subst (FoundSoFar g.N.BootName.frames c.args.self.now c.args.group c.groups-row-items.result.now (c.loop-row.row-index + 1)) (sym w.stocks-is)
-          (found_more g.N.BootName.frames c.args.self.now c.args.group c.groups-row-items.result.now c.loop-row.row-index c.loop-row.stocks c.loop-row.invariant
+          subst (FoundSoFar (OwnsStock g.N.BootName.frames c.args.self.now) c.args.self.now.ledger.groups c.args.group c.groups-row-items.result.now (c.loop-row.row-index + 1)) (sym w.stocks-is)
+          (found_more (OwnsStock g.N.BootName.frames c.args.self.now) c.args.self.now.ledger.groups c.args.group c.groups-row-items.result.now c.loop-row.row-index c.loop-row.stocks c.loop-row.invariant
           c.row-item.result c.loop-row-test.true c.row-item.is w.stocks_of-stocks.result (test ∙ w.if-is_at_or_below.true) owned)
       | else-is_at_or_below w ↦
-          subst (FoundSoFar g.N.BootName.frames c.args.self.now c.args.group c.groups-row-items.result.now (c.loop-row.row-index + 1)) (sym w.stocks-is)
-          (found_not g.N.BootName.frames c.args.self.now c.args.group c.groups-row-items.result.now c.loop-row.row-index c.loop-row.stocks c.loop-row.invariant
+          subst (FoundSoFar (OwnsStock g.N.BootName.frames c.args.self.now) c.args.self.now.ledger.groups c.args.group c.groups-row-items.result.now (c.loop-row.row-index + 1)) (sym w.stocks-is)
+          (found_not (OwnsStock g.N.BootName.frames c.args.self.now) c.args.self.now.ledger.groups c.args.group c.groups-row-items.result.now c.loop-row.row-index c.loop-row.stocks c.loop-row.invariant
           c.row-item.result c.loop-row-test.true c.row-item.is (test ∙ w.if-is_at_or_below.false))
     ]
 
@@ -37,6 +37,6 @@ pub returns : goal.returns
 returns g c =
     let groups : c.groups-row-items.result.now ≡ c.args.self.now.ledger.groups = c.groups-row-items.ensures.groups ∙ c.tree-tree.ensures.tree
     ∙ ap (λ (m : KnownMachine). m.ledger.groups) c.self.view_is in
-    found_all g.N.BootName.frames c.args.self.now c.args.group c.loop-row.row-index c.loop-row.stocks
-    (subst (λ (rows : List Group). FoundSoFar g.N.BootName.frames c.args.self.now c.args.group rows c.loop-row.row-index c.loop-row.stocks) groups c.loop-row.invariant)
+    stocks_found g.N.BootName.frames c.args.self.now c.args.group c.loop-row.row-index c.loop-row.stocks
+    (subst (λ (rows : List Group). FoundSoFar (OwnsStock g.N.BootName.frames c.args.self.now) c.args.self.now.ledger.groups c.args.group rows c.loop-row.row-index c.loop-row.stocks) groups c.loop-row.invariant)
     (subst (λ (rows : List Group). length rows ≤ c.loop-row.row-index) groups c.loop-row-test.false)

@@ -1,7 +1,7 @@
 use Rattle.std.proofs.Common.{◌≢◌, ◌<◌, ◌^◌, ℕ, ap, arith, rules, w64}
 use Rattle.std.specs.Int.{bit_at, trailing_zeros}
 use Rattle.std.proofs.lemmas.Nat.Bits.{bit_at-trailing_zeros}
-use Rattle.mem_machine.proofs.cpu_set.take_first.Goals as goal
+use Rattle.mem_machine.proofs.bit_set.take_first.Goals as goal
 
 pub without-requires : goal.without-requires
 without-requires c =

@@ -1,6 +1,6 @@
 use Rattle.std.proofs.Common.{w64}
 use Rattle.std.proofs.lemmas.Nat.Bits.{bit_at_set_same, bit_at_set_other}
-use Rattle.mem_machine.proofs.cpu_set.with.Goals as goal
+use Rattle.mem_machine.proofs.bit_set.with.Goals as goal
 
 pub returns-clause-here : goal.returns-clause-here
 returns-clause-here c = bit_at_set_same w64 _ _ c.requires

@@ -3,7 +3,7 @@ use Rattle.std.proofs.lemmas.Bool.{false_from_ne_true, false≢true}
 use Rattle.group_tree.specs.declared.group.Group.{Group}
 use Rattle.group_tree.specs.Groups.{has_group}
 use Rattle.group_tree.proofs.CallerLemmas.{in_subtree-below}
-use Rattle.mem_reclaim.proofs.passes.is_in_subtree.Goals as goal
+use Rattle.mem_reclaim.proofs.victims.is_in_subtree.Goals as goal
 
 pub returns-else-contains : goal.returns-else-contains
 returns-else-contains c =

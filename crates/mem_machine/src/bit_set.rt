@@ -1,4 +1,5 @@
-//! Sets of CPUs, at most 64: a word has a 1 in the place of each member. That of CPU 1 is 0.
+//! Sets of numbers below 64, each as one word, which has a 1 in the place of each member. The place of a group is its
+//! number, and that of CPU 1 is 0.
 
 ghost use Rattle.std.specs.Prelude.{◌≡◌, ◌≢◌, ◌<◌, ◌≤◌, ℕ, IfSome, MatchOption};
 ghost use Rattle.std.specs.Int.{bit_at};
@@ -23,7 +24,7 @@ pub(crate) fn without(word: u64, place: u32) -> u64
 }
 
 /// Takes the first member away. None exactly if there is none.
-pub(crate) fn take_first(word: &mut u64) -> Option<u32>
+pub fn take_first(word: &mut u64) -> Option<u32>
     ensures first { MatchOption result (word.old ≡ 0)
         (λ place. (place < 64) × (bit_at word.old place ≡ 1) × ((i : ℕ) → i < place → bit_at word.old i ≡ 0)) }
     ensures taken { IfSome result (λ place. (bit_at word.new place ≡ 0) × (word.new < word.old)

@@ -1,7 +1,7 @@
 use Rattle.std.proofs.Common.{w64}
 use Rattle.std.proofs.lemmas.Nat.{and_le_l}
 use Rattle.std.proofs.lemmas.Nat.Bits.{bit_at_clear_same, bit_at_clear_other}
-use Rattle.mem_machine.proofs.cpu_set.without.Goals as goal
+use Rattle.mem_machine.proofs.bit_set.without.Goals as goal
 
 pub returns-clause-here : goal.returns-clause-here
 returns-clause-here c = bit_at_clear_same w64 c.args.word c.args.place c.requires
