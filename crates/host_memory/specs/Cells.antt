@@ -1,14 +1,16 @@
 -- The rule of a cell with one word and one slot, and what a take returns.
 use Rattle.std.specs.Prelude.{◌≡◌, ℕ, ◌∷◌, [], Option, Some, None, slice_index, length}
-use mathlib.Core.Option.{some}
+use mathlib.Core.Option.{none, some}
 use lib.ListN.{get_elem?}
 use Rattle.atomic_table.specs.Seated.{TableId}
 use Rattle.atomic_table.specs.Table.{State, Me}
 
 module _ {T V : Type 0} where
-  -- while the word is 0, the value is at home
-  abbrev pub IsGuarded : State (Option T) V → Type 0
-  IsGuarded s = (length s.words ≡ 1) × (slice_index s.words 0 ≡ 0 → (value : T) × (get_elem? s.homes 0 ≡ some (some (Some value))))
+  -- the word is 0 exactly while the value is at home
+  pub record IsGuarded (s : State (Option T) V) : Type 0 where
+    pub one : length s.words ≡ 1
+    pub home : slice_index s.words 0 ≡ 0 → (value : T) × (get_elem? s.homes 0 ≡ some (some (Some value)))
+    pub out : ¬ (slice_index s.words 0 ≡ 0) → get_elem? s.homes 0 ≡ some none
 
 module _ {T : Type 0} where
   -- the slot is out with this seat, which knows the value in it

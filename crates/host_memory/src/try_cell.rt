@@ -11,7 +11,7 @@ use std::marker::Model;
 // What a seat knows: the value that it took out, and the one that it put back.
 type Change<T> = (Option<T>, Option<T>);
 
-/// The rule: while the word is 0, the value is at home.
+/// The rule: the word is 0 exactly while the value is at home.
 struct Guard;
 
 impl<T> TableRule<Option<T>, Change<T>, ()> for Guard {

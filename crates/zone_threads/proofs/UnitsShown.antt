@@ -10,10 +10,10 @@ pub units_shown : (group : Option ℕ) (none : Type 0) (says other : List ℕ �
 units_shown None none says other m n absent more is = absurd (absent is.0)
 units_shown (Some group) none says other m n absent more is = record { pins = is.pins; looks = is.looks; told = more _ is.told }
 
--- no text says that a group is there, so there is none
+-- no text says that a group is there, so there is none, and nothing was looked at
 pub units_missing : (group : Option ℕ) (none : Type 0) (says : List ℕ → Type 0) (m n : KnownMachine) → ((shown : List ℕ) → says shown → ⊥)
-    → UnitsAt group none says m n → group ≡ None
-units_missing None none says m n not is = refl
+    → UnitsAt group none says m n → (group ≡ None) × (n ≡ m)
+units_missing None none says m n not is = (refl, is.1)
 units_missing (Some group) none says m n not is = absurd (not _ is.told)
 
 module _ {E : Type 0} where

@@ -1,5 +1,5 @@
 -- What each call does to the CPU of a thread, by its answer, and by which steps of the run.
-use Rattle.std.specs.Prelude.{◌≡◌, ◌≢◌, ◌+◌, ◌≤◌, ◌⊎◌, ℕ, false, List, length, Ok, Option, Some}
+use Rattle.std.specs.Prelude.{◌≡◌, ◌+◌, ◌<◌, ◌≤◌, ◌⊎◌, ℕ, false, List, length, Ok, Some}
 use Rattle.std.specs.Borrow.{Bor}
 use Rattle.frame_word.specs.Seats.{KnownTable}
 use Rattle.frame_word.specs.declared.answers.Get.{Get}
@@ -9,7 +9,6 @@ use Rattle.zone_blocks.specs.declared.config.Config.{Config}
 use Rattle.group_tree.specs.Bounds.{most_groups}
 use Rattle.group_tree.specs.Groups.{has_group, path_of}
 use Rattle.group_tree.specs.declared.group.Group.{Group}
-use Rattle.group_tree.specs.declared.fault.Fault.{Fault}
 use Rattle.group_tree.specs.declared.fault.Fault.TheVariants.{NotPinned, PinsFull}
 use Rattle.boot_words.specs.Growth.{GrewByAll}
 use Rattle.boot_words.specs.Pasts.{own_past}
@@ -26,7 +25,6 @@ use Rattle.mem_system.specs.Cpus.{CpuInRun}
 use Rattle.mem_system.specs.Locked.{SeenBehindLock}
 use Rattle.mem_system.specs.Shown.{SettlesCaller}
 use Rattle.mem_system.specs.Visits.{IsServed, IsVisited, LockedState, ServesFrameOutcome, ServesOutcome}
-use Rattle.mem_system.specs.declared.command.Cmd.{Cmd}
 use Rattle.mem_system.specs.declared.command.Cmd.TheVariants as cmd
 use Rattle.mem_system.specs.declared.command.Reply.TheVariants as reply
 use Rattle.mem_system.specs.declared.outcome.Outcome.{Outcome}
@@ -120,13 +118,15 @@ MissesGroup frames stock_table group from to =
     ⊎ OnCpu (Then (MissesFast group) (NoGroupBehindLock frames stock_table group)) from to
 
 -- What each call does, by its answer. The CPU's past of the run grows by the steps of a fast call, then by those of a
--- visit (`IsServed.run`), and by no others of its own. Each visit finds the sizes of the zone's boot.
+-- visit (`IsServed.run`), and by no others of its own. Each visit finds the sizes of the zone's boot. A frame or a number
+-- of a group that can't be is found before the lock is tried, and before the CPU's pins are looked at.
 abbrev pub Calls : KnownTable → KnownStockTable → Call → (from to : KnownHome) → CallAnswer → Type 0
-Calls frames stock_table (call.Visit cmd) from to answer.Busy = to ≡ from
+Calls frames stock_table (call.Visit cmd) from to answer.Busy = IsOfZone frames cmd × (to ≡ from)
 Calls frames stock_table (call.Visit cmd) from to answer.NoFrame = (¬ IsOfZone frames cmd) × (to ≡ from)
 Calls frames stock_table (call.Visit cmd) from to (answer.Served outcome) =
     OnCpu (IsVisited frames stock_table from.sizes (ServesOutcome frames cmd outcome)) from to
-Calls frames stock_table (call.AllocFrame group) from to answer.Busy = OnCpu (MissesFast group) from to
+Calls frames stock_table (call.AllocFrame group) from to answer.Busy =
+    (group < most_groups) × OnCpu (MissesFast group) from to
 Calls frames stock_table (call.AllocFrame group) from to answer.NoGroup = MissesGroup frames stock_table group from to
 Calls frames stock_table (call.AllocFrame group) from to (answer.Taken frame) =
     OnCpu (AllocsFast group (Got frame)) from to
@@ -138,7 +138,8 @@ Calls frames stock_table (call.AllocBlock group order) from to answer.NoGroup =
     OnCpu (NoGroupBehindLock frames stock_table group) from to
 Calls frames stock_table (call.AllocBlock group order) from to (answer.Served outcome) =
     OnCpu (IsVisited frames stock_table from.sizes (ServesBlock frames group order outcome)) from to
-Calls frames stock_table (call.Release frame) from to answer.Busy = OnCpu (MissesDrop frame) from to
+Calls frames stock_table (call.Release frame) from to answer.Busy =
+    (frame < frames.frames) × OnCpu (MissesDrop frame) from to
 Calls frames stock_table (call.Release frame) from to answer.NoFrame = (frames.frames ≤ frame) × (to ≡ from)
 Calls frames stock_table (call.Release frame) from to answer.Listed = OnCpu (DropsFast frame Listed) from to
 Calls frames stock_table (call.Release frame) from to (answer.Served outcome) =
@@ -147,11 +148,12 @@ Calls frames stock_table (call.Release frame) from to (answer.Served outcome) =
 Calls frames stock_table (call.Get frame) from to answer.NoFrame = (frames.frames ≤ frame) × (to ≡ from)
 Calls frames stock_table (call.Get frame) from to (answer.Got got) = OnCpu (Pins frame got) from to
 Calls frames stock_table (call.Get frame) from to (answer.Refused fault) =
-    (fault ≡ PinsFull) × OnCpu RefusesPin from to
+    (frame < frames.frames) × (fault ≡ PinsFull) × OnCpu RefusesPin from to
 Calls frames stock_table (call.Put frame) from to answer.NoFrame = (frames.frames ≤ frame) × (to ≡ from)
 Calls frames stock_table (call.Put frame) from to (answer.Put put) = OnCpu (Unpins frame put) from to
 Calls frames stock_table (call.Put frame) from to (answer.Refused fault) =
-    (fault ≡ NotPinned) × OnCpu (λ cpu left. (times frame cpu.part.pins ≡ 0) × (left ≡ cpu)) from to
+    (frame < frames.frames) × (fault ≡ NotPinned)
+    × OnCpu (λ cpu left. (times frame cpu.part.pins ≡ 0) × (left ≡ cpu)) from to
 Calls frames stock_table call.Settle from to answer.Busy = to ≡ from
 Calls frames stock_table call.Settle from to answer.Settled =
     OnCpu (IsVisited frames stock_table from.sizes (SettlesCaller frames)) from to

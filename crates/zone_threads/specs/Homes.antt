@@ -1,5 +1,5 @@
 -- What a thread has of a zone, and how CPUs are taken and returned.
-use Rattle.std.specs.Prelude.{◌≡◌, ◌≤◌, ◌<◌, ℕ, List, length, [], ◌∷◌, ◌++◌, Option, Some, None, IsSome}
+use Rattle.std.specs.Prelude.{◌≡◌, ◌≢◌, ◌≤◌, ◌<◌, ℕ, All, List, length, [], ◌∷◌, ◌++◌, Option, Some, None, IsSome}
 use Rattle.std.specs.Global.{Box}
 use Rattle.std.specs.List.{HoldsAt, swap_remove}
 use Rattle.host_memory.specs.Cells.{KnownChange}
@@ -16,10 +16,11 @@ pub record KnownHome : Type 0 where
   pub cpu : Option CpuInRun
   pub sizes : Config
 
--- what lies behind the lock: the machine with its sizes, and the parked parts
+-- what lies behind the lock: the machine with its sizes, the parked parts, and for how many there is room
 pub record KnownBehind : Type 0 where
   pub locked : KnownLocked
   pub parked : List CpuInRun
+  pub room : ℕ
 
 -- the same, with this part parked too
 abbrev pub parked_with : KnownBehind → CpuInRun → KnownBehind
@@ -28,6 +29,10 @@ parked_with behind cpu = record behind { parked = behind.parked ++ cpu ∷ [] }
 -- there is no CPU
 abbrev pub HasNoCpu : KnownHome → Type 0
 HasNoCpu home = home.cpu ≡ None
+
+-- the part of the CPU of this number isn't parked
+abbrev pub IsNotParked : (number : ℕ) → KnownBehind → Type 0
+IsNotParked number behind = All (λ cpu. cpu.part.number ≢ number) behind.parked
 
 -- there is a CPU
 abbrev pub HasCpu : KnownHome → Type 0
@@ -80,12 +85,20 @@ pub record TakesCpu (number : ℕ) (change : LockedChange) (before after : Known
   pub left_is : change.left ≡ Some left
   pub unparks : Unparks cpu found.value left.value
 
--- what is so, if no CPU was taken
+-- the home had no CPU, the zone has one of this number, and nothing was done
+pub record MissesCpu (cpus number : ℕ) (before after : KnownHome) : Type 0 where
+  pub none : HasNoCpu before
+  pub is_cpu : IsCpu cpus number
+  pub stays : after ≡ before
+
+-- What is so, if no CPU was taken. It is looked at first whether the home has a CPU, and then whether the zone has the one
+-- of this number.
 abbrev pub IfNotEntered : (cpus number : ℕ) → (before : KnownHome) → NotEntered → (after : KnownHome) → Type 0
-IfNotEntered cpus number before not_entered.NoCpu after = (¬ IsCpu cpus number) × (after ≡ before)
-IfNotEntered cpus number before not_entered.Out after = after ≡ before
+IfNotEntered cpus number before not_entered.NoCpu after =
+    HasNoCpu before × (¬ IsCpu cpus number) × (after ≡ before)
+IfNotEntered cpus number before not_entered.Out after = MissesCpu cpus number before after
 IfNotEntered cpus number before not_entered.HasCpu after = HasCpu before × (after ≡ before)
-IfNotEntered cpus number before not_entered.Busy after = after ≡ before
+IfNotEntered cpus number before not_entered.Busy after = MissesCpu cpus number before after
 
 -- The home's CPU was parked: what was put back behind the lock is what was taken out, with this part.
 pub record ParksCpu (change : LockedChange) (before after : KnownHome) : Type 0 where

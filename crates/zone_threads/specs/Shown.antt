@@ -1,5 +1,5 @@
 -- The texts that a settled CPU gets of the zone.
-use Rattle.std.specs.Prelude.{◌≡◌, ℕ, List, Option, Some, None}
+use Rattle.std.specs.Prelude.{◌≡◌, ℕ, List, None}
 use Rattle.frame_word.specs.Seats.{KnownTable}
 use Rattle.stock_word.specs.Stock.{KnownStockTable}
 use Rattle.group_tree.specs.Groups.{number_at}
@@ -27,7 +27,8 @@ abbrev pub SaysUnits : (path : List ℕ) → TextAnswer → LockedState → Know
 SaysUnits path (answer.Text text) settled machine =
     UnitsAt (number_at settled.locked.machine.ledger.groups path) ⊥ (λ shown. text.items ≡ shown)
     settled.locked.machine machine
-SaysUnits path answer.NoGroup settled machine = number_at settled.locked.machine.ledger.groups path ≡ None
+SaysUnits path answer.NoGroup settled machine =
+    (number_at settled.locked.machine.ledger.groups path ≡ None) × (machine ≡ settled.locked.machine)
 SaysUnits path answer.NoMemory settled machine = Unit {0}
 
 -- The same of each text. If memory ran out, the CPU is settled all the same.

@@ -1,6 +1,6 @@
 //! What lies behind the zone's lock.
 
-ghost use Rattle.std.specs.Prelude.{◌≡◌, ◌<◌, ◌++◌, ◌∷◌, [], IfNone, IfSome, length};
+ghost use Rattle.std.specs.Prelude.{◌≡◌, ◌<◌, ◌≤◌, ◌++◌, ◌∷◌, [], IfNone, IfSome, length};
 ghost use Rattle.std.specs.List.{HoldsAt};
 
 use cpu_part::BootName;
@@ -14,20 +14,21 @@ pub struct Behind<N: BootName> {
 }
 
 impl<N: BootName> Model for Behind<N> {
+    ghost use Rattle.std.specs.Prelude.{vec_capacity};
     ghost use Rattle.zone_threads.specs.Homes.{KnownBehind};
 
     ghost Value = { KnownBehind };
 
-    ghost view = { λ b. record { locked = b.locked; parked = b.parked.items } };
+    ghost view = { λ b. record { locked = b.locked; parked = b.parked.items; room = vec_capacity b.parked } };
 }
 
 impl<N: BootName> Behind<N> {
-    ghost use Rattle.zone_threads.specs.Homes.{Unparks, parked_with};
+    ghost use Rattle.zone_threads.specs.Homes.{IsNotParked, Unparks, parked_with};
 
     /// Takes the part of the CPU of this number; `None` if it isn't parked.
     pub fn unpark(&mut self, number: u32) -> Option<Cpu<N>>
         ensures unparked { IfSome result (λ cpu. (cpu.part.number ≡ number) × Unparks cpu self.old self.new) }
-        ensures stays { IfNone result (self.new ≡ self.old) }
+        ensures none { IfNone result (IsNotParked number self.old × (self.new ≡ self.old)) }
     {
         let place = self.place_of(number)?;
         Some(self.parked.swap_remove(place))
@@ -35,21 +36,18 @@ impl<N: BootName> Behind<N> {
 
     // The place of the part of this number.
     fn place_of(&self, number: u32) -> Option<usize>
-        ensures { IfSome result (λ place. (place < length self.now.parked)
+        ensures there { IfSome result (λ place. (place < length self.now.parked)
             × HoldsAt (λ cpu. cpu.part.number ≡ number) self.now.parked place) }
+        ensures none { IfNone result (IsNotParked number self.now) }
     {
-        for place in 0..self.parked.len() {
-            if self.parked[place].number() == number {
-                return Some(place);
-            }
-        }
-        None
+        self.parked.iter().position(|cpu| cpu.number() == number)
     }
 
     /// Parks the part of a CPU. It is returned if there is no room, which a boot reserves for all.
     pub fn park(&mut self, cpu: Cpu<N>) -> Option<Cpu<N>>
         ensures parked { IfNone result (self.new ≡ parked_with self.old cpu) }
         ensures returned { IfSome result (λ returned. (returned ≡ cpu) × (self.new ≡ self.old)) }
+        ensures full { IfSome result (λ _. self.old.room ≤ length self.old.parked) }
     {
         if self.parked.len() == self.parked.capacity() {
             return Some(cpu);

@@ -129,7 +129,8 @@ impl<N: BootName> Home<N> {
     /// What all homes shared, if there is no other one. Else the home is returned as it was.
     pub fn into_zone(self) -> Result<Zone<N>, Home<N>>
         requires { HasNoCpu self }
-        ensures { IfErr result (λ home. home ≡ self) }
+        ensures alone { IfOk result (λ zone. zone.sizes ≡ self.sizes) }
+        ensures shared { IfErr result (λ home. home ≡ self) }
     {
         let Home { zone, cpu } = self;
         let None = cpu else { unreachable!() };

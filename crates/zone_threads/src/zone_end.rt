@@ -1,6 +1,6 @@
 //! The end of a zone, once no thread has a CPU.
 
-ghost use Rattle.std.specs.Prelude.{IfSome};
+ghost use Rattle.std.specs.Prelude.{◌≢◌, IfNone, IfSome, length};
 ghost use Rattle.mem_system.specs.Ending.{PutsAndEnds};
 
 use crate::behind::Behind;
@@ -11,7 +11,8 @@ use std::mem::ManuallyDrop;
 /// Ends a zone by its parts, once no thread has a CPU. Pins that are still held are put first. `None` if the part of a CPU
 /// isn't there, which no call leaves so: the parts stay in memory then.
 pub fn end_parts<N: BootName>(tables: Tables<N>, behind: Behind<N>) -> Option<SystemEnd>
-    ensures { IfSome result (PutsAndEnds N.frames N.stocks behind.locked behind.parked) }
+    ensures ended { IfSome result (PutsAndEnds N.frames N.stocks behind.locked behind.parked) }
+    ensures lost { IfNone result (length behind.parked ≢ N.frames.cpus) }
 {
     let Behind { locked, parked } = behind;
     if parked.len() != tables.words.cpus() as usize {

@@ -1,11 +1,9 @@
 -- Serves `read`: the reply is what the charges after the visit make of the outcome.
-use Rattle.std.proofs.Common.{◌≡◌, ◌≢◌, ◌∙◌, ap, sym, subst, Result}
+use Rattle.std.proofs.Common.{◌≢◌, ◌∙◌, ap, sym, subst}
 use Rattle.group_charge.specs.Charges.{Ledger}
-use Rattle.group_tree.specs.declared.fault.Fault.{Fault}
 use Rattle.control_files.specs.Files as files
 use Rattle.mem_system.specs.declared.command.Cmd.TheVariants as cmd
 use Rattle.mem_system.specs.declared.command.Reply.{Reply}
-use Rattle.mem_system.specs.declared.outcome.Outcome.{Outcome}
 use Rattle.mem_system.specs.Outcomes.{HasItsGroups, reply_of, text_reply}
 use Rattle.mem_system.specs.Visits.{IsServed, IsVisited, locked_state}
 use Rattle.zone_threads.specs.declared.calls.ReadAnswer.{ReadAnswer}
