@@ -74,10 +74,7 @@ pub enum Command<'a> {
     /// Settles the CPU, and nothing else.
     Settle,
     /// An act on this frame that always takes the lock.
-    OnFrame {
-        act: FrameAct,
-        frame: u32,
-    },
+    OnFrame(FrameAct, u32),
     /// Shows the blocks of the zone's free areas.
     Blocks,
     /// Shows the place of every frame and the usage of every group.

@@ -127,8 +127,8 @@ impl Verb {
     }
 }
 
-/// The name of a command, as the number that its bytes are behind `FIRST_DIGIT`, to the base 256. So a map hashes and compares it
-/// at once; it would take a slice piece by piece.
+/// The name of a command, as the number whose digits to the base 256 are `FIRST_DIGIT` and the name's bytes. So a map
+/// hashes and compares it at once; it would take a slice piece by piece.
 #[derive(Clone, Copy, PartialEq, Eq, Hash)]
 pub struct Name {
     code: u64,
