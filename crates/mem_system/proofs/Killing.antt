@@ -34,7 +34,7 @@ use Rattle.mem_alloc.proofs.Missing.{back_calm}
 use Rattle.mem_alloc.proofs.NoRashAllocs.{block_no_rash, frame_no_rash, no_kill_both}
 use Rattle.mem_system.proofs.Found.{found_there}
 use Rattle.mem_system.specs.declared.command.Cmd.{Cmd}
-use Rattle.mem_system.specs.declared.command.Cmd.TheVariants.{Mkdir, Rmdir, Write, Read, Settle, Owner, Touch, Dirty, Clean, Release, Alloc}
+use Rattle.mem_system.specs.declared.command.Cmd.TheVariants.{Mkdir, Rmdir, Write, Read, Settle, Owner, Release, Alloc}
 use Rattle.mem_system.specs.declared.command.Reply.{Reply}
 use Rattle.mem_system.specs.declared.command.Reply.TheVariants as reply
 use Rattle.mem_system.specs.Groups.{MakesGroup, Removes}
@@ -42,7 +42,6 @@ use Rattle.mem_system.specs.Files.{IsFileOf, IsLimitFor, SetsFile, SetsLimit, Wr
 use Rattle.mem_alloc.specs.Room.{with_limit_noted}
 use Rattle.mem_system.specs.Usage.{LowersUsage, LowersAbove, LowersByKills, KeepsToLimit}
 use Rattle.mem_system.specs.Allocations.{Allocates, AllocatesFor}
-use Rattle.mem_system.specs.Units.{TouchesFrame, NotesDirt}
 use Rattle.mem_system.specs.Releases.{CutsList, ListsFrame, ReleasesFrame, ReturnsFrames}
 use Rattle.mem_system.specs.Asks.{MayAskFor}
 use Rattle.mem_system.specs.Commands.{Executes}
@@ -66,17 +65,6 @@ removes_quiet path reply.Done call h =
 removes_quiet path (reply.Refused fault.Busy) call h = lowers_quiet h.group 0 call h.lowers
 removes_quiet path (reply.Refused other) call h = ap has_kill h.1.steps_are
 removes_quiet path other call h = absurd h
-
-touches_quiet : (f : ℕ) (said : Reply) (call : Transition KnownMachine) → TouchesFrame f said call → has_kill call.steps ≡ false
-touches_quiet f reply.Marked call h = ap has_kill h.1
-touches_quiet f reply.Active call h = ap has_kill h.1
-touches_quiet f (reply.Refused fault.NotKept) call h = ap has_kill h.stays.steps_are
-touches_quiet f other call h = absurd h
-
-notes_quiet : (is_dirty : Bool) (f : ℕ) (said : Reply) (call : Transition KnownMachine) → NotesDirt f is_dirty said call → has_kill call.steps ≡ false
-notes_quiet is_dirty f reply.Done call h = ap has_kill h.1
-notes_quiet is_dirty f (reply.Refused fault.NotKept) call h = ap has_kill h.stays.steps_are
-notes_quiet is_dirty f other call h = absurd h
 
 cuts_quiet : (sizes : Config) (call : Transition VisitState) → CutsList sizes call → has_kill call.steps ≡ false
 cuts_quiet sizes call h = ap has_kill h.steps_are ∙ (back_calm call.before.cpu.number h.cut).no_kill
@@ -245,17 +233,14 @@ obeys_no_rash t sizes Settle said s c steps n z h whole =
     rash_quiet t (MayAskFor Settle s.ledger.groups) s c [] steps (ap has_kill h.1.steps_are)
 obeys_no_rash t sizes (Owner f) said s c steps n z h whole =
     rash_quiet t (MayAskFor (Owner f) s.ledger.groups) s c [] steps (ap has_kill h.1.steps_are)
-obeys_no_rash t sizes (Touch f) said s c steps n z h whole =
-    rash_quiet t (MayAskFor (Touch f) s.ledger.groups) s c [] steps (touches_quiet f said (transition t s steps n.machine) h.does)
-obeys_no_rash t sizes (Dirty f) said s c steps n z h whole =
-    rash_quiet t (MayAskFor (Dirty f) s.ledger.groups) s c [] steps (notes_quiet true f said (transition t s steps n.machine) h.does)
-obeys_no_rash t sizes (Clean f) said s c steps n z h whole =
-    rash_quiet t (MayAskFor (Clean f) s.ledger.groups) s c [] steps (notes_quiet false f said (transition t s steps n.machine) h.does)
 obeys_no_rash t sizes (Release f) said s c steps n z h whole =
     rash_quiet t (MayAskFor (Release f) s.ledger.groups) s c [] steps (releases_quiet sizes f said (transition t (visit_state s c) steps n) h)
 obeys_no_rash t sizes (Alloc path order) said s c steps n z h whole =
     allocates_no_rash t (Alloc path order) sizes path.now order said s c steps n z
     (λ g over found below few. record { group = g; found = found; same = refl; below = record { on_path = below; need_is = refl; few = few } }) whole h
+-- any other makes no step
+obeys_no_rash t sizes cmd said s c steps n z h whole =
+    rash_quiet t (MayAskFor cmd s.ledger.groups) s c [] steps (ap has_kill h.does.steps_are)
 
 -- ---- the steps around it
 

@@ -1,5 +1,5 @@
 -- The misses that a command notes are those among its steps. Serves `serve`.
-use Rattle.std.proofs.Common.{◌≡◌, ℕ, Bool, true, false, Option, Some, None, List, [], ◌++◌, refl, ap, ◌∙◌, inl, inr}
+use Rattle.std.proofs.Common.{◌≡◌, ℕ, Option, Some, None, List, [], ◌++◌, refl, ap, ◌∙◌, inl, inr}
 use Rattle.std.specs.Prelude.{Result, Ok, Err}
 use Rattle.std.proofs.lemmas.Bool.{cases_eq, cases_lt}
 use Rattle.frame_word.specs.Seats.{misses_of}
@@ -21,13 +21,13 @@ use Rattle.mem_machine.specs.Transitions.{Transition, transition, of_machine}
 use Rattle.mem_reclaim.specs.Moves.{CountsMisses}
 use Rattle.mem_alloc.proofs.Missing.{back_calm, back_same, block_counts, counts_as, counts_both, counts_drains, counts_kills, counts_none, counts_rest, counts_same, frame_counts}
 use Rattle.mem_system.specs.declared.command.Cmd.{Cmd}
-use Rattle.mem_system.specs.declared.command.Cmd.TheVariants.{Mkdir, Rmdir, Write, Read, Settle, Owner, Touch, Dirty, Clean, Release, Alloc}
+use Rattle.mem_system.specs.declared.command.Cmd.TheVariants.{Mkdir, Rmdir, Write, Read, Settle, Owner, Release, Alloc}
 use Rattle.mem_system.specs.declared.command.Reply.{Reply}
 use Rattle.mem_system.specs.declared.command.Reply.TheVariants as reply
 use Rattle.mem_alloc.specs.Room.{with_limit_noted}
 use Rattle.mem_system.specs.Usage.{KeepsToLimit, LowersAbove, LowersUsage}
 use Rattle.mem_system.specs.Allocations.{Allocates, AllocatesFor}
-use Rattle.mem_system.specs.Units.{HeadsNoUnit, NotesDirt, TouchesFrame}
+use Rattle.mem_system.specs.Units.{HeadsNoUnit}
 use Rattle.mem_system.specs.Releases.{ListsFrame, ReleasesFrame, ReturnsFrames}
 use Rattle.mem_system.specs.Groups.{MakesGroup, Removes}
 use Rattle.mem_system.specs.Files.{SetsFile, SetsLimit, Writes, with_limit_of}
@@ -113,17 +113,6 @@ seat_stays call same none =
     counts_as call.table call.before call.after call.steps [] none
     (counts_same call.table call.before call.after [] (record { no_kill = refl; no_miss = λ f. refl }) same)
 
-touches_counts : (f : ℕ) (said : Reply) (call : Transition KnownMachine) → TouchesFrame f said call → CountsMisses call
-touches_counts f reply.Marked call h = seat_stays call (ap (λ (x : KnownMachine). x.frame_seat) h.0.machine) h.1
-touches_counts f reply.Active call h = seat_stays call (ap (λ (x : KnownMachine). x.frame_seat) h.0.machine) h.1
-touches_counts f (reply.Refused fault.NotKept) call h = heads_none f call h
-touches_counts f other call h = absurd h
-
-notes_counts : (is_dirty : Bool) (f : ℕ) (said : Reply) (call : Transition KnownMachine) → NotesDirt f is_dirty said call → CountsMisses call
-notes_counts is_dirty f reply.Done call h = seat_stays call (ap (λ (x : KnownMachine). x.frame_seat) h.0.machine) h.1
-notes_counts is_dirty f (reply.Refused fault.NotKept) call h = heads_none f call h
-notes_counts is_dirty f other call h = absurd h
-
 lists_counts : (sizes : Config) (f : ℕ) (call : Transition VisitState) → ListsFrame sizes f call → CountsMisses (of_machine call)
 lists_counts sizes f call h =
     let t = call.table in
@@ -190,8 +179,7 @@ obeys_counts sizes (Read path file) said call h =
     counts_rest call.table call.before.machine call.after.machine call.steps h.1.machine h.1.steps_are
 obeys_counts sizes Settle said call h = counts_rest call.table call.before.machine call.after.machine call.steps h.1.machine h.1.steps_are
 obeys_counts sizes (Owner f) said call h = counts_rest call.table call.before.machine call.after.machine call.steps h.1.machine h.1.steps_are
-obeys_counts sizes (Touch f) said call h = touches_counts f said (of_machine call) h.does
-obeys_counts sizes (Dirty f) said call h = notes_counts true f said (of_machine call) h.does
-obeys_counts sizes (Clean f) said call h = notes_counts false f said (of_machine call) h.does
 obeys_counts sizes (Release f) said call h = releases_counts sizes f said call h
 obeys_counts sizes (Alloc path order) said call h = allocates_counts sizes path.now order said call h
+-- any other makes no step
+obeys_counts sizes cmd said call h = seat_stays (of_machine call) h.does.seat h.does.steps_are

@@ -21,7 +21,7 @@ use Rattle.mem_system.specs.Boots.{IsSizedAs}
 use Rattle.mem_system.specs.Groups.{MakesGroup, Removes}
 use Rattle.mem_system.specs.Files.{Reads, Writes}
 use Rattle.mem_system.specs.Owners.{ReportsPlace}
-use Rattle.mem_system.specs.Units.{TouchesFrame, NotesDirt}
+use Rattle.mem_system.specs.Units.{MakesNoStep, TouchesFrame, NotesDirt}
 use Rattle.mem_system.specs.Releases.{ReleasesFrame}
 use Rattle.mem_system.specs.Allocations.{Allocates, FreshOf}
 
@@ -55,9 +55,9 @@ Executes sizes (Write path file value) reply call = OfMachineAlone (Writes path.
 Executes sizes (Read path file) reply call = Reads call.before.machine.ledger path.now file.now reply × Stays call
 Executes sizes Settle reply call = (reply ≡ Done) × Stays call
 Executes sizes (Owner frame) reply call = ReportsPlace call.before.machine frame reply × Stays call
-Executes sizes (Touch frame) reply call = OfMachineAlone (TouchesFrame frame reply) call
-Executes sizes (Dirty frame) reply call = OfMachineAlone (NotesDirt frame true reply) call
-Executes sizes (Clean frame) reply call = OfMachineAlone (NotesDirt frame false reply) call
+Executes sizes (Touch frame) reply call = OfMachineAlone (MakesNoStep (TouchesFrame frame reply)) call
+Executes sizes (Dirty frame) reply call = OfMachineAlone (MakesNoStep (NotesDirt frame true reply)) call
+Executes sizes (Clean frame) reply call = OfMachineAlone (MakesNoStep (NotesDirt frame false reply)) call
 Executes sizes (Release frame) reply call = ReleasesFrame sizes frame reply call
 Executes sizes (Alloc path order) reply call = Allocates sizes path.now order reply call
 

@@ -18,16 +18,22 @@ pub record HeadsNoUnit (frame : ℕ) (call : Transition KnownMachine) : Type 0 w
   pub on_no_list : home_of call.before.links frame ≡ None
   pub stays : MachineStays call
 
+-- an act on the unit that a frame heads: it makes no step, and leaves the zone's seat alone
+pub record MakesNoStep (Does : Transition KnownMachine → Type 0) (call : Transition KnownMachine) : Type 0 where
+  pub does : Does call
+  pub steps_are : call.steps ≡ []
+  pub seat : call.after.frame_seat ≡ call.before.frame_seat
+
 -- Touch: the unit is marked, on the inactive list; or it moved, unmarked, to the newest end of the active list; or the
 -- frame heads no kept unit
 abbrev pub TouchesFrame : (frame : ℕ) → Reply → Transition KnownMachine → Type 0
-TouchesFrame frame Marked call = TouchesUnit frame touched.Marked call.before call.after × (call.steps ≡ [])
-TouchesFrame frame Active call = TouchesUnit frame touched.Active call.before call.after × (call.steps ≡ [])
+TouchesFrame frame Marked call = TouchesUnit frame touched.Marked call.before call.after
+TouchesFrame frame Active call = TouchesUnit frame touched.Active call.before call.after
 TouchesFrame frame (Refused NotKept) call = HeadsNoUnit frame call
 TouchesFrame frame other call = ⊥
 
 -- Dirty and Clean: the unit is noted as dirty or clean, or the frame heads no kept unit
 abbrev pub NotesDirt : (frame : ℕ) (is_dirty : Bool) → Reply → Transition KnownMachine → Type 0
-NotesDirt frame is_dirty Done call = Dirties frame is_dirty call.before call.after × (call.steps ≡ [])
+NotesDirt frame is_dirty Done call = Dirties frame is_dirty call.before call.after
 NotesDirt frame is_dirty (Refused NotKept) call = HeadsNoUnit frame call
 NotesDirt frame is_dirty other call = ⊥

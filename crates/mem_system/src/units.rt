@@ -2,7 +2,7 @@
 
 ghost use Rattle.std.specs.Prelude.{◌≡◌, ◌<◌, None, IfSome, IfNone};
 ghost use Rattle.mem_machine.specs.Machines.{home_of};
-ghost use Rattle.mem_system.specs.Units.{IsUnitOf, TouchesFrame, NotesDirt};
+ghost use Rattle.mem_system.specs.Units.{IsUnitOf, MakesNoStep, TouchesFrame, NotesDirt};
 ghost use Rattle.mem_system.specs.Outcomes.{ComesToForAny, HasItsGroups};
 
 use crate::outcome::Outcome;
@@ -36,9 +36,8 @@ pub(crate) fn touch_frame<N: BootName>(
     frame: u32,
 ) -> Outcome
     requires { frame < N.frames.frames }
-    ensures touched { ComesToForAny N.frames result (TouchesFrame frame) machine.old machine.new }
+    ensures touched { ComesToForAny N.frames result (λ reply. MakesNoStep (TouchesFrame frame reply)) machine.old machine.new }
     ensures groups { HasItsGroups machine.new.ledger result }
-    ensures seat { machine.new.frame_seat ≡ machine.old.frame_seat }
 {
     let Some(frame) = find_unit(machine, tables, frame) else {
         return Outcome::Refused(Fault::NotKept);
@@ -57,9 +56,8 @@ pub(crate) fn note_dirt<N: BootName>(
     is_dirty: bool,
 ) -> Outcome
     requires { frame < N.frames.frames }
-    ensures noted { ComesToForAny N.frames result (NotesDirt frame is_dirty) machine.old machine.new }
+    ensures noted { ComesToForAny N.frames result (λ reply. MakesNoStep (NotesDirt frame is_dirty reply)) machine.old machine.new }
     ensures groups { HasItsGroups machine.new.ledger result }
-    ensures seat { machine.new.frame_seat ≡ machine.old.frame_seat }
 {
     let Some(frame) = find_unit(machine, tables, frame) else {
         return Outcome::Refused(Fault::NotKept);

@@ -31,7 +31,7 @@ below most digits (x ∷ xs) h a =
     let byte : x < 256 = a 0 0 (omega arith) in
     below (most * 256) (digits * 256 + x) xs (omega arith) (tail x xs a)
 
-room_of_few : (xs : List ℕ) → length xs ≤ 6 → room 2 xs ≤ 2 ^ 56
+room_of_few : (xs : List ℕ) → length xs ≤ 6 → room 125 xs ≤ 2 ^ 56
 room_of_few [] h = omega arith
 room_of_few (a ∷ []) h = omega arith
 room_of_few (a ∷ b ∷ []) h = omega arith
@@ -44,7 +44,7 @@ room_of_few (a ∷ b ∷ c ∷ d ∷ e ∷ f ∷ g ∷ xs) h = absurd (omega ari
 -- the number of a few bytes has room for one more
 pub few_fit : (xs : List ℕ) → length xs ≤ 6 → AreBytes xs → code_of xs < 2 ^ 56
 few_fit xs h a =
-    let under = below 2 1 xs (omega arith) a in
+    let under = below 125 124 xs (omega arith) a in
     let most = room_of_few xs h in
     omega arith
 
@@ -96,20 +96,20 @@ in_order (suc m) (suc n) = elim (in_order m n) [
 -- bytes with the same number are the same
 pub same_code : (xs ys : List ℕ) → AreBytes xs → AreBytes ys → code_of xs ≡ code_of ys → xs ≡ ys
 same_code xs ys a b e = elim (in_order (length xs) (length ys)) [
-  | inl h ↦ elim (fewer 1 1 xs ys (omega arith) h a b e) [
+  | inl h ↦ elim (fewer 124 124 xs ys (omega arith) h a b e) [
     | inl same ↦ same
     | inr more ↦ absurd (omega arith)
   ]
-  | inr h ↦ elim (fewer 1 1 ys xs (omega arith) h b a (sym e)) [
+  | inr h ↦ elim (fewer 124 124 ys xs (omega arith) h b a (sym e)) [
     | inl same ↦ sym same
     | inr more ↦ absurd (omega arith)
   ]
 ]
 
--- behind a first bit, a shift leaves the number of the first of eight bytes
+-- behind a first digit, a shift leaves the number of the first of eight bytes
 shifted : (end n a b c d e f g h : ℕ) → a < 256 → b < 256 → c < 256 → d < 256 → e < 256 → f < 256 → g < 256 → h < 256
     → n ≡ ((((((a * 256 + b) * 256 + c) * 256 + d) * 256 + e) * 256 + f) * 256 + g) * 256 + h → end ≤ 7
-    → (n / 2 + 2 ^ 63) / 2 ^ (63 - 8 * end) ≡ code_of (take end (a ∷ b ∷ c ∷ d ∷ e ∷ f ∷ g ∷ h ∷ []))
+    → (n / 2 ^ 8 + 124 * 2 ^ 56) / 2 ^ (56 - 8 * end) ≡ code_of (take end (a ∷ b ∷ c ∷ d ∷ e ∷ f ∷ g ∷ h ∷ []))
 shifted zero n a b c d e f g h a1 b1 c1 d1 e1 f1 g1 h1 is few = omega arith
 shifted (suc zero) n a b c d e f g h a1 b1 c1 d1 e1 f1 g1 h1 is few = omega arith
 shifted (suc (suc zero)) n a b c d e f g h a1 b1 c1 d1 e1 f1 g1 h1 is few = omega arith
@@ -130,7 +130,7 @@ first_eight xs room =
 pub code_by_shift : (xs : List ℕ) (end n : ℕ) → 8 ≤ length xs → ((k : ℕ) → get_or xs k 0 < 256) → end ≤ 7
     → n ≡ ((((((get_or xs 0 0 * 256 + get_or xs 1 0) * 256 + get_or xs 2 0) * 256 + get_or xs 3 0) * 256 + get_or xs 4 0) * 256
     + get_or xs 5 0) * 256 + get_or xs 6 0) * 256 + get_or xs 7 0
-    → (n / 2 + 2 ^ 63) / 2 ^ (63 - 8 * end) ≡ code_of (take end xs)
+    → (n / 2 ^ 8 + 124 * 2 ^ 56) / 2 ^ (56 - 8 * end) ≡ code_of (take end xs)
 code_by_shift xs end n room bytes few is =
     shifted end n _ _ _ _ _ _ _ _ (bytes 0) (bytes 1) (bytes 2) (bytes 3) (bytes 4) (bytes 5) (bytes 6) (bytes 7) is few
     ∙ ap (λ front. code_of (take end front)) (sym (first_eight xs room)) ∙ ap code_of (take-take end 8 xs (omega arith))

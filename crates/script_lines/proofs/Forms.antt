@@ -6,8 +6,8 @@ use Rattle.script_lines.specs.declared.line.Command.TheVariants as command
 use Rattle.script_lines.specs.declared.verb.Form.{Form}
 use Rattle.script_lines.specs.declared.verb.Form.TheVariants as form
 use Rattle.script_lines.specs.declared.verb.Verb.{Verb}
-use Rattle.script_lines.specs.declared.verb.Verb.TheVariants.{Mkdir, Rmdir, Write, Read, Alloc, Fast, Release, Get, Put, Settle, Touch}
-use Rattle.script_lines.specs.declared.verb.Verb.TheVariants.{Dirty, Clean, Owner, Blocks, Show, Stock, Units}
+use Rattle.script_lines.specs.declared.verb.Verb.TheVariants.{Mkdir, Rmdir, Write, Read, Alloc, Fast, Release, Get, Put, Settle}
+use Rattle.script_lines.specs.declared.verb.Verb.TheVariants.{OnFrame, Blocks, Show, Stock, Units}
 
 abbrev pub form_of : Arguments → Form
 form_of Alone = form.Alone
@@ -39,10 +39,7 @@ made Release (Frame frame) e = (command.Release frame, refl)
 made Get (Frame frame) e = (command.Get frame, refl)
 made Put (Frame frame) e = (command.Put frame, refl)
 made Settle Alone e = (command.Settle, refl)
-made Touch (Frame frame) e = (command.Touch frame, refl)
-made Dirty (Frame frame) e = (command.Dirty frame, refl)
-made Clean (Frame frame) e = (command.Clean frame, refl)
-made Owner (Frame frame) e = (command.Owner frame, refl)
+made (OnFrame act) (Frame frame) e = (command.OnFrame act frame, refl)
 made Blocks Alone e = (command.Blocks, refl)
 made Show Alone e = (command.Show, refl)
 made Stock Alone e = (command.Stock, refl)

@@ -7,13 +7,15 @@ use Rattle.script_lines.specs.Verb.{all_verbs, by_name, name_of_verb, verb_coded
 use Rattle.std.specs.Map.{lookup}
 use Rattle.script_lines.specs.declared.verb.Name.{Name}
 use Rattle.script_lines.specs.declared.verb.Verb.{Verb}
-use Rattle.script_lines.specs.declared.verb.Verb.TheVariants.{Mkdir}
+use Rattle.script_lines.specs.declared.verb.Verb.TheVariants.{Mkdir, OnFrame}
+use Rattle.script_lines.specs.declared.line.FrameAct.TheVariants.{Touch}
 use Rattle.script_lines.proofs.Codes.{AreBytes, same_code}
 use Rattle.script_lines.proofs.Cuts.{NoSpace}
 
 -- each number is that of its command's name
 pub verb_coded-name_of : (v : Verb) → verb_coded (code_of (name_of_verb v)) ≡ Some v
 verb_coded-name_of Mkdir = refl
+verb_coded-name_of (OnFrame Touch) = refl
 verb_coded-name_of v = refl
 
 -- two commands have two names
@@ -65,6 +67,7 @@ word_told (b ∷ bs) e (suc k) d h = word_told bs (told b (eqb b 32) (nat_lt b 2
 
 name_is_word : (v : Verb) → is_word (name_of_verb v) ≡ true
 name_is_word Mkdir = refl
+name_is_word (OnFrame Touch) = refl
 name_is_word v = refl
 
 -- no name has a space
@@ -76,6 +79,7 @@ name_bytes v k d h = (word_told (name_of_verb v) (name_is_word v) k d h).1
 
 is_short : (v : Verb) → nat_lt (length (name_of_verb v)) 8 ≡ true
 is_short Mkdir = refl
+is_short (OnFrame Touch) = refl
 is_short v = refl
 
 -- no name is long

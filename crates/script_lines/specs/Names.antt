@@ -7,9 +7,9 @@ abbrev pub code_from : ℕ → List ℕ → ℕ
 code_from digits [] = digits
 code_from digits (b ∷ bs) = code_from (digits * 256 + b) bs
 
--- the number of a name: a 1, and then its bytes as digits to the base 256
+-- the number of a name: 124, and then its bytes, as digits to the base 256
 abbrev pub code_of : List ℕ → ℕ
-code_of name = code_from 1 name
+code_of name = code_from 124 name
 
 -- how many bytes the longest name of a command has
 abbrev pub longest_command_name : ℕ

@@ -8,26 +8,34 @@ use Rattle.zone_blocks.specs.declared.config.Config.{Config}
 use Rattle.script_lines.specs.Names.{code_of}
 use Rattle.script_lines.specs.declared.line.Command.{Command}
 use Rattle.script_lines.specs.declared.line.Command.TheVariants as command
+use Rattle.script_lines.specs.declared.line.FrameAct.{FrameAct}
+use Rattle.script_lines.specs.declared.line.FrameAct.TheVariants.{Touch, Dirty, Clean, Owner}
 use Rattle.script_lines.specs.declared.verb.Form.{Form}
 use Rattle.script_lines.specs.declared.verb.Form.TheVariants as form
 use Rattle.script_lines.specs.declared.verb.Name.{Name}
 use Rattle.script_lines.specs.declared.verb.Verb.{Verb}
 use Rattle.script_lines.specs.declared.verb.Verb.TheVariants.{Mkdir, Rmdir, Write, Read, Alloc, Fast, Release, Get, Put}
-use Rattle.script_lines.specs.declared.verb.Verb.TheVariants.{Settle, Touch, Dirty, Clean, Owner, Blocks, Show, Stock}
-use Rattle.script_lines.specs.declared.verb.Verb.TheVariants.{Units}
+use Rattle.script_lines.specs.declared.verb.Verb.TheVariants.{Settle, OnFrame, Blocks, Show, Stock, Units}
 
 -- ---- names
 
 -- all commands
 abbrev pub all_verbs : List Verb
 all_verbs =
-    Mkdir ∷ Rmdir ∷ Write ∷ Read ∷ Alloc ∷ Fast ∷ Release ∷ Get ∷ Put ∷ Settle ∷ Touch ∷ Dirty ∷ Clean ∷ Owner ∷ Blocks
-    ∷ Show ∷ Stock ∷ Units ∷ []
+    Mkdir ∷ Rmdir ∷ Write ∷ Read ∷ Alloc ∷ Fast ∷ Release ∷ Get ∷ Put ∷ Settle
+    ∷ OnFrame Touch ∷ OnFrame Dirty ∷ OnFrame Clean ∷ OnFrame Owner ∷ Blocks ∷ Show ∷ Stock ∷ Units ∷ []
 
 -- the name of a command, as a script writes it, and what follows it
 pub record VerbRow : Type 0 where
   pub name : List ℕ
   pub form : Form
+
+-- the name of an act on a frame
+abbrev pub act_name : FrameAct → List ℕ
+act_name Touch = codes "touch"
+act_name Dirty = codes "dirty"
+act_name Clean = codes "clean"
+act_name Owner = codes "owner"
 
 -- the table of commands
 abbrev pub row_of_verb : Verb → VerbRow
@@ -41,10 +49,7 @@ row_of_verb Release = record { name = codes "release"; form = form.Frame }
 row_of_verb Get = record { name = codes "get"; form = form.Frame }
 row_of_verb Put = record { name = codes "put"; form = form.Frame }
 row_of_verb Settle = record { name = codes "settle"; form = form.Alone }
-row_of_verb Touch = record { name = codes "touch"; form = form.Frame }
-row_of_verb Dirty = record { name = codes "dirty"; form = form.Frame }
-row_of_verb Clean = record { name = codes "clean"; form = form.Frame }
-row_of_verb Owner = record { name = codes "owner"; form = form.Frame }
+row_of_verb (OnFrame act) = record { name = act_name act; form = form.Frame }
 row_of_verb Blocks = record { name = codes "blocks"; form = form.Alone }
 row_of_verb Show = record { name = codes "show"; form = form.Alone }
 row_of_verb Stock = record { name = codes "stock"; form = form.Alone }
@@ -143,10 +148,7 @@ words_of_command (command.Release frame) = (Release, Frame frame)
 words_of_command (command.Get frame) = (Get, Frame frame)
 words_of_command (command.Put frame) = (Put, Frame frame)
 words_of_command command.Settle = (Settle, Alone)
-words_of_command (command.Touch frame) = (Touch, Frame frame)
-words_of_command (command.Dirty frame) = (Dirty, Frame frame)
-words_of_command (command.Clean frame) = (Clean, Frame frame)
-words_of_command (command.Owner frame) = (Owner, Frame frame)
+words_of_command (command.OnFrame act frame) = (OnFrame act, Frame frame)
 words_of_command command.Blocks = (Blocks, Alone)
 words_of_command command.Show = (Show, Alone)
 words_of_command command.Stock = (Stock, Alone)

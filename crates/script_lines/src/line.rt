@@ -14,6 +14,19 @@ pub enum Line<'a> {
     },
 }
 
+/// What is done with a frame under the lock.
+#[derive(Clone, Copy, PartialEq, Eq)]
+pub enum FrameAct {
+    /// Notes that the unit that this frame heads was used.
+    Touch,
+    /// Notes that the pages of the unit that this frame heads are dirty.
+    Dirty,
+    /// Notes that the pages of the unit that this frame heads aren't dirty.
+    Clean,
+    /// Shows the place of this frame.
+    Owner,
+}
+
 /// What a line asks for. A path and a file's name are bytes above 32 and below 127. Whether such a group and file exist
 /// is not checked here. A frame is one of the zone.
 #[derive(Clone, Copy)]
@@ -60,22 +73,8 @@ pub enum Command<'a> {
     },
     /// Settles the CPU, and nothing else.
     Settle,
-    /// Notes that the unit that this frame heads was used.
-    Touch {
-        frame: u32,
-    },
-    /// Notes that the pages of the unit that this frame heads are dirty.
-    Dirty {
-        frame: u32,
-    },
-    /// Notes that the pages of the unit that this frame heads aren't dirty.
-    Clean {
-        frame: u32,
-    },
-    /// Shows the place of this frame.
-    Owner {
-        frame: u32,
-    },
+    /// An act on this frame that always takes the lock.
+    OnFrame(FrameAct, u32),
     /// Shows the blocks of the zone's free areas.
     Blocks,
     /// Shows the place of every frame and the usage of every group.

@@ -271,10 +271,7 @@ fn on_frame<'a>(verb: Verb, frame: u32) -> Option<Command<'a>>
         Verb::Release => Some(Command::Release { frame }),
         Verb::Get => Some(Command::Get { frame }),
         Verb::Put => Some(Command::Put { frame }),
-        Verb::Touch => Some(Command::Touch { frame }),
-        Verb::Dirty => Some(Command::Dirty { frame }),
-        Verb::Clean => Some(Command::Clean { frame }),
-        Verb::Owner => Some(Command::Owner { frame }),
+        Verb::OnFrame(act) => Some(Command::OnFrame(act, frame)),
         _ => None,
     }
 }

@@ -8,6 +8,7 @@ ghost use Rattle.script_lines.specs.Script.{BeginsWithName, IsNamed};
 ghost use Rattle.script_lines.specs.Verb.{IsNames, by_name, form_of_verb, name_of_verb, same_name, verb_coded};
 ghost use Rattle.script_lines.specs.declared.verb.Verb.{Verb};
 
+use crate::line::FrameAct;
 use crate::place::near_space;
 use indexmap::IndexMap;
 use std::alloc::{AllocError, Global};
@@ -15,34 +16,12 @@ use std::alloc::{AllocError, Global};
 /// How many bytes the longest name has.
 const LONGEST_NAME: usize = 7;
 
-/// All commands in the order of the table. Each of the first 16 is at the place that the upper four bits of its name's
-/// number times `SPREAD` give.
-const TABLE: [Verb; 18] = [
-    Verb::Touch,
-    Verb::Blocks,
-    Verb::Owner,
-    Verb::Clean,
-    Verb::Write,
-    Verb::Settle,
-    Verb::Read,
-    Verb::Release,
-    Verb::Dirty,
-    Verb::Rmdir,
-    Verb::Get,
-    Verb::Alloc,
-    Verb::Show,
-    Verb::Fast,
-    Verb::Mkdir,
-    Verb::Put,
-    Verb::Stock,
-    Verb::Units,
-];
+/// It spreads the names' numbers over the places: each of the first 16 commands is at the place that the upper four bits
+/// of its name's number times `SPREAD` give.
+const SPREAD: u64 = 17_252_763_057_895_450_569;
 
-/// It spreads the names' numbers over the places.
-const SPREAD: u64 = 7_351_189_111_781_068_673;
-
-/// The first bit of a number.
-const FIRST_BIT: u64 = 1 << 63;
+/// The first digit of a number. With a 1, no `SPREAD` puts the commands there in the order of `Verb::ALL`.
+const FIRST_DIGIT: u64 = 124;
 
 /// Which command a line has.
 #[derive(Clone, Copy, PartialEq, Eq)]
@@ -57,10 +36,7 @@ pub enum Verb {
     Get,
     Put,
     Settle,
-    Touch,
-    Dirty,
-    Clean,
-    Owner,
+    OnFrame(FrameAct),
     Blocks,
     Show,
     Stock,
@@ -87,7 +63,7 @@ pub enum Form {
 }
 
 impl Verb {
-    /// All commands.
+    /// All commands, in the order of the names' table.
     pub const ALL: [Verb; 18] = [
         Verb::Mkdir,
         Verb::Rmdir,
@@ -99,10 +75,10 @@ impl Verb {
         Verb::Get,
         Verb::Put,
         Verb::Settle,
-        Verb::Touch,
-        Verb::Dirty,
-        Verb::Clean,
-        Verb::Owner,
+        Verb::OnFrame(FrameAct::Touch),
+        Verb::OnFrame(FrameAct::Dirty),
+        Verb::OnFrame(FrameAct::Clean),
+        Verb::OnFrame(FrameAct::Owner),
         Verb::Blocks,
         Verb::Show,
         Verb::Stock,
@@ -125,10 +101,10 @@ impl Verb {
             Verb::Get => ("get", Form::Frame),
             Verb::Put => ("put", Form::Frame),
             Verb::Settle => ("settle", Form::Alone),
-            Verb::Touch => ("touch", Form::Frame),
-            Verb::Dirty => ("dirty", Form::Frame),
-            Verb::Clean => ("clean", Form::Frame),
-            Verb::Owner => ("owner", Form::Frame),
+            Verb::OnFrame(FrameAct::Touch) => ("touch", Form::Frame),
+            Verb::OnFrame(FrameAct::Dirty) => ("dirty", Form::Frame),
+            Verb::OnFrame(FrameAct::Clean) => ("clean", Form::Frame),
+            Verb::OnFrame(FrameAct::Owner) => ("owner", Form::Frame),
             Verb::Blocks => ("blocks", Form::Alone),
             Verb::Show => ("show", Form::Alone),
             Verb::Stock => ("stock", Form::Alone),
@@ -151,8 +127,8 @@ impl Verb {
     }
 }
 
-/// The name of a command, as the number that its bytes are behind a 1, to the base 256. So a map hashes and compares it
-/// at once; it would take a slice piece by piece.
+/// The name of a command, as the number whose digits to the base 256 are `FIRST_DIGIT` and the name's bytes. So a map
+/// hashes and compares it at once; it would take a slice piece by piece.
 #[derive(Clone, Copy, PartialEq, Eq, Hash)]
 pub struct Name {
     code: u64,
@@ -174,7 +150,7 @@ impl Name {
         ensures end { IsWordEnd text.now result.1 }
         ensures name { result.1 ≤ longest_command_name → result.0.code ≡ code_of (take result.1 text.now) }
     {
-        let mut code = 1u64;
+        let mut code = FIRST_DIGIT;
         let mut end = 0;
         while end < text.len() && text[end] != b' ' {
             code = code.wrapping_mul(256).wrapping_add(u64::from(text[end]));
@@ -195,7 +171,7 @@ impl Name {
             text[0], text[1], text[2], text[3], text[4], text[5], text[6], text[7],
         ]);
         Name {
-            code: ((bytes >> 1) + FIRST_BIT) >> (63 - 8 * end),
+            code: ((bytes >> 8) + (FIRST_DIGIT << 56)) >> (56 - 8 * end),
         }
     }
 }
@@ -203,12 +179,12 @@ impl Name {
 /// The commands by their names.
 pub type Names = IndexMap<Name, Verb>;
 
-/// A new table of all commands by their names, in the order of `TABLE`. `AllocError` if memory runs out.
+/// A new table of all commands by their names, in the order of `Verb::ALL`. `AllocError` if memory runs out.
 pub fn command_names(alloc: Global) -> Result<Names, AllocError>
     ensures { IfOk result IsNames }
 {
-    let mut names = IndexMap::with_capacity(alloc, TABLE.len())?;
-    add_names(&mut names, &TABLE)?;
+    let mut names = IndexMap::with_capacity(alloc, Verb::ALL.len())?;
+    add_names(&mut names, &Verb::ALL)?;
     Ok(names)
 }
 

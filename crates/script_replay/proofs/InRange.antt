@@ -6,7 +6,8 @@ use Rattle.zone_blocks.specs.declared.config.Config.{Config}
 use Rattle.mem_system.specs.Commands.{NamesFrameBelow}
 use Rattle.mem_system.specs.declared.command.Cmd.{Cmd}
 use Rattle.script_lines.specs.declared.line.Command.{Command}
-use Rattle.script_lines.specs.declared.line.Command.TheVariants.{Release}
+use Rattle.script_lines.specs.declared.line.Command.TheVariants.{OnFrame}
+use Rattle.script_lines.specs.declared.line.FrameAct.TheVariants.{Owner}
 use Rattle.script_lines.specs.declared.line.Line.{Line}
 use Rattle.script_lines.specs.declared.line.Line.TheVariants.{Go, At}
 use Rattle.script_lines.specs.Script.{IsCommandText, IsLineText, IsScript, asking_texts, texts_of}
@@ -25,7 +26,7 @@ named_in_range : (sizes : Config) (command : Command) (text : List ℕ) → IsCo
 named_in_range sizes command text is = said_in_range sizes (name_of_verb (its_verb command)) (words_of_command command).1 text is
 
 named_below : (frames : ℕ) (command : Command) → CommandInRange frames command → IfSome (cmd_of command) (NamesFrameBelow frames)
-named_below frames (Release frame) named = named
+named_below frames (OnFrame Owner frame) named = named
 named_below frames command named = search rules
 
 -- and what the machine's command names is in the zone
@@ -34,7 +35,7 @@ cmd_in_zone frames command cmd is named = subst (λ (found : Option Cmd). IfSome
 
 -- a frame that has to be the head of a kept unit is one of the zone
 pub head_in_zone : (frames : ℕ) (command : Command) → CommandInRange frames command → IfSome (head_named command) (λ frame. frame < frames)
-head_in_zone frames (Release frame) named = named
+head_in_zone frames (OnFrame Owner frame) named = tt
 head_in_zone frames command named = search rules
 
 -- the same of a line

@@ -5,8 +5,16 @@ use Rattle.mem_system.specs.declared.command.Cmd.{Cmd}
 use Rattle.mem_system.specs.declared.command.Cmd.TheVariants as cmd
 use Rattle.script_lines.specs.declared.line.Command.{Command}
 use Rattle.script_lines.specs.declared.line.Command.TheVariants.{Mkdir, Rmdir, Write, Read, Alloc, Fast, Release, Get, Put}
-use Rattle.script_lines.specs.declared.line.Command.TheVariants.{Touch, Dirty, Clean, Owner}
-use Rattle.script_lines.specs.declared.line.Command.TheVariants.{Settle, Blocks, Show, Stock, Units}
+use Rattle.script_lines.specs.declared.line.Command.TheVariants.{OnFrame, Settle, Blocks, Show, Stock, Units}
+use Rattle.script_lines.specs.declared.line.FrameAct.{FrameAct}
+use Rattle.script_lines.specs.declared.line.FrameAct.TheVariants.{Touch, Dirty, Clean, Owner}
+
+-- the command that is this act on this frame
+abbrev pub act_on : FrameAct → ℕ → Cmd
+act_on Touch frame = cmd.Touch frame
+act_on Dirty frame = cmd.Dirty frame
+act_on Clean frame = cmd.Clean frame
+act_on Owner frame = cmd.Owner frame
 
 -- The command of the machine that is served under the lock, and whose reply is the answer. An Alloc of a single frame
 -- and a Release are tried without the lock before. All others need no lock, or only settle their CPU.
@@ -17,10 +25,7 @@ cmd_of (Write path file value) = Some (cmd.Write path file value)
 cmd_of (Read path file) = Some (cmd.Read path file)
 cmd_of (Alloc path order) = Some (cmd.Alloc path order)
 cmd_of (Release frame) = Some (cmd.Release frame)
-cmd_of (Touch frame) = Some (cmd.Touch frame)
-cmd_of (Dirty frame) = Some (cmd.Dirty frame)
-cmd_of (Clean frame) = Some (cmd.Clean frame)
-cmd_of (Owner frame) = Some (cmd.Owner frame)
+cmd_of (OnFrame act frame) = Some (act_on act frame)
 cmd_of other = None
 
 -- the command is tried without the lock, whatever lies behind the lock
@@ -56,9 +61,8 @@ HasValueAnswer other = Unit {0}
 -- the frame that has to be the head of a kept unit for the command, if there is one
 abbrev pub head_named : Command → Option ℕ
 head_named (Release frame) = Some frame
-head_named (Touch frame) = Some frame
-head_named (Dirty frame) = Some frame
-head_named (Clean frame) = Some frame
+head_named (OnFrame Owner frame) = None
+head_named (OnFrame act frame) = Some frame
 head_named other = None
 
 -- the path of the group that the command removes, if it is to remove one

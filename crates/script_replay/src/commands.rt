@@ -1,10 +1,10 @@
 //! What a command of a script is under the lock, and what it names.
 
 ghost use Rattle.std.specs.Prelude.{◌≡◌};
-ghost use Rattle.script_replay.specs.Commands.{cmd_of, frame_path, head_named, is_tried, path_removed};
+ghost use Rattle.script_replay.specs.Commands.{act_on, cmd_of, frame_path, head_named, is_tried, path_removed};
 
 use mem_system::Cmd;
-use script_lines::line::Command;
+use script_lines::line::{Command, FrameAct};
 
 // The command of the machine that is served under the lock. None if the command needs no lock, or only settles its CPU.
 // It is inlined, so that a caller that names the command builds nothing for it.
@@ -19,11 +19,21 @@ pub(crate) fn cmd_of<'a>(command: &Command<'a>) -> Option<Cmd<'a>>
         Command::Read { path, file } => Some(Cmd::Read { path, file }),
         Command::Alloc { path, order } => Some(Cmd::Alloc { path, order }),
         Command::Release { frame } => Some(Cmd::Release { frame }),
-        Command::Touch { frame } => Some(Cmd::Touch { frame }),
-        Command::Dirty { frame } => Some(Cmd::Dirty { frame }),
-        Command::Clean { frame } => Some(Cmd::Clean { frame }),
-        Command::Owner { frame } => Some(Cmd::Owner { frame }),
+        Command::OnFrame(act, frame) => Some(act_on(act, frame)),
         _ => None,
+    }
+}
+
+// The command that is this act on this frame.
+#[inline(always)]
+fn act_on<'a>(act: FrameAct, frame: u32) -> Cmd<'a>
+    ensures { result ≡ act_on act frame }
+{
+    match act {
+        FrameAct::Touch => Cmd::Touch { frame },
+        FrameAct::Dirty => Cmd::Dirty { frame },
+        FrameAct::Clean => Cmd::Clean { frame },
+        FrameAct::Owner => Cmd::Owner { frame },
     }
 }
 
@@ -57,8 +67,9 @@ pub(crate) fn head_named(command: &Command<'_>) -> Option<u32>
     ensures { result ≡ head_named command.now }
 {
     match *command {
-        Command::Release { frame } | Command::Touch { frame } => Some(frame),
-        Command::Dirty { frame } | Command::Clean { frame } => Some(frame),
+        Command::Release { frame } => Some(frame),
+        Command::OnFrame(FrameAct::Owner, _) => None,
+        Command::OnFrame(_, frame) => Some(frame),
         _ => None,
     }
 }

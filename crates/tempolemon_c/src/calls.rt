@@ -51,8 +51,7 @@ pub(crate) fn frame_named(command: &Command<'_>) -> Option<u32>
 {
     match *command {
         Command::Release { frame } | Command::Get { frame } | Command::Put { frame } => Some(frame),
-        Command::Touch { frame } | Command::Dirty { frame } => Some(frame),
-        Command::Clean { frame } | Command::Owner { frame } => Some(frame),
+        Command::OnFrame(_, frame) => Some(frame),
         _ => None,
     }
 }

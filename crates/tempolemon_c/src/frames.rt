@@ -1,6 +1,7 @@
 //! The calls that allocate, release, pin and note frames. None of them takes memory.
 
 ghost use Rattle.script_lines.specs.declared.line.Command.TheVariants as cmd;
+ghost use Rattle.script_lines.specs.declared.line.FrameAct.TheVariants.{Clean, Dirty, Owner, Touch};
 ghost use Rattle.tempolemon_c.specs.declared.calls.Call.TheVariants.{Alloc, Script};
 ghost use Rattle.tempolemon_c.specs.Behind.{behind};
 ghost use Rattle.tempolemon_c.specs.Calls.{CallsBehind};
@@ -9,7 +10,7 @@ use crate::calling::serve_call;
 use crate::calls::Call;
 use crate::handle::Handle;
 use host_memory::typed_result::TypedResult;
-use script_lines::line::Command;
+use script_lines::line::{Command, FrameAct};
 use std::alloc::Global;
 
 /// Takes a block of 2^order frames, charged to the group of this number.
@@ -81,9 +82,9 @@ pub extern "C" fn tempolemon_touch(
     frame: u32,
     out: &mut TypedResult,
 ) -> u8
-    ensures { CallsBehind cpu (Script (cmd.Touch frame)) (behind handle.old) (behind handle.new) result out.new }
+    ensures { CallsBehind cpu (Script (cmd.OnFrame Touch frame)) (behind handle.old) (behind handle.new) result out.new }
 {
-    let call = Call::Script(Command::Touch { frame });
+    let call = Call::Script(Command::OnFrame(FrameAct::Touch, frame));
     serve_call(alloc, handle, cpu, &call, out)
 }
 
@@ -96,9 +97,9 @@ pub extern "C" fn tempolemon_dirty(
     frame: u32,
     out: &mut TypedResult,
 ) -> u8
-    ensures { CallsBehind cpu (Script (cmd.Dirty frame)) (behind handle.old) (behind handle.new) result out.new }
+    ensures { CallsBehind cpu (Script (cmd.OnFrame Dirty frame)) (behind handle.old) (behind handle.new) result out.new }
 {
-    let call = Call::Script(Command::Dirty { frame });
+    let call = Call::Script(Command::OnFrame(FrameAct::Dirty, frame));
     serve_call(alloc, handle, cpu, &call, out)
 }
 
@@ -111,9 +112,9 @@ pub extern "C" fn tempolemon_clean(
     frame: u32,
     out: &mut TypedResult,
 ) -> u8
-    ensures { CallsBehind cpu (Script (cmd.Clean frame)) (behind handle.old) (behind handle.new) result out.new }
+    ensures { CallsBehind cpu (Script (cmd.OnFrame Clean frame)) (behind handle.old) (behind handle.new) result out.new }
 {
-    let call = Call::Script(Command::Clean { frame });
+    let call = Call::Script(Command::OnFrame(FrameAct::Clean, frame));
     serve_call(alloc, handle, cpu, &call, out)
 }
 
@@ -126,9 +127,9 @@ pub extern "C" fn tempolemon_owner(
     frame: u32,
     out: &mut TypedResult,
 ) -> u8
-    ensures { CallsBehind cpu (Script (cmd.Owner frame)) (behind handle.old) (behind handle.new) result out.new }
+    ensures { CallsBehind cpu (Script (cmd.OnFrame Owner frame)) (behind handle.old) (behind handle.new) result out.new }
 {
-    let call = Call::Script(Command::Owner { frame });
+    let call = Call::Script(Command::OnFrame(FrameAct::Owner, frame));
     serve_call(alloc, handle, cpu, &call, out)
 }
 

@@ -49,7 +49,7 @@ returns-in-Touch g c =
     rw c.in-Touch.is (record {
       executed = record { steps = does.steps; does = record { does = does.does; cpu = refl }; makes = does.makes c.args.cpu.now };
       groups = told.groups;
-      stays = visit_keeps g.N.BootName.frames c.args.machine.now c.touch_frame.new.machine c.args.cpu.now told.seat does.steps does.makes c.requires.visit.visit;
+      stays = visit_keeps g.N.BootName.frames c.args.machine.now c.touch_frame.new.machine c.args.cpu.now does.does.seat does.steps does.makes c.requires.visit.visit;
       fresh = c.requires.visit.settled.0;
       at_most_high = none_fresh c.args.sizes c.args.cpu.now c.requires.visit.settled.0;
     })
@@ -61,7 +61,7 @@ returns-in-Dirty g c =
     rw c.in-Dirty.is (record {
       executed = record { steps = does.steps; does = record { does = does.does; cpu = refl }; makes = does.makes c.args.cpu.now };
       groups = told.groups;
-      stays = visit_keeps g.N.BootName.frames c.args.machine.now c.note_dirt.new.machine c.args.cpu.now told.seat does.steps does.makes c.requires.visit.visit;
+      stays = visit_keeps g.N.BootName.frames c.args.machine.now c.note_dirt.new.machine c.args.cpu.now does.does.seat does.steps does.makes c.requires.visit.visit;
       fresh = c.requires.visit.settled.0;
       at_most_high = none_fresh c.args.sizes c.args.cpu.now c.requires.visit.settled.0;
     })
@@ -73,7 +73,7 @@ returns-in-Clean g c =
     rw c.in-Clean.is (record {
       executed = record { steps = does.steps; does = record { does = does.does; cpu = refl }; makes = does.makes c.args.cpu.now };
       groups = told.groups;
-      stays = visit_keeps g.N.BootName.frames c.args.machine.now c.note_dirt-in-Clean.new.machine c.args.cpu.now told.seat does.steps does.makes c.requires.visit.visit;
+      stays = visit_keeps g.N.BootName.frames c.args.machine.now c.note_dirt-in-Clean.new.machine c.args.cpu.now does.does.seat does.steps does.makes c.requires.visit.visit;
       fresh = c.requires.visit.settled.0;
       at_most_high = none_fresh c.args.sizes c.args.cpu.now c.requires.visit.settled.0;
     })

@@ -21,6 +21,6 @@ loop-end-preserved c =
           let taken = length-take-le end text (omega arith) in
           let small : c.loop-end.code < 2 ^ 56 = rw (← is) (few_fit (take end text) (omega arith) bytes) in
           let next : suc end ≡ end + 1 = omega arith in
-          let more = code_more 1 text end inside ∙ ap (λ n. n * 256 + get_or text end 0) is in
+          let more = code_more 124 text end inside ∙ ap (λ n. n * 256 + get_or text end 0) is in
           rw (← next) (rw byte (more ∙ sym (one_more_fits c.loop-end.code (get_or text end 0) small fits))),
     )
