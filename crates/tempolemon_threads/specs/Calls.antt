@@ -1,5 +1,5 @@
 -- What the calls on a CPU's handle do, and what they give the host.
-use Rattle.std.specs.Prelude.{◌≡◌, ◌⊎◌, ℕ, zero, suc, ◌<◌, ◌≤◌, List, Option, None, length}
+use Rattle.std.specs.Prelude.{◌≡◌, ◌⊎◌, ℕ, zero, suc, ◌<◌, ◌≤◌, List, Option, None, IsSome, length}
 use Rattle.group_tree.specs.Faults.{number_of}
 use Rattle.group_tree.specs.declared.fault.Fault.TheVariants.{NoGroup}
 use Rattle.control_files.specs.Text.{longest_text}
@@ -128,17 +128,22 @@ pub record ShowsPart (asked : TextCall) (before after : Option Led) (status : �
   pub shows : OnPart (λ frames stocks. ReadsText frames stocks asked answer) before after
   pub gives : GivesText answer status old new written
 
--- nothing was done: the handle leads nowhere, another thread has the lock, or memory ran out before
-pub record ShowsNothing (before after : Option Led) (status : ℕ) (old new : List ℕ) (written : ℕ) : Type 0 where
+-- the handle leads nowhere; or it leads to a zone, and another thread has the lock
+abbrev pub IsUnserved : (before : Option Led) (status : ℕ) → Type 0
+IsUnserved before status = ((before ≡ None) × (status ≡ not_live)) ⊎ (IsSome before × (status ≡ busy))
+
+-- nothing was done, and this is why
+pub record ShowsNothing (why : Type 0) (before after : Option Led) (old new : List ℕ) (written : ℕ) : Type 0 where
+  pub because : why
   pub stays : after ≡ before
-  pub status_is : ((before ≡ None) × (status ≡ not_live)) ⊎ ((status ≡ busy) ⊎ (status ≡ no_memory))
   pub buffer_stays : new ≡ old
   pub none_written : written ≡ 0
 
 -- what a call for a text does
 abbrev pub ShowsInto : TextCall → (before after : Option Led) (status : ℕ) (old new : List ℕ) (written : ℕ) → Type 0
 ShowsInto asked before after status old new written =
-    ShowsNothing before after status old new written ⊎ ShowsPart asked before after status old new written
+    ShowsNothing (IsUnserved before status) before after old new written
+    ⊎ ShowsPart asked before after status old new written
 
 -- the call asks for the units of the group of this path
 abbrev pub IsUnits : (path : List ℕ) → TextCall → Type 0
@@ -152,8 +157,9 @@ pub record ShowsUnitsPart (path : List ℕ) (before after : Option Led) (status 
   pub is : IsUnits path asked
   pub shows : ShowsPart asked before after status old new written
 
--- what a call for units does
+-- What a call for units does. Memory for the path is taken first, whatever the handle.
 abbrev pub ShowsUnits : (path : List ℕ) (before after : Option Led) (status : ℕ) (old new : List ℕ) (written : ℕ)
     → Type 0
 ShowsUnits path before after status old new written =
-    ShowsNothing before after status old new written ⊎ ShowsUnitsPart path before after status old new written
+    ShowsNothing (IsUnserved before status ⊎ (status ≡ no_memory)) before after old new written
+    ⊎ ShowsUnitsPart path before after status old new written

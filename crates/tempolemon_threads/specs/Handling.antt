@@ -32,7 +32,7 @@ ForksAs forked.NoMemory _ frames stocks second = second ≡ None
 abbrev pub EntersNone : (number : ℕ) → NotEntered → KnownTable → (after : Option Led) → Type 0
 EntersNone number not_entered.NoCpu frames after = (¬ IsCpu frames.cpus number) × (after ≡ None)
 EntersNone number not_entered.HasCpu frames after = ⊥
-EntersNone number other frames after = after ≡ None
+EntersNone number other frames after = IsCpu frames.cpus number × (after ≡ None)
 
 -- the zone ended
 pub record EndsLed (before after : Option Led) (ends : KnownTable → KnownStockTable → Type 0) : Type 0 where

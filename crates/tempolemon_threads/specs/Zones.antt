@@ -91,6 +91,12 @@ pub record HasNoSuchCpu (number : ℕ) (zone : Option Led) : Type 0 where
   pub is : zone ≡ Some led_to
   pub none : ¬ IsCpu led_to.frames.cpus number
 
+-- the zone that the handle leads to has a CPU of this number
+pub record HasSuchCpu (number : ℕ) (zone : Option Led) : Type 0 where
+  pub led_to : Led
+  pub is : zone ≡ Some led_to
+  pub there : IsCpu led_to.frames.cpus number
+
 -- the handle led to a CPU, and leads nowhere now
 pub record ReturnsPart (before after : Option Led) : Type 0 where
   pub part : Led

@@ -6,8 +6,8 @@ ghost use Rattle.host_memory.specs.Sizes.{config_of};
 ghost use Rattle.host_memory.specs.Statuses.{bad_config, bad_cpu, done, is_live, not_live};
 ghost use Rattle.tempolemon_threads.specs.Behind.{part_behind, zone_behind};
 ghost use Rattle.tempolemon_threads.specs.Statuses.{IsZoneBootStatus, IsZoneEndStatus, IsReturnStatus, IsTakeStatus};
-ghost use Rattle.tempolemon_threads.specs.Statuses.{cpus_out};
-ghost use Rattle.tempolemon_threads.specs.Zones.{BootsZone, EndsWith, HasNoSuchCpu, ReturnsPart, TakesPart};
+ghost use Rattle.tempolemon_threads.specs.Statuses.{busy, cpu_out, cpus_out};
+ghost use Rattle.tempolemon_threads.specs.Zones.{BootsZone, EndsWith, HasNoSuchCpu, HasSuchCpu, ReturnsPart, TakesPart};
 
 use crate::handles::{CpuPart, Zone};
 use crate::report::report_of;
@@ -82,6 +82,8 @@ pub extern "C" fn tempolemon_try_take(
     ensures none_live { (result ≡ not_live) ↔ (zone_behind zone.old ≡ None) }
     ensures has_cpu { (result ≡ is_live) ↔ (IsSome (zone_behind zone.old) × IsSome (part_behind part.old)) }
     ensures no_cpu { result ≡ bad_cpu → HasNoSuchCpu cpu (zone_behind zone.old) }
+    ensures out { result ≡ cpu_out → HasSuchCpu cpu (zone_behind zone.old) }
+    ensures busy { result ≡ busy → HasSuchCpu cpu (zone_behind zone.old) }
     ensures taken { result ≡ done → TakesPart cpu (zone_behind zone.old) (part_behind part.new) }
     ensures part_stays { result ≢ done → part_behind part.new ≡ part_behind part.old }
     ensures zone_stays { zone_behind zone.new ≡ zone_behind zone.old }

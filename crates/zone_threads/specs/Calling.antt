@@ -118,8 +118,8 @@ MissesGroup frames stock_table group from to =
     ⊎ OnCpu (Then (MissesFast group) (NoGroupBehindLock frames stock_table group)) from to
 
 -- What each call does, by its answer. The CPU's past of the run grows by the steps of a fast call, then by those of a
--- visit (`IsServed.run`), and by no others of its own. Each visit finds the sizes of the zone's boot. A frame or a number
--- of a group that can't be is found before the lock is tried, and before the CPU's pins are looked at.
+-- visit (`IsServed.run`), and by no others of its own. Each visit finds the sizes of the zone's boot. Whether the zone has
+-- the frame is looked at first: before the lock is tried, and before the CPU's pins.
 abbrev pub Calls : KnownTable → KnownStockTable → Call → (from to : KnownHome) → CallAnswer → Type 0
 Calls frames stock_table (call.Visit cmd) from to answer.Busy = IsOfZone frames cmd × (to ≡ from)
 Calls frames stock_table (call.Visit cmd) from to answer.NoFrame = (¬ IsOfZone frames cmd) × (to ≡ from)
