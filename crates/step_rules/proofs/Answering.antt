@@ -1,5 +1,5 @@
 -- Each step has one answer, but for which free block is placed. Serves `answers_are_determined`, `only_seats_act`.
-use Rattle.std.proofs.Common.{◌≡◌, ℕ, ◌+◌, ◌≤◌, ◌==◌, true, false, Option, Some, None, List, refl, sym, ◌∙◌, ap, subst, arith, rules, inl, inr, if◌then◌else◌, eq-eqb}
+use Rattle.std.proofs.Common.{◌≡◌, ℕ, ◌+◌, ◌≤◌, ◌==◌, true, false, Option, Some, None, List, refl, sym, ◌∙◌, ap, subst, arith, inl, inr, if◌then◌else◌, eq-eqb}
 use Rattle.std.specs.Prelude.{◌⊎◌, ◌||◌}
 use Rattle.std.proofs.lemmas.Bool.{cases_order, or_left, or_right, ne_eqb, false≢true, true≢false}
 use Rattle.group_tree.specs.Groups.{AreGroups, IsLeastFreeNumber}
@@ -40,7 +40,17 @@ IsPlain action = Unit {0}
 plain_done : (s : State) (seat : ℕ) (action : Action) (answer : Answer) → IsPlain action → IsAnswer s seat action answer → answer ≡ Done
 plain_done s seat action Done plain ok = refl
 plain_done s seat Lock answer plain ok = absurd ok
-plain_done s seat action answer plain ok = search rules
+plain_done s seat (Get f) answer plain ok = absurd plain
+plain_done s seat (Put f) answer plain ok = absurd plain
+plain_done s seat (Freeze f n) answer plain ok = absurd plain
+plain_done s seat (Consume g) answer plain ok = absurd plain
+plain_done s seat (Credit f) answer plain ok = absurd plain
+plain_done s seat (Absorb p) answer plain ok = absurd plain
+plain_done s seat (DrainStock p) answer plain ok = absurd plain
+plain_done s seat (Grant g n) answer plain ok = absurd plain
+plain_done s seat (PlaceBlock g k) answer plain ok = absurd plain
+plain_done s seat (Make path) answer plain ok = absurd plain
+plain_done s seat action answer plain ok = absurd ok
 
 -- ---- the answers that others decide
 -- a put by the references that there are

@@ -1,6 +1,6 @@
 -- Steps that place a block, return a unit, move pages, or change who holds the lock keep what holds of the state.
 use Rattle.std.proofs.Common.{◌≡◌, ℕ, ◌+◌, ◌-◌, ◌^◌, ◌<◌, ◌≤◌, ◌&&◌, ◌||◌, ◌==◌, Bool, true, false, Option, Some, None, List, [], ◌∷◌}
-use Rattle.std.proofs.Common.{length, refl, sym, ◌∙◌, ap, subst, arith, inl, inr, cond, eq-eqb}
+use Rattle.std.proofs.Common.{length, refl, sym, ◌∙◌, ap, subst, arith, rules, inl, inr, cond, eq-eqb}
 use Rattle.std.specs.Prelude.{◌⊎◌, nat_le, nat_lt, not}
 use Rattle.std.proofs.lemmas.Bool.{cases_eq, cases_lt, cases_Bool, ne_eqb, false≢true, true≢false, and_parts, leb-true, ltb-true, le-leb, lt-ltb, or_cases}
 use Rattle.std.proofs.lemmas.List.FromFn.{get_or-map-range_with_len, length-map-range_with_len}
@@ -10,7 +10,7 @@ use Rattle.step_rules.specs.declared.phase.Hold.{Hold}
 use Rattle.step_rules.specs.declared.phase.Hold.TheVariants.{Visiting}
 use Rattle.step_rules.specs.declared.phase.ChargedUnit.{ChargedUnit}
 use Rattle.step_rules.specs.declared.phase.Stage.{Stage}
-use Rattle.step_rules.specs.declared.phase.Stage.TheVariants.{FreshAt, Collected, Bare, AwaitsReturn}
+use Rattle.step_rules.specs.declared.phase.Stage.TheVariants.{FreshAt, Bare}
 use Rattle.step_rules.specs.declared.phase.Phase.{Phase}
 use Rattle.step_rules.specs.declared.phase.Phase.TheVariants.{InZone, Lent, Head, Tail}
 use Rattle.step_rules.specs.Phases.{FreshFrame, is_live_phase, is_free, has_as, unit_of, passes_out, passes_back}
@@ -24,28 +24,16 @@ use Rattle.step_rules.proofs.Sound.{sound_part, sound_numbers, same_groups}
 use Rattle.step_rules.proofs.PhaseLemmas.{by_kind, is_quiet, is_quiet_stage, nobody_has, free_rests, none_some, equal_test, same_visitor}
 
 quiet_rests : (x : Phase) → is_quiet x ≡ true → (q : ℕ) → (passes_out q x ≡ false) × (passes_back q x ≡ false)
-quiet_rests InZone e q = (refl, refl)
-quiet_rests (Head u Collected) e q = (refl, refl)
 quiet_rests (Head u Bare) e q = (refl, refl)
-quiet_rests (Head u AwaitsReturn) e q = (refl, refl)
-quiet_rests (Tail g) e q = (refl, refl)
-quiet_rests x e q = absurd (false≢true e)
+quiet_rests x e q = search rules
 
 quiet_dead : (x : Phase) → is_quiet x ≡ true → is_live_phase x ≡ false
-quiet_dead InZone e = refl
-quiet_dead (Head u Collected) e = refl
 quiet_dead (Head u Bare) e = refl
-quiet_dead (Head u AwaitsReturn) e = refl
-quiet_dead (Tail g) e = refl
-quiet_dead x e = absurd (false≢true e)
+quiet_dead x e = search rules
 
 quiet_paid : (cpus : ℕ) (groups : ℕ → Option ℕ) (x : Phase) → is_quiet x ≡ true → PhasePaid cpus groups x
-quiet_paid cpus groups InZone e = tt
-quiet_paid cpus groups (Head u Collected) e = tt
 quiet_paid cpus groups (Head u Bare) e = tt
-quiet_paid cpus groups (Head u AwaitsReturn) e = tt
-quiet_paid cpus groups (Tail g) e = tt
-quiet_paid cpus groups x e = absurd (false≢true e)
+quiet_paid cpus groups x e = search rules
 
 -- one phase gives way to another, and no CPU has either
 pub record IsQuietly (zone : Zone) (f : ℕ) (x y : Phase) : Type 0 where

@@ -9,8 +9,8 @@ use Rattle.zone_blocks.specs.declared.block.Block.{Block}
 use Rattle.step_rules.specs.declared.phase.ChargedUnit.{ChargedUnit}
 use Rattle.step_rules.specs.declared.phase.Way.TheVariants.{PassingOut, OnList}
 use Rattle.step_rules.specs.declared.phase.Stage.{Stage}
-use Rattle.step_rules.specs.declared.phase.Stage.TheVariants.{FreshAt, FreshPassing, Collected, Bare, Live, BackAt}
-use Rattle.step_rules.specs.declared.phase.Stage.TheVariants.{BackPassing, AwaitsReturn}
+use Rattle.step_rules.specs.declared.phase.Stage.TheVariants.{FreshAt, Collected, Bare, Live, BackAt}
+use Rattle.step_rules.specs.declared.phase.Stage.TheVariants.{AwaitsReturn}
 use Rattle.step_rules.specs.declared.phase.Phase.{Phase}
 use Rattle.step_rules.specs.declared.phase.Phase.TheVariants.{InZone, Lent, Head, Tail}
 use Rattle.step_rules.specs.declared.step.Step.{Step}
@@ -129,9 +129,6 @@ last_opens seat u = by_seat (seat == 0)
 
 sent_stage : (stage : Stage) (u : ChargedUnit) → opens (Head u stage) ≡ opens (passed_back (Head u stage))
 sent_stage (FreshAt p) u = refl
-sent_stage (BackAt p) u = refl
-sent_stage (FreshPassing p) u = refl
-sent_stage (BackPassing p) u = refl
 sent_stage stage u = refl
 
 sent_opens : (x : Phase) → opens x ≡ opens (passed_back x)
@@ -283,9 +280,6 @@ one_same false true e = absurd (omega arith)
 apart_stage : (b : Bool) (stage : Stage) → one_if (phase_awaits_return (Head (record { group = 0; order = 0 }) stage)) + one_if (is_killed_return_stage b stage) ≤ 1
 apart_stage true Collected = omega arith
 apart_stage false Collected = omega arith
-apart_stage b (BackAt p) = omega arith
-apart_stage b (BackPassing p) = omega arith
-apart_stage b AwaitsReturn = omega arith
 apart_stage b stage = omega arith
 
 apart : (killed : ℕ → Bool) (x : Phase) → one_if (phase_awaits_return x) + one_if (is_killed_return_phase killed x) ≤ 1

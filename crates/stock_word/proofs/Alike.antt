@@ -44,14 +44,9 @@ many (DrainedOf g) = 0
 alike_stock : (x y : Stock) → Alike x y → x ≡ y
 unfolding which of many
 alike_stock NoGroup NoGroup h = refl
-alike_stock NoGroup (HeldBy g n) h = absurd (omega (arith, h which))
-alike_stock NoGroup (DrainedOf g) h = absurd (omega (arith, h which))
-alike_stock (HeldBy g n) NoGroup h = absurd (omega (arith, h which))
 alike_stock (HeldBy g n) (HeldBy k m) h = let d : g ≡ k = h of in let e : n ≡ m = h many in λ i. HeldBy (d i) (e i)
-alike_stock (HeldBy g n) (DrainedOf k) h = absurd (omega (arith, h which))
-alike_stock (DrainedOf g) NoGroup h = absurd (omega (arith, h which))
-alike_stock (DrainedOf g) (HeldBy k m) h = absurd (omega (arith, h which))
 alike_stock (DrainedOf g) (DrainedOf k) h = let d : g ≡ k = h of in ap DrainedOf d
+alike_stock x y h = absurd (omega (arith, h which))
 
 alike_account : (x y : StockAccount) → Alike x y → x ≡ y
 alike_account x y h =
