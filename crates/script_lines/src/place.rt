@@ -1,6 +1,6 @@
 //! The place of a byte.
 
-ghost use Rattle.std.specs.Prelude.{◌≡◌, ◌≢◌, ◌<◌, ◌≤◌, All, MatchOption, length, slice_index, take};
+ghost use Rattle.std.specs.Prelude.{◌≡◌, ◌≢◌, ◌<◌, ◌≤◌, All, IfSome, MatchOption, length, slice_index, take};
 ghost use Rattle.script_lines.specs.Names.{bytes_at_once};
 ghost use Rattle.script_lines.specs.Places.{IsFirstPlace, IsPathEnd};
 
@@ -9,22 +9,34 @@ use std::simd::prelude::*;
 /// The mark behind those of eight bytes.
 const BEHIND_EIGHT: u64 = 256;
 
-/// The place of the first byte that is `wanted`. The first 32 bytes are compared at once: most lines end there.
+/// The place of the first byte that is `wanted`. Most are near.
 pub fn place_of(wanted: u8, text: &[u8]) -> Option<usize>
     ensures { MatchOption result (All (λ b. b ≢ wanted) text.now) (λ place. IsFirstPlace wanted text.now place) }
 {
-    if 32 <= text.len() {
-        let marks = u8x32::from_slice(text)
-            .simd_eq(u8x32::splat(wanted))
-            .to_bitmask();
-        if marks != 0 {
-            return Some(marks.trailing_zeros() as usize);
-        }
+    if let Some(place) = near_place(wanted, text) {
+        return Some(place);
     }
     place_by_one(wanted, text)
 }
 
-/// The same, for a place that is near. It stays a call: inlined, its loop keeps a register for each slice that is cut
+/// The same, if it is one of the first 32 bytes, which are compared at once: most lines end there.
+#[inline(always)]
+pub(crate) fn near_place(wanted: u8, text: &[u8]) -> Option<usize>
+    ensures { IfSome result (λ place. IsFirstPlace wanted text.now place) }
+{
+    if text.len() < 32 {
+        return None;
+    }
+    let marks = u8x32::from_slice(text)
+        .simd_eq(u8x32::splat(wanted))
+        .to_bitmask();
+    if marks == 0 {
+        return None;
+    }
+    Some(marks.trailing_zeros() as usize)
+}
+
+/// The same, by one byte after the other. It stays a call: inlined, its loop keeps a register for each slice that is cut
 /// at the place.
 #[inline(never)]
 pub fn place_by_one(wanted: u8, text: &[u8]) -> Option<usize>

@@ -1,23 +1,24 @@
 //! A script's bytes, cut into lines.
 
-ghost use Rattle.std.specs.Prelude.{◌≡◌, ◌≢◌, ◌↔◌, ◌∷◌, ◌++◌, ℕ, ◌+◌, ◌<◌, ◌≤◌, All, IfErr, IfOk, IfSome, IsTrue, List};
+ghost use Rattle.std.specs.Prelude.{◌≡◌, ◌≢◌, ◌↔◌, ◌∷◌, ◌++◌, ℕ, ◌+◌, ◌<◌, ◌≤◌, All, IfErr, IfOk, IfSome, IsTrue, List, []};
 ghost use Rattle.std.specs.Prelude.{MatchOption, length, take};
-ghost use Rattle.script_lines.specs.Places.{IsFrontOf};
-ghost use Rattle.script_lines.specs.Script.{HasArguments, IsAllocText, IsCommandText, IsCut, IsFirstBadLine, IsLimit};
+ghost use Rattle.script_lines.specs.Places.{IsFrontOf, IsLineEnd};
+ghost use Rattle.script_lines.specs.Script.{AddsLine, HasArguments, IsAllocText, IsCommandText, IsCut, IsFirstBadLine, IsLimit};
 ghost use Rattle.script_lines.specs.Script.{IsFrameText, IsGroupText, IsLineText, IsPathText, IsReadText};
-ghost use Rattle.script_lines.specs.Script.{IsRequestText, IsScript, IsWriteText, NamesFirstBadLine, ended_lines};
+ghost use Rattle.script_lines.specs.Script.{IsRequestText, IsScript, IsWriteText, NamesFirstBadLine, NamesLine, ended_lines};
 ghost use Rattle.script_lines.specs.Script.{is_go, is_skipped, longest_script, texts_left, texts_of};
 ghost use Rattle.script_lines.specs.Verb.{Frame, IsNames, form_of_verb, its_verb, words_of_command};
 ghost use Rattle.script_lines.specs.declared.line.Command.{Command};
 ghost use Rattle.script_lines.specs.declared.line.Line.{Line};
+ghost use Rattle.script_lines.specs.declared.line.Line.TheVariants.{At};
 
 use crate::fault::ScriptFault;
 use crate::line::{Command, Line};
 use crate::number::{first_number, number};
-use crate::place::{path_end, place_by_one, place_of};
+use crate::place::{near_place, path_end, place_by_one, place_of};
 use crate::verb::{Form, Names, Verb, command_names, first_verb_within};
 use group_tree::group::MAX_GROUPS;
-use std::alloc::Global;
+use std::alloc::{AllocFailed, Global};
 use zone_blocks::config::Config;
 
 /// The most bytes that a script has.
@@ -62,33 +63,104 @@ fn parse_lines<'a>(
     let mut number = 0;
     let mut rest = Some(input);
     while let Some(left) = rest {
-        let (text, after) = first_line(left);
-        rest = after;
+        let end = line_end(left);
         number += 1;
-        if text.len() > MAX_LINE || number >= limit {
+        if end > MAX_LINE || number >= limit {
             return Err(ScriptFault::BadLine(number));
         }
-        if let Some((cpu, command)) = parse_request(names, text, left, sizes) {
-            lines.push(Line::At {
-                number,
-                cpu,
-                command,
-            })?;
-            continue;
-        }
-        if is_skipped(text) {
-            continue;
-        }
-        if !is_go(text) {
-            return Err(ScriptFault::BadLine(number));
-        }
-        if had_go {
-            return Err(ScriptFault::BadLine(number));
-        }
-        had_go = true;
-        lines.push(Line::Go)?;
+        let text = &left[..end];
+        had_go = add_line(&mut lines, names, number, text, left, had_go, sizes)?;
+        rest = after_line(left, end);
     }
     Ok(lines)
+}
+
+// Adds the line that the text writes, if it isn't skipped. The result is whether there was a `go` by now.
+#[inline(always)]
+fn add_line<'a>(
+    lines: &mut Vec<Line<'a>>,
+    names: &Names,
+    number: usize,
+    text: &'a [u8],
+    wide: &[u8],
+    had_go: bool,
+    sizes: &Config,
+) -> Result<bool, ScriptFault>
+    requires names { IsNames names.now }
+    requires front { IsFrontOf text.now wide.now }
+    ensures ok { IfOk result (AddsLine sizes.now number text.entry.now had_go lines.old.items lines.new.items) }
+    ensures bad_line { IfErr result (NamesLine sizes.now number text.entry.now had_go) }
+{
+    if let Some((cpu, command)) = parse_request(names, text, wide, sizes) {
+        push_line(lines, number, cpu, command)?;
+        return Ok(had_go);
+    }
+    if is_skipped(text) {
+        return Ok(had_go);
+    }
+    if !is_go(text) {
+        return Err(ScriptFault::BadLine(number));
+    }
+    if had_go {
+        return Err(ScriptFault::BadLine(number));
+    }
+    lines.push(Line::Go)?;
+    Ok(true)
+}
+
+// Adds this line. The last arm is for commands without a path: there the compiler knows that a line has no slices, so it
+// clears their room by wide stores.
+#[inline(always)]
+fn push_line<'a>(
+    lines: &mut Vec<Line<'a>>,
+    number: usize,
+    cpu: u32,
+    command: Command<'a>,
+) -> Result<(), AllocFailed<Line<'a>>>
+    ensures { IfOk result (λ _. lines.new.items ≡ lines.old.items ++ At number cpu command.entry ∷ []) }
+{
+    let line = Line::At {
+        number,
+        cpu,
+        command,
+    };
+    match command {
+        Command::Mkdir { path: _ } | Command::Rmdir { path: _ } | Command::Units { path: _ } => {
+            lines.push(line)
+        }
+        Command::Write {
+            path: _,
+            file: _,
+            value: _,
+        } => lines.push(line),
+        Command::Read { path: _, file: _ } => lines.push(line),
+        Command::Alloc { path: _, order: _ } => lines.push(line),
+        _ => lines.push(line),
+    }
+}
+
+// Where the first line ends: at its line feed or, without one, at the end of the text.
+#[inline(always)]
+fn line_end(text: &[u8]) -> usize
+    ensures { IsLineEnd text.now result }
+{
+    if let Some(end) = near_place(b'\n', text) {
+        return end;
+    }
+    place_by_one(b'\n', text).unwrap_or(text.len())
+}
+
+// What follows the first line and its line feed. None if it has no line feed.
+#[inline(always)]
+fn after_line(text: &[u8], end: usize) -> Option<&[u8]>
+    requires { IsLineEnd text.now end }
+    ensures { texts_of text.now ≡ take end text.now ∷ texts_left result }
+{
+    if end < text.len() {
+        Some(&text[end + 1..])
+    } else {
+        None
+    }
 }
 
 /// The text of the first line, and what follows its line feed: None if it has no line feed.
