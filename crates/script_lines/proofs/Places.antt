@@ -1,13 +1,13 @@
 -- The first place of a byte, by the marks of the first lanes.
-use Rattle.std.proofs.Common.{◌≡◌, ◌≢◌, ℕ, suc, ◌+◌, ◌*◌, ◌^◌, ◌<◌, ◌≤◌, List, [], ◌∷◌, ◌++◌, All, length, take, get_or, Bool, true, false, not, cond, eqb, arith, refl, sym, ap, ◌∙◌}
+use Rattle.std.proofs.Common.{◌≡◌, ◌≢◌, ℕ, suc, ◌+◌, ◌*◌, ◌^◌, ◌<◌, ◌≤◌, List, [], ◌∷◌, ◌++◌, All, length, take, get_or, ◌%◌, ◌||◌, Bool, true, false, not, cond, eqb, leb, ltb, bit_or, replicate, arith, refl, sym, ap, ap₂, ◌∙◌, inl, inr}
 use lib.Count.{count_trailing_zeros}
-use lib.Lanes.{chunk, mask_l}
+use lib.Lanes.{chunk, mask_l, top, zip2}
 use mathlib.Core.List.{map}
-use Rattle.std.proofs.lemmas.Bool.{eq-eqb, eqb-false, eqb-true}
-use Rattle.std.proofs.lemmas.List.{get_or-take, get_or_append_left, length-append, length-take-le, take-append-le, take-take, take_all}
-use Rattle.std.proofs.lemmas.Simd.{length-chunk, run_in_chunk_fails, run_in_chunk_stops, trailing_mask_l}
+use Rattle.std.proofs.lemmas.Bool.{cases_lt, eq-eqb, eqb-false, eqb-true, le-ltb, leb-false, lt-leb, lt-ltb}
+use Rattle.std.proofs.lemmas.List.{get_or-take, get_or_append_left, length-append, length-map, length-take-le, take-append-le, take-take, take_all}
+use Rattle.std.proofs.lemmas.Simd.{length-chunk, mask_l-mod, run_in_chunk_fails, run_in_chunk_stops, trailing_mask_l, zip2_splat, zip2_splat_left}
 use Rattle.std.specs.List.{prefix_len}
-use Rattle.script_lines.specs.Places.{IsFirstPlace}
+use Rattle.script_lines.specs.Places.{IsFirstPlace, IsPathEnd}
 
 stops_here : (t : Bool) (m n l : ℕ) → (0 < m → n < l) → 0 < cond t 1 0 + 2 * m → cond (not t) (1 + n) 0 < suc l
 stops_here true m n l later h = omega arith
@@ -18,33 +18,96 @@ stops : (p : ℕ → Bool) (xs : List ℕ) → 0 < mask_l (map p xs) → prefix_
 stops p [] h = absurd (omega arith)
 stops p (x ∷ xs) h = stops_here (p x) (mask_l (map p xs)) (prefix_len (λ y. not (p y)) xs) (length xs) (stops p xs) h
 
--- the lowest mark of the first lanes is the first place
+-- the lowest mark of the first lanes is the first place of a byte that p holds of
+lowest_mark : (p : ℕ → Bool) (lanes : ℕ) (text : List ℕ) (marks : ℕ) → lanes ≤ 64 → lanes ≤ length text
+    → marks ≡ mask_l (map p (chunk 0 lanes text)) → marks ≢ 0
+    → (count_trailing_zeros 64 marks < lanes) × (p (get_or text (count_trailing_zeros 64 marks) 0) ≡ true)
+    × All (λ b. p b ≡ false) (take (count_trailing_zeros 64 marks) text)
+lowest_mark p lanes text marks few room is some =
+    let v = chunk 0 lanes text in
+    let long : length v ≡ lanes = length-chunk 0 lanes text (omega arith) in
+    let marked : 0 < mask_l (map p v) = omega arith in
+    let place = count_trailing_zeros 64 marks in
+    let counted : place ≡ prefix_len (λ x. not (p x)) v
+    = ap (count_trailing_zeros 64) is ∙ trailing_mask_l p 64 v (omega arith) marked in
+    let short = stops p v marked in
+    let low : place < lanes = omega arith in
+    let here : p (get_or text (0 + place) 0) ≡ true = run_in_chunk_stops p text 0 lanes place 0 (omega arith) counted low in
+    let at : 0 + place ≡ place = omega arith in (
+      low,
+      rw at at here,
+      λ k d h.
+          let taken = length-take-le place text (omega arith) in
+          let fails : p (get_or text k d) ≡ false
+          = run_in_chunk_fails p text 0 lanes place d (omega arith) counted k (omega arith) (omega arith) in
+          ap p (get_or-take place text k d (omega arith)) ∙ fails,
+    )
+
+-- so it is the first place of the byte that was looked for
 pub first_marked : (lanes wanted : ℕ) (text : List ℕ) (marks : ℕ) → lanes ≤ 64 → lanes ≤ length text
     → marks ≡ mask_l (map (λ x. eqb x wanted) (chunk 0 lanes text)) → marks ≢ 0
     → (count_trailing_zeros 64 marks < lanes) × IsFirstPlace wanted text (count_trailing_zeros 64 marks)
 first_marked lanes wanted text marks few room is some =
-    let v = chunk 0 lanes text in
-    let long : length v ≡ lanes = length-chunk 0 lanes text (omega arith) in
-    let marked : 0 < mask_l (map (λ x. eqb x wanted) v) = omega arith in
-    let place = count_trailing_zeros 64 marks in
-    let counted : place ≡ prefix_len (λ x. not (eqb x wanted)) v
-    = ap (count_trailing_zeros 64) is ∙ trailing_mask_l (λ x. eqb x wanted) 64 v (omega arith) marked in
-    let short = stops (λ x. eqb x wanted) v marked in
-    let low : place < lanes = omega arith in
-    let here : eqb (get_or text (0 + place) 0) wanted ≡ true = run_in_chunk_stops (λ x. eqb x wanted) text 0 lanes place 0 (omega arith) counted low in
-    let at : 0 + place ≡ place = omega arith in (
+    let found = lowest_mark (λ x. eqb x wanted) lanes text marks few room is some in
+    let low = found.0 in (
       low,
       record {
         inside = omega arith;
-        here = eqb-true (get_or text place 0) wanted (rw at at here);
-        before = λ k d h.
-            let taken = length-take-le place text (omega arith) in
-            let fails : eqb (get_or text k d) wanted ≡ false
-            = run_in_chunk_fails (λ x. eqb x wanted) text 0 lanes place d (omega arith) counted k (omega arith) (omega arith) in
-            let same : get_or (take place text) k d ≡ get_or text k d = get_or-take place text k d (omega arith) in
-            λ e. eqb-false (get_or text k d) wanted fails (sym same ∙ e);
+        here = eqb-true _ wanted found.1;
+        before = λ k d h. eqb-false _ wanted (found.2 k d h);
       },
     )
+
+-- whether no path has this byte
+abbrev ends_path : ℕ → Bool
+ends_path b = ltb b 33 || leb 127 b
+
+path_byte : (b : ℕ) → ends_path b ≡ false → (32 < b) × (b < 127)
+path_byte b e = elim (cases_lt b 33) [
+  | inl low ↦ let marked : ltb b 33 ≡ true = lt-ltb b 33 low in let bad : true ≡ false = sym (ap (λ t. t || leb 127 b) marked) ∙ e in cc
+  | inr above ↦
+      let rest : leb 127 b ≡ false = sym (ap (λ t. t || leb 127 b) (le-ltb b 33 above)) ∙ e in
+      let range = leb-false 127 b rest in
+      (omega arith, omega arith)
+]
+
+no_path_byte : (b : ℕ) → ends_path b ≡ true → ¬ ((32 < b) × (b < 127))
+no_path_byte b e range =
+    let one : ltb b 33 ≡ false = le-ltb b 33 (omega arith) in
+    let other : leb 127 b ≡ false = lt-leb 127 b range.1 in
+    let bad : true ≡ false = sym e ∙ ap₂ (λ s t. s || t) one other in cc
+
+top_of_either : (a b : Bool) → top 7 (bit_or (cond a 255 0) (cond b 255 0)) ≡ (a || b)
+top_of_either true true = refl
+top_of_either true false = refl
+top_of_either false true = refl
+top_of_either false false = refl
+
+either_marked : (t u : ℕ → Bool) (xs : List ℕ)
+    → map (top 7) (zip2 bit_or (map (λ x. cond (t x) 255 0) xs) (map (λ x. cond (u x) 255 0) xs)) ≡ map (λ x. t x || u x) xs
+either_marked t u [] = refl
+either_marked t u (x ∷ xs) = ap₂ (λ (m : Bool) ms. m ∷ ms) (top_of_either (t x) (u x)) (either_marked t u xs)
+
+-- the marks of bytes that are too low, or too high, for a path
+pub path_marked : (text : List ℕ) (marks : ℕ) → 16 ≤ length text
+    → marks ≡ mask_l (map (top 7) (zip2 bit_or (zip2 (λ a b. cond (ltb a b) 255 0) (chunk 0 16 text) (replicate 16 33))
+    (zip2 (λ a b. cond (leb a b) 255 0) (replicate 16 127) (chunk 0 16 text)))) % 2 ^ 64
+    → marks ≢ 0 → IsPathEnd text (count_trailing_zeros 64 marks)
+path_marked text marks room is some =
+    let v = chunk 0 16 text in
+    let long : length v ≡ 16 = length-chunk 0 16 text (omega arith) in
+    let lanes = ap₂ (zip2 bit_or) (zip2_splat (λ a b. cond (ltb a b) 255 0) v 16 33 long) (zip2_splat_left (λ a b. cond (leb a b) 255 0) 127 16 v long)
+    in
+    let each = ap (map (top 7)) lanes ∙ either_marked (λ x. ltb x 33) (λ x. leb 127 x) v in
+    let few = length-map v ends_path in
+    let mask : marks ≡ mask_l (map ends_path v) = is ∙ ap (λ ms. mask_l ms % 2 ^ 64) each ∙ mask_l-mod (map ends_path v) 64 (omega arith) in
+    let found = lowest_mark ends_path 16 text marks (omega arith) room mask some in
+    let low = found.0 in
+    record {
+      inside = omega arith;
+      here = no_path_byte _ found.1;
+      before = λ k d h. path_byte _ (found.2 k d h);
+    }
 
 mask_more : (p : ℕ → Bool) (xs : List ℕ) (y : ℕ) → p y ≡ true → mask_l (map p (xs ++ y ∷ [])) ≡ mask_l (map p xs) + 2 ^ length xs
 mask_more p [] y e = rw e refl

@@ -2,7 +2,7 @@
 
 ghost use Rattle.std.specs.Prelude.{◌≡◌, ◌≢◌, ◌<◌, ◌≤◌, All, IfSome, MatchOption, length, slice_index, take};
 ghost use Rattle.script_lines.specs.Names.{bytes_at_once};
-ghost use Rattle.script_lines.specs.Places.{IsFirstPlace, IsPathEnd};
+ghost use Rattle.script_lines.specs.Places.{IsFirstPlace, IsFrontOf, IsPathEnd};
 
 use std::simd::prelude::*;
 
@@ -45,9 +45,41 @@ pub fn place_by_one(wanted: u8, text: &[u8]) -> Option<usize>
     text.iter().position(|byte| *byte == wanted)
 }
 
-/// The place of the first byte that no path has. It stays a call for the same reason.
+/// The place of the first byte that no path has. It is mostly near, and looked for in a wider text that begins with this
+/// one, since few texts have 16 bytes.
+#[inline(always)]
+pub(crate) fn path_end(text: &[u8], wide: &[u8]) -> Option<usize>
+    requires { IsFrontOf text.now wide.now }
+    ensures { MatchOption result (All (λ b. (32 < b) × (b < 127)) text.now) (λ end. IsPathEnd text.now end) }
+{
+    if let Some(end) = near_path_end(wide) {
+        if end < text.len() {
+            return Some(end);
+        }
+        return None;
+    }
+    far_path_end(text)
+}
+
+// The place of the first byte that no path has, if it is one of the first 16 bytes, which are compared at once.
+#[inline(always)]
+fn near_path_end(text: &[u8]) -> Option<usize>
+    ensures { IfSome result (λ end. IsPathEnd text.now end) }
+{
+    if text.len() < 16 {
+        return None;
+    }
+    let bytes = u8x16::from_slice(text);
+    let marks = (bytes.simd_lt(u8x16::splat(33)) | bytes.simd_ge(u8x16::splat(127))).to_bitmask();
+    if marks == 0 {
+        return None;
+    }
+    Some(marks.trailing_zeros() as usize)
+}
+
+// The place of the first byte that no path has. It stays a call for the same reason.
 #[inline(never)]
-pub fn path_end(text: &[u8]) -> Option<usize>
+fn far_path_end(text: &[u8]) -> Option<usize>
     ensures { MatchOption result (All (λ b. (32 < b) × (b < 127)) text.now) (λ end. IsPathEnd text.now end) }
 {
     text.iter().position(|byte| !byte.is_ascii_graphic())

@@ -292,13 +292,22 @@ fn parse_command<'a>(
             Verb::Stock => Some(Command::Stock),
             _ => None,
         },
-        Some(arguments) => parse_arguments(verb, arguments, sizes),
+        Some(arguments) => {
+            let wide = &wide[text.len() - arguments.len()..];
+            parse_arguments(verb, arguments, wide, sizes)
+        }
     }
 }
 
 // The command of this name, with its arguments.
 #[inline(always)]
-fn parse_arguments<'a>(verb: Verb, arguments: &'a [u8], sizes: &Config) -> Option<Command<'a>>
+fn parse_arguments<'a>(
+    verb: Verb,
+    arguments: &'a [u8],
+    wide: &[u8],
+    sizes: &Config,
+) -> Option<Command<'a>>
+    requires { IsFrontOf arguments.now wide.now }
     ensures { MatchOption result
         ((command : Command) → its_verb command ≡ verb → ¬ HasArguments sizes.now command arguments.entry.now)
         (λ command. (its_verb command ≡ verb) × HasArguments sizes.now command arguments.entry.now) }
@@ -311,15 +320,15 @@ fn parse_arguments<'a>(verb: Verb, arguments: &'a [u8], sizes: &Config) -> Optio
             path: path_of(arguments)?,
         }),
         Verb::Write => {
-            let (path, file, value) = parse_write(arguments)?;
+            let (path, file, value) = parse_write(arguments, wide)?;
             Some(Command::Write { path, file, value })
         }
         Verb::Read => {
-            let (path, file) = parse_read(arguments)?;
+            let (path, file) = parse_read(arguments, wide)?;
             Some(Command::Read { path, file })
         }
         Verb::Alloc => {
-            let (path, order) = parse_alloc(arguments)?;
+            let (path, order) = parse_alloc(arguments, wide)?;
             Some(Command::Alloc { path, order })
         }
         Verb::Fast => {
@@ -380,47 +389,51 @@ fn group_of(text: &[u8]) -> Option<u32>
 
 // The path and the order.
 #[inline(always)]
-fn parse_alloc(arguments: &[u8]) -> Option<(&[u8], u32)>
+fn parse_alloc<'a>(arguments: &'a [u8], wide: &[u8]) -> Option<(&'a [u8], u32)>
+    requires { IsFrontOf arguments.now wide.now }
     ensures { MatchOption result
         ((path : List ℕ) (order : ℕ) → ¬ IsAllocText path order arguments.now)
         (λ p. IsAllocText p.0.now p.1 arguments.now) }
 {
-    let (path, order) = first_path(arguments)?;
+    let (path, order) = first_path(arguments, wide)?;
     Some((path, number(order)?))
 }
 
 // The path, the file's name and the value, which is all that follows the space after the name.
 #[inline(always)]
-fn parse_write(arguments: &[u8]) -> Option<(&[u8], &[u8], &[u8])>
+fn parse_write<'a>(arguments: &'a [u8], wide: &[u8]) -> Option<(&'a [u8], &'a [u8], &'a [u8])>
+    requires { IsFrontOf arguments.now wide.now }
     ensures { MatchOption result
         ((path : List ℕ) (file : List ℕ) (value : List ℕ) → ¬ IsWriteText path file value arguments.now)
         (λ p. IsWriteText p.0.now p.1.now p.2.now arguments.now) }
 {
-    let (path, rest) = first_path(arguments)?;
-    let (file, value) = first_path(rest)?;
+    let (path, rest) = first_path(arguments, wide)?;
+    let (file, value) = first_path(rest, &wide[path.len() + 1..])?;
     Some((path, file, value))
 }
 
 // The path and the file's name.
 #[inline(always)]
-fn parse_read(arguments: &[u8]) -> Option<(&[u8], &[u8])>
+fn parse_read<'a>(arguments: &'a [u8], wide: &[u8]) -> Option<(&'a [u8], &'a [u8])>
+    requires { IsFrontOf arguments.now wide.now }
     ensures { MatchOption result
         ((path : List ℕ) (file : List ℕ) → ¬ IsReadText path file arguments.now)
         (λ p. IsReadText p.0.now p.1.now arguments.now) }
 {
-    let (path, file) = first_path(arguments)?;
+    let (path, file) = first_path(arguments, wide)?;
     Some((path, path_of(file)?))
 }
 
 // The path, or file name, before the first space, and what follows that space. None if there is none, or no path before
 // it.
 #[inline(always)]
-fn first_path(text: &[u8]) -> Option<(&[u8], &[u8])>
+fn first_path<'a>(text: &'a [u8], wide: &[u8]) -> Option<(&'a [u8], &'a [u8])>
+    requires { IsFrontOf text.now wide.now }
     ensures { MatchOption result
         ((path : List ℕ) (rest : List ℕ) → IsPathText path → text.now ≢ path ++ 32 ∷ rest)
         (λ p. IsPathText p.0.now × IsCut text.now p.0.now p.1.now) }
 {
-    let end = path_end(text)?;
+    let end = path_end(text, wide)?;
     if end == 0 {
         return None;
     }
