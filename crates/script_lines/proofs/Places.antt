@@ -1,11 +1,12 @@
 -- The first place of a byte, by the marks of the first lanes.
-use Rattle.std.proofs.Common.{◌≡◌, ◌≢◌, ℕ, suc, ◌+◌, ◌*◌, ◌^◌, ◌<◌, ◌≤◌, List, [], ◌∷◌, ◌++◌, All, length, take, get_or, ◌%◌, ◌||◌, Bool, true, false, not, cond, eqb, leb, ltb, bit_or, replicate, arith, refl, sym, ap, ap₂, ◌∙◌, inl, inr}
+use Rattle.std.proofs.Common.{◌≡◌, ◌≢◌, ℕ, suc, ◌+◌, ◌*◌, ◌^◌, ◌<◌, ◌≤◌, List, [], ◌∷◌, ◌++◌, All, length, take, get_or, ◌%◌, Bool, true, false, not, cond, eqb, ltb, Fits, w8, arith, refl, sym, ap, ◌∙◌}
 use lib.Count.{count_trailing_zeros}
-use lib.Lanes.{chunk, mask_l, top, zip2}
+use lib.Lanes.{chunk, mask_l}
 use mathlib.Core.List.{map}
-use Rattle.std.proofs.lemmas.Bool.{cases_lt, eq-eqb, eqb-false, eqb-true, le-ltb, leb-false, lt-leb, lt-ltb}
-use Rattle.std.proofs.lemmas.List.{get_or-take, get_or_append_left, length-append, length-map, length-take-le, take-append-le, take-take, take_all}
-use Rattle.std.proofs.lemmas.Simd.{length-chunk, mask_l-mod, run_in_chunk_fails, run_in_chunk_stops, trailing_mask_l, zip2_splat, zip2_splat_left}
+use Rattle.std.proofs.lemmas.Bool.{eq-eqb, eqb-false, eqb-true, ltb-false, ltb-true}
+use Rattle.std.proofs.lemmas.List.{get_or-take, get_or_append_left, length-append, length-take-le, take-append-le, take-take, take_all}
+use Rattle.std.proofs.lemmas.List.Elements.{All-from_get_or}
+use Rattle.std.proofs.lemmas.Simd.{length-chunk, map-map, run_in_chunk_fails, run_in_chunk_stops, trailing_mask_l}
 use Rattle.std.specs.List.{prefix_len}
 use Rattle.script_lines.specs.Places.{IsFirstPlace, IsPathEnd}
 
@@ -58,55 +59,22 @@ first_marked lanes wanted text marks few room is some =
       },
     )
 
--- whether no path has this byte
-abbrev ends_path : ℕ → Bool
-ends_path b = ltb b 33 || leb 127 b
-
-path_byte : (b : ℕ) → ends_path b ≡ false → (32 < b) × (b < 127)
-path_byte b e = elim (cases_lt b 33) [
-  | inl low ↦ let marked : ltb b 33 ≡ true = lt-ltb b 33 low in let bad : true ≡ false = sym (ap (λ t. t || leb 127 b) marked) ∙ e in cc
-  | inr above ↦
-      let rest : leb 127 b ≡ false = sym (ap (λ t. t || leb 127 b) (le-ltb b 33 above)) ∙ e in
-      let range = leb-false 127 b rest in
-      (omega arith, omega arith)
-]
-
-no_path_byte : (b : ℕ) → ends_path b ≡ true → ¬ ((32 < b) × (b < 127))
-no_path_byte b e range =
-    let one : ltb b 33 ≡ false = le-ltb b 33 (omega arith) in
-    let other : leb 127 b ≡ false = lt-leb 127 b range.1 in
-    let bad : true ≡ false = sym e ∙ ap₂ (λ s t. s || t) one other in cc
-
-top_of_either : (a b : Bool) → top 7 (bit_or (cond a 255 0) (cond b 255 0)) ≡ (a || b)
-top_of_either true true = refl
-top_of_either true false = refl
-top_of_either false true = refl
-top_of_either false false = refl
-
-either_marked : (t u : ℕ → Bool) (xs : List ℕ)
-    → map (top 7) (zip2 bit_or (map (λ x. cond (t x) 255 0) xs) (map (λ x. cond (u x) 255 0) xs)) ≡ map (λ x. t x || u x) xs
-either_marked t u [] = refl
-either_marked t u (x ∷ xs) = ap₂ (λ (m : Bool) ms. m ∷ ms) (top_of_either (t x) (u x)) (either_marked t u xs)
-
--- the marks of bytes that are too low, or too high, for a path
-pub path_marked : (text : List ℕ) (marks : ℕ) → 16 ≤ length text
-    → marks ≡ mask_l (map (top 7) (zip2 bit_or (zip2 (λ a b. cond (ltb a b) 255 0) (chunk 0 16 text) (replicate 16 33))
-    (zip2 (λ a b. cond (leb a b) 255 0) (replicate 16 127) (chunk 0 16 text)))) % 2 ^ 64
-    → marks ≢ 0 → IsPathEnd text (count_trailing_zeros 64 marks)
-path_marked text marks room is some =
-    let v = chunk 0 16 text in
-    let long : length v ≡ 16 = length-chunk 0 16 text (omega arith) in
-    let lanes = ap₂ (zip2 bit_or) (zip2_splat (λ a b. cond (ltb a b) 255 0) v 16 33 long) (zip2_splat_left (λ a b. cond (leb a b) 255 0) 127 16 v long)
-    in
-    let each = ap (map (top 7)) lanes ∙ either_marked (λ x. ltb x 33) (λ x. leb 127 x) v in
-    let few = length-map v ends_path in
-    let mask : marks ≡ mask_l (map ends_path v) = is ∙ ap (λ ms. mask_l ms % 2 ^ 64) each ∙ mask_l-mod (map ends_path v) 64 (omega arith) in
-    let found = lowest_mark ends_path 16 text marks (omega arith) room mask some in
+-- the marks of bytes that no path has
+pub path_marked : (text : List ℕ) (marks : ℕ) → 16 ≤ length text → ((k : ℕ) → Fits w8 (get_or text k 0))
+    → marks ≡ mask_l (map (λ x. ltb x 162) (map (λ x. (x + 129) % 256) (chunk 0 16 text))) → marks ≢ 0 → IsPathEnd text (count_trailing_zeros 64 marks)
+path_marked text marks room bytes is some =
+    let mask = is ∙ ap mask_l (map-map (λ x. ltb x 162) (λ x. (x + 129) % 256) (chunk 0 16 text)) in
+    let found = lowest_mark (λ x. ltb ((x + 129) % 256) 162) 16 text marks (omega arith) room mask some in
     let low = found.0 in
     record {
       inside = omega arith;
-      here = no_path_byte _ found.1;
-      before = λ k d h. path_byte _ (found.2 k d h);
+      here = λ range. let high = ltb-true _ 162 found.1 in omega arith;
+      before = All-from_get_or (λ b. (32 < b) × (b < 127)) (take (count_trailing_zeros 64 marks) text) 0 (λ k h.
+          let taken = length-take-le (count_trailing_zeros 64 marks) text (omega arith) in
+          let byte : get_or (take (count_trailing_zeros 64 marks) text) k 0 < 256
+          = rw (get_or-take (count_trailing_zeros 64 marks) text k 0 (omega arith)) (bytes k).fits in
+          let far = ltb-false _ 162 (found.2 k 0 h) in
+          (omega arith, omega arith));
     }
 
 mask_more : (p : ℕ → Bool) (xs : List ℕ) (y : ℕ) → p y ≡ true → mask_l (map p (xs ++ y ∷ [])) ≡ mask_l (map p xs) + 2 ^ length xs

@@ -12,12 +12,10 @@ use Rattle.std.proofs.lemmas.List.Splits.{length-slice_split}
 use Rattle.std.proofs.Math.Seq.{drop-cons}
 use Rattle.std.proofs.lemmas.Option.{get_or_from_slice_get, slice_get-get_or}
 use Rattle.script_lines.specs.Places.{IsLineEnd}
-use Rattle.script_lines.specs.Script.{AddsLine, AreLines, IsFirstBadLine, IsGoodLine, IsLimit, IsLineText, IsScript, MayFollow, NamesFirstBadLine, NamesLine, asking_texts, ended_lines}
+use Rattle.script_lines.specs.Script.{AreLines, IsFirstBadLine, IsGoodLine, IsLimit, IsLineText, IsScript, asking_texts, ended_lines}
 use Rattle.script_lines.specs.Script.{has_go, is_go, is_skipped, texts_left, texts_of}
 use Rattle.zone_blocks.specs.declared.config.Config.{Config}
 use Rattle.script_lines.specs.declared.line.Line.{Line}
-use Rattle.script_lines.specs.declared.fault.ScriptFault.{ScriptFault}
-use Rattle.script_lines.specs.declared.fault.ScriptFault.TheVariants.{BadLine, NoMemory}
 use Rattle.script_lines.proofs.Texts.{line_first}
 
 -- the first lines of the script were good, and are these, with a `go` or none
@@ -198,31 +196,25 @@ not_far sizes script index None is_over far good = far tt
 not_far sizes script index (Some first) is_over far good =
     let within = good.within is_over.0 in let last = is_over.1 in far (omega arith)
 
--- what may not follow isn't good
-pub not_allowed : (sizes : Config) (script : List ℕ) (count : ℕ) (had_go : Bool) (text : List ℕ) → IsNext script count count text
-    → had_go ≡ has_go (take count (texts_of script)) → ¬ MayFollow sizes (count + 1) text had_go → ¬ IsGoodLine sizes script (count + 1)
-not_allowed sizes script count had_go text next went_is none good =
-    let same = same_text_at sizes script count count text next good in
-    let e : count + 1 - 1 ≡ count = omega arith in
-    none (record {
-      says = λ asks.
-          let asked : is_skipped good.text ≡ false = rw same asks in
-          let said = good.says asked in
-          let P : List ℕ → Type 0 = λ t. IsLineText sizes (count + 1) said.0 t in
-          (said.0, subst P same said.1);
-      once = λ goes.
-          let now : is_go good.text ≡ true = rw same goes in
-          went_is ∙ rw (← e) (good.once now);
-    })
+pub not_said : (sizes : Config) (script : List ℕ) (count index : ℕ) (text : List ℕ) → IsNext script count index text
+    → is_skipped text ≡ false → ((line : Line) → ¬ IsLineText sizes (index + 1) line text) → ¬ IsGoodLine sizes script (index + 1)
+not_said sizes script count index text next asks none good =
+    let same = same_text_at sizes script count index text next good in
+    let asked : is_skipped good.text ≡ false = rw same asks in
+    let said = good.says asked in
+    let P : List ℕ → Type 0 = λ t. IsLineText sizes (index + 1) said.0 t in
+    none said.0 (subst P same said.1)
 
--- a fault that names a line which may not follow names the first bad line
-pub names_first : (sizes : Config) (script : List ℕ) (count : ℕ) (had_go : Bool) (lines : List Line) (text : List ℕ) (fault : ScriptFault)
-    → IsReadTo sizes script count had_go lines → IsNext script count count text → NamesLine sizes (count + 1) text had_go fault
-    → NamesFirstBadLine sizes script fault
-names_first sizes script count had_go lines text (BadLine k) so_far next is =
-    rw is.0 (is_first_bad sizes script count had_go lines count text so_far next
-    (not_allowed sizes script count had_go text next so_far.went_is is.1))
-names_first sizes script count had_go lines text NoMemory so_far next is = tt
+-- a second `go` isn't good
+pub not_once : (sizes : Config) (script : List ℕ) (count index : ℕ) (text : List ℕ) → IsNext script count index text
+    → is_go text ≡ true → has_go (take count (texts_of script)) ≡ true → ¬ IsGoodLine sizes script (index + 1)
+not_once sizes script count index text next goes before good =
+    let same = same_text_at sizes script count index text next good in
+    let now : is_go good.text ≡ true = rw same goes in
+    let at = next.index_is in
+    let e : index + 1 - 1 ≡ count = omega arith in
+    let first : has_go (take count (texts_of script)) ≡ false = rw (← e) (good.once now) in
+    cc
 
 -- a beginning of a script has no more line feeds than the script
 ended_more : (n : ℕ) (script : List ℕ) → ended_lines (take n script) ≤ ended_lines script
@@ -263,22 +255,6 @@ all_read script count within left =
     let size = length-drop count (texts_of script) in
     let none : length (drop count (texts_of script)) ≡ 0 = ap length left in
     omega arith
-
--- the next line adds what its text writes
-pub adds_line : (sizes : Config) (script : List ℕ) (count : ℕ) (had_go now : Bool) (lines new : List Line) (text : List ℕ) (over : Option ℕ)
-    → IsReadTo sizes script count had_go lines → IsNext script count count text → length text ≤ 1024 → IsOver script over
-    → IfSome over (λ first. count + 1 < first) → AddsLine sizes (count + 1) text had_go lines new now → IsReadTo sizes script (count + 1) now new
-adds_line sizes script count had_go now lines new text over so_far next short is_over near adds =
-    let once : IsOnce script count text = λ goes. sym so_far.went_is ∙ adds.once goes in
-    elim adds.lines [
-      | inl skipped ↦
-          let good = is_good sizes script count count text over next short is_over near
-          (λ asks. let bad : false ≡ true = sym asks ∙ skipped.0 in cc) once in
-          rw skipped.1 (passes_over sizes script count had_go now lines count text so_far next good skipped.0 adds.now_is)
-      | inr adds_one ↦
-          let good = is_good sizes script count count text over next short is_over near (λ asks. (adds_one.0, adds_one.2)) once in
-          rw adds_one.3 (takes_line sizes script count had_go now lines count text adds_one.0 so_far next good adds_one.1 adds_one.2 adds.now_is)
-    ]
 
 -- where the first of the texts that are left is this one, it is the next, and the others are left after it
 pub next_of : (script : List ℕ) (count : ℕ) (text : List ℕ) (texts : List (List ℕ)) → drop count (texts_of script) ≡ text ∷ texts

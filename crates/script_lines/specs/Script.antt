@@ -1,5 +1,5 @@
 -- The form of a script: lines that each end with a line feed, which the last may lack.
-use Rattle.std.specs.Prelude.{◌≡◌, ◌≢◌, ◌⊎◌, ℕ, Bool, true, false, not, ◌==◌, ◌||◌, ◌+◌, ◌-◌, ◌<◌, ◌≤◌, List, [], ◌∷◌, ◌++◌, All}
+use Rattle.std.specs.Prelude.{◌≡◌, ◌≢◌, ◌⊎◌, ℕ, Bool, true, false, not, ◌==◌, ◌+◌, ◌-◌, ◌<◌, ◌≤◌, List, [], ◌∷◌, ◌++◌, All}
 use Rattle.std.specs.Prelude.{codes, nat_eq, count_by, drop, filter, length, slice_get, take, Option, None, Some, ⊤}
 use Rattle.std.specs.Borrow.{Bor}
 use Rattle.std.specs.List.{AllZip, enumerate_from, list_any, slice_split}
@@ -123,20 +123,3 @@ pub record IsFirstBadLine (sizes : Config) (script : List ℕ) (n : ℕ) : Type 
 abbrev pub NamesFirstBadLine : Config → List ℕ → ScriptFault → Type 0
 NamesFirstBadLine sizes script (BadLine n) = IsFirstBadLine sizes script n
 NamesFirstBadLine sizes script NoMemory = ⊤
-
--- a line of this text and number may follow: it is `go`, `P COMMAND` or skipped, and isn't a second `go`
-pub record MayFollow (sizes : Config) (n : ℕ) (text : List ℕ) (had_go : Bool) : Type 0 where
-  pub says : is_skipped text ≡ false → (line : Line) × IsLineText sizes n line text
-  pub once : is_go text ≡ true → had_go ≡ false
-
--- the line that the text writes follows the lines, if it isn't skipped; and this is whether there was a `go` by then
-pub record AddsLine (sizes : Config) (n : ℕ) (text : List ℕ) (had_go : Bool) (old new : List Line) (now : Bool) : Type 0 where
-  pub once : is_go text ≡ true → had_go ≡ false
-  pub now_is : now ≡ (had_go || is_go text)
-  pub lines : ((is_skipped text ≡ true) × (new ≡ old))
-      ⊎ ((line : Line) × (is_skipped text ≡ false) × IsLineText sizes n line text × (new ≡ old ++ line ∷ []))
-
--- the fault names the line of this number, which may not follow; or it says that memory ran out
-abbrev pub NamesLine : Config → ℕ → List ℕ → Bool → ScriptFault → Type 0
-NamesLine sizes n text had_go (BadLine k) = (k ≡ n) × ¬ MayFollow sizes n text had_go
-NamesLine sizes n text had_go NoMemory = ⊤

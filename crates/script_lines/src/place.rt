@@ -9,17 +9,8 @@ use std::simd::prelude::*;
 /// The mark behind those of eight bytes.
 const BEHIND_EIGHT: u64 = 256;
 
-/// The place of the first byte that is `wanted`. Most are near.
-pub fn place_of(wanted: u8, text: &[u8]) -> Option<usize>
-    ensures { MatchOption result (All (λ b. b ≢ wanted) text.now) (λ place. IsFirstPlace wanted text.now place) }
-{
-    if let Some(place) = near_place(wanted, text) {
-        return Some(place);
-    }
-    place_by_one(wanted, text)
-}
-
-/// The same, if it is one of the first 32 bytes, which are compared at once: most lines end there.
+/// The place of the first byte that is `wanted`, if it is one of the first 32 bytes, which are compared at once: most
+/// lines end there.
 #[inline(always)]
 pub(crate) fn near_place(wanted: u8, text: &[u8]) -> Option<usize>
     ensures { IfSome result (λ place. IsFirstPlace wanted text.now place) }
@@ -36,7 +27,7 @@ pub(crate) fn near_place(wanted: u8, text: &[u8]) -> Option<usize>
     Some(marks.trailing_zeros() as usize)
 }
 
-/// The same, by one byte after the other. It stays a call: inlined, its loop keeps a register for each slice that is cut
+/// The place of the first byte that is `wanted`, by one byte after the other. It stays a call: inlined, its loop keeps a register for each slice that is cut
 /// at the place.
 #[inline(never)]
 pub fn place_by_one(wanted: u8, text: &[u8]) -> Option<usize>
@@ -45,23 +36,22 @@ pub fn place_by_one(wanted: u8, text: &[u8]) -> Option<usize>
     text.iter().position(|byte| *byte == wanted)
 }
 
-/// The place of the first byte that no path has. It is mostly near, and looked for in a wider text that begins with this
-/// one, since few texts have 16 bytes.
+/// The place of the first byte that no path has. It is looked for in a wider text, which begins with this one and mostly
+/// has 16 bytes.
 #[inline(always)]
 pub(crate) fn path_end(text: &[u8], wide: &[u8]) -> Option<usize>
     requires { IsFrontOf text.now wide.now }
     ensures { MatchOption result (All (λ b. (32 < b) × (b < 127)) text.now) (λ end. IsPathEnd text.now end) }
 {
-    if let Some(end) = near_path_end(wide) {
-        if end < text.len() {
-            return Some(end);
-        }
-        return None;
+    match near_path_end(wide) {
+        Some(end) if end < text.len() => Some(end),
+        Some(_) => None,
+        None => far_path_end(text),
     }
-    far_path_end(text)
 }
 
-// The place of the first byte that no path has, if it is one of the first 16 bytes, which are compared at once.
+// The same, if it is one of the first 16 bytes, which are compared at once. A byte from 33 to 126, and no other, is at
+// least 162 with 129 more.
 #[inline(always)]
 fn near_path_end(text: &[u8]) -> Option<usize>
     ensures { IfSome result (λ end. IsPathEnd text.now end) }
@@ -69,15 +59,16 @@ fn near_path_end(text: &[u8]) -> Option<usize>
     if text.len() < 16 {
         return None;
     }
-    let bytes = u8x16::from_slice(text);
-    let marks = (bytes.simd_lt(u8x16::splat(33)) | bytes.simd_ge(u8x16::splat(127))).to_bitmask();
+    let marks = (u8x16::from_slice(text) + u8x16::splat(129))
+        .simd_lt(u8x16::splat(162))
+        .to_bitmask();
     if marks == 0 {
         return None;
     }
     Some(marks.trailing_zeros() as usize)
 }
 
-// The place of the first byte that no path has. It stays a call for the same reason.
+// The same, by one byte after the other. It stays a call, as `place_by_one` does.
 #[inline(never)]
 fn far_path_end(text: &[u8]) -> Option<usize>
     ensures { MatchOption result (All (λ b. (32 < b) × (b < 127)) text.now) (λ end. IsPathEnd text.now end) }

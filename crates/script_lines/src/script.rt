@@ -3,9 +3,9 @@
 ghost use Rattle.std.specs.Prelude.{◌≡◌, ◌≢◌, ◌↔◌, ◌∷◌, ◌++◌, ℕ, ◌+◌, ◌<◌, ◌≤◌, All, IfErr, IfOk, IfSome, IsTrue, List, []};
 ghost use Rattle.std.specs.Prelude.{MatchOption, length, take};
 ghost use Rattle.script_lines.specs.Places.{IsFrontOf, IsLineEnd};
-ghost use Rattle.script_lines.specs.Script.{AddsLine, HasArguments, IsAllocText, IsCommandText, IsCut, IsFirstBadLine, IsLimit};
+ghost use Rattle.script_lines.specs.Script.{HasArguments, IsAllocText, IsCommandText, IsCut, IsFirstBadLine, IsLimit};
 ghost use Rattle.script_lines.specs.Script.{IsFrameText, IsGroupText, IsLineText, IsPathText, IsReadText};
-ghost use Rattle.script_lines.specs.Script.{IsRequestText, IsScript, IsWriteText, NamesFirstBadLine, NamesLine, ended_lines};
+ghost use Rattle.script_lines.specs.Script.{IsRequestText, IsScript, IsWriteText, NamesFirstBadLine, ended_lines};
 ghost use Rattle.script_lines.specs.Script.{is_go, is_skipped, longest_script, texts_left, texts_of};
 ghost use Rattle.script_lines.specs.Verb.{Frame, IsNames, form_of_verb, its_verb, words_of_command};
 ghost use Rattle.script_lines.specs.declared.line.Command.{Command};
@@ -15,7 +15,7 @@ ghost use Rattle.script_lines.specs.declared.line.Line.TheVariants.{At};
 use crate::fault::ScriptFault;
 use crate::line::{Command, Line};
 use crate::number::{first_number, number};
-use crate::place::{near_place, path_end, place_by_one, place_of};
+use crate::place::{near_place, path_end, place_by_one};
 use crate::verb::{Form, Names, Verb, command_names, first_verb_within};
 use group_tree::group::MAX_GROUPS;
 use std::alloc::{AllocFailed, Global};
@@ -69,43 +69,26 @@ fn parse_lines<'a>(
             return Err(ScriptFault::BadLine(number));
         }
         let text = &left[..end];
-        had_go = add_line(&mut lines, names, number, text, left, had_go, sizes)?;
+        if let Some((cpu, command)) = parse_request(names, text, left, sizes) {
+            push_line(&mut lines, number, cpu, command)?;
+            rest = after_line(left, end);
+            continue;
+        }
+        if is_skipped(text) {
+            rest = after_line(left, end);
+            continue;
+        }
+        if !is_go(text) {
+            return Err(ScriptFault::BadLine(number));
+        }
+        if had_go {
+            return Err(ScriptFault::BadLine(number));
+        }
+        had_go = true;
+        lines.push(Line::Go)?;
         rest = after_line(left, end);
     }
     Ok(lines)
-}
-
-// Adds the line that the text writes, if it isn't skipped. The result is whether there was a `go` by now.
-#[inline(always)]
-fn add_line<'a>(
-    lines: &mut Vec<Line<'a>>,
-    names: &Names,
-    number: usize,
-    text: &'a [u8],
-    wide: &[u8],
-    had_go: bool,
-    sizes: &Config,
-) -> Result<bool, ScriptFault>
-    requires names { IsNames names.now }
-    requires front { IsFrontOf text.now wide.now }
-    ensures ok { IfOk result (AddsLine sizes.now number text.entry.now had_go lines.old.items lines.new.items) }
-    ensures bad_line { IfErr result (NamesLine sizes.now number text.entry.now had_go) }
-{
-    if let Some((cpu, command)) = parse_request(names, text, wide, sizes) {
-        push_line(lines, number, cpu, command)?;
-        return Ok(had_go);
-    }
-    if is_skipped(text) {
-        return Ok(had_go);
-    }
-    if !is_go(text) {
-        return Err(ScriptFault::BadLine(number));
-    }
-    if had_go {
-        return Err(ScriptFault::BadLine(number));
-    }
-    lines.push(Line::Go)?;
-    Ok(true)
 }
 
 // Adds this line. The last arm is for commands without a path: there the compiler knows that a line has no slices, so it
@@ -125,16 +108,12 @@ fn push_line<'a>(
         command,
     };
     match command {
-        Command::Mkdir { path: _ } | Command::Rmdir { path: _ } | Command::Units { path: _ } => {
-            lines.push(line)
-        }
-        Command::Write {
-            path: _,
-            file: _,
-            value: _,
-        } => lines.push(line),
-        Command::Read { path: _, file: _ } => lines.push(line),
-        Command::Alloc { path: _, order: _ } => lines.push(line),
+        Command::Mkdir { .. }
+        | Command::Rmdir { .. }
+        | Command::Write { .. }
+        | Command::Read { .. }
+        | Command::Alloc { .. }
+        | Command::Units { .. } => lines.push(line),
         _ => lines.push(line),
     }
 }
@@ -144,10 +123,10 @@ fn push_line<'a>(
 fn line_end(text: &[u8]) -> usize
     ensures { IsLineEnd text.now result }
 {
-    if let Some(end) = near_place(b'\n', text) {
-        return end;
+    match near_place(b'\n', text) {
+        Some(end) => end,
+        None => place_by_one(b'\n', text).unwrap_or(text.len()),
     }
-    place_by_one(b'\n', text).unwrap_or(text.len())
 }
 
 // What follows the first line and its line feed. None if it has no line feed.
@@ -167,10 +146,8 @@ fn after_line(text: &[u8], end: usize) -> Option<&[u8]>
 pub fn first_line(text: &[u8]) -> (&[u8], Option<&[u8]>)
     ensures { texts_of text.now ≡ result.0.now ∷ texts_left result.1 }
 {
-    match place_of(b'\n', text) {
-        None => (text, None),
-        Some(end) => (&text[..end], Some(&text[end + 1..])),
-    }
+    let end = line_end(text);
+    (&text[..end], after_line(text, end))
 }
 
 /// The number of the line with the first byte past the most, if there is one. A line feed belongs to the line that it
