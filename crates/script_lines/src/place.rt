@@ -43,11 +43,13 @@ pub(crate) fn path_end(text: &[u8], wide: &[u8]) -> Option<usize>
     requires { IsFrontOf text.now wide.now }
     ensures { MatchOption result (All (λ b. (32 < b) × (b < 127)) text.now) (λ end. IsPathEnd text.now end) }
 {
-    match near_path_end(wide) {
-        Some(end) if end < text.len() => Some(end),
-        Some(_) => None,
-        None => far_path_end(text),
+    if let Some(end) = near_path_end(wide) {
+        if end < text.len() {
+            return Some(end);
+        }
+        return None;
     }
+    far_path_end(text)
 }
 
 // The same, if it is one of the first 16 bytes, which are compared at once. A byte from 33 to 126, and no other, is at

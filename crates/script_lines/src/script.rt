@@ -91,8 +91,8 @@ fn parse_lines<'a>(
     Ok(lines)
 }
 
-// Adds this line. The last arm is for commands without a path: there the compiler knows that a line has no slices, so it
-// clears their room by wide stores.
+// Adds this line. Each arm is the same, but in its own the compiler knows which of a line's slices there are, and clears
+// the room of the others by wide stores. The last arm is for commands without a path.
 #[inline(always)]
 fn push_line<'a>(
     lines: &mut Vec<Line<'a>>,
@@ -108,11 +108,11 @@ fn push_line<'a>(
         command,
     };
     match command {
+        Command::Alloc { .. } => lines.push(line),
         Command::Mkdir { .. }
         | Command::Rmdir { .. }
         | Command::Write { .. }
         | Command::Read { .. }
-        | Command::Alloc { .. }
         | Command::Units { .. } => lines.push(line),
         _ => lines.push(line),
     }
