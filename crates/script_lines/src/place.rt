@@ -27,8 +27,8 @@ pub(crate) fn near_place(wanted: u8, text: &[u8]) -> Option<usize>
     Some(marks.trailing_zeros() as usize)
 }
 
-/// The place of the first byte that is `wanted`, by one byte after the other. It stays a call: inlined, its loop keeps a register for each slice that is cut
-/// at the place.
+/// The place of the first byte that is `wanted`, by one byte after the other. It stays a call: inlined, its loop keeps a
+/// register for each slice that is cut at the place.
 #[inline(never)]
 pub fn place_by_one(wanted: u8, text: &[u8]) -> Option<usize>
     ensures { MatchOption result (All (λ b. b ≢ wanted) text.now) (λ place. IsFirstPlace wanted text.now place) }
@@ -52,8 +52,8 @@ pub(crate) fn path_end(text: &[u8], wide: &[u8]) -> Option<usize>
     far_path_end(text)
 }
 
-// The same, if it is one of the first 16 bytes, which are compared at once. A byte from 33 to 126, and no other, is at
-// least 162 with 129 more.
+// The place of the first byte that no path has, if it is one of the first 16 bytes, which are compared at once. A byte
+// from 33 to 126, and no other, is at least 162 with 129 more.
 #[inline(always)]
 fn near_path_end(text: &[u8]) -> Option<usize>
     ensures { IfSome result (λ end. IsPathEnd text.now end) }
@@ -70,7 +70,7 @@ fn near_path_end(text: &[u8]) -> Option<usize>
     Some(marks.trailing_zeros() as usize)
 }
 
-// The same, by one byte after the other. It stays a call, as `place_by_one` does.
+// The place of the first byte that no path has, by one byte after the other. It stays a call, as `place_by_one` does.
 #[inline(never)]
 fn far_path_end(text: &[u8]) -> Option<usize>
     ensures { MatchOption result (All (λ b. (32 < b) × (b < 127)) text.now) (λ end. IsPathEnd text.now end) }
