@@ -1,9 +1,11 @@
 -- A text that is cut at its first space.
-use Rattle.std.proofs.Common.{◌≡◌, ◌≢◌, ℕ, zero, suc, ◌+◌, ◌-◌, ◌<◌, List, [], ◌∷◌, ◌++◌, arith, refl, sym, ap, ap₂, ◌∙◌, All, drop, get_or, length, take}
-use Rattle.std.proofs.Math.Seq.{drop-cons}
-use Rattle.std.proofs.lemmas.List.{take-append-drop, take_rest}
+use Rattle.std.proofs.Common.{◌≡◌, ◌≢◌, ℕ, zero, suc, ◌+◌, ◌-◌, ◌<◌, List, [], ◌∷◌, ◌++◌, arith, refl, sym, ap, ap₂, ◌∙◌, All, drop, get_or, length, take, inl, inr}
+use Rattle.std.proofs.Math.Seq.{drop-cons, get_or-append_seam}
+use Rattle.std.proofs.lemmas.Bool.{cases_lt}
+use Rattle.std.proofs.lemmas.List.{get_or-take, get_or_append_left, length-take-le, take-append-drop, take_rest}
 use Rattle.std.proofs.lemmas.Str.Parse.{digit_from_value}
 use Rattle.std.specs.Str.Parse.{AllDigits}
+use Rattle.script_lines.specs.Places.{IsPathEnd}
 use Rattle.script_lines.specs.Script.{IsCut, IsCutAt, IsPathText}
 
 -- the text has no space
@@ -56,6 +58,31 @@ cut_at text end more none here = cut_slice text end (is_cut text end more none h
 -- a path has no space
 pub path_no_space : (path : List ℕ) → IsPathText path → NoSpace path
 path_no_space path is k d h e = let range = is.graphic k d h in omega arith
+
+-- graphic bytes are no spaces
+pub graphic_no_space : (text : List ℕ) → All (λ b. (32 < b) × (b < 127)) text → NoSpace text
+graphic_no_space text graphic k d h e = let range = graphic k d h in omega arith
+
+-- a path that a space follows ends at the first byte that no path has
+pub path_ends : (text : List ℕ) (end : ℕ) (path rest : List ℕ) → IsPathEnd text end → IsPathText path → text ≡ path ++ 32 ∷ rest
+    → (0 < end) × (get_or text end 0 ≡ 32)
+path_ends text end path rest ends is e =
+    let space : get_or text (length path) 0 ≡ 32 = rw e (get_or-append_seam path 32 rest 0) in
+    let inside = ends.inside in
+    let some = is.some in
+    elim (cases_lt end (length path)) [
+      | inl more ↦
+          let same : get_or text end 0 ≡ get_or path end 0 = ap (λ t. get_or t end 0) e ∙ get_or_append_left path (32 ∷ rest) 0 end more in
+          absurd (ends.here (rw same (is.graphic end 0 more)))
+      | inr within ↦ elim (cases_lt (length path) end) [
+        | inl past ↦
+            let taken = length-take-le end text (omega arith) in
+            let range = ends.before (length path) 0 (omega arith) in
+            let here : get_or (take end text) (length path) 0 ≡ 32 = get_or-take end text (length path) 0 past ∙ space in
+            absurd (omega arith)
+        | inr whole ↦ let same : length path ≡ end = omega arith in (omega arith, rw (← same) space)
+      ]
+    ]
 
 -- digits have no space
 pub digits_no_space : (ds : List ℕ) → AllDigits 10 ds → NoSpace ds

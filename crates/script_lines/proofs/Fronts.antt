@@ -1,7 +1,7 @@
 -- A text that a wider one begins with.
-use Rattle.std.proofs.Common.{◌≡◌, ◌≢◌, ℕ, All, ◌+◌, ◌-◌, ◌<◌, ◌≤◌, Bool, true, false, cond, List, [], ◌∷◌, length, take, drop, get_or, arith, refl, sym, ap, ◌∙◌, inl, inr}
+use Rattle.std.proofs.Common.{◌≡◌, ℕ, ◌+◌, ◌-◌, ◌<◌, ◌≤◌, Bool, true, false, cond, List, [], ◌∷◌, length, take, drop, get_or, arith, refl, sym, ap, ◌∙◌, inl, inr}
 use Rattle.std.proofs.lemmas.Bool.{cases_lt}
-use Rattle.std.proofs.lemmas.List.{drop-take, get_or-take, length-drop, length-take-le, take-take, take_all, take_rest}
+use Rattle.std.proofs.lemmas.List.{drop-take, get_or-take, length-drop, take-take, take_all, take_rest}
 use Rattle.std.specs.List.{onto_first, slice_split}
 use Rattle.script_lines.specs.Places.{IsFrontOf}
 use Rattle.script_lines.specs.Script.{texts_of}
@@ -26,14 +26,6 @@ front_byte text wide k is h = ap (λ t. get_or t k 0) is ∙ get_or-take (length
 -- and begins as the text does
 pub front_take : (text wide : List ℕ) (end : ℕ) → IsFrontOf text wide → end ≤ length text → take end text ≡ take end wide
 front_take text wide end is h = ap (take end) is ∙ take-take end (length text) wide h
-
--- none of its bytes is a space, if none is as far in the wide text
-pub front_all : (text wide : List ℕ) (place : ℕ) → IsFrontOf text wide → length text ≤ place → place ≤ length wide
-    → All (λ b. b ≢ 32) (take place wide) → All (λ b. b ≢ 32) text
-front_all text wide place is short room all k d h e =
-    let taken = length-take-le place wide room in
-    let same = ap (λ t. get_or t k d) is ∙ get_or-take (length text) wide k d h in
-    all k d (omega arith) (get_or-take place wide k d (omega arith) ∙ sym same ∙ e)
 
 -- behind a place too
 pub front_rest : (text wide : List ℕ) (p : ℕ) → IsFrontOf text wide → p ≤ length text

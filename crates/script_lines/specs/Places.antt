@@ -11,6 +11,12 @@ pub record IsFirstPlace (wanted : ℕ) (text : List ℕ) (place : ℕ) : Type 0 
 abbrev pub IsFrontOf : List ℕ → List ℕ → Type 0
 IsFrontOf text wide = text ≡ take (length text) wide
 
+-- the first place in the text of a byte that no path has
+pub record IsPathEnd (text : List ℕ) (place : ℕ) : Type 0 where
+  pub inside : place < length text
+  pub here : ¬ ((32 < slice_index text place) × (slice_index text place < 127))
+  pub before : All (λ b. (32 < b) × (b < 127)) (take place text)
+
 -- the first line of the text has so many bytes: none of them is a line feed, and a line feed follows, or nothing
 pub record IsLineEnd (text : List ℕ) (end : ℕ) : Type 0 where
   pub inside : end ≤ length text

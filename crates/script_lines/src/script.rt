@@ -15,7 +15,7 @@ ghost use Rattle.script_lines.specs.declared.line.Line.TheVariants.{At};
 use crate::fault::ScriptFault;
 use crate::line::{Command, Line};
 use crate::number::{first_number, number};
-use crate::place::{first_space, near_place, place_by_one};
+use crate::place::{near_place, path_end, place_by_one};
 use crate::verb::{Form, Names, Verb, command_names, first_verb_within};
 use group_tree::group::MAX_GROUPS;
 use std::alloc::{AllocFailed, Global};
@@ -410,9 +410,14 @@ fn first_path<'a>(text: &'a [u8], wide: &[u8]) -> Option<(&'a [u8], &'a [u8])>
         ((path : List ℕ) (rest : List ℕ) → IsPathText path → text.now ≢ path ++ 32 ∷ rest)
         (λ p. IsPathText p.0.now × IsCut text.now p.0.now p.1.now) }
 {
-    let end = first_space(text, wide)?;
-    let path = path_of(&text[..end])?;
-    Some((path, &text[end + 1..]))
+    let end = path_end(text, wide)?;
+    if end == 0 {
+        return None;
+    }
+    if text[end] != b' ' {
+        return None;
+    }
+    Some((&text[..end], &text[end + 1..]))
 }
 
 /// What is before the first space, and what follows it. None if there is no space.
