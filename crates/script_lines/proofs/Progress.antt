@@ -11,10 +11,12 @@ use Rattle.std.proofs.lemmas.List.Elements.{filter-append}
 use Rattle.std.proofs.lemmas.List.Splits.{length-slice_split}
 use Rattle.std.proofs.Math.Seq.{drop-cons}
 use Rattle.std.proofs.lemmas.Option.{get_or_from_slice_get, slice_get-get_or}
+use Rattle.script_lines.specs.Places.{IsLineEnd}
 use Rattle.script_lines.specs.Script.{AreLines, IsFirstBadLine, IsGoodLine, IsLimit, IsLineText, IsScript, asking_texts, ended_lines}
 use Rattle.script_lines.specs.Script.{has_go, is_go, is_skipped, texts_left, texts_of}
 use Rattle.zone_blocks.specs.declared.config.Config.{Config}
 use Rattle.script_lines.specs.declared.line.Line.{Line}
+use Rattle.script_lines.proofs.Texts.{line_first}
 
 -- the first lines of the script were good, and are these, with a `go` or none
 pub record IsReadTo (sizes : Config) (script : List ℕ) (count : ℕ) (had_go : Bool) (lines : List Line) : Type 0 where
@@ -273,6 +275,13 @@ next_of script count text texts left =
       },
       rw (← next) others,
     )
+
+-- what is left begins with the next line
+pub next_at : (script : List ℕ) (count end : ℕ) (rest : Option (Bor (List ℕ))) (left : Bor (List ℕ)) → IsLeft script count rest
+    → rest ≡ Some left → IsLineEnd left.now end → IsNext script count count (take end left.now)
+next_at script count end rest left is_left is ends =
+    let first = line_first left.now end ends in
+    (next_of script count (take end left.now) first.0 (is_left ∙ ap texts_left is ∙ first.1)).0
 
 -- a script has fewer lines than a number can count
 pub few_lines : (script : List ℕ) → length (texts_of script) ≤ length script + 1

@@ -38,11 +38,8 @@ pub fn number(word: &[u8]) -> Option<u32>
 fn digit(byte: u8) -> Option<u32>
     ensures { SomeIff result (digit_value byte < 10) (digit_value byte) }
 {
-    if byte.is_ascii_digit() {
-        Some(u32::from(byte - b'0'))
-    } else {
-        None
-    }
+    let digit = u32::from(byte).wrapping_sub(u32::from(b'0'));
+    if digit < 10 { Some(digit) } else { None }
 }
 
 // The same as `number`, for a word of any length, which may have many leading zeros.

@@ -1,31 +1,34 @@
 //! The place of a byte.
 
-ghost use Rattle.std.specs.Prelude.{◌≡◌, ◌≢◌, ◌<◌, ◌≤◌, All, MatchOption, length, slice_index, take};
+ghost use Rattle.std.specs.Prelude.{◌≡◌, ◌≢◌, ◌<◌, ◌≤◌, All, IfSome, MatchOption, length, slice_index, take};
 ghost use Rattle.script_lines.specs.Names.{bytes_at_once};
-ghost use Rattle.script_lines.specs.Places.{IsFirstPlace, IsPathEnd};
+ghost use Rattle.script_lines.specs.Places.{IsFirstPlace, IsFrontOf, IsPathEnd};
 
 use std::simd::prelude::*;
 
 /// The mark behind those of eight bytes.
 const BEHIND_EIGHT: u64 = 256;
 
-/// The place of the first byte that is `wanted`. The first 32 bytes are compared at once: most lines end there.
-pub fn place_of(wanted: u8, text: &[u8]) -> Option<usize>
-    ensures { MatchOption result (All (λ b. b ≢ wanted) text.now) (λ place. IsFirstPlace wanted text.now place) }
+/// The place of the first byte that is `wanted`, if it is one of the first 32 bytes, which are compared at once: most
+/// lines end there.
+#[inline(always)]
+pub(crate) fn near_place(wanted: u8, text: &[u8]) -> Option<usize>
+    ensures { IfSome result (λ place. IsFirstPlace wanted text.now place) }
 {
-    if 32 <= text.len() {
-        let marks = u8x32::from_slice(text)
-            .simd_eq(u8x32::splat(wanted))
-            .to_bitmask();
-        if marks != 0 {
-            return Some(marks.trailing_zeros() as usize);
-        }
+    if text.len() < 32 {
+        return None;
     }
-    place_by_one(wanted, text)
+    let marks = u8x32::from_slice(text)
+        .simd_eq(u8x32::splat(wanted))
+        .to_bitmask();
+    if marks == 0 {
+        return None;
+    }
+    Some(marks.trailing_zeros() as usize)
 }
 
-/// The same, for a place that is near. It stays a call: inlined, its loop keeps a register for each slice that is cut
-/// at the place.
+/// The place of the first byte that is `wanted`, by one byte after the other. It stays a call: inlined, its loop keeps a
+/// register for each slice that is cut at the place.
 #[inline(never)]
 pub fn place_by_one(wanted: u8, text: &[u8]) -> Option<usize>
     ensures { MatchOption result (All (λ b. b ≢ wanted) text.now) (λ place. IsFirstPlace wanted text.now place) }
@@ -33,9 +36,43 @@ pub fn place_by_one(wanted: u8, text: &[u8]) -> Option<usize>
     text.iter().position(|byte| *byte == wanted)
 }
 
-/// The place of the first byte that no path has. It stays a call for the same reason.
+/// The place of the first byte that no path has. It is looked for in a wider text, which begins with this one and mostly
+/// has 16 bytes.
+#[inline(always)]
+pub(crate) fn path_end(text: &[u8], wide: &[u8]) -> Option<usize>
+    requires { IsFrontOf text.now wide.now }
+    ensures { MatchOption result (All (λ b. (32 < b) × (b < 127)) text.now) (λ end. IsPathEnd text.now end) }
+{
+    if let Some(end) = near_path_end(wide) {
+        if end < text.len() {
+            return Some(end);
+        }
+        return None;
+    }
+    far_path_end(text)
+}
+
+// The place of the first byte that no path has, if it is one of the first 16 bytes, which are compared at once. A byte
+// from 33 to 126, and no other, is at least 162 with 129 more.
+#[inline(always)]
+fn near_path_end(text: &[u8]) -> Option<usize>
+    ensures { IfSome result (λ end. IsPathEnd text.now end) }
+{
+    if text.len() < 16 {
+        return None;
+    }
+    let marks = (u8x16::from_slice(text) + u8x16::splat(129))
+        .simd_lt(u8x16::splat(162))
+        .to_bitmask();
+    if marks == 0 {
+        return None;
+    }
+    Some(marks.trailing_zeros() as usize)
+}
+
+// The place of the first byte that no path has, by one byte after the other. It stays a call, as `place_by_one` does.
 #[inline(never)]
-pub fn path_end(text: &[u8]) -> Option<usize>
+fn far_path_end(text: &[u8]) -> Option<usize>
     ensures { MatchOption result (All (λ b. (32 < b) × (b < 127)) text.now) (λ end. IsPathEnd text.now end) }
 {
     text.iter().position(|byte| !byte.is_ascii_graphic())

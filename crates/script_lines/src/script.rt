@@ -1,8 +1,8 @@
 //! A script's bytes, cut into lines.
 
-ghost use Rattle.std.specs.Prelude.{◌≡◌, ◌≢◌, ◌↔◌, ◌∷◌, ◌++◌, ℕ, ◌+◌, ◌<◌, ◌≤◌, All, IfErr, IfOk, IfSome, IsTrue, List};
+ghost use Rattle.std.specs.Prelude.{◌≡◌, ◌≢◌, ◌↔◌, ◌∷◌, ◌++◌, ℕ, ◌+◌, ◌<◌, ◌≤◌, All, IfErr, IfOk, IfSome, IsTrue, List, []};
 ghost use Rattle.std.specs.Prelude.{MatchOption, length, take};
-ghost use Rattle.script_lines.specs.Places.{IsFrontOf};
+ghost use Rattle.script_lines.specs.Places.{IsFrontOf, IsLineEnd};
 ghost use Rattle.script_lines.specs.Script.{HasArguments, IsAllocText, IsCommandText, IsCut, IsFirstBadLine, IsLimit};
 ghost use Rattle.script_lines.specs.Script.{IsFrameText, IsGroupText, IsLineText, IsPathText, IsReadText};
 ghost use Rattle.script_lines.specs.Script.{IsRequestText, IsScript, IsWriteText, NamesFirstBadLine, ended_lines};
@@ -10,14 +10,15 @@ ghost use Rattle.script_lines.specs.Script.{is_go, is_skipped, longest_script, t
 ghost use Rattle.script_lines.specs.Verb.{Frame, IsNames, form_of_verb, its_verb, words_of_command};
 ghost use Rattle.script_lines.specs.declared.line.Command.{Command};
 ghost use Rattle.script_lines.specs.declared.line.Line.{Line};
+ghost use Rattle.script_lines.specs.declared.line.Line.TheVariants.{At};
 
 use crate::fault::ScriptFault;
 use crate::line::{Command, Line};
 use crate::number::{first_number, number};
-use crate::place::{path_end, place_by_one, place_of};
+use crate::place::{near_place, path_end, place_by_one};
 use crate::verb::{Form, Names, Verb, command_names, first_verb_within};
 use group_tree::group::MAX_GROUPS;
-use std::alloc::Global;
+use std::alloc::{AllocFailed, Global};
 use zone_blocks::config::Config;
 
 /// The most bytes that a script has.
@@ -62,21 +63,19 @@ fn parse_lines<'a>(
     let mut number = 0;
     let mut rest = Some(input);
     while let Some(left) = rest {
-        let (text, after) = first_line(left);
-        rest = after;
+        let end = line_end(left);
         number += 1;
-        if text.len() > MAX_LINE || number >= limit {
+        if end > MAX_LINE || number >= limit {
             return Err(ScriptFault::BadLine(number));
         }
+        let text = &left[..end];
         if let Some((cpu, command)) = parse_request(names, text, left, sizes) {
-            lines.push(Line::At {
-                number,
-                cpu,
-                command,
-            })?;
+            push_line(&mut lines, number, cpu, command)?;
+            rest = after_line(left, end);
             continue;
         }
         if is_skipped(text) {
+            rest = after_line(left, end);
             continue;
         }
         if !is_go(text) {
@@ -87,18 +86,68 @@ fn parse_lines<'a>(
         }
         had_go = true;
         lines.push(Line::Go)?;
+        rest = after_line(left, end);
     }
     Ok(lines)
+}
+
+// Adds this line. Each arm is the same, but in its own the compiler knows which of a line's slices there are, and clears
+// the room of the others by wide stores. The last arm is for commands without a path.
+#[inline(always)]
+fn push_line<'a>(
+    lines: &mut Vec<Line<'a>>,
+    number: usize,
+    cpu: u32,
+    command: Command<'a>,
+) -> Result<(), AllocFailed<Line<'a>>>
+    ensures { IfOk result (λ _. lines.new.items ≡ lines.old.items ++ At number cpu command.entry ∷ []) }
+{
+    let line = Line::At {
+        number,
+        cpu,
+        command,
+    };
+    match command {
+        Command::Alloc { .. } => lines.push(line),
+        Command::Mkdir { .. }
+        | Command::Rmdir { .. }
+        | Command::Write { .. }
+        | Command::Read { .. }
+        | Command::Units { .. } => lines.push(line),
+        _ => lines.push(line),
+    }
+}
+
+// Where the first line ends: at its line feed or, without one, at the end of the text.
+#[inline(always)]
+fn line_end(text: &[u8]) -> usize
+    ensures { IsLineEnd text.now result }
+{
+    match near_place(b'\n', text) {
+        Some(end) => end,
+        None => place_by_one(b'\n', text).unwrap_or(text.len()),
+    }
+}
+
+// What follows the first line and its line feed. None if it has no line feed.
+#[inline(always)]
+fn after_line(text: &[u8], end: usize) -> Option<&[u8]>
+    requires { IsLineEnd text.now end }
+    ensures { texts_of text.now ≡ take end text.now ∷ texts_left result }
+{
+    if end < text.len() {
+        Some(&text[end + 1..])
+    } else {
+        None
+    }
 }
 
 /// The text of the first line, and what follows its line feed: None if it has no line feed.
 pub fn first_line(text: &[u8]) -> (&[u8], Option<&[u8]>)
     ensures { texts_of text.now ≡ result.0.now ∷ texts_left result.1 }
 {
-    match place_of(b'\n', text) {
-        None => (text, None),
-        Some(end) => (&text[..end], Some(&text[end + 1..])),
-    }
+    let end = line_end(text);
+    (&text[..end], after_line(text, end))
 }
 
 /// The number of the line with the first byte past the most, if there is one. A line feed belongs to the line that it
@@ -220,13 +269,22 @@ fn parse_command<'a>(
             Verb::Stock => Some(Command::Stock),
             _ => None,
         },
-        Some(arguments) => parse_arguments(verb, arguments, sizes),
+        Some(arguments) => {
+            let wide = &wide[text.len() - arguments.len()..];
+            parse_arguments(verb, arguments, wide, sizes)
+        }
     }
 }
 
 // The command of this name, with its arguments.
 #[inline(always)]
-fn parse_arguments<'a>(verb: Verb, arguments: &'a [u8], sizes: &Config) -> Option<Command<'a>>
+fn parse_arguments<'a>(
+    verb: Verb,
+    arguments: &'a [u8],
+    wide: &[u8],
+    sizes: &Config,
+) -> Option<Command<'a>>
+    requires { IsFrontOf arguments.now wide.now }
     ensures { MatchOption result
         ((command : Command) → its_verb command ≡ verb → ¬ HasArguments sizes.now command arguments.entry.now)
         (λ command. (its_verb command ≡ verb) × HasArguments sizes.now command arguments.entry.now) }
@@ -239,15 +297,15 @@ fn parse_arguments<'a>(verb: Verb, arguments: &'a [u8], sizes: &Config) -> Optio
             path: path_of(arguments)?,
         }),
         Verb::Write => {
-            let (path, file, value) = parse_write(arguments)?;
+            let (path, file, value) = parse_write(arguments, wide)?;
             Some(Command::Write { path, file, value })
         }
         Verb::Read => {
-            let (path, file) = parse_read(arguments)?;
+            let (path, file) = parse_read(arguments, wide)?;
             Some(Command::Read { path, file })
         }
         Verb::Alloc => {
-            let (path, order) = parse_alloc(arguments)?;
+            let (path, order) = parse_alloc(arguments, wide)?;
             Some(Command::Alloc { path, order })
         }
         Verb::Fast => {
@@ -305,47 +363,51 @@ fn group_of(text: &[u8]) -> Option<u32>
 
 // The path and the order.
 #[inline(always)]
-fn parse_alloc(arguments: &[u8]) -> Option<(&[u8], u32)>
+fn parse_alloc<'a>(arguments: &'a [u8], wide: &[u8]) -> Option<(&'a [u8], u32)>
+    requires { IsFrontOf arguments.now wide.now }
     ensures { MatchOption result
         ((path : List ℕ) (order : ℕ) → ¬ IsAllocText path order arguments.now)
         (λ p. IsAllocText p.0.now p.1 arguments.now) }
 {
-    let (path, order) = first_path(arguments)?;
+    let (path, order) = first_path(arguments, wide)?;
     Some((path, number(order)?))
 }
 
 // The path, the file's name and the value, which is all that follows the space after the name.
 #[inline(always)]
-fn parse_write(arguments: &[u8]) -> Option<(&[u8], &[u8], &[u8])>
+fn parse_write<'a>(arguments: &'a [u8], wide: &[u8]) -> Option<(&'a [u8], &'a [u8], &'a [u8])>
+    requires { IsFrontOf arguments.now wide.now }
     ensures { MatchOption result
         ((path : List ℕ) (file : List ℕ) (value : List ℕ) → ¬ IsWriteText path file value arguments.now)
         (λ p. IsWriteText p.0.now p.1.now p.2.now arguments.now) }
 {
-    let (path, rest) = first_path(arguments)?;
-    let (file, value) = first_path(rest)?;
+    let (path, rest) = first_path(arguments, wide)?;
+    let (file, value) = first_path(rest, &wide[path.len() + 1..])?;
     Some((path, file, value))
 }
 
 // The path and the file's name.
 #[inline(always)]
-fn parse_read(arguments: &[u8]) -> Option<(&[u8], &[u8])>
+fn parse_read<'a>(arguments: &'a [u8], wide: &[u8]) -> Option<(&'a [u8], &'a [u8])>
+    requires { IsFrontOf arguments.now wide.now }
     ensures { MatchOption result
         ((path : List ℕ) (file : List ℕ) → ¬ IsReadText path file arguments.now)
         (λ p. IsReadText p.0.now p.1.now arguments.now) }
 {
-    let (path, file) = first_path(arguments)?;
+    let (path, file) = first_path(arguments, wide)?;
     Some((path, path_of(file)?))
 }
 
 // The path, or file name, before the first space, and what follows that space. None if there is none, or no path before
 // it.
 #[inline(always)]
-fn first_path(text: &[u8]) -> Option<(&[u8], &[u8])>
+fn first_path<'a>(text: &'a [u8], wide: &[u8]) -> Option<(&'a [u8], &'a [u8])>
+    requires { IsFrontOf text.now wide.now }
     ensures { MatchOption result
         ((path : List ℕ) (rest : List ℕ) → IsPathText path → text.now ≢ path ++ 32 ∷ rest)
         (λ p. IsPathText p.0.now × IsCut text.now p.0.now p.1.now) }
 {
-    let end = path_end(text)?;
+    let end = path_end(text, wide)?;
     if end == 0 {
         return None;
     }

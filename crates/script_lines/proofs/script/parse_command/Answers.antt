@@ -1,4 +1,5 @@
-use Rattle.std.proofs.Common.{subst}
+use Rattle.std.proofs.Common.{arith, subst}
+use Rattle.std.proofs.lemmas.Grind.{common_steps}
 use Rattle.script_lines.specs.Script.{IsCut, IsNamed}
 use Rattle.script_lines.specs.Verb.{its_verb, name_of_verb}
 use Rattle.script_lines.proofs.Readings.{begins, from_arguments, on_none}
@@ -13,3 +14,6 @@ returns-in-Some c =
     let cut : IsCut c.args.text.now (name_of_verb c.in_ok-verb.verb) c.in-Some.arguments.now
     = subst (λ rest. IsNamed c.in_ok-verb.verb rest c.args.text.now) c.in-Some.is c.in_ok-verb.ensures in
     from_arguments c.args.sizes.now c.args.text.now c.in-Some.arguments.now c.in_ok-verb.verb c.parse_arguments.result cut c.parse_arguments.ensures
+
+pub parse_arguments-requires : goal.parse_arguments-requires
+parse_arguments-requires c = grind (arith, common_steps)
