@@ -1,5 +1,5 @@
 -- What contracts see of a host's handle, and what the calls do to the boot behind it.
-use Rattle.std.specs.Prelude.{◌≡◌, ℕ, Bool, List, Option, None, Some}
+use Rattle.std.specs.Prelude.{◌≡◌, ℕ, Bool, List, [], Option, None, Some}
 use Rattle.frame_word.specs.Seats.{KnownTable}
 use Rattle.stock_word.specs.Stock.{KnownStockTable}
 use Rattle.zone_blocks.specs.declared.config.Config.{Config}
@@ -33,6 +33,7 @@ pub record BootsNew (sizes : Config) (after : Option LiveBoot) : Type 0 where
   pub valid : IsValidConfig sizes
   pub first : IsNewBootState sizes boot.frames boot.stocks boot.live.state
   pub sizes_are : boot.live.sizes ≡ sizes
+  pub none_unread : boot.live.unread_answer ≡ []
 
 -- a boot stands behind the handle before and after a call, and under its tables `does` leads from one to the other
 pub record OnBoot (does : KnownTable → KnownStockTable → (from to : KnownLive) → Type 0)
