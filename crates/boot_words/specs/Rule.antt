@@ -20,7 +20,7 @@ use Rattle.boot_words.specs.declared.view.BootView.TheVariants.{OfFrames, OfStoc
 abbrev pub frame_base : Zone → ℕ
 frame_base zone = 16 * (zone.cpus + 1)
 
--- the words of the table, as `run_words` has them
+-- the words of the table, as a run's words are parted
 abbrev pub words_in : Zone → List ℕ → Words
 words_in zone words = record { frames = drop (frame_base zone) words; stocks = take (frame_base zone) words }
 

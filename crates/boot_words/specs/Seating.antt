@@ -53,7 +53,7 @@ JoinIsAllowed S = (zone : Zone) (id other : ℕ) (views taken : List BootView)
     → Joins {S = S} (boot_rule zone) id views other taken (views ++ taken) []
 
 -- The end of the table, at which one seat has these views: there is one legal run whose last state has just these words,
--- and each past of the seat is a beginning of it. The two rules hold as they do at the ends of today's tables.
+-- and each past of the seat is a beginning of it. The two rules hold, each of its part.
 pub record IsFinalTable (S : Type 0) (zone : Zone) (id : ℕ) (words : List ℕ) (slots : List S) (views : List BootView) : Type 0 where
   pub run : Run
   pub is : IsRunOf zone (words_in zone words) run

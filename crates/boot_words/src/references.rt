@@ -87,7 +87,7 @@ impl BootWords {
         requires table { seat.old.table ≡ self.now.table }
         requires past { IsCpuPast self.now past.old }
         requires frame { frame < self.now.frames }
-        requires held { 1 ≤ seat_references seat.old frame }
+        requires reference { 1 ≤ seat_references seat.old frame }
         requires legal { MayDo self.now past.old (step.Put frame) }
         ensures table { seat.new.table ≡ seat.old.table }
         ensures kind { puts seat.old.view frame 1 result seat.new.view }
@@ -105,7 +105,7 @@ impl BootWords {
         requires table { seat.old.table ≡ self.now.table }
         requires past { IsCpuPast self.now past.old }
         requires frame { frame < self.now.frames }
-        requires held { 1 ≤ seat_references seat.old frame }
+        requires reference { 1 ≤ seat_references seat.old frame }
         requires legal { MayDo self.now past.old (step.Put frame) }
         ensures answer { PutAnswers seat.old frame result seat.new }
         ensures in_no_hand { IsInNoHand seat.old frame }
@@ -125,7 +125,7 @@ impl BootWords {
     pub fn references(&self, seat: &mut FrameSeat, frame: Frame) -> u64
         requires table { seat.old.table ≡ self.now.table }
         requires frame { frame < self.now.frames }
-        requires held { 1 ≤ seat_references seat.old frame }
+        requires reference { 1 ≤ seat_references seat.old frame }
         ensures own { seat_references seat.old frame ≤ result }
         ensures most { result ≤ most_references }
         ensures seat { seat.new ≡ seat_with seat.old frame (looked result) }

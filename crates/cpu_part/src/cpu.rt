@@ -26,13 +26,19 @@ const SPARE: usize = 16;
 /// CPUs write the same one.
 pub struct Cpu<N: BootName> {
     pub(crate) number: u32,
+    /// The free frames that the zone lent to the CPU, the next one to take first.
     pub(crate) list: VecDeque<Frame>,
+    /// The frames that it took from the list and paid for, and that no visit has settled yet.
     pub(crate) fresh: Vec<Frame>,
+    /// The heads of units whose last reference it put, and that no visit has freed yet.
     pub(crate) back: VecDeque<Frame>,
+    /// The frames on which it has references, each as often as it has one.
     pub(crate) pins: Vec<Frame>,
     pub(crate) frame_seat: FrameSeat,
     pub(crate) stock_seat: StockSeat,
+    /// How many fresh frames it has put back on its list.
     pub(crate) drops: u64,
+    /// The cache line that no one writes.
     pub(crate) gap: [u64; 8],
     pub(crate) of: PhantomData<N>,
 }

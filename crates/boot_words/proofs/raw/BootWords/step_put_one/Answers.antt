@@ -10,4 +10,4 @@ take_one-found-requires-clause-may c =
     let seat = c.seat.invariant.alone ∙ ap (λ s. OfFrames s.view ∷ []) c.seat.view_is in
     let low = c.requires.past.low in
     may_put _ _ c.args.frame c.args.seat.now.view _ (joined_views _ _ _ _ _ (ap (λ r. r.views) c.join.ensures.raw) past seat)
-    (λ none. absurd (omega (arith, low, none))) c.requires.frame c.requires.held c.requires.legal
+    (λ none. absurd (omega (arith, low, none))) c.requires.frame c.requires.reference c.requires.legal

@@ -35,7 +35,7 @@ references-requires-clause-table g c = c.self.invariant.consistent.seats.frames.
 pub references-requires-clause-frame : goal.references-requires-clause-frame
 references-requires-clause-frame g c = subst (λ (t : KnownTable). c.args.head < t.frames) (sym c.args.tables.now.frames_are) c.requires.frame
 
-pub references-requires-clause-held : goal.references-requires-clause-held
-references-requires-clause-held g c =
+pub references-requires-clause-reference : goal.references-requires-clause-reference
+references-requires-clause-reference g c =
     let one = kept_held g.N.BootName.frames g.N.BootName.stocks _ _ c.self.view_is c.self.invariant.consistent c.args.head c.requires.frame c.requires.kept in
     omega (arith, one)
