@@ -41,7 +41,7 @@ use Rattle.mem_machine.specs.Machines.{KnownMachine, IsConsistent, is_killed, bo
 use Rattle.mem_machine.specs.Noted.{AreLocal, MayTake}
 use Rattle.mem_machine.specs.Local.{IsSeenByRun, Visits, local_of, phase_of, part_of, part_with, Makes, visit_state, MakesAs}
 use Rattle.mem_machine.specs.Steps.{drain_steps, fill_steps, over_steps, zone_makes}
-use Rattle.mem_machine.specs.Stocks.{uncharged, stock_group, with_look, Drains, Fills, Prepays, IsOver, own_drain_steps, pages_held}
+use Rattle.mem_machine.specs.Stocks.{Fills}
 use Rattle.mem_machine.specs.Paying.{IsOwnStock}
 use Rattle.mem_machine.proofs.Reaching.{zone_step}
 use Rattle.mem_machine.proofs.Holds.{zone_may_act, visits_open, own_part}
