@@ -3,10 +3,14 @@ use Rattle.std.proofs.Common.{◌≡◌, ◌∙◌, Some, None, ap, refl, subst,
 use Rattle.std.proofs.lemmas.Bool.{false≢true}
 use Rattle.std.specs.Prelude.{Bool, IsSome, IsSomeAnd, Option}
 use Rattle.std.specs.Global.{Global}
+use Rattle.std.specs.Global.{Box}
+use Rattle.host_memory.specs.Cells.{KnownLoan}
 use Rattle.mem_system.specs.Cpus.{CpuInRun}
+use Rattle.mem_system.specs.Ending.{HasEnded}
+use Rattle.mem_system.specs.declared.ending.SystemEnd.{SystemEnd}
 use Rattle.frame_word.specs.Seats.{KnownTable}
 use Rattle.stock_word.specs.Stock.{KnownStockTable}
-use Rattle.zone_threads.specs.Homes.{HasCpu, KnownHome}
+use Rattle.zone_threads.specs.Homes.{EndsParked, HasCpu, KnownBehind, KnownHome}
 use Rattle.zone_threads.specs.declared.home.NotLeft.{NotLeft}
 use Rattle.zone_threads.specs.declared.home.NotLeft.TheVariants as not_left
 use Rattle.tempolemon_threads.specs.Serving.{DropsHome, OnRawHome, ServesHomeRequest}
@@ -41,3 +45,8 @@ pub no_cpu_left : (f : KnownTable) (s : KnownStockTable) (a : Global) (is_live :
 no_cpu_left f s a is_live o before after said reason is same serves one two =
     let drops : DropsHome before after = subst (λ (x : RequestAnswer). ServesHomeRequest f s before (Leave a) after x) (one ∙ ap answer.NotLeft two) serves in
     false≢true (subst (λ (x : Option CpuInRun). IsSome x) drops.none (is.cpu drops.from (sym same ∙ drops.was)))
+
+-- a zone that ended with the CPUs that were parked ended
+pub has_ended : (f : KnownTable) (s : KnownStockTable) (loan : KnownLoan (Box KnownBehind)) (ended : SystemEnd) → EndsParked f s loan ended → HasEnded f s ended
+has_ended f s loan ended parked =
+    (parked.found.value.parked, record { locked = parked.found.value.locked; sound = parked.ends.sound; so = parked.ends })

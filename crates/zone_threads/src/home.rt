@@ -1,5 +1,6 @@
 //! What a thread has of a zone.
 
+ghost use Rattle.std.specs.Arc.{arc_value};
 ghost use Rattle.std.specs.Prelude.{◌≡◌, IfErr, IfOk, MatchResult};
 ghost use Rattle.zone_threads.specs.Homes.{HasNoCpu, IfNotEntered, IfNotLeft, ParksCpu, TakesCpu};
 
@@ -18,6 +19,8 @@ use std::sync::Arc;
 pub struct Home<N: BootName> {
     pub(crate) zone: Arc<Zone<N>, Global>,
     pub(crate) cpu: Option<Cpu<N>>,
+    // Shows what was found behind the lock, and what was left there, when the last CPU was taken.
+    entry: Option<PutBack<Box<Behind<N>, Global>>>,
 }
 
 impl<N: BootName> Model for Home<N> {
@@ -26,7 +29,7 @@ impl<N: BootName> Model for Home<N> {
 
     ghost Value = { KnownHome };
 
-    ghost view = { λ h. record { cpu = h.cpu; sizes = (arc_value h.zone).sizes } };
+    ghost view = { λ h. record { cpu = h.cpu; sizes = (arc_value h.zone).sizes; entry = h.entry } };
 }
 
 /// Why no CPU was taken.
@@ -62,7 +65,7 @@ impl<N: BootName> Home<N> {
     {
         let zone = Zone::<N>::start(alloc, boot)?;
         let zone = Arc::new(alloc, zone)?;
-        Ok(Home { zone, cpu: None })
+        Ok(Home::of(zone))
     }
 
     /// Another home of the same zone, without a CPU.
@@ -71,13 +74,25 @@ impl<N: BootName> Home<N> {
         ensures sizes { IfOk result (λ home. home.sizes ≡ self.now.sizes) }
     {
         let zone = Arc::try_clone(&self.zone)?;
-        Ok(Home { zone, cpu: None })
+        Ok(Home::of(zone))
     }
 
-    /// Takes the part of the CPU of this number, from 1. What was put back behind the lock is shown.
-    pub fn enter(&mut self, number: u32) -> Result<PutBack<Box<Behind<N>, Global>>, NotEntered>
+    // A home of this zone that took no CPU yet.
+    fn of(zone: Arc<Zone<N>, Global>) -> Home<N>
+        ensures no_cpu { HasNoCpu result }
+        ensures sizes { result.sizes ≡ (arc_value zone).sizes }
+    {
+        Home {
+            zone,
+            cpu: None,
+            entry: None,
+        }
+    }
+
+    /// Takes the part of the CPU of this number, from 1. The home shows what was put back behind the lock.
+    pub fn enter(&mut self, number: u32) -> Result<(), NotEntered>
         ensures { MatchResult result
-            (λ change. TakesCpu number change self.old self.new)
+            (λ _. TakesCpu number self.old self.new)
             (λ reason. IfNotEntered N.frames.cpus number self.old reason self.new) }
     {
         if self.cpu.is_some() {
@@ -97,7 +112,8 @@ impl<N: BootName> Home<N> {
         };
         let old = std::mem::replace(&mut self.cpu, Some(cpu));
         let None = old else { unreachable!() };
-        Ok(change)
+        self.entry = Some(change);
+        Ok(())
     }
 
     /// Parks the CPU as it is, with its list, stock and pins: who takes it next goes on with them. What was put back
@@ -132,11 +148,15 @@ impl<N: BootName> Home<N> {
         ensures alone { IfOk result (λ zone. zone.sizes ≡ self.sizes) }
         ensures shared { IfErr result (λ home. home ≡ self) }
     {
-        let Home { zone, cpu } = self;
+        let Home { zone, cpu, entry } = self;
         let None = cpu else { unreachable!() };
         match Arc::try_unwrap(zone) {
             Ok(zone) => Ok(zone),
-            Err(zone) => Err(Home { zone, cpu: None }),
+            Err(zone) => Err(Home {
+                zone,
+                cpu: None,
+                entry,
+            }),
         }
     }
 }
@@ -145,7 +165,11 @@ impl<N: BootName> Home<N> {
 // home that has a CPU.
 impl<N: BootName> Drop for Home<N> {
     fn drop(self) {
-        let Home { zone: _, cpu } = self;
+        let Home {
+            zone: _,
+            cpu,
+            entry: _,
+        } = self;
         if let Some(cpu) = cpu {
             let _left = unsafe { ManuallyDrop::new_unchecked(cpu) };
         }

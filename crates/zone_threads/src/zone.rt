@@ -2,11 +2,11 @@
 
 ghost use Rattle.std.specs.Prelude.{◌≡◌, IfOk, IfSome};
 ghost use Rattle.mem_system.specs.Boots.{IsSizedAs};
-ghost use Rattle.mem_system.specs.Ending.{HasEnded};
+ghost use Rattle.zone_threads.specs.Homes.{EndsParked};
 ghost use Rattle.zone_blocks.specs.Config.{IsValidConfig};
 
 use crate::behind::Behind;
-use crate::zone_end::end_parts;
+use crate::zone_end::{ZoneEnd, end_parts, leave};
 use cpu_part::{BootName, Tables};
 use host_memory::try_cell::{Loan, TryCell};
 use mem_system::{Boot, SystemEnd};
@@ -65,16 +65,22 @@ impl<N: BootName> Zone<N> {
 
     /// Ends the zone. Pins that are still held are put first. `None` if the part of a CPU isn't there, which no call
     /// leaves so: the parts stay in memory then.
-    pub fn end(self) -> Option<SystemEnd>
-        ensures { IfSome result (HasEnded N.frames N.stocks) }
+    pub fn end(self) -> Option<ZoneEnd<N>>
+        ensures { IfSome result (λ end. EndsParked N.frames N.stocks end.found end.ended) }
     {
         let Zone {
             tables,
             lock,
             sizes: _,
         } = self;
-        let behind = lock.into_inner()?;
-        end_parts(tables, Box::into_inner(behind))
+        let taken = lock.take();
+        leave(lock.into_inner());
+        let (behind, found) = taken?;
+        let Some(ended) = end_parts(tables, Box::into_inner(behind)) else {
+            leave(found);
+            return None;
+        };
+        Some(ZoneEnd { ended, found })
     }
 }
 
