@@ -1,8 +1,8 @@
 //! What a thread has of a zone.
 
 ghost use Rattle.std.specs.Arc.{arc_value};
-ghost use Rattle.std.specs.Prelude.{◌≡◌, IfErr, IfOk, MatchResult};
-ghost use Rattle.zone_threads.specs.Homes.{HasNoCpu, IfNotEntered, IfNotLeft, ParksCpu, TakesCpu};
+ghost use Rattle.std.specs.Prelude.{◌≡◌, IfErr, IfOk};
+ghost use Rattle.zone_threads.specs.Homes.{HasNoCpu};
 
 use crate::behind::Behind;
 use crate::zone::Zone;
@@ -20,7 +20,7 @@ pub struct Home<N: BootName> {
     pub(crate) zone: Arc<Zone<N>, Global>,
     pub(crate) cpu: Option<Cpu<N>>,
     // Shows what was found behind the lock, and what was left there, when the last CPU was taken.
-    entry: Option<PutBack<Box<Behind<N>, Global>>>,
+    pub(crate) entry: Option<PutBack<Box<Behind<N>, Global>>>,
 }
 
 impl<N: BootName> Model for Home<N> {
@@ -87,59 +87,6 @@ impl<N: BootName> Home<N> {
             cpu: None,
             entry: None,
         }
-    }
-
-    /// Takes the part of the CPU of this number, from 1. The home shows what was put back behind the lock.
-    pub fn enter(&mut self, number: u32) -> Result<(), NotEntered>
-        ensures { MatchResult result
-            (λ _. TakesCpu number self.old self.new)
-            (λ reason. IfNotEntered N.frames.cpus number self.old reason self.new) }
-    {
-        if self.cpu.is_some() {
-            return Err(NotEntered::HasCpu);
-        }
-        let zone = &*self.zone;
-        if number == 0 || number > zone.tables.words.cpus() {
-            return Err(NotEntered::NoCpu);
-        }
-        let Some((mut behind, loan)) = zone.lock.take() else {
-            return Err(NotEntered::Busy);
-        };
-        let found = behind.unpark(number);
-        let change = zone.lock.put_back(behind, loan);
-        let Some(cpu) = found else {
-            return Err(NotEntered::Out);
-        };
-        let old = std::mem::replace(&mut self.cpu, Some(cpu));
-        let None = old else { unreachable!() };
-        self.entry = Some(change);
-        Ok(())
-    }
-
-    /// Parks the CPU as it is, with its list, stock and pins: who takes it next goes on with them. What was put back
-    /// behind the lock is shown.
-    pub fn leave(&mut self) -> Result<PutBack<Box<Behind<N>, Global>>, NotLeft>
-        ensures { MatchResult result
-            (λ change. ParksCpu change self.old self.new)
-            (λ reason. IfNotLeft self.old reason self.new) }
-    {
-        let zone = &*self.zone;
-        let Some(cpu) = std::mem::replace(&mut self.cpu, None) else {
-            return Err(NotLeft::NoCpu);
-        };
-        let Some((mut behind, loan)) = zone.lock.take() else {
-            let old = std::mem::replace(&mut self.cpu, Some(cpu));
-            let None = old else { unreachable!() };
-            return Err(NotLeft::Busy);
-        };
-        let returned = behind.park(cpu);
-        let change = zone.lock.put_back(behind, loan);
-        let Some(cpu) = returned else {
-            return Ok(change);
-        };
-        let old = std::mem::replace(&mut self.cpu, Some(cpu));
-        let None = old else { unreachable!() };
-        Err(NotLeft::Busy)
     }
 
     /// What all homes shared, if there is no other one. Else the home is returned as it was.

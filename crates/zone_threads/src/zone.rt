@@ -1,4 +1,8 @@
-//! What all threads share: the tables, and what lies behind a lock that is only tried.
+//! What all threads share: the tables, and what lies behind a lock that is only tried. The cell of the lock is private, so
+//! only this module and those in it can take the lock.
+
+mod entries;
+mod visits;
 
 ghost use Rattle.std.specs.Prelude.{◌≡◌, IfOk, IfSome};
 ghost use Rattle.mem_system.specs.Boots.{IsSizedAs};
@@ -16,7 +20,7 @@ use zone_blocks::config::Config;
 /// What all threads share.
 pub struct Zone<N: BootName> {
     pub(crate) tables: Tables<N>,
-    pub(crate) lock: TryCell<Box<Behind<N>, Global>>,
+    lock: TryCell<Box<Behind<N>, Global>>,
     // No clause can look through the lock: those of calls speak of these sizes.
     pub(crate) sizes: Config,
     ghost valid: { IsValidConfig sizes },
@@ -54,7 +58,7 @@ impl<N: BootName> Zone<N> {
 
     // Tries the lock: what is found has the sizes of the zone.
     #[inline(always)]
-    pub(crate) fn take(&self) -> Option<(Box<Behind<N>, Global>, Loan<Box<Behind<N>, Global>>)>
+    fn take(&self) -> Option<(Box<Behind<N>, Global>, Loan<Box<Behind<N>, Global>>)>
         ensures fits { IfSome result (λ taken. taken.1.table_id ≡ self.now.lock.table.shared.table_id) }
         ensures sizes { IfSome result (λ taken. taken.0.value.locked.sizes ≡ self.now.sizes) }
     {
