@@ -90,7 +90,8 @@ ServesHomeRequest frames stock_table before (Enter number) after returned.Entere
     OnHome (TakesCpu number) before after
 ServesHomeRequest frames stock_table before (Enter number) after (returned.NotEntered reason) =
     OnHome (λ from to. IfNotEntered frames.cpus number from reason to) before after
-ServesHomeRequest frames stock_table before (Leave alloc) after returned.Left = LeavesHome before after
+ServesHomeRequest frames stock_table before (Leave alloc) after (returned.Left shown) =
+    LeavesHome before after
 ServesHomeRequest frames stock_table before (Leave alloc) after (returned.NotLeft not_left.NoCpu) =
     DropsHome before after
 ServesHomeRequest frames stock_table before (Leave alloc) after (returned.NotLeft not_left.Busy) =

@@ -118,7 +118,7 @@ impl CpuPart {
             self.raw.put(raw);
             return false;
         }
-        let RequestAnswer::Left = answer else {
+        let RequestAnswer::Left(_) = answer else {
             unreachable!()
         };
         self.raw.put(raw);

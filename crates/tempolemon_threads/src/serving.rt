@@ -146,7 +146,7 @@ fn leave<N: BootName>(pointer: HomePointer<N>, alloc: Global) -> (HomePointer<N>
     }
     let _home = Box::into_inner(home);
     match left {
-        Ok(_) => (HomePointer::none(alloc), RequestAnswer::Left),
+        Ok(returned) => (HomePointer::none(alloc), RequestAnswer::Left(returned)),
         Err(reason) => (HomePointer::none(alloc), RequestAnswer::NotLeft(reason)),
     }
 }

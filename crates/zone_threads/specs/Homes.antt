@@ -25,12 +25,12 @@ pub record KnownBehind : Type 0 where
 abbrev pub LockedChange : Type 0
 LockedChange = KnownChange (Box KnownBehind)
 
--- What a thread has of a zone: a CPU, if it took one, and the sizes of the zone's boot. `entry` is what the thread took out
--- from behind the lock and what it put back, as it took its last CPU.
+-- What a thread has of a zone: a CPU, if it took one, and the sizes of the zone's boot. `change` is what the thread took out
+-- from behind the lock, and what it put back, as it last took or returned a CPU.
 pub record KnownHome : Type 0 where
   pub cpu : Option CpuInRun
   pub sizes : Config
-  pub entry : Option LockedChange
+  pub change : Option LockedChange
 
 -- the same, with this part parked too
 abbrev pub parked_with : KnownBehind → CpuInRun → KnownBehind
@@ -53,7 +53,7 @@ pub record OnCpu (does : (from to : CpuInRun) → Type 0) (before after : KnownH
   pub from : CpuInRun
   pub to : CpuInRun
   pub sizes : after.sizes ≡ before.sizes
-  pub entry : after.entry ≡ before.entry
+  pub change : after.change ≡ before.change
   pub was : before.cpu ≡ Some from
   pub is : after.cpu ≡ Some to
   pub done : does from to
@@ -70,14 +70,14 @@ pub record Unparks (cpu : CpuInRun) (found left : KnownBehind) : Type 0 where
   pub is_there : HoldsAt (λ part. part ≡ cpu) found.parked place
   pub left_is : left ≡ record found { parked = swap_remove found.parked place cpu }
 
--- The home's CPU is the one of this number, just as it was parked, with its past: what was put back behind the lock, as
--- the home took it, is what was taken out, without this part.
+-- The home's CPU is the one of this number, just as it was parked, with its past: what was put back behind the lock is
+-- what was taken out, without this part.
 pub record HasCpuAsParked (number : ℕ) (home : KnownHome) : Type 0 where
   pub cpu : CpuInRun
   pub is : home.cpu ≡ Some cpu
   pub number_is : cpu.part.number ≡ number
   pub change : LockedChange
-  pub entry : home.entry ≡ Some change
+  pub change_is : home.change ≡ Some change
   pub found : Box KnownBehind
   pub left : Box KnownBehind
   pub found_is : change.found ≡ Some found
@@ -106,11 +106,13 @@ IfNotEntered cpus number before not_entered.HasCpu after = HasCpu before × (aft
 IfNotEntered cpus number before not_entered.Busy after = MissesCpu cpus number before after
 
 -- The home's CPU was parked: what was put back behind the lock is what was taken out, with this part.
-pub record ParksCpu (change : LockedChange) (before after : KnownHome) : Type 0 where
+pub record ParksCpu (before after : KnownHome) : Type 0 where
   pub cpu : CpuInRun
   pub sizes : after.sizes ≡ before.sizes
   pub was : before.cpu ≡ Some cpu
   pub none : HasNoCpu after
+  pub change : LockedChange
+  pub change_is : after.change ≡ Some change
   pub found : Box KnownBehind
   pub left : Box KnownBehind
   pub found_is : change.found ≡ Some found

@@ -19,8 +19,8 @@ use std::sync::Arc;
 pub struct Home<N: BootName> {
     pub(crate) zone: Arc<Zone<N>, Global>,
     pub(crate) cpu: Option<Cpu<N>>,
-    // Shows what was found behind the lock, and what was left there, when the last CPU was taken.
-    pub(crate) entry: Option<PutBack<Box<Behind<N>, Global>>>,
+    // Shows what was found behind the lock, and what was left there, as a CPU was last taken or returned.
+    pub(crate) change: Option<PutBack<Box<Behind<N>, Global>>>,
 }
 
 impl<N: BootName> Model for Home<N> {
@@ -29,7 +29,7 @@ impl<N: BootName> Model for Home<N> {
 
     ghost Value = { KnownHome };
 
-    ghost view = { λ h. record { cpu = h.cpu; sizes = (arc_value h.zone).sizes; entry = h.entry } };
+    ghost view = { λ h. record { cpu = h.cpu; sizes = (arc_value h.zone).sizes; change = h.change } };
 }
 
 /// Why no CPU was taken.
@@ -85,7 +85,7 @@ impl<N: BootName> Home<N> {
         Home {
             zone,
             cpu: None,
-            entry: None,
+            change: None,
         }
     }
 
@@ -95,14 +95,14 @@ impl<N: BootName> Home<N> {
         ensures alone { IfOk result (λ zone. zone.sizes ≡ self.sizes) }
         ensures shared { IfErr result (λ home. home ≡ self) }
     {
-        let Home { zone, cpu, entry } = self;
+        let Home { zone, cpu, change } = self;
         let None = cpu else { unreachable!() };
         match Arc::try_unwrap(zone) {
             Ok(zone) => Ok(zone),
             Err(zone) => Err(Home {
                 zone,
                 cpu: None,
-                entry,
+                change,
             }),
         }
     }
@@ -115,7 +115,7 @@ impl<N: BootName> Drop for Home<N> {
         let Home {
             zone: _,
             cpu,
-            entry: _,
+            change: _,
         } = self;
         if let Some(cpu) = cpu {
             let _left = unsafe { ManuallyDrop::new_unchecked(cpu) };

@@ -1,7 +1,7 @@
 //! What all threads share: the tables, and what lies behind a lock that is only tried. The cell of the lock is private, so
 //! only this module and those in it can take the lock.
 
-mod entries;
+pub mod entries;
 mod visits;
 
 ghost use Rattle.std.specs.Prelude.{◌≡◌, IfOk, IfSome};

@@ -3,11 +3,14 @@
 ghost use Rattle.std.specs.Prelude.{MatchResult};
 ghost use Rattle.zone_threads.specs.Homes.{IfNotEntered, IfNotLeft, ParksCpu, TakesCpu};
 
-use crate::behind::Behind;
 use crate::home::{Home, NotEntered, NotLeft};
 use cpu_part::BootName;
-use host_memory::try_cell::PutBack;
-use std::alloc::Global;
+
+/// Shows that a CPU was returned. Only `Home::leave` makes one.
+#[derive(Drop)]
+pub struct Returned {
+    made: (),
+}
 
 impl<N: BootName> Home<N> {
     /// Takes the part of the CPU of this number, from 1. The home shows what was put back behind the lock.
@@ -33,15 +36,15 @@ impl<N: BootName> Home<N> {
         };
         let old = std::mem::replace(&mut self.cpu, Some(cpu));
         let None = old else { unreachable!() };
-        self.entry = Some(change);
+        self.change = Some(change);
         Ok(())
     }
 
-    /// Parks the CPU as it is, with its list, stock and pins: who takes it next goes on with them. What was put back
-    /// behind the lock is shown.
-    pub fn leave(&mut self) -> Result<PutBack<Box<Behind<N>, Global>>, NotLeft>
+    /// Parks the CPU as it is, with its list, stock and pins: who takes it next goes on with them. The home shows what was
+    /// put back behind the lock.
+    pub fn leave(&mut self) -> Result<Returned, NotLeft>
         ensures { MatchResult result
-            (λ change. ParksCpu change self.old self.new)
+            (λ _. ParksCpu self.old self.new)
             (λ reason. IfNotLeft self.old reason self.new) }
     {
         let zone = &*self.zone;
@@ -56,7 +59,8 @@ impl<N: BootName> Home<N> {
         let returned = behind.park(cpu);
         let change = zone.lock.put_back(behind, loan);
         let Some(cpu) = returned else {
-            return Ok(change);
+            self.change = Some(change);
+            return Ok(Returned { made: () });
         };
         let old = std::mem::replace(&mut self.cpu, Some(cpu));
         let None = old else { unreachable!() };
