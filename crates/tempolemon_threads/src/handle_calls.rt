@@ -74,6 +74,7 @@ impl CpuPart {
     }
 
     /// Takes the CPU of this number, by a pointer to the zone.
+    #[tactic(auto, using(crate::proofs::Crossing::refused_gone))]
     pub(crate) fn enter(
         &mut self,
         alloc: Global,
