@@ -1,6 +1,11 @@
 //! What a thread asks for its CPU, and what it gets.
 
+ghost use Rattle.std.specs.Prelude.{IsSome};
+ghost use Rattle.zone_threads.specs.Calling.{Calls};
+
+use crate::home::Home;
 use control_files::text::ArrayText;
+use cpu_part::BootName;
 use frame_word::{Frame, Get, Put};
 use group_tree::fault::Fault;
 use mem_system::{Cmd, Outcome};
@@ -65,4 +70,23 @@ pub enum ReadAnswer {
     Text(ArrayText),
     /// It is refused for this reason.
     Refused(Fault),
+}
+
+impl<N: BootName> Home<N> {
+    /// Serves a call of the home's CPU. It is inlined, so that a caller that names the call has its steps alone.
+    #[inline(always)]
+    pub fn call(&mut self, call: &Call<'_>) -> CallAnswer
+        requires some { IsSome self.old.cpu }
+        ensures { Calls N.frames N.stocks call.now self.old self.new result }
+    {
+        match *call {
+            Call::Visit(cmd) => self.visit(&cmd),
+            Call::AllocFrame { group } => self.alloc_frame(group),
+            Call::AllocBlock { group, order } => self.alloc_block(group, order),
+            Call::Release { frame } => self.release(frame),
+            Call::Get { frame } => self.get(frame),
+            Call::Put { frame } => self.put(frame),
+            Call::Settle => self.settle(),
+        }
+    }
 }

@@ -5,32 +5,18 @@ ghost use Rattle.mem_system.specs.Commands.{IsOfZone, NamesFrameBelow};
 ghost use Rattle.mem_system.specs.Visits.{IsVisited, ServesFrameOutcome, ServesOutcome};
 ghost use Rattle.zone_threads.specs.Calling.{Calls, IfMissing, AnswersRead, ServesBlock};
 ghost use Rattle.zone_threads.specs.Homes.{OnCpu};
+ghost use Rattle.zone_threads.specs.Shown.{ReadsText};
 ghost use Rattle.zone_threads.specs.declared.calls.Call.TheVariants.{AllocBlock, Settle, Visit};
 
-use crate::calls::{Call, CallAnswer, ReadAnswer, ReadCall};
+use crate::calls::{CallAnswer, ReadAnswer, ReadCall};
 use crate::home::Home;
 use crate::served::Missed;
+use crate::texts::{TextAnswer, TextCall};
 use cpu_part::BootName;
 use mem_system::{Cmd, Outcome};
+use std::alloc::Global;
 
 impl<N: BootName> Home<N> {
-    /// Serves a call of the home's CPU. It is inlined, so that a caller that names the call has its steps alone.
-    #[inline(always)]
-    pub fn call(&mut self, call: &Call<'_>) -> CallAnswer
-        requires some { IsSome self.old.cpu }
-        ensures { Calls N.frames N.stocks call.now self.old self.new result }
-    {
-        match *call {
-            Call::Visit(cmd) => self.visit(&cmd),
-            Call::AllocFrame { group } => self.alloc_frame(group),
-            Call::AllocBlock { group, order } => self.alloc_block(group, order),
-            Call::Release { frame } => self.release(frame),
-            Call::Get { frame } => self.get(frame),
-            Call::Put { frame } => self.put(frame),
-            Call::Settle => self.settle(),
-        }
-    }
-
     /// Serves a command under the lock.
     pub fn visit(&mut self, cmd: &Cmd<'_>) -> CallAnswer
         requires some { IsSome self.old.cpu }
@@ -89,6 +75,22 @@ impl<N: BootName> Home<N> {
         let answer = behind.read(&zone.tables, cpu, asked);
         zone.lock.put_back(behind, loan);
         answer
+    }
+
+    /// Settles the CPU, and returns a text, under the lock; `None` if another thread has it.
+    pub fn text(&mut self, alloc: Global, asked: TextCall) -> Option<TextAnswer>
+        requires some { IsSome self.old.cpu }
+        ensures shown { IfSome result (λ answer. ReadsText N.frames N.stocks asked answer self.old self.new) }
+        ensures busy { IfNone result (self.new ≡ self.old) }
+    {
+        let zone = &*self.zone;
+        let Some(cpu) = &mut self.cpu else {
+            unreachable!()
+        };
+        let (mut behind, loan) = zone.lock.take()?;
+        let answer = behind.text(alloc, &zone.tables, cpu, asked);
+        zone.lock.put_back(behind, loan);
+        Some(answer)
     }
 
     // Serves a command under the lock; `None` if another thread has it.
