@@ -101,12 +101,12 @@ SaysRoom s g n reason = (m : ℕ) × IsLowestOver s.groups (usage_of s) g n m ×
 
 -- The reason says why this block can't be placed. If the zone has such a block of the order, it says what the block's
 -- first frame that isn't free is.
-abbrev pub RefusesBlock : State → ℕ → Block → Reason → Type 0
-RefusesBlock s k b (why.OtherOrder order) = (order ≡ k) × (b.order ≢ k)
-RefusesBlock s k b (why.NoBlock c) = (c ≡ b) × (b.order ≡ k) × (¬ IsBlock s.zone.frames b)
-RefusesBlock s k b (why.Place f phase) = (s.phases f ≡ phase) × (is_free phase ≡ false) × (b.order ≡ k)
+abbrev pub DeniesClaim : State → ℕ → Block → Reason → Type 0
+DeniesClaim s k b (why.OtherOrder order) = (order ≡ k) × (b.order ≢ k)
+DeniesClaim s k b (why.NoBlock c) = (c ≡ b) × (b.order ≡ k) × (¬ IsBlock s.zone.frames b)
+DeniesClaim s k b (why.Place f phase) = (s.phases f ≡ phase) × (is_free phase ≡ false) × (b.order ≡ k)
     × IsBlock s.zone.frames b × Covers b f × ((e : ℕ) → Covers b e → e < f → is_free (s.phases e) ≡ true)
-RefusesBlock s k b reason = ⊥
+DeniesClaim s k b reason = ⊥
 
 -- the reason says that the block which is due is free, or that no block of the order is
 abbrev pub SaysFreeBlock : State → ℕ → Answer → Reason → Type 0
@@ -135,7 +135,7 @@ Decides s seat (Credit f) answer due (why.Stock p of drained) = (p ≡ seat) × 
 Decides s seat (Absorb p) answer due (why.Number q n) = (q ≡ Reported p) × ((s.parts p).reported ≡ n)
 Decides s seat (DrainStock p) answer due (why.Number q n) = (q ≡ InStock p) × ((s.parts p).stock.pages ≡ n)
 Decides s seat (Grant g n) answer due reason = SaysRoom s g n reason
-Decides s seat (PlaceBlock g k) (Placed b) due reason = RefusesBlock s k b reason
+Decides s seat (PlaceBlock g k) (Placed b) due reason = DeniesClaim s k b reason
 Decides s seat (PlaceBlock g k) answer due reason = SaysFreeBlock s k due reason
 Decides s seat (Make path) answer due reason = SaysNumber s reason
 Decides s seat action answer due why.OnlyDone = HasOnlyDone seat action

@@ -10,7 +10,7 @@ ghost use Rattle.step_rules.specs.declared.step.Action.{Action};
 ghost use Rattle.step_rules.specs.Legal.{Allows, is_legal};
 ghost use Rattle.mem_core.specs.Rows.{state_in};
 ghost use Rattle.mem_core.specs.Rooms.{FitsZone, IsBelowBounds};
-ghost use Rattle.log_check.specs.Reasons.{Decides, IsNoRoom, RefusesBlock, SaysFreeBlock};
+ghost use Rattle.log_check.specs.Reasons.{Decides, IsNoRoom, DeniesClaim, SaysFreeBlock};
 ghost use Rattle.log_check.specs.Reasons.{SaysNumber, SaysRoom, SaysStock};
 ghost use Rattle.log_check.specs.declared.reason.Reason.{Reason};
 
@@ -145,7 +145,7 @@ fn refuse_block(rows: &Rows, order: Order, block: &Block) -> Reason
     requires fits { FitsZone rows.now }
     requires denied { block.now.order ≡ order → ¬ IsFreeBlock (free_in (state_in rows.now).zone
         (state_in rows.now).phases) block.now }
-    ensures { RefusesBlock (state_in rows.now) order block.now result }
+    ensures { DeniesClaim (state_in rows.now) order block.now result }
 {
     if block.order.exponent() != order.exponent() {
         return Reason::OtherOrder(order);
