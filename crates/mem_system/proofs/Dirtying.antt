@@ -1,5 +1,5 @@
 -- A Dirty that is served right after an Alloc finds the unit that the Alloc gave. Serves `serve_dirty_alloc`.
-use Rattle.std.proofs.Common.{◌≡◌, ◌≢◌, ◌⊎◌, ℕ, zero, suc, ◌^◌, ◌<◌, ◌≤◌, false, true, Some, None, List, [], ◌∷◌, refl, sym, ap, ◌∙◌, subst, inl, inr, arith}
+use Rattle.std.proofs.Common.{◌≡◌, ◌≢◌, ◌⊎◌, ℕ, zero, suc, ◌^◌, ◌<◌, ◌≤◌, false, true, Some, None, List, [], ◌∷◌, length, refl, sym, ap, ◌∙◌, subst, inl, inr, arith}
 use Rattle.std.specs.Prelude.{Ok}
 use Rattle.std.specs.Borrow.{Bor}
 use Rattle.std.proofs.lemmas.Bool.{cases_lt}
@@ -10,7 +10,7 @@ use Rattle.zone_blocks.specs.declared.config.Config.{Config}
 use Rattle.group_tree.specs.declared.fault.Fault.TheVariants.{NotKept}
 use Rattle.step_rules.specs.After.{Run}
 use Rattle.step_rules.specs.State.{times}
-use Rattle.cpu_part.proofs.Counts.{times_same}
+use Rattle.step_rules.proofs.Lists.{times_same}
 use Rattle.cpu_part.specs.Cpus.{IsTied, KnownCpu}
 use Rattle.lru_lists.specs.declared.record.Home.{Home}
 use Rattle.mem_machine.specs.Machines.{IsConsistent, KnownMachine, home_of, is_killed}
@@ -110,17 +110,17 @@ frame_alive sizes g f call h =
     let paid = paid_alive sizes g (transition call.table call.before gets.paying gets.paid) gets.pays h.is in
     let filled = filled_killed sizes (transition call.table gets.paid gets.filling gets.filled) gets.fills in
     (ap (λ (m : KnownMachine). is_killed m.killed g) gets.takes.machine ∙ (ap (λ k. is_killed k g) filled ∙ paid),
-    ap group_of_fresh gets.takes.takes.2.1)
+    ap group_of_fresh gets.takes.takes.2)
 
 -- ---- the Dirty
 
 none_back : (back : List ℕ) (m n : VisitState) → back ≡ [] → ReturnsAllBack back m n → n.machine ≡ m.machine
 none_back [] m n none s = s.machine
-none_back (f ∷ rest) m n none s = absurd none
+none_back (f ∷ rest) m n none s = let e = ap length none in absurd (omega (arith, e))
 
 none_fresh : (fresh : List ℕ) (m n : VisitState) → fresh ≡ [] → SettlesAllFresh fresh m n → n.machine ≡ m.machine
 none_fresh [] m n none s = s.machine
-none_fresh (f ∷ rest) m n none s = absurd none
+none_fresh (f ∷ rest) m n none s = let e = ap length none in absurd (omega (arith, e))
 
 -- a single fresh frame, of a group that isn't killed, is kept
 one_fresh : (f : ℕ) (m n : VisitState) → is_killed m.machine.killed (group_of_fresh m.cpu) ≡ false → SettlesAllFresh (f ∷ []) m n → IsHome n.machine f

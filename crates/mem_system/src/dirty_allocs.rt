@@ -11,7 +11,6 @@ use crate::outcome::Outcome;
 use crate::system::System;
 use crate::visits::serve_outcome;
 use cpu_part::{BootName, Tables};
-use mem_machine::prove_tied;
 use std::sync::Wait;
 
 /// Serves an Alloc of this order for the group of the path, as `serve_outcome` does, and then a Dirty of the unit that it
@@ -33,8 +32,8 @@ pub fn serve_dirty_alloc<N: BootName>(
     let Outcome::Frame(frame) = outcome else {
         return outcome;
     };
-    prove_tied(&cpu.part);
-    locked.machine.prove_consistent();
+    locked.prove_quiet();
+    let _tied = cpu.number();
     let _done = serve_outcome(locked, tables, cpu, &Cmd::Dirty { frame });
     outcome
 }
