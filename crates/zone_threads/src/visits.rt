@@ -186,10 +186,10 @@ impl<N: BootName> Home<N> {
         };
         let served = behind.alloc_dirty(&zone.tables, cpu, group, order);
         zone.lock.put_back(behind, loan);
-        let Some(outcome) = served else {
-            return Err(Missed::NoGroup);
-        };
-        Ok(outcome)
+        match served {
+            None => Err(Missed::NoGroup),
+            Some(outcome) => Ok(outcome),
+        }
     }
 }
 
