@@ -64,7 +64,7 @@ impl<N: BootName> Home<N> {
         ensures { Calls N.frames N.stocks (AllocDirty group order) self.old self.new result }
     {
         match self.serve_dirty(group, order) {
-            Ok(outcome) => CallAnswer::Served(outcome),
+            Ok(served) => CallAnswer::Served(served),
             Err(Missed::Busy) => CallAnswer::Busy,
             Err(Missed::NoGroup) => CallAnswer::NoGroup,
         }
