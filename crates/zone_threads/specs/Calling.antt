@@ -22,6 +22,7 @@ use Rattle.cpu_part.specs.declared.answers.Fast.{Fast}
 use Rattle.cpu_part.specs.declared.answers.Fast.TheVariants.{Got}
 use Rattle.mem_system.specs.Commands.{IsOfZone}
 use Rattle.mem_system.specs.Cpus.{CpuInRun}
+use Rattle.mem_system.specs.DirtyAllocs.{ServesDirtyAlloc}
 use Rattle.mem_system.specs.Locked.{SeenBehindLock}
 use Rattle.mem_system.specs.Shown.{SettlesCaller}
 use Rattle.mem_system.specs.Visits.{IsServed, IsVisited, LockedState, ServesFrameOutcome, ServesOutcome}
@@ -45,6 +46,13 @@ pub record ServesBlock (frames : KnownTable) (group order : ℕ) (outcome : Outc
   pub path : Bor (List ℕ)
   pub path_is : path_of before.locked.machine.ledger.groups group ≡ Some path.now
   pub serves : ServesOutcome frames (cmd.Alloc path order) outcome before after
+
+-- a unit was allocated for the group of this number, by its path, and noted as dirty
+pub record ServesDirtyUnit (frames : KnownTable) (group order : ℕ) (outcome : Outcome) (before after : LockedState)
+    : Type 0 where
+  pub path : Bor (List ℕ)
+  pub path_is : path_of before.locked.machine.ledger.groups group ≡ Some path.now
+  pub serves : ServesDirtyAlloc frames path order outcome before after
 
 -- the fast allocation got no frame
 abbrev pub GetsNoFrame : Fast → Type 0
@@ -153,6 +161,11 @@ Calls frames stock_table (call.AllocBlock group order) from to answer.NoGroup =
     OnCpu (NoGroupBehindLock frames stock_table group) from to
 Calls frames stock_table (call.AllocBlock group order) from to (answer.Served outcome) =
     OnCpu (IsVisited frames stock_table from.sizes (ServesBlock frames group order outcome)) from to
+Calls frames stock_table (call.AllocDirty group order) from to answer.Busy = to ≡ from
+Calls frames stock_table (call.AllocDirty group order) from to answer.NoGroup =
+    OnCpu (NoGroupBehindLock frames stock_table group) from to
+Calls frames stock_table (call.AllocDirty group order) from to (answer.Served outcome) =
+    OnCpu (IsVisited frames stock_table from.sizes (ServesDirtyUnit frames group order outcome)) from to
 Calls frames stock_table (call.Release frame) from to answer.Busy =
     (frame < frames.frames) × OnCpu (MissesDrop frame) from to
 Calls frames stock_table (call.Release frame) from to answer.NoFrame = (frames.frames ≤ frame) × (to ≡ from)

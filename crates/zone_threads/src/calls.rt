@@ -19,6 +19,9 @@ pub enum Call<'a> {
     AllocFrame { group: u32 },
     /// Takes a block of 2^order frames, charged to the group of this number, under the lock.
     AllocBlock { group: u32, order: u32 },
+    /// Takes a dirty unit of 2^order frames, charged to the group of this number, under the lock: it is kept and dirty
+    /// before another CPU is served.
+    AllocDirty { group: u32, order: u32 },
     /// Releases the unit that this frame heads: if it is a fresh frame of the CPU, to its list, or else under the lock.
     Release { frame: u32 },
     /// Pins this frame, without the lock.
@@ -83,6 +86,7 @@ impl<N: BootName> Home<N> {
             Call::Visit(cmd) => self.visit(&cmd),
             Call::AllocFrame { group } => self.alloc_frame(group),
             Call::AllocBlock { group, order } => self.alloc_block(group, order),
+            Call::AllocDirty { group, order } => self.alloc_dirty(group, order),
             Call::Release { frame } => self.release(frame),
             Call::Get { frame } => self.get(frame),
             Call::Put { frame } => self.put(frame),

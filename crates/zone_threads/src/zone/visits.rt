@@ -3,10 +3,10 @@
 ghost use Rattle.std.specs.Prelude.{◌≡◌, ◌↔◌, IfNone, IfSome, IsSome, IsTrue, MatchResult};
 ghost use Rattle.mem_system.specs.Commands.{IsOfZone, NamesFrameBelow};
 ghost use Rattle.mem_system.specs.Visits.{IsVisited, ServesFrameOutcome, ServesOutcome};
-ghost use Rattle.zone_threads.specs.Calling.{Calls, IfMissing, AnswersRead, ServesBlock};
+ghost use Rattle.zone_threads.specs.Calling.{Calls, IfMissing, AnswersRead, ServesBlock, ServesDirtyUnit};
 ghost use Rattle.zone_threads.specs.Homes.{OnCpu};
 ghost use Rattle.zone_threads.specs.Shown.{ReadsText};
-ghost use Rattle.zone_threads.specs.declared.calls.Call.TheVariants.{AllocBlock, Settle, Visit};
+ghost use Rattle.zone_threads.specs.declared.calls.Call.TheVariants.{AllocBlock, AllocDirty, Settle, Visit};
 
 use crate::calls::{CallAnswer, ReadAnswer, ReadCall};
 use crate::home::Home;
@@ -38,6 +38,18 @@ impl<N: BootName> Home<N> {
     {
         match self.serve_block(group, order) {
             Ok(outcome) => CallAnswer::Served(outcome),
+            Err(Missed::Busy) => CallAnswer::Busy,
+            Err(Missed::NoGroup) => CallAnswer::NoGroup,
+        }
+    }
+
+    /// Allocates a dirty unit under the lock.
+    pub fn alloc_dirty(&mut self, group: u32, order: u32) -> CallAnswer
+        requires some { IsSome self.old.cpu }
+        ensures { Calls N.frames N.stocks (AllocDirty group order) self.old self.new result }
+    {
+        match self.serve_dirty(group, order) {
+            Ok(served) => CallAnswer::Served(served),
             Err(Missed::Busy) => CallAnswer::Busy,
             Err(Missed::NoGroup) => CallAnswer::NoGroup,
         }
@@ -156,6 +168,29 @@ impl<N: BootName> Home<N> {
             return Err(Missed::NoGroup);
         };
         Ok(outcome)
+    }
+
+    // Allocates a dirty unit under the lock.
+    fn serve_dirty(&mut self, group: u32, order: u32) -> Result<Outcome, Missed>
+        requires some { IsSome self.old.cpu }
+        ensures { MatchResult result
+            (λ outcome. OnCpu (IsVisited N.frames N.stocks self.old.sizes (ServesDirtyUnit N.frames group order outcome))
+            self.old self.new)
+            (λ missed. IfMissing N.frames N.stocks group missed self.old self.new) }
+    {
+        let zone = &*self.zone;
+        let Some(cpu) = &mut self.cpu else {
+            unreachable!()
+        };
+        let Some((mut behind, loan)) = zone.take() else {
+            return Err(Missed::Busy);
+        };
+        let served = behind.alloc_dirty(&zone.tables, cpu, group, order);
+        zone.lock.put_back(behind, loan);
+        match served {
+            None => Err(Missed::NoGroup),
+            Some(outcome) => Ok(outcome),
+        }
     }
 }
 
