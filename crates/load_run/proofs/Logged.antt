@@ -104,7 +104,7 @@ logs_go_on on texts (line ∷ lines) s e log logs = λ earlier has.
 pub logs_whole : (t : KnownTable) (w : KnownStockTable) (texts : List (List ℕ)) (lines : List Line) (s : SystemState) (log : List ℕ) → HasRun [] s
     → (logs : LogsAllAndEnd t w texts lines s log)
     → IsWholeRun (zone_of t) (last_words logs.ends.ends.closes)
-        (steps_of_logs (terms t w true) texts lines s logs.end logs.served_log logs.served ++ logs.ends.ends.leaves.steps)
+    (steps_of_logs (terms t w true) texts lines s logs.end logs.served_log logs.served ++ logs.ends.ends.leaves.steps)
 logs_whole t w texts lines s log has logs =
     let run : Run = steps_of_logs (terms t w true) texts lines s logs.end logs.served_log logs.served in
     let led : HasRun run logs.end = logs_go_on (terms t w true) texts lines s logs.end logs.served_log logs.served [] has in

@@ -67,7 +67,10 @@ fn decide_consume(rows: &Rows, seat: u32, answer: &Answer, due: &Answer) -> Reas
     requires bounded { IsBelowBounds (state_in rows.now) }
     ensures { SaysStock (state_in rows.now) seat answer.now due.now result }
 {
-    if matches!((answer, due), (Answer::Took, Answer::Empty) | (Answer::Empty, Answer::Took)) {
+    if matches!(
+        (answer, due),
+        (Answer::Took, Answer::Empty) | (Answer::Empty, Answer::Took)
+    ) {
         number(rows, &Quantity::InStock(seat))
     } else {
         stock(rows, seat)

@@ -17,7 +17,7 @@ use mem_system::{Cmd, Cpu};
 impl<N: BootName> Home<N> {
     /// The functions below have the tables and the CPU, and no way to the lock.
 
-// Takes a frame of the CPU's list, paid from its stock; else allocates one under the lock.
+    // Takes a frame of the CPU's list, paid from its stock; else allocates one under the lock.
     #[inline(always)]
     pub fn alloc_frame(&mut self, group: u32) -> CallAnswer
         requires some { IsSome self.old.cpu }
