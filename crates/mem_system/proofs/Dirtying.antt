@@ -108,9 +108,10 @@ frame_alive : (sizes : Config) (g f : ℕ) (call : Transition VisitState) → Al
 frame_alive sizes g f call h =
     let gets = h.does in
     let paid = paid_alive sizes g (transition call.table call.before gets.paying gets.paid) gets.pays h.is in
-    let filled = filled_killed sizes (transition call.table gets.paid gets.filling gets.filled) gets.fills in
-    (ap (λ (m : KnownMachine). is_killed m.killed g) gets.takes.machine ∙ (ap (λ k. is_killed k g) filled ∙ paid),
-    ap group_of_fresh gets.takes.takes.2)
+    let filled = filled_killed sizes (transition call.table gets.paid gets.filling gets.filled) gets.fills in (
+      ap (λ (m : KnownMachine). is_killed m.killed g) gets.takes.machine ∙ (ap (λ k. is_killed k g) filled ∙ paid),
+      ap group_of_fresh gets.takes.takes.2,
+    )
 
 -- ---- the Dirty
 
@@ -135,16 +136,18 @@ settled_home t path zero f start now steps a fresh back m killed links same n s 
     let g = a.executes.group in
     let alive = frame_alive start.locked.sizes g f call (a.executes.allocates.frame refl) in
     let kept = one_fresh f m s.mid
-        (ap (λ k. is_killed k (group_of_fresh m.cpu)) (killed ∙ ap (λ (x : KnownMachine). x.killed) a.machine)
-        ∙ (ap (λ (c : KnownCpu). is_killed a.done.killed (group_of_fresh c)) same ∙ (ap (λ (k : ℕ). is_killed a.done.killed k) alive.1 ∙ alive.0)))
-        (subst (λ (l : List ℕ). SettlesAllFresh l m s.mid) (ap (λ (c : KnownCpu). c.fresh) same ∙ fresh) s.fresh) in
+    (ap (λ k. is_killed k (group_of_fresh m.cpu)) (killed ∙ ap (λ (x : KnownMachine). x.killed) a.machine)
+    ∙ (ap (λ (c : KnownCpu). is_killed a.done.killed (group_of_fresh c)) same ∙ (ap (λ (k : ℕ). is_killed a.done.killed k) alive.1 ∙ alive.0)))
+    (subst (λ (l : List ℕ). SettlesAllFresh l m s.mid) (ap (λ (c : KnownCpu). c.fresh) same ∙ fresh) s.fresh) in
     (kept.0, ap (λ (k : KnownMachine). home_of k.links f) (none_back m.cpu.back s.mid n (ap (λ (c : KnownCpu). c.back) same ∙ back) s.back) ∙ kept.1)
 settled_home t path (suc less) f start now steps a fresh back m killed links same n s =
     let call = transition t a.settled a.inner (visit_state a.done now.cpu.part) in
-    let kept = block_home a.executes.group (suc less) f call (a.executes.allocates.block (λ e. omega (arith, e))) in
-    (kept.0, ap (λ (k : KnownMachine). home_of k.links f) (none_back m.cpu.back s.mid n (ap (λ (c : KnownCpu). c.back) same ∙ back) s.back
-    ∙ none_fresh m.cpu.fresh m s.mid (ap (λ (c : KnownCpu). c.fresh) same ∙ fresh) s.fresh)
-    ∙ (ap (λ l. home_of l f) (links ∙ ap (λ (x : KnownMachine). x.links) a.machine) ∙ kept.1))
+    let kept = block_home a.executes.group (suc less) f call (a.executes.allocates.block (λ e. omega (arith, e))) in (
+      kept.0,
+      ap (λ (k : KnownMachine). home_of k.links f) (none_back m.cpu.back s.mid n (ap (λ (c : KnownCpu). c.back) same ∙ back) s.back
+          ∙ none_fresh m.cpu.fresh m s.mid (ap (λ (c : KnownCpu). c.fresh) same ∙ fresh) s.fresh)
+          ∙ (ap (λ l. home_of l f) (links ∙ ap (λ (x : KnownMachine). x.links) a.machine) ∙ kept.1),
+    )
 
 unit_noted : (f : ℕ) (r : Reply) (call : Transition KnownMachine) → NotesDirt f true r call → IsHome call.before f → r ≡ Done
 unit_noted f Done call h home = refl
