@@ -161,7 +161,8 @@ tell_installed() {
 # The words of an installation.
 main_installed() {
     local prefix program proved
-    prefix=$(dirname -- "$(dirname -- "$(readlink -f -- "${BASH_SOURCE[0]}")")")
+    prefix=$(readlink -f -- "${BASH_SOURCE[0]}")
+    prefix=${prefix%/*/*}
     program=$prefix/lib/tempolemon/memcg
     proved=$prefix/share/doc/tempolemon/PROVED
     if [[ $# == 1 && ($1 == --version || $1 == -V) ]]; then
