@@ -1,15 +1,13 @@
 -- Pages are charged and fill the CPU's stock. Serves `fill_stock`.
-use Rattle.std.proofs.Common.{◌≡◌, ℕ, ◌++◌, ◌+◌, ◌-◌, ◌<◌, ◌≤◌, ◌==◌, ◌||◌, Bool, true, false, ◌^◌, Option, Some, None, List, [], ◌∷◌, length}
+use Rattle.std.proofs.Common.{◌≡◌, ℕ, ◌+◌, ◌-◌, ◌<◌, ◌≤◌, ◌==◌, ◌||◌, Bool, true, false, Option, Some, None, List, [], ◌∷◌, length}
 use Rattle.std.proofs.Common.{map, refl, sym, ap, ◌∙◌, subst, inl, inr, arith, cond, eq-eqb}
-use Rattle.std.specs.Prelude.{◌⊎◌, is_some, nat_le, not, ◌&&◌, Result, Ok, Err, OnOk, OnErr, IfErr}
-use Rattle.std.proofs.lemmas.Bool.{cases_eq, ne_eqb, and_from, cond-true, cond-false, cond_both, le-leb, false≢true}
+use Rattle.std.specs.Prelude.{◌⊎◌, is_some, nat_le, not, ◌&&◌}
+use Rattle.std.proofs.lemmas.Bool.{cases_eq, ne_eqb, and_from, cond-true, cond-false, cond_both, le-leb}
 use Rattle.std.proofs.lemmas.List.Sums.{sum_by-cons}
 use Rattle.frame_word.specs.Seats.{KnownTable}
 use Rattle.stock_word.specs.declared.view.StockAccount.{StockAccount}
 use Rattle.stock_word.specs.declared.view.StockView.{StockView}
-use Rattle.stock_word.specs.declared.view.Stock.{Stock}
-use Rattle.stock_word.specs.declared.view.Stock.TheVariants.{NoGroup, HeldBy, DrainedOf}
-use Rattle.stock_word.specs.Stock.{KnownStockTable, KnownStockSeat, account_of, stock_pages_of, is_held}
+use Rattle.stock_word.specs.Stock.{KnownStockTable, KnownStockSeat, account_of}
 use Rattle.stock_word.specs.Kinds.{zone_after_fill, after_fill}
 use Rattle.stock_word.specs.Calls.{with_view}
 use Rattle.stock_word.proofs.CallerLemmas.{account_of-with_account, account_of-with_account_other}
@@ -39,17 +37,16 @@ use Rattle.mem_machine.specs.declared.frame_state.FrameState.TheVariants.{Free, 
 use Rattle.mem_machine.specs.FrameStates.{frame_state_at, one_if_is}
 use Rattle.mem_machine.specs.Machines.{KnownMachine, IsConsistent, is_killed, booked, pages_booked}
 use Rattle.mem_machine.specs.Noted.{AreLocal, MayTake}
-use Rattle.mem_machine.specs.Local.{IsSeenByRun, Visits, local_of, phase_of, part_of, part_with, Makes, visit_state, MakesAs}
-use Rattle.mem_machine.specs.Steps.{drain_steps, fill_steps, over_steps, zone_makes}
-use Rattle.mem_machine.specs.Stocks.{uncharged, stock_group, with_look, Drains, Fills, Prepays, IsOver, own_drain_steps, pages_held}
-use Rattle.mem_machine.specs.Paying.{IsOwnStock}
+use Rattle.mem_machine.specs.Local.{IsSeenByRun, Visits, local_of, phase_of, part_of, part_with, visit_state}
+use Rattle.mem_machine.specs.Steps.{fill_steps, over_steps, zone_makes}
+use Rattle.mem_machine.specs.Stocks.{uncharged, stock_group, Drains, Fills}
 use Rattle.mem_machine.proofs.Reaching.{zone_step}
 use Rattle.mem_machine.proofs.Holds.{zone_may_act, visits_open, own_part}
 use Rattle.mem_machine.proofs.Lends.{lent_listed}
-use Rattle.mem_machine.proofs.Draining.{booked_is, counts_own, counts_other, cond-same, stocks_consistent, nothing, pending_back, groups_stay, drained_at, drained_account}
+use Rattle.mem_machine.proofs.Draining.{booked_is, counts_own, counts_other, cond-same, stocks_consistent, nothing, pending_back, groups_stay, drained_at}
 use Rattle.mem_machine.proofs.Usage.{usage_is, balanced_alone}
 use Rattle.mem_machine.proofs.Grants.{is_granted, refused_run}
-use Rattle.mem_machine.proofs.Followed.{makes_both, same_events, LeadsAs}
+use Rattle.mem_machine.proofs.Followed.{same_events, LeadsAs}
 use Rattle.mem_machine.proofs.LedgerMoves.{follows_grant}
 use Rattle.mem_machine.proofs.Reached.{may_first}
 use Rattle.mem_machine.proofs.Watched.{HasOpenVisit}
@@ -294,3 +291,36 @@ nothing_booked t w m now same c at ok none drained =
       drained = subst (λ (x : Part). (x.stock.group ≡ None) ⊎ (x.stock.is_drained ≡ true)) (sym part) (drained_or_none a.group a.filled drained);
     }) in
     ap (λ (x : KnownMachine). (account_of x.stock_seat.view p).book) same ∙ ap (λ (x : Part). x.book) (sym part) ∙ book
+
+-- ---- after the CPU's own stock was drained
+
+less_if : (b : Bool) (p n : ℕ) → cond b (p - n) 0 ≤ cond b p 0
+less_if true p n = omega arith
+less_if false p n = omega arith
+
+usage_falls : (groups : List Group) (xs : List charge.Account) (g n m : ℕ) → usage_charged groups (map (taken g n) xs) m ≤ usage_charged groups xs m
+unfolding usage_charged
+usage_falls groups [] g n m = omega arith
+usage_falls groups (x ∷ xs) g n m =
+    let here : share groups m (taken g n x) ≤ share groups m x = cond_both (x.group == g) (record x { pages = x.pages - n }) x
+    (λ (y : charge.Account). share groups m y ≤ share groups m x) (λ _. less_if (in_subtree groups m x.group) x.pages n) (λ _. omega arith) in
+    let rest = usage_falls groups xs g n m in
+    let a = sum_by-cons (share groups m) (taken g n x) (map (taken g n) xs) in
+    let b = sum_by-cons (share groups m) x xs in
+    omega (arith, here, rest, a, b)
+
+pub current_falls : (l : Ledger) (o : Option ℕ) (n m : ℕ) → current_of (uncharged l o n) m ≤ current_of l m
+current_falls l None n m = omega arith
+current_falls l (Some g) n m = usage_falls l.groups l.accounts g n m
+
+module _ (m x : KnownMachine) (q p k : ℕ) (named : q ≡ p) (d : Drains q k m x) where
+  pub emptied_has : (g : ℕ) → has_group m.ledger.groups g ≡ true → has_group x.ledger.groups g ≡ true
+  emptied_has g there = ap (λ (y : KnownMachine). has_group y.ledger.groups g) d.machine
+      ∙ ap (λ (y : List Group). has_group y g) (groups_stay m.ledger (stock_group m q) k) ∙ there
+
+  pub emptied_alive : (g : ℕ) → is_killed m.killed g ≡ false → is_killed x.killed g ≡ false
+  emptied_alive g alive = ap (λ (y : KnownMachine). is_killed y.killed g) d.machine ∙ alive
+
+  pub emptied_drained : (account_of x.stock_seat.view p).filled ≡ false
+  emptied_drained = ap (λ (n : ℕ). (account_of x.stock_seat.view n).filled) (sym named) ∙ ap (λ (y : KnownMachine). (account_of y.stock_seat.view q).filled) d.machine
+      ∙ ap (λ (a : StockAccount). a.filled) (drained_at m.stock_seat.view q k)

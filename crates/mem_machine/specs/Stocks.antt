@@ -13,10 +13,9 @@ use Rattle.group_charge.specs.declared.note.Note.TheVariants.{Stock}
 use Rattle.group_charge.specs.Notes.{noted}
 use Rattle.step_rules.specs.Usage.{is_in_subtree}
 use Rattle.step_rules.specs.Legal.{is_of_group}
-use Rattle.step_rules.specs.After.{Run}
-use Rattle.mem_machine.specs.Machines.{KnownMachine, LacksRoom}
-use Rattle.mem_machine.specs.Local.{VisitState, visit_state, Makes, MakesForAny}
-use Rattle.mem_machine.specs.Steps.{Drain, drain_steps, drain_stocks_steps, fill_steps, over_steps, pages_drained}
+use Rattle.mem_machine.specs.Machines.{KnownMachine}
+use Rattle.mem_machine.specs.Local.{VisitState, Makes, MakesForAny}
+use Rattle.mem_machine.specs.Steps.{Drain, drain_stocks_steps, over_steps, pages_drained}
 
 -- the ledger with this many pages less charged to the group, if there is one
 abbrev pub uncharged : Ledger → Option ℕ → ℕ → Ledger
