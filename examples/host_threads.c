@@ -3,9 +3,10 @@
  *     cc -O2 examples/host_threads.c -Iout/lib -Lout/lib -ltempolemon -lpthread -o host_threads && ./host_threads
  *
  * Each thread has a CPU of the zone and a group with a limit. Frame k is the page at base + 4096 * k. A thread allocates
- * pages, writes them, publishes some on a shelf that all threads read, and releases them; at times it fills its group. Who reads a page holds a
- * reference on it, so a page is never reused under a reader. The main thread lowers a limit meanwhile, and at the end no
- * frame may be missing.
+ * pages, writes them, publishes some on a shelf that all threads read, and releases them; at times it fills its group.
+ * Who reads a page holds a reference on it, so a page is never reused under a reader. The main thread lowers a limit
+ * meanwhile, which may kill a group: then its units are gone, and others may get their frames. At the end no frame may be
+ * missing.
  *
  * The words are the number of threads (4), the rounds of each (50,000) and a seed (1).
  */
@@ -31,6 +32,8 @@
 
 enum { MOST_THREADS = 32, FRAMES = 16384, PAGE = 4096, SHELF = 64, MOST_BLOCKS = 32 };
 enum { NO_FRAMES = 16, WAS_KILLED = 18 }; /* refusals of an allocation, besides TEMPOLEMON_OVER_LIMIT */
+enum { NOT_KEPT = 20 };                   /* a refusal of dirty and release: the unit is gone */
+enum { GROUP = 1 << 16 };                 /* on the shelf: GROUP times the group's number, and the frame */
 
 typedef struct {
     tempolemon_cpu cpu;
@@ -43,7 +46,7 @@ static worker workers[MOST_THREADS];
 static tempolemon_zone zone;
 static tempolemon_cpu control; /* the main thread's CPU, for groups and limits */
 static unsigned char *base;
-static _Atomic uint32_t shelf[SHELF]; /* a published frame + 1, or 0 */
+static _Atomic uint32_t shelf[SHELF]; /* a published page of a group, or 0 */
 static int rounds = 50000;
 
 static void need(uint8_t status, const char *what) {
@@ -54,45 +57,67 @@ static void need(uint8_t status, const char *what) {
 
 static unsigned char *page_of(uint32_t frame) { return base + (size_t)frame * PAGE; }
 
+/* Pins a unit, if the frame has one. */
+static bool pin(worker *me, uint32_t frame) {
+    tempolemon_result result;
+    uint8_t status;
+    do status = tempolemon_on_get(&me->cpu, frame, &result);
+    while (status == TEMPOLEMON_DONE && result.kind == TEMPOLEMON_RACED);
+    return status == TEMPOLEMON_DONE && result.kind == TEMPOLEMON_HELD;
+}
+
 /* Reads a page that some thread published: pins it, looks whether it is still there, reads it, and puts it. A reference on
  * a page that isn't there any more is put at once. */
 static void read_from(worker *me, _Atomic uint32_t *place) {
     tempolemon_result result;
-    const uint32_t seen = atomic_load(place);
-    if (!seen || tempolemon_on_get(&me->cpu, seen - 1, &result) != TEMPOLEMON_DONE || result.kind != TEMPOLEMON_HELD)
-        return;
+    const uint32_t seen = atomic_load(place), frame = seen % GROUP;
+    if (!seen || !pin(me, frame)) return;
     if (atomic_load(place) == seen) {
-        const unsigned char *page = page_of(seen - 1);
+        const unsigned char *page = page_of(frame);
         if (page[0] != page[PAGE - 1]) me->torn++;
         me->read++;
     }
-    LEAVES(page_of(seen - 1));
-    need(tempolemon_on_put(&me->cpu, seen - 1, &result), "put");
+    LEAVES(page_of(frame));
+    need(tempolemon_on_put(&me->cpu, frame, &result), "put");
 }
 
-/* Publishes a page in place of the one before, which is released: it is LEFT to its readers, if there are any. A page that
- * is noted as dirty isn't reclaimed. */
+/* Releases a unit of the group, unless it is gone: the group may have been killed, and the frame may be another group's by
+ * now. So the unit is pinned first, and then asked whose it is. It is LEFT to its readers, if there are any. */
+static void release(worker *me, uint32_t group, uint32_t frame) {
+    tempolemon_result result;
+    if (!pin(me, frame)) return;
+    need(tempolemon_on_owner(&me->cpu, frame, &result), "owner");
+    if (result.kind == TEMPOLEMON_CHARGED && result.number == group) {
+        LEAVES(page_of(frame));
+        const uint8_t status = tempolemon_on_release(&me->cpu, frame, &result);
+        if (status != NOT_KEPT) need(status, "release");
+    }
+    need(tempolemon_on_put(&me->cpu, frame, &result), "put");
+}
+
+/* Publishes a page in place of the one before, which is released. Until it is noted as dirty it is a fresh frame of this
+ * CPU, which nobody else can pin, reclaim or kill. A dirty page isn't reclaimed. */
 static void publish(worker *me, _Atomic uint32_t *place, uint32_t frame) {
     tempolemon_result result;
-    need(tempolemon_on_dirty(&me->cpu, frame, &result), "dirty"); /* its CPU is settled, so now other CPUs may pin it */
-    const uint32_t before = atomic_exchange(place, frame + 1);
-    if (!before) return;
-    LEAVES(page_of(before - 1));
-    need(tempolemon_on_release(&me->cpu, before - 1, &result), "release");
+    const uint8_t status = tempolemon_on_dirty(&me->cpu, frame, &result);
+    if (status == NOT_KEPT) return; /* the group was killed */
+    need(status, "dirty");
+    const uint32_t before = atomic_exchange(place, GROUP * me->group + frame);
+    if (before) release(me, before / GROUP, before % GROUP);
 }
 
-/* Fills the group with blocks of 16 pages until its limit has no room, and releases them. */
+/* Fills the group with blocks of 16 pages until its limit has no room, and releases them. A block could be reclaimed as
+ * soon as it is allocated, so it is dirty from the first. */
 static void fill(worker *me) {
     tempolemon_result result;
     uint32_t blocks[MOST_BLOCKS];
     int count = 0;
     uint8_t status = TEMPOLEMON_DONE;
-    while (count < MOST_BLOCKS && (status = tempolemon_on_alloc(&me->cpu, me->group, 4, &result)) == TEMPOLEMON_DONE) {
-        blocks[count] = (uint32_t)result.number;
-        need(tempolemon_on_dirty(&me->cpu, blocks[count++], &result), "dirty");
-    }
+    while (count < MOST_BLOCKS &&
+           (status = tempolemon_on_alloc_dirty(&me->cpu, me->group, 4, &result)) == TEMPOLEMON_DONE)
+        blocks[count++] = (uint32_t)result.number;
     if (status == TEMPOLEMON_OVER_LIMIT) me->refused++;
-    while (count) need(tempolemon_on_release(&me->cpu, blocks[--count], &result), "release");
+    while (count) release(me, me->group, blocks[--count]);
 }
 
 static void *work(void *at) {

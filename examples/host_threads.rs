@@ -1,17 +1,20 @@
 //! Threads that share a pool of pages: see docs/EMBED.md, "From Rust, with threads".
 //!
 //!     rustc -O examples/host_threads.rs -L out/lib -l static=tempolemon
+//!
+//! The word is the number of threads (4).
 
 use std::cell::UnsafeCell;
+use std::hint::spin_loop;
 use std::ptr::null_mut;
 use std::sync::atomic::{AtomicU32, Ordering};
-use std::thread;
+use std::{env, thread};
 
 const DONE: u8 = 0;
+const NOT_KEPT: u8 = 20;
 const BUSY: u8 = 109;
 const FRAME: u8 = 3;
 const HELD: u8 = 14;
-const THREADS: u32 = 4;
 const ROUNDS: u32 = 20_000;
 
 #[repr(C)]
@@ -61,8 +64,8 @@ extern "C" {
     fn tempolemon_cpu_get(part: *mut RawCpu, frame: u32, out: *mut TypedResult) -> u8;
     fn tempolemon_cpu_put(part: *mut RawCpu, frame: u32, out: *mut TypedResult) -> u8;
     fn tempolemon_try_alloc(part: *mut RawCpu, group: u32, order: u32, out: *mut TypedResult) -> u8;
+    fn tempolemon_try_alloc_dirty(part: *mut RawCpu, group: u32, order: u32, out: *mut TypedResult) -> u8;
     fn tempolemon_try_release(part: *mut RawCpu, frame: u32, out: *mut TypedResult) -> u8;
-    fn tempolemon_try_dirty(part: *mut RawCpu, frame: u32, out: *mut TypedResult) -> u8;
     fn tempolemon_try_mkdir(part: *mut RawCpu, path: *const u8, length: usize, out: *mut TypedResult) -> u8;
 }
 
@@ -82,13 +85,17 @@ struct Page<'a> {
     frame: u32,
 }
 
-/// Tries until no other thread has the lock.
+/// Tries until no other thread has the lock. It waits twice as long after each try, so that the lock's cache line stays
+/// with its holder, and at last gives up the processor.
 fn wait(mut call: impl FnMut() -> u8) -> u8 {
+    let mut tries = 0;
     loop {
         match call() {
+            BUSY if tries < 11 => (0..1 << tries).for_each(|_| spin_loop()),
             BUSY => thread::yield_now(),
             status => return status,
         }
+        tries += 1;
     }
 }
 
@@ -140,13 +147,20 @@ impl Cpu {
         Ok(taken.number as u32)
     }
 
-    fn release(&self, frame: u32) -> Result<(), u8> {
-        self.call(|cpu, out| unsafe { tempolemon_try_release(cpu, frame, out) }).map(drop)
+    /// A page that isn't reclaimed, since it is dirty from the first. Others may pin it.
+    fn alloc_dirty(&self, group: u32) -> Result<u32, u8> {
+        let taken = self.call(|cpu, out| unsafe { tempolemon_try_alloc_dirty(cpu, group, 0, out) })?;
+        assert_eq!(taken.kind, FRAME);
+        Ok(taken.number as u32)
     }
 
-    /// Notes that the page is dirty, so that it isn't reclaimed. Its CPU is settled, so that others may pin the page.
-    fn publish(&self, frame: u32) -> Result<(), u8> {
-        self.call(|cpu, out| unsafe { tempolemon_try_dirty(cpu, frame, out) }).map(drop)
+    /// Releases a page. One whose group was killed is gone. (No limit is lowered here: else another group might have its
+    /// frame by now, and the host would pin the page first and ask for its owner, as host_threads.c does.)
+    fn release(&self, frame: u32) -> Result<(), u8> {
+        match self.call(|cpu, out| unsafe { tempolemon_try_release(cpu, frame, out) }) {
+            Err(NOT_KEPT) => Ok(()),
+            released => released.map(drop),
+        }
     }
 
     /// A reference on the page, if somebody else has one.
@@ -180,12 +194,12 @@ fn work(cpu: Cpu, group: u32, shelf: &[AtomicU32]) -> Result<u64, u8> {
                 read += u64::from(place.load(Ordering::SeqCst) == page.frame + 1);
             }
         }
-        let frame = cpu.alloc(group)?;
         if round % 16 != 0 {
+            let frame = cpu.alloc(group)?;
             cpu.release(frame)?;
             continue;
         }
-        cpu.publish(frame)?;
+        let frame = cpu.alloc_dirty(group)?;
         match place.swap(frame + 1, Ordering::SeqCst) {
             0 => {}
             before => cpu.release(before - 1)?,
@@ -195,19 +209,20 @@ fn work(cpu: Cpu, group: u32, shelf: &[AtomicU32]) -> Result<u64, u8> {
 }
 
 fn main() -> Result<(), u8> {
-    let sizes = Sizes { frames: 4096, cpus: THREADS, batch: 32, high: 128, stock: 32 };
+    let threads = env::args().nth(1).map_or(4, |word| word.parse().expect("a number of threads"));
+    let sizes = Sizes { frames: 4096, cpus: threads, batch: 32, high: 128, stock: 32 };
     let mut zone = Zone::boot(&sizes)?;
     let shelf: Vec<AtomicU32> = (0..64).map(|_| AtomicU32::new(0)).collect();
     let read = thread::scope(|scope| {
-        let mut threads = Vec::new();
-        for number in 1..=THREADS {
+        let mut running = Vec::new();
+        for number in 1..=threads {
             let cpu = zone.take(number)?;
             let group = cpu.mkdir(&format!("/t{number}"))?;
             let shelf = &shelf;
-            threads.push(scope.spawn(move || work(cpu, group, shelf)));
+            running.push(scope.spawn(move || work(cpu, group, shelf)));
         }
         let mut read = 0;
-        for thread in threads {
+        for thread in running {
             read += thread.join().expect("a thread panicked")?;
         }
         Ok::<u64, u8>(read)

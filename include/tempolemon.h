@@ -171,7 +171,7 @@ uint8_t tempolemon_answer(tempolemon_handle *handle, uint8_t *answers, size_t ro
  *   NOT_LIVE   the handle has no boot; this is tested first
  *   BAD_CPU    the zone has no such CPU; this is tested second
  *   BAD_FRAME  the zone has no such frame (of calls that name one)
- *   BAD_GROUP  no group has such a number (tempolemon_alloc)
+ *   BAD_GROUP  no group has such a number (tempolemon_alloc and tempolemon_alloc_dirty)
  *
  * None of them takes memory.
  */
@@ -202,6 +202,11 @@ uint8_t tempolemon_read(tempolemon_handle *handle, uint32_t cpu, const uint8_t *
 /* Allocates 2^order frames for the group of this number, which tempolemon_mkdir answered: FRAME with the first one. */
 uint8_t tempolemon_alloc(tempolemon_handle *handle, uint32_t cpu, uint32_t group, uint32_t order,
                          tempolemon_result *out);
+
+/* Does so, and then notes the unit as dirty, as tempolemon_dirty: FRAME with the first frame of a unit that is kept and
+ * dirty, whatever its order. A script does the same by two commands. */
+uint8_t tempolemon_alloc_dirty(tempolemon_handle *handle, uint32_t cpu, uint32_t group, uint32_t order,
+                               tempolemon_result *out);
 
 /* Releases the unit that this frame heads, or a fresh frame of the CPU: LISTED, RETURNED, or LEFT with the references. */
 uint8_t tempolemon_release(tempolemon_handle *handle, uint32_t cpu, uint32_t frame, tempolemon_result *out);

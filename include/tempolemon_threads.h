@@ -93,7 +93,9 @@ uint8_t tempolemon_cpu_put(tempolemon_cpu_part *part, uint32_t frame, tempolemon
 uint8_t tempolemon_try_alloc(tempolemon_cpu_part *part, uint32_t group, uint32_t order, tempolemon_result *out);
 uint8_t tempolemon_try_release(tempolemon_cpu_part *part, uint32_t frame, tempolemon_result *out);
 
-/* These always take the lock. */
+/* These always take the lock. tempolemon_try_alloc_dirty allocates a unit and notes it as dirty before another thread gets
+ * the lock: when it is DONE, the unit is kept and dirty, whatever its order. */
+uint8_t tempolemon_try_alloc_dirty(tempolemon_cpu_part *part, uint32_t group, uint32_t order, tempolemon_result *out);
 uint8_t tempolemon_try_mkdir(tempolemon_cpu_part *part, const uint8_t *path, size_t length, tempolemon_result *out);
 uint8_t tempolemon_try_rmdir(tempolemon_cpu_part *part, const uint8_t *path, size_t length, tempolemon_result *out);
 uint8_t tempolemon_try_write(tempolemon_cpu_part *part, const uint8_t *path, size_t length, const uint8_t *file,
@@ -118,19 +120,27 @@ uint8_t tempolemon_try_units(tempolemon_cpu_part *part, const uint8_t *path, siz
 
 /* ---- The inline calls, which a host makes. They wait while another thread has the lock. */
 
-/* How a call waits before its try of this number, from 0: it pauses, and later gives up the processor. A host may define
- * another way before it includes this header. This one sleeps:
+/* How a call waits after its try of this number, from 0: it pauses 1 to 1,024 times, twice as often after each try, and
+ * gives up the processor from the twelfth try on. So the lock's cache line stays with its holder. A host may define
+ * another way before it includes this header. This one sleeps at last:
  *
  *     #define TEMPOLEMON_WAIT(tries) \
- *         ((tries) < 64 ? TEMPOLEMON_PAUSE() : (void)nanosleep(&(struct timespec){0, 50000}, NULL))
+ *         ((tries) < 11 ? tempolemon_wait(tries) : (void)nanosleep(&(struct timespec){0, 50000}, NULL))
  */
 #if defined(__x86_64__) || defined(__i386__)
 #define TEMPOLEMON_PAUSE() __builtin_ia32_pause()
 #else
-#define TEMPOLEMON_PAUSE() ((void)0)
+#define TEMPOLEMON_PAUSE() __asm__ __volatile__("" ::: "memory")
 #endif
+static inline void tempolemon_wait(unsigned tries) {
+    if (tries >= 11) {
+        (void)sched_yield();
+        return;
+    }
+    for (unsigned pauses = 1u << tries; pauses > 0; pauses--) TEMPOLEMON_PAUSE();
+}
 #ifndef TEMPOLEMON_WAIT
-#define TEMPOLEMON_WAIT(tries) ((tries) < 64 ? TEMPOLEMON_PAUSE() : (void)sched_yield())
+#define TEMPOLEMON_WAIT(tries) tempolemon_wait(tries)
 #endif
 
 /* Without NDEBUG a call tests that the handle wasn't copied, and that no other call on it runs. */
@@ -174,6 +184,10 @@ static inline uint8_t tempolemon_on_put(tempolemon_cpu *cpu, uint32_t frame, tem
 }
 static inline uint8_t tempolemon_on_alloc(tempolemon_cpu *cpu, uint32_t group, uint32_t order, tempolemon_result *out) {
     TEMPOLEMON_CALL(cpu, tempolemon_try_alloc(&cpu->part, group, order, out));
+}
+static inline uint8_t tempolemon_on_alloc_dirty(tempolemon_cpu *cpu, uint32_t group, uint32_t order,
+                                                tempolemon_result *out) {
+    TEMPOLEMON_CALL(cpu, tempolemon_try_alloc_dirty(&cpu->part, group, order, out));
 }
 static inline uint8_t tempolemon_on_release(tempolemon_cpu *cpu, uint32_t frame, tempolemon_result *out) {
     TEMPOLEMON_CALL(cpu, tempolemon_try_release(&cpu->part, frame, out));

@@ -78,6 +78,11 @@ static void live(void) {
     is("many lines", tempolemon_command(&host, false, many, sizeof many, told, sizeof told, &written, &first_bad),
        TEMPOLEMON_DONE);
     is("their answers", written != sizeof told || memcmp(told + sizeof told - 8, "settled\n", 8) != 0, 0);
+    is("a dirty alloc", tempolemon_alloc_dirty(&host, 1, 1, 0, &result), TEMPOLEMON_DONE);
+    is("its kind", result.kind, TEMPOLEMON_FRAME);
+    is("a get of it", tempolemon_get(&host, 2, (uint32_t)result.number, &result), TEMPOLEMON_DONE);
+    is("its kind", result.kind, TEMPOLEMON_HELD);
+    is("a dirty alloc of order 11", tempolemon_alloc_dirty(&host, 1, 1, 11, &result), 19);
     is("an alloc", tempolemon_alloc(&host, 1, 1, 0, &result), TEMPOLEMON_DONE);
     const uint32_t frame = (uint32_t)result.number;
     is("a get of a fresh frame", tempolemon_get(&host, 2, frame, &result), TEMPOLEMON_DONE);
@@ -86,7 +91,7 @@ static void live(void) {
     is("a get", tempolemon_get(&host, 2, frame, &result), TEMPOLEMON_DONE);
     is("its kind then", result.kind, TEMPOLEMON_HELD);
     is("an end", tempolemon_end(&host, &report), TEMPOLEMON_DONE);
-    is("its pins", (uint8_t)report.held, 1);
+    is("its pins", (uint8_t)report.held, 2);
     is("a second end", tempolemon_end(&host, &report), TEMPOLEMON_NOT_LIVE);
 }
 

@@ -23,6 +23,7 @@ static void all_are(const char *what, tempolemon_cpu *cpu, uint8_t wanted) {
     const uint8_t given[] = {
         tempolemon_on_get(cpu, 0, &result), tempolemon_on_put(cpu, 0, &result),
         tempolemon_on_alloc(cpu, 0, 0, &result), tempolemon_on_alloc(cpu, 0, 1, &result),
+        tempolemon_on_alloc_dirty(cpu, 0, 0, &result),
         tempolemon_on_release(cpu, 0, &result), tempolemon_on_mkdir(cpu, "/x", 2, &result),
         tempolemon_on_rmdir(cpu, "/x", 2, &result), tempolemon_on_write(cpu, "/x", 2, "memory.max", 10, "1", 1, &result),
         tempolemon_on_read(cpu, "/x", 2, "memory.max", 10, text, sizeof text, &result),
@@ -76,6 +77,8 @@ static void refusals(void) {
     is("group 1", tempolemon_on_alloc(&one, 1, 0, &result), TEMPOLEMON_BAD_GROUP);
     is("group 63, a block", tempolemon_on_alloc(&one, 63, 2, &result), TEMPOLEMON_BAD_GROUP);
     is("group 64", tempolemon_on_alloc(&one, 64, 0, &result), TEMPOLEMON_BAD_GROUP);
+    is("group 1, dirty", tempolemon_on_alloc_dirty(&one, 1, 0, &result), TEMPOLEMON_BAD_GROUP);
+    is("group 64, dirty", tempolemon_on_alloc_dirty(&one, 64, 2, &result), TEMPOLEMON_BAD_GROUP);
     is("a put without a pin", tempolemon_on_put(&one, 0, &result), 21);
     is("its kind", result.kind, TEMPOLEMON_REFUSED);
     is("a short buffer", tempolemon_on_read(&one, "/a", 2, "memory.max", 10, text, 159, &result), TEMPOLEMON_SMALL_BUFFER);
@@ -91,6 +94,19 @@ static void refusals(void) {
     const size_t needed = written;
     is("the text", tempolemon_on_show(&one, text, needed, &written), TEMPOLEMON_DONE);
     is("its length", written, needed);
+
+    /* a unit of any order is kept and dirty at once */
+    for (uint32_t order = 0; order < 3; order++) {
+        char unit[40];
+        is("alloc_dirty", tempolemon_on_alloc_dirty(&one, group, order, &result), TEMPOLEMON_DONE);
+        is("its kind", result.kind, TEMPOLEMON_FRAME);
+        const uint32_t head = (uint32_t)result.number;
+        const size_t length = (size_t)snprintf(unit, sizeof unit, "%u %u inactive dirty\n", head, order);
+        is("its unit", tempolemon_on_units(&one, "/a", 2, text, sizeof text, &written), TEMPOLEMON_DONE);
+        is("which is dirty", written != length || memcmp(text, unit, length) != 0, 0);
+        is("its release", tempolemon_on_release(&one, head, &result), TEMPOLEMON_DONE);
+    }
+    is("order 11, dirty", tempolemon_on_alloc_dirty(&one, group, 11, &result), 19);
 
     /* a returned CPU keeps its pins: whoever takes it next puts them */
     is("alloc", tempolemon_on_alloc(&one, group, 0, &result), TEMPOLEMON_DONE);
@@ -146,6 +162,8 @@ static void free_lock(void) {
         FREE_AFTER(tempolemon_try_alloc(&one.part, 1, 2, &result));
         FREE_AFTER(tempolemon_try_alloc(&one.part, 40, 2, &result));
         FREE_AFTER(tempolemon_try_alloc(&one.part, 40, 0, &result));
+        FREE_AFTER(tempolemon_try_alloc_dirty(&one.part, 1, 0, &result));
+        FREE_AFTER(tempolemon_try_alloc_dirty(&one.part, 40, 0, &result));
         FREE_AFTER(tempolemon_try_write(&one.part, (const uint8_t *)"/a", 2, (const uint8_t *)"memory.max", 10,
                                         (const uint8_t *)"64K", 3, &result));
         FREE_AFTER(tempolemon_try_read(&one.part, (const uint8_t *)"/a", 2, (const uint8_t *)"memory.max", 10,

@@ -31,6 +31,7 @@ typedef struct {
     uint64_t seed;
     unsigned long calls, refused;
     uint32_t recent[64], frames;
+    bool is_dirty;
     char text[TEXT_ROOM];
     size_t written;
     char line[80];
@@ -76,13 +77,15 @@ static uint32_t some_group(caller *me) {
     return 0;
 }
 
-/* A random call. Its line, without the CPU, is me->line; a text that it returned has me->written bytes. */
+/* A random call. Its line, without the CPU, is me->line; a text that it returned has me->written bytes. If it allocates a
+ * dirty unit, a script notes that by a second line. */
 static uint8_t call(caller *me, tempolemon_result *out) {
     const uint32_t pick = below(me, 100);
     const char *path = PATH[below(me, PATHS)], *file = FILES[below(me, 7)], *value = VALUES[below(me, 8)];
     const size_t length = strlen(path);
     *out = (tempolemon_result){0};
     me->written = 0;
+    me->is_dirty = false;
     if (pick < 5) {
         snprintf(me->line, sizeof me->line, "mkdir %s", path);
         return tempolemon_on_mkdir(&me->cpu, path, length, out);
@@ -121,7 +124,9 @@ static uint8_t call(caller *me, tempolemon_result *out) {
     if (pick < 55 && (group || !is_replay)) {
         const uint32_t order = pick < 47 ? 0 : below(me, 12);
         snprintf(me->line, sizeof me->line, "alloc %s %u", group_paths[group], order);
-        const uint8_t status = tempolemon_on_alloc(&me->cpu, group, order, out);
+        me->is_dirty = below(me, 8) == 0;
+        const uint8_t status = me->is_dirty ? tempolemon_on_alloc_dirty(&me->cpu, group, order, out)
+                                            : tempolemon_on_alloc(&me->cpu, group, order, out);
         if (out->kind == TEMPOLEMON_FRAME) me->recent[me->frames++ % 64] = (uint32_t)out->number;
         return status;
     }
@@ -203,6 +208,10 @@ static int replays(int commands, uint64_t seed) {
             for (int group = 1; group < 64; group++)
                 if (!strcmp(group_paths[group], me->line + 6)) group_paths[group][0] = 0;
         tell(me, status, &result);
+        if (me->is_dirty && status == TEMPOLEMON_DONE) {
+            printf("1 dirty %llu\n", (unsigned long long)result.number);
+            fputs("ok\n", stderr);
+        }
     }
     need(tempolemon_return(&me->cpu), "return");
     need(tempolemon_zone_end(&zone, &report), "end");

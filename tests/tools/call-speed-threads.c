@@ -16,7 +16,7 @@
 #include <time.h>
 #include "tempolemon_threads.h"
 
-enum { MOST_THREADS = 4, MANY = 64 };
+enum { MOST_THREADS = 8, MANY = 64 };
 typedef struct {
     tempolemon_cpu cpu;
     pthread_t thread;
@@ -62,6 +62,13 @@ static void many_pages(worker *me) {
 static void settle(worker *me) {
     tempolemon_result result;
     need(tempolemon_on_settle(&me->cpu, &result), "settle");
+}
+static void alloc_settle_and_release(worker *me) {
+    tempolemon_result result;
+    need(tempolemon_on_alloc(&me->cpu, me->group, 0, &result), "alloc");
+    const uint32_t frame = (uint32_t)result.number;
+    need(tempolemon_on_settle(&me->cpu, &result), "settle");
+    need(tempolemon_on_release(&me->cpu, frame, &result), "release");
 }
 static void old_get_and_put(worker *me) {
     tempolemon_result result;
@@ -175,16 +182,18 @@ int main(int count, char **words) {
     puts("what                                              threads  ns/round  ns of a thread");
     for (int threads = 1; threads <= MOST_THREADS; threads *= 2) measure("get and put", get_and_put, threads, rounds);
     measure("get and put, old handle", bare_get_and_put, 1, rounds);
-    for (int threads = 1; threads <= MOST_THREADS; threads *= 4)
+    for (int threads = 1; threads <= 4; threads *= 4)
         measure("get and put, old handle under a mutex", old_get_and_put, threads, rounds);
     for (int threads = 1; threads <= MOST_THREADS; threads *= 2)
         measure("alloc and release", alloc_and_release, threads, rounds);
-    for (int threads = 1; threads <= MOST_THREADS; threads *= 4)
+    for (int threads = 1; threads <= 4; threads *= 4)
         measure("alloc and release, old handle under a mutex", old_alloc_and_release, threads, rounds);
-    for (int threads = 1; threads <= MOST_THREADS; threads *= 4) measure("malloc and free", malloc_and_free, threads, rounds);
-    for (int threads = 1; threads <= MOST_THREADS; threads *= 4) measure("64 pages", many_pages, threads, rounds / 64);
-    for (int threads = 1; threads <= MOST_THREADS; threads *= 4) measure("64 mallocs", malloc_many, threads, rounds / 64);
+    for (int threads = 1; threads <= 4; threads *= 4) measure("malloc and free", malloc_and_free, threads, rounds);
+    for (int threads = 1; threads <= 4; threads *= 4) measure("64 pages", many_pages, threads, rounds / 64);
+    for (int threads = 1; threads <= 4; threads *= 4) measure("64 mallocs", malloc_many, threads, rounds / 64);
     for (int threads = 1; threads <= MOST_THREADS; threads *= 2) measure("settle", settle, threads, rounds);
+    for (int threads = 1; threads <= MOST_THREADS; threads *= 2)
+        measure("alloc, settle and release", alloc_settle_and_release, threads, rounds);
     for (int threads = 1; threads <= MOST_THREADS; threads *= 2)
         measure("settle, old handle under a mutex", old_settle, threads, rounds);
     for (int at = 0; at < MOST_THREADS; at++) need(tempolemon_return(&workers[at].cpu), "return");

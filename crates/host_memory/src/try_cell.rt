@@ -93,6 +93,10 @@ impl<T> TryCell<T> {
         ensures found { IfSome result (λ taken. taken.1.found ≡ Some taken.0) }
     {
         let shared = &self.table.shared;
+        // A read leaves the word's cache line to its holder, and an exchange takes it away.
+        if shared.peek(0) != 0 {
+            return None;
+        }
         let (found, mut seat) = shared.swap_new_seat::<Taking>(0, 1);
         if found != 0 {
             return None;

@@ -13,7 +13,6 @@ use Rattle.boot_words.specs.Growth.{IsRunSoFar}
 use Rattle.boot_words.specs.Pasts.{own_past}
 use Rattle.boot_words.specs.Rule.{AllOf}
 use Rattle.boot_words.specs.Runs.{OthersFollow}
-use Rattle.mem_core.proofs.Keeping.{always_keeps}
 use Rattle.mem_machine.specs.Interleaving.{zone_of}
 use Rattle.mem_system.specs.Boots.{IsSizedAs, KnownSystem}
 use Rattle.mem_system.specs.Cpus.{CpuInRun, pasts_of}
@@ -133,10 +132,6 @@ module _ (beginning : Run) (z : Past) (tables : KnownSystem) (before after : Lis
 same_some : {X : Type 0} (a b : X) → Some a ≡ Some b → a ≡ b
 same_some a b e = cc
 
-first_there : (cpus : List CpuInRun) → 1 ≤ length cpus → (cpu : CpuInRun) × (slice_get cpus 0 ≡ Some cpu)
-first_there [] some = absurd (omega (arith, some))
-first_there (c ∷ cpus) some = (c, refl)
-
 -- the early lines were served from the boot on, all pasts were looked at, the later lines were answered by CPU, all pasts
 -- were looked at again, and the boot ended: these are the answers
 pub are_answers : (sizes : Config) (is_numbered is_audited : Bool) (t : KnownTable) (w : KnownStockTable) (lines first_lines other_lines : List Line)
@@ -164,12 +159,6 @@ are_answers sizes is_numbered is_audited t w lines first_lines other_lines start
     let its_past = others_after sees.beginning z (boot_tables t w sizes) at_go.cpus end.cpus rest is_numbered told later sees.seen.1 run goes tells sees_end.beginning
     sees_end.begins.1 in
     let numbers = numbers_after sees.beginning z (boot_tables t w sizes) at_go.cpus end.cpus rest is_numbered told later sees.seen.1 run goes tells in
-    let last = whole_run t w sees_end.beginning at_end ended (sees_end.is_run numbers) ends in
-    let low = quiet.quiet.valid.cpus_low in
-    let sized = quiet.quiet.sized.cpus in
-    let count = quiet.count in
-    let first = first_there end.cpus (omega (arith, low, sized, count)) in
-    let behind = its_lines 0 first.0 first.1 in
     record {
       frames = t;
       stocks = w;
@@ -194,10 +183,7 @@ are_answers sizes is_numbered is_audited t w lines first_lines other_lines start
       ends = record { ended = ended; ends = ends; text_is = refl };
       whole = sees_end.beginning ++ ends.leaves.steps;
       whole_is = refl;
-      legal = last.legal;
-      promise = always_keeps (zone_of t) (sees_end.beginning ++ ends.leaves.steps) last.legal;
-      last = last;
-      begins = record { rest = behind.rest; is = behind.is };
+      is_whole = whole_run t w sees_end.beginning at_end ended (sees_end.is_run numbers) ends;
       changes = sees.changes run has;
       each = λ index cpu steps at steps_are.
           let tells = told_at index cpu at in (

@@ -1,21 +1,24 @@
 -- The log of lines and of the end. Serves `log_each`, `log_end`, `steps_on_boot`.
-use Rattle.std.proofs.Common.{◌≡◌, ℕ, ◌+◌, ◌<◌, true, List, ◌++◌, Result, IfOk, OnOk, length, take, get_or, refl, sym, ap, ◌∙◌, subst}
-use Rattle.std.proofs.Common.{append_assoc}
+use Rattle.std.proofs.Common.{◌≡◌, ℕ, ◌+◌, ◌<◌, true, List, [], ◌∷◌, ◌++◌, Result, IfOk, OnOk, length, take, get_or, refl, sym, ap, ◌∙◌, subst}
+use Rattle.std.proofs.Common.{append-nil, append_assoc}
 use Rattle.std.proofs.lemmas.Result.{IfOk-weaker}
 use Rattle.std.specs.Prelude.{codes}
 use Rattle.frame_word.specs.Seats.{KnownTable}
 use Rattle.stock_word.specs.Stock.{KnownStockTable}
+use Rattle.step_rules.specs.After.{Run}
+use Rattle.mem_machine.specs.Interleaving.{zone_of}
 use Rattle.step_watch.specs.Watched.{IsNewLog, has_whole_log, log_text, steps_text}
 use Rattle.script_lines.specs.declared.line.Line.{Line}
-use Rattle.script_replay.specs.Lines.{InOrder, SystemState}
+use Rattle.script_replay.specs.Lines.{HasRun, InOrder, RunGoesOn, SystemState}
 use Rattle.script_replay.specs.Terms.{Terms, terms}
 use Rattle.script_replay.proofs.InOrder.{in_order_line}
 use Rattle.line_server.specs.Logs.{AddsPart, LogsLine, RenewsWatch, answer_comments}
 use Rattle.line_server.proofs.Logged.{wrote_alone}
 use Rattle.mem_system.specs.declared.audit.Audit.{Audit}
 use Rattle.mem_system.specs.Ends.{Closes, KnownEmptiedBoot}
-use Rattle.load_run.specs.Ending.{LeavesNothing, boot_end_text}
-use Rattle.load_run.specs.Logs.{GrowsBy, LogsAll, LogsAllAndEnd, LogsEnd, LogsNext, text_of_line}
+use Rattle.load_run.specs.Ending.{IsWholeRun, LeavesNothing, boot_end_text, last_words}
+use Rattle.load_run.specs.Logs.{GrowsBy, LogsAll, LogsAllAndEnd, LogsEnd, LogsNext, steps_of_logs, text_of_line}
+use Rattle.load_run.proofs.Whole.{whole_run}
 
 -- ---- the lines so far
 
@@ -83,3 +86,27 @@ both_logged t w texts lines s e old mid new part served ends added = record {
   };
   added = added ∙ ap (λ (l : List ℕ). l ++ part) served.added ∙ append_assoc old served.text part;
 }
+
+-- the run so far goes on by the lines of a log; a new watch changes no past
+pub logs_go_on : (on : Terms) (texts : List (List ℕ)) (lines : List Line) (s e : SystemState) (log : List ℕ) (logs : LogsAll on texts lines s e log)
+    → RunGoesOn (steps_of_logs on texts lines s e log logs) s e
+logs_go_on on texts [] s e log logs = λ earlier has.
+    subst (λ (x : SystemState). HasRun (earlier ++ []) x) (sym logs.1) (subst (λ (r : Run). HasRun r s) (sym (append-nil earlier)) has)
+logs_go_on on texts (line ∷ lines) s e log logs = λ earlier has.
+    let first = logs.serves_first in
+    let steps : Run = first.serves.serves.steps in
+    let rest : Run = steps_of_logs on texts lines logs.between e logs.rest logs.serves_rest in
+    let begun : HasRun earlier first.begun = subst (HasRun earlier) (sym first.renews.begun_is) has in
+    subst (λ (r : Run). HasRun r e) (append_assoc earlier steps rest)
+    (logs_go_on on texts lines logs.between e logs.rest logs.serves_rest (earlier ++ steps) (first.serves.serves.goes_on earlier begun))
+
+-- all steps of a log and of its end are those of a whole run
+pub logs_whole : (t : KnownTable) (w : KnownStockTable) (texts : List (List ℕ)) (lines : List Line) (s : SystemState) (log : List ℕ) → HasRun [] s
+    → (logs : LogsAllAndEnd t w texts lines s log)
+    → IsWholeRun (zone_of t) (last_words logs.ends.ends.closes)
+    (steps_of_logs (terms t w true) texts lines s logs.end logs.served_log logs.served ++ logs.ends.ends.leaves.steps)
+logs_whole t w texts lines s log has logs =
+    let run : Run = steps_of_logs (terms t w true) texts lines s logs.end logs.served_log logs.served in
+    let led : HasRun run logs.end = logs_go_on (terms t w true) texts lines s logs.end logs.served_log logs.served [] has in
+    let begun : HasRun run logs.ends.begun = subst (HasRun run) (sym logs.ends.renews.begun_is) led in
+    whole_run t w run logs.ends.begun logs.ends.ended begun logs.ends.ends

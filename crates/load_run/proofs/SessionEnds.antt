@@ -11,7 +11,7 @@ use Rattle.zone_blocks.specs.Config.{IsValidConfig}
 use Rattle.mem_system.specs.Cpus.{parts_of}
 use Rattle.mem_history.specs.Whole.{ShowsAll}
 use Rattle.mem_history.specs.Kept.{AreTied}
-use Rattle.step_rules.specs.After.{IsLegalRun, Run}
+use Rattle.step_rules.specs.After.{Run}
 use Rattle.mem_machine.specs.Interleaving.{zone_of}
 use Rattle.script_replay.specs.Lines.{HasRun, SystemState}
 use Rattle.script_replay.specs.History.{past}
@@ -32,11 +32,11 @@ use Rattle.load_run.specs.declared.fault.ProgramFault.TheVariants as kinds
 use Rattle.load_run.specs.declared.boot_end.BootEnd.{BootEnd}
 use Rattle.load_run.specs.Starting.{IsNewBootState}
 use Rattle.load_run.specs.Causes.{written}
-use Rattle.load_run.specs.Ending.{EndsHeld, boot_end_text}
+use Rattle.load_run.specs.Ending.{EndsHeld, IsWholeRun, boot_end_text}
 use Rattle.load_run.specs.Fault.{fault_text, fault_status_of}
 use Rattle.load_run.specs.Logs.{LogsEnd, log_head_text}
 use Rattle.load_run.specs.Sessions.{BeginsHead, DrivesSession, EndsInForm, EndsSession, IsOfValid, IsSameFault, IsWorkFault, LeavesSession}
-use Rattle.load_run.specs.Sessions.{LeavesWithHead, ServesInput, ServesWithHead, StopsSession, WritesHead, steps_of_end}
+use Rattle.load_run.specs.Sessions.{LeavesWithHead, ServesInput, ServesWithHead, StopsSession, WritesHead, steps_of_end, words_of_end}
 use Rattle.line_server.specs.Writing.{AppendsBeginning}
 use Rattle.load_run.proofs.Starting.{boot_agrees, boot_shown, parts_tied}
 use Rattle.load_run.proofs.Whole.{whole_run}
@@ -149,12 +149,13 @@ history_of : (form : SessionForm) (t : KnownTable) (w : KnownStockTable) (turns 
 history_of (Answers is_explained) t w turns start end shows tied replays = replays.history [] shows tied
 history_of Steps t w turns start end shows tied replays = replays [] shows tied
 
--- if a run led to the end of a session, it and the steps of the end are a legal run
-end_legal : (form : SessionForm) (t : KnownTable) (w : KnownStockTable) (is_audited : Bool) (run : Run) (end : SystemState) (text : List ℕ) → HasRun run end
-    → (ends : EndsInForm form t w is_audited end text) → IsLegalRun (zone_of t) (run ++ steps_of_end form t w is_audited end text ends)
-end_legal (Answers is_explained) t w is_audited run end text has ends = (whole_run t w run end ends.ended has ends.ends).legal
-end_legal Steps t w is_audited run end text has ends =
-    let begun : HasRun run ends.begun = subst (HasRun run) (sym ends.renews.begun_is) has in (whole_run t w run ends.begun ends.ended begun ends.ends).legal
+-- if a run led to the end of a session, it and the steps of the end are all steps of the boot
+end_whole : (form : SessionForm) (t : KnownTable) (w : KnownStockTable) (is_audited : Bool) (run : Run) (end : SystemState) (text : List ℕ) → HasRun run end
+    → (ends : EndsInForm form t w is_audited end text)
+    → IsWholeRun (zone_of t) (words_of_end form t w is_audited end text ends) (run ++ steps_of_end form t w is_audited end text ends)
+end_whole (Answers is_explained) t w is_audited run end text has ends = whole_run t w run end ends.ended has ends.ends
+end_whole Steps t w is_audited run end text has ends =
+    let begun : HasRun run ends.begun = subst (HasRun run) (sym ends.renews.begun_is) has in whole_run t w run ends.begun ends.ended begun ends.ends
 
 module _ (options : Options) (form : SessionForm) (t : KnownTable) (w : KnownStockTable) (server : KnownServer) (start : SystemState)
     (new : IsNewBootState options.sizes t w start) (sized : server.sizes ≡ options.sizes) (formed : server.form ≡ form) (stands : server.state ≡ start) where
@@ -184,7 +185,9 @@ module _ (options : Options) (form : SessionForm) (t : KnownTable) (w : KnownSto
         history = history;
         agrees = boot_agrees _ _ _ _ new;
         ends = end_is;
-        legal = end_legal form t w options.is_audited (steps_of_turns form t w session.turns (past [] start) end history) end ending
+        whole = steps_of_turns form t w session.turns (past [] start) end history ++ steps_of_end form t w options.is_audited end ending end_is;
+        whole_is = refl;
+        is_whole = end_whole form t w options.is_audited (steps_of_turns form t w session.turns (past [] start) end history) end ending
             (turns_go_on form t w session.turns (past [] start) end history [] new.so_far) end_is;
       }
 

@@ -1,13 +1,15 @@
--- All steps of a replay and of its end are one legal run. Serves `replay_on_boot`, `check_on_boot`.
+-- All steps of a boot's lines and of its end are one legal run. Serves `replay_on_boot`, `check_on_boot`,
+-- `steps_on_boot`, `run_by_threads`, `serve_on_boot`.
 use Rattle.std.proofs.Common.{◌∙◌, ℕ, List, [], ◌∷◌, ◌++◌, subst, sym}
 use Rattle.std.proofs.lemmas.List.{length-map}
 use Rattle.frame_word.specs.Seats.{KnownTable}
 use Rattle.stock_word.specs.Stock.{KnownStockTable}
 use Rattle.boot_words.specs.Pasts.{own_past}
-use Rattle.boot_words.specs.Words.{AreFrameWords, AreStockWords, IsRunOf}
+use Rattle.boot_words.specs.Words.{AreFrameWords, AreStockWords}
 use Rattle.boot_words.proofs.Gaining.{the_run_so_far_is_legal}
 use Rattle.step_rules.specs.State.{State}
 use Rattle.step_rules.specs.After.{Run}
+use Rattle.mem_core.proofs.Keeping.{always_keeps}
 use Rattle.mem_machine.specs.Interleaving.{zone_of}
 use Rattle.mem_system.specs.Cpus.{CpuInRun, pasts_of}
 use Rattle.script_lines.specs.declared.line.Line.{Line}
@@ -15,7 +17,7 @@ use Rattle.script_replay.specs.History.{KeepsHistory, Past, past_line}
 use Rattle.script_replay.specs.Lines.{HasRun, SystemState}
 use Rattle.script_replay.specs.Terms.{Terms}
 use Rattle.load_run.specs.declared.boot_end.BootEnd.{BootEnd}
-use Rattle.load_run.specs.Ending.{EndsHeld, last_words}
+use Rattle.load_run.specs.Ending.{EndsHeld, IsWholeRun, last_words}
 
 -- the run so far goes on by the lines of a history that keeps the promise
 pub kept_goes_on : (on : Terms) (lines : List Line) (before last : Past) (text : List ℕ) → KeepsHistory on lines before last text → HasRun before.run before.now
@@ -26,7 +28,7 @@ kept_goes_on on (line ∷ lines) before last text keeps has =
 
 -- if a run led to the end, it and the steps of the end are one legal run, which led to the words that were closed
 pub whole_run : (t : KnownTable) (w : KnownStockTable) (run : Run) (end : SystemState) (ended : BootEnd) → HasRun run end → (ends : EndsHeld t w end ended)
-    → IsRunOf (zone_of t) (last_words ends.closes) (run ++ ends.leaves.steps)
+    → IsWholeRun (zone_of t) (last_words ends.closes) (run ++ ends.leaves.steps)
 whole_run t w run end ended has ends =
     let closes = ends.closes in
     let cpus = ends.emptied.cpus in
@@ -34,7 +36,10 @@ whole_run t w run end ended has ends =
     let both = the_run_so_far_is_legal (zone_of t) closes.run whole (own_past ends.emptied.machine.run.past) (pasts_of cpus) closes.is.legal closes.zone
     (length-map cpus (λ (x : CpuInRun). own_past x.past) ∙ closes.count) closes.pasts (ends.leaves.so_far run has) in
     record {
-      legal = both.0;
-      frames = subst (λ (s : State). AreFrameWords s closes.frame_words) (sym both.1) closes.is.frames;
-      stocks = subst (λ (s : State). AreStockWords s closes.stock_words) (sym both.1) closes.is.stocks;
+      leads = record {
+        legal = both.0;
+        frames = subst (λ (s : State). AreFrameWords s closes.frame_words) (sym both.1) closes.is.frames;
+        stocks = subst (λ (s : State). AreStockWords s closes.stock_words) (sym both.1) closes.is.stocks;
+      };
+      promise = always_keeps (zone_of t) whole both.0;
     }

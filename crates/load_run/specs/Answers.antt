@@ -6,12 +6,10 @@ use Rattle.frame_word.specs.Seats.{KnownTable}
 use Rattle.stock_word.specs.Stock.{KnownStockTable}
 use Rattle.zone_blocks.specs.declared.config.Config.{Config}
 use Rattle.zone_blocks.specs.Config.{IsValidConfig}
-use Rattle.step_rules.specs.After.{Run as StepRun, IsLegalRun}
+use Rattle.step_rules.specs.After.{Run as StepRun}
 use Rattle.boot_words.specs.Growth.{AreChangesOf}
 use Rattle.boot_words.specs.Pasts.{own_past}
 use Rattle.boot_words.specs.Runs.{OthersFollow}
-use Rattle.boot_words.specs.Words.{IsRunOf}
-use Rattle.mem_core.specs.Promise.{AlwaysKeepsPromise}
 use Rattle.mem_machine.specs.Interleaving.{zone_of}
 use Rattle.mem_machine.specs.Agreeing.{AgreesWithRun}
 use Rattle.mem_system.specs.Cpus.{CpuInRun}
@@ -27,10 +25,9 @@ use Rattle.script_replay.specs.Runs.{lines_before_go}
 use Rattle.load_options.specs.declared.task.Options.{Options}
 use Rattle.load_options.specs.declared.task.Task.{Task}
 use Rattle.load_options.specs.declared.task.Task.TheVariants.{Replay, Steps, Run}
-use Rattle.load_run.specs.Ending.{WritesEnd, last_words}
+use Rattle.load_run.specs.Ending.{IsWholeRun, WritesEnd, last_words}
 use Rattle.load_run.specs.Logs.{AreLoggedSteps}
 use Rattle.load_run.specs.Survey.{ChangesFollow, SeesAllPasts}
-use Rattle.load_run.specs.Threads.{IsBeginning}
 -- the state after a boot
 pub use Rattle.load_run.specs.Starting.{IsNewBootState}
 use Rattle.load_run.specs.Refusals.{answered_status}
@@ -40,10 +37,9 @@ abbrev pub bytes_read : List ℕ → List ℕ
 bytes_read input = take (longest_script + 1) input
 
 -- What a boot with these sizes answers to the lines, one after the other, with explanations or without, and then
--- reports of its end. All steps of the lines and then of the end are one legal run from the boot on, and what is left in
--- the words of the boot's table at its end is what this run leads to. The promise holds after each beginning of the run
--- that leaves the lock free. After each line it holds of what the machine and the CPUs show, and each group's peak and
--- event counts are those of the run so far, as the ledger of the boot is that of a run without steps.
+-- reports of its end. `whole` is all steps of the lines and then of the end, from the boot on. After each line the promise
+-- holds of what the machine and the CPUs show, and each group's peak and event counts are those of the run so far, as the
+-- ledger of the boot is that of a run without steps.
 pub record AreReplayAnswers (sizes : Config) (form : Form) (is_audited : Bool) (lines : List Line) (text : List ℕ)
     : Type 0 where
   pub frames : KnownTable
@@ -60,9 +56,7 @@ pub record AreReplayAnswers (sizes : Config) (form : Form) (is_audited : Bool) (
   pub ends : WritesEnd frames stocks is_audited end ending
   pub whole : StepRun
   pub whole_is : whole ≡ run ++ ends.ends.leaves.steps
-  pub legal : IsLegalRun (zone_of frames) whole
-  pub promise : AlwaysKeepsPromise (zone_of frames) whole
-  pub last : IsRunOf (zone_of frames) (last_words ends.ends.closes) whole
+  pub is_whole : IsWholeRun (zone_of frames) (last_words ends.ends.closes) whole
   pub text_is : text ≡ answers ++ ending
 
 -- the line that says how many steps were checked
@@ -85,12 +79,11 @@ pub record IsQuietSystem (frames : KnownTable) (stock_table : KnownStockTable) (
 -- What a boot with these sizes answers to the lines by threads. Those before `go` are served one after the other, as a
 -- replay serves them, and led to `replayed`. Then all pasts were looked at, and from `at_go` each CPU was answered its own
 -- among the lines from `go` on, and told its steps. Each command under the lock found the sizes of the boot. When all
--- threads had ended, at `end`, all pasts were looked at again, and from `at_end` the boot ended. The first look shows the run of the lines before `go`, with steps that change nothing
--- among them. The second look shows a run that goes on from it. Behind the first run, each CPU changes in the second just
--- what the steps change that its answers tell, in their order. All steps, `whole`, are the second run and then the steps of
--- the end. They are one legal run, and what is left in the words of the boot's table is what it leads to. The promise holds
--- after each beginning of it that leaves the lock free. What a CPU had seen after its lines is a beginning of the run. So
--- the run shows each visit that served a command (`RunsShowVisits`).
+-- threads had ended, at `end`, all pasts were looked at again, and from `at_end` the boot ended. The first look shows the
+-- run of the lines before `go`, with steps that change nothing among them. After it, each CPU changes in the run of the
+-- second look just what the steps change that its answers tell, in their order. `whole` is the second run and then the
+-- steps of the end. What a CPU had seen after its lines is a beginning of the second run. So that run shows each visit that
+-- served a command (`RunsShowVisits`).
 pub record AreThreadAnswers (sizes : Config) (is_numbered is_audited : Bool) (lines : List Line) (text : List ℕ)
     : Type 0 where
   pub frames : KnownTable
@@ -119,10 +112,7 @@ pub record AreThreadAnswers (sizes : Config) (is_numbered is_audited : Bool) (li
   pub ends : WritesEnd frames stocks is_audited at_end ending
   pub whole : StepRun
   pub whole_is : whole ≡ sees_end.beginning ++ ends.ends.leaves.steps
-  pub legal : IsLegalRun (zone_of frames) whole
-  pub promise : AlwaysKeepsPromise (zone_of frames) whole
-  pub last : IsRunOf (zone_of frames) (last_words ends.ends.closes) whole
-  pub begins : IsBeginning sees.beginning sees_end.beginning
+  pub is_whole : IsWholeRun (zone_of frames) (last_words ends.ends.closes) whole
   pub changes : AreChangesOf sees.beginning run
   pub each : (index : ℕ) (cpu : CpuInRun) (steps : StepRun) → slice_get end.cpus index ≡ Some cpu
       → slice_get told index ≡ Some steps

@@ -5,11 +5,13 @@ use Rattle.frame_word.specs.declared.answers.Put.{Put}
 use Rattle.frame_word.specs.Seats.{KnownTable}
 use Rattle.stock_word.specs.Stock.{KnownStockTable}
 use Rattle.boot_words.specs.Pasts.{own_past}
-use Rattle.boot_words.specs.Words.{Words}
+use Rattle.boot_words.specs.Words.{IsRunOf, Words}
 use Rattle.boot_words.specs.Growth.{GainsSteps, IsRunSoFar}
 use Rattle.cpu_part.specs.Calls.{UnpinAnswers}
 use Rattle.step_rules.specs.declared.step.Action.TheVariants as step
 use Rattle.step_rules.specs.After.{Run}
+use Rattle.step_rules.specs.State.{Zone}
+use Rattle.mem_core.specs.Promise.{AlwaysKeepsPromise}
 use Rattle.step_watch.specs.Watched.{Watches, cpu_makes, has_legal_steps, steps_seen}
 use Rattle.mem_machine.specs.Machines.{KnownMachine, with_run}
 use Rattle.mem_history.specs.Leading.{put_answer}
@@ -100,6 +102,12 @@ pub record EndsHeld (table : KnownTable) (stock_table : KnownStockTable) (before
 abbrev pub last_words : {table : KnownTable} {stock_table : KnownStockTable} {emptied : KnownEmptiedBoot} {audit : Audit}
     → Closes table stock_table emptied audit → Words
 last_words closes = record { frames = closes.frame_words; stocks = closes.stock_words }
+
+-- All steps of a boot, up to its end: a legal run, which led to these words of the boot's table. The promise holds after
+-- each beginning of the run that leaves the lock free.
+pub record IsWholeRun (zone : Zone) (words : Words) (run : Run) : Type 0 where
+  pub leads : IsRunOf zone words run
+  pub promise : AlwaysKeepsPromise zone run
 
 -- a boot ended from this state, and this is what the machine's watch saw of all steps
 pub record EndsChecked (table : KnownTable) (stock_table : KnownStockTable) (before : SystemState) (ended : BootEnd)

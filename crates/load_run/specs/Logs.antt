@@ -3,7 +3,9 @@ use Rattle.std.specs.Prelude.{◌≡◌, ℕ, ◌-◌, ◌==◌, if◌then◌els
 use Rattle.frame_word.specs.Seats.{KnownTable}
 use Rattle.stock_word.specs.Stock.{KnownStockTable}
 use Rattle.zone_blocks.specs.declared.config.Config.{Config}
+use Rattle.step_rules.specs.After.{Run}
 use Rattle.step_watch.specs.Watched.{steps_text}
+use Rattle.mem_machine.specs.Interleaving.{zone_of}
 use Rattle.log_lines.specs.Line.{zone_text}
 use Rattle.script_lines.specs.declared.line.Line.{Line}
 use Rattle.script_lines.specs.declared.line.Line.TheVariants.{Go, At}
@@ -12,7 +14,7 @@ use Rattle.script_replay.specs.Lines.{InOrder, SystemState}
 use Rattle.script_replay.specs.Terms.{Terms, terms}
 use Rattle.line_server.specs.Logs.{LogsLine, RenewsWatch, answer_comments}
 use Rattle.load_run.specs.declared.boot_end.BootEnd.{BootEnd}
-use Rattle.load_run.specs.Ending.{EndsHeld, boot_end_text}
+use Rattle.load_run.specs.Ending.{EndsHeld, IsWholeRun, boot_end_text, last_words}
 use Rattle.load_run.specs.Starting.{IsNewBootState}
 
 -- the comment that a log of ours is known by: the sizes of the boot that the zone's line doesn't have
@@ -70,9 +72,16 @@ pub record LogsAllAndEnd (table : KnownTable) (stock_table : KnownStockTable) (t
   pub ends : LogsEnd table stock_table end ending
   pub log_is : log ≡ served_log ++ ending
 
+-- the steps of these lines
+abbrev pub steps_of_logs : (terms : Terms) (texts : List (List ℕ)) (lines : List Line) (before after : SystemState)
+    (log : List ℕ) → LogsAll terms texts lines before after log → Run
+steps_of_logs terms texts [] before after log logs = []
+steps_of_logs terms texts (line ∷ lines) before after log logs = logs.serves_first.serves.serves.steps
+    ++ steps_of_logs terms texts lines logs.between after logs.rest logs.serves_rest
+
 -- The steps of a boot with these sizes, as a log: the sizes; then for each line of the script a comment, the steps by
 -- which it is served, and its answer as `replay --explain` gives it, in comments, one line after the other from the
--- boot on; and then the steps of the end, and what is reported of it with `--audit`.
+-- boot on; and then the steps of the end, and what is reported of it with `--audit`. `whole` is all these steps.
 pub record AreLoggedSteps (sizes : Config) (script : List ℕ) (lines : List Line) (text : List ℕ) : Type 0 where
   pub frames : KnownTable
   pub stocks : KnownStockTable
@@ -80,4 +89,8 @@ pub record AreLoggedSteps (sizes : Config) (script : List ℕ) (lines : List Lin
   pub first : IsNewBootState sizes frames stocks start
   pub log : List ℕ
   pub logs : LogsAllAndEnd frames stocks (texts_of script) lines start log
+  pub whole : Run
+  pub whole_is : whole ≡ steps_of_logs (terms frames stocks true) (texts_of script) lines start logs.end logs.served_log
+      logs.served ++ logs.ends.ends.leaves.steps
+  pub is_whole : IsWholeRun (zone_of frames) (last_words logs.ends.ends.closes) whole
   pub text_is : text ≡ log_head_text sizes ++ log

@@ -5,7 +5,8 @@ use Rattle.frame_word.specs.Seats.{KnownTable}
 use Rattle.stock_word.specs.Stock.{KnownStockTable}
 use Rattle.zone_blocks.specs.declared.config.Config.{Config}
 use Rattle.zone_blocks.specs.Config.{IsValidConfig}
-use Rattle.step_rules.specs.After.{Run, IsLegalRun}
+use Rattle.boot_words.specs.Words.{Words}
+use Rattle.step_rules.specs.After.{Run}
 use Rattle.mem_machine.specs.Interleaving.{zone_of}
 use Rattle.mem_machine.specs.Agreeing.{AgreesWithRun}
 use Rattle.script_replay.specs.History.{past}
@@ -23,7 +24,7 @@ use Rattle.load_run.specs.declared.fault.ProgramFault.{ProgramFault}
 use Rattle.load_run.specs.declared.fault.ProgramFault.TheVariants as kinds
 use Rattle.load_run.specs.Starting.{IsNewBootState}
 use Rattle.load_run.specs.Causes.{Written}
-use Rattle.load_run.specs.Ending.{WritesEnd}
+use Rattle.load_run.specs.Ending.{IsWholeRun, WritesEnd, last_words}
 use Rattle.load_run.specs.Fault.{fault_text}
 use Rattle.load_run.specs.Logs.{LogsEnd, log_head_text}
 use Rattle.line_server.specs.Writing.{AppendsBeginning}
@@ -40,10 +41,16 @@ abbrev pub steps_of_end : (form : SessionForm) (frames : KnownTable) (stocks : K
 steps_of_end (Answers is_explained) frames stocks is_audited before text ends = ends.ends.leaves.steps
 steps_of_end Steps frames stocks is_audited before text ends = ends.ends.leaves.steps
 
+-- the words of the boot's table after a session of this form, when it was closed
+abbrev pub words_of_end : (form : SessionForm) (frames : KnownTable) (stocks : KnownStockTable) (is_audited : Bool)
+    (before : SystemState) (text : List ℕ) → EndsInForm form frames stocks is_audited before text → Words
+words_of_end (Answers is_explained) frames stocks is_audited before text ends = last_words ends.ends.closes
+words_of_end Steps frames stocks is_audited before text ends = last_words ends.ends.closes
+
 -- A new boot served a session on an input, and ended. `middle` is what the output holds after the session, and `ending`
--- the text of the end, if there is one. All steps of the lines that were served, and then of the end, are one legal run
--- from the boot on. Its history says of each line that the promise is kept after it, as each beginning of the run is
--- legal. The ledger of the boot is that of a run without steps.
+-- the text of the end, if there is one. `whole` is all steps of the lines that were served, and then of the end, from the
+-- boot on. Its history says of each line that the promise is kept after it, as each beginning of the run is legal. The
+-- ledger of the boot is that of a run without steps.
 pub record EndsSession (options : Options) (form : SessionForm) (input before middle : Option (List ℕ))
     (ending : List ℕ) : Type 0 where
   pub frames : KnownTable
@@ -55,8 +62,10 @@ pub record EndsSession (options : Options) (form : SessionForm) (input before mi
   pub history : HasTurnsHistory form frames stocks session.turns (past [] start) end
   pub agrees : AgreesWithRun frames [] start.locked.machine.ledger
   pub ends : EndsInForm form frames stocks options.is_audited end ending
-  pub legal : IsLegalRun (zone_of frames) (steps_of_turns form frames stocks session.turns (past [] start) end history
-      ++ steps_of_end form frames stocks options.is_audited end ending ends)
+  pub whole : Run
+  pub whole_is : whole ≡ steps_of_turns form frames stocks session.turns (past [] start) end history
+      ++ steps_of_end form frames stocks options.is_audited end ending ends
+  pub is_whole : IsWholeRun (zone_of frames) (words_of_end form frames stocks options.is_audited end ending ends) whole
 
 -- a session ended, and all of the text of its end was written behind its answers
 pub record ServesInput (options : Options) (form : SessionForm) (input before after : Option (List ℕ)) : Type 0 where

@@ -1,5 +1,5 @@
 -- The conditions of the table of rules, each as a test of a state.
-use Rattle.std.specs.Prelude.{ℕ, ◌+◌, ◌==◌, ◌&&◌, ◌||◌, nat_le, nat_lt, not, Bool, true, List, [], ◌∷◌, Option, None, Some, is_none, length}
+use Rattle.std.specs.Prelude.{ℕ, ◌+◌, ◌^◌, ◌==◌, ◌&&◌, ◌||◌, nat_le, nat_lt, not, Bool, true, List, [], ◌∷◌, Option, find, is_none, length}
 use Rattle.group_tree.specs.Groups.{has_group, has_child, make_fault}
 use Rattle.step_rules.specs.State.{State, is_cpu, is_frame, is_unheld, is_held_by, visits, may_zone_act}
 use Rattle.step_rules.specs.State.{live_references, pins_of}
@@ -7,6 +7,12 @@ use Rattle.step_rules.specs.Phases.{FreshFrame, has_as, is_free, is_head, is_hea
 use Rattle.step_rules.specs.Phases.{passes_out}
 use Rattle.step_rules.specs.Legal.{is_passable, no_frame_passes, no_page_pends, nothing_passes, takes_fill}
 use Rattle.step_rules.specs.Usage.{usage_of}
+use Rattle.step_rules.specs.declared.step.Action.{Action}
+use Rattle.step_rules.specs.declared.step.Action.TheVariants.{Lock, Unlock, OpenVisit, ShutVisit, Get, Put, Freeze}
+use Rattle.step_rules.specs.declared.step.Action.TheVariants.{Unfreeze, PassOut, TakeIn, PassBack, Collect, Consume}
+use Rattle.step_rules.specs.declared.step.Action.TheVariants.{Credit, Report, Absorb, Fill, DrainStock, Grant, Ungrant}
+use Rattle.step_rules.specs.declared.step.Action.TheVariants.{PlaceBlock, Publish, Return, NoteMax, NoteOom}
+use Rattle.step_rules.specs.declared.step.Action.TheVariants.{NoteGroupKill, SetMax, SetFlag, Make, Remove, Kill}
 use Rattle.log_check.specs.declared.reason.Quantity.{Quantity}
 use Rattle.log_check.specs.declared.reason.Quantity.TheVariants.{Own, References, Pins, Listed, Fresh, Unreported, Reported}
 use Rattle.log_check.specs.declared.reason.Quantity.TheVariants.{InStock, Pending, Usage}
@@ -70,16 +76,54 @@ is_met s (NotRoot g) = not (g == 0)
 is_met s (NoChild g) = not (has_child s.groups g)
 is_met s (Makeable path) = is_none (make_fault s.groups path)
 
--- the condition is met, if there is one
-abbrev pub is_met_if : State → Option Condition → Bool
-is_met_if s None = true
-is_met_if s (Some condition) = is_met s condition
+-- the conditions that a step by seat 0 has to meet: these come first
+abbrev pub by_zone : ℕ → List Condition → List Condition
+by_zone seat conditions = ZoneSeat seat ∷ Locked ∷ conditions
+
+-- the conditions of a step, in the order in which a check looks at them
+abbrev pub conditions_of : ℕ → Action → List Condition
+conditions_of seat Lock = Cpu seat ∷ Unlocked ∷ []
+conditions_of seat Unlock = Cpu seat ∷ HeldBy seat ∷ NonePending ∷ NonePassing ∷ []
+conditions_of seat (OpenVisit cpu) = by_zone seat (HeldBy cpu ∷ [])
+conditions_of seat (ShutVisit cpu) =
+    by_zone seat (Visited cpu ∷ NonePassingAt cpu ∷ IsZero (Unreported cpu) ∷ IsZero (Reported cpu) ∷ [])
+conditions_of seat (Get f) = Cpu seat ∷ Frame f ∷ Below (Pins seat) 256 ∷ []
+conditions_of seat (Put f) = AnySeat seat ∷ Frame f ∷ AtLeast (Own seat f) 1 ∷ []
+conditions_of seat (Freeze f n) = by_zone seat (Frame f ∷ OneUp n ∷ AtLeast (Own 0 f) n ∷ [])
+conditions_of seat (Unfreeze f n) = by_zone seat (Frame f ∷ InPlace f InHand ∷ OneUp n ∷ UpTo255 n ∷ [])
+conditions_of seat (PassOut f cpu) = by_zone seat (Frame f ∷ Visited cpu ∷ InPlace f Free ∷ [])
+conditions_of seat (TakeIn f) = Cpu seat ∷ Frame f ∷ InPlace f (OutTo seat) ∷ []
+conditions_of seat (PassBack f) = Cpu seat ∷ Frame f ∷ Visited seat ∷ InPlace f (Passable seat) ∷ []
+conditions_of seat (Collect f cpu) = by_zone seat (Frame f ∷ Cpu cpu ∷ InPlace f (BackFrom cpu) ∷ [])
+conditions_of seat (Consume g) = Cpu seat ∷ AtLeast (Listed seat) 1 ∷ Below (Fresh seat) 32 ∷ []
+conditions_of seat (Credit f) = Cpu seat ∷ Frame f ∷ InPlace f (FreshAt seat) ∷ []
+conditions_of seat (Report n) = Cpu seat ∷ Visited seat ∷ AtLeast (Unreported seat) n ∷ []
+conditions_of seat (Absorb cpu) = by_zone seat (Visited cpu ∷ [])
+conditions_of seat (Fill cpu g n) = by_zone seat (Visited cpu ∷ Group g ∷ TakesFill cpu g ∷ AtLeast (Pending g) n ∷ [])
+conditions_of seat (DrainStock cpu) = by_zone seat (Cpu cpu ∷ [])
+conditions_of seat (Grant g n) = by_zone seat (Group g ∷ NotKilled g ∷ [])
+conditions_of seat (Ungrant g n) = by_zone seat (Group g ∷ AtLeast (Pending g) n ∷ [])
+conditions_of seat (PlaceBlock g k) = by_zone seat (Group g ∷ AtLeast (Pending g) (2 ^ k) ∷ [])
+conditions_of seat (Publish f) = by_zone seat (Frame f ∷ InPlace f Head ∷ AtLeast (Own 0 f) 1 ∷ [])
+conditions_of seat (Return f) = by_zone seat (Frame f ∷ InPlace f Returnable ∷ [])
+conditions_of seat (NoteMax g) = by_zone seat (Group g ∷ [])
+conditions_of seat (NoteOom g) = by_zone seat (Group g ∷ [])
+conditions_of seat (NoteGroupKill g) = by_zone seat (Group g ∷ NotRoot g ∷ [])
+conditions_of seat (SetMax g limit) = by_zone seat (Group g ∷ NotRoot g ∷ [])
+conditions_of seat (SetFlag g flag) = by_zone seat (Group g ∷ NotRoot g ∷ [])
+conditions_of seat (Make path) = by_zone seat (Makeable path ∷ [])
+conditions_of seat (Remove g) = by_zone seat (Group g ∷ NotRoot g ∷ NoChild g ∷ IsZero (Usage g) ∷ [])
+conditions_of seat (Kill g) = by_zone seat (Group g ∷ NotKilled g ∷ [])
 
 -- the first test holds, and each condition is met
-abbrev pub and_met : Bool → State → List (Option Condition) → Bool
+abbrev pub and_met : Bool → State → List Condition → Bool
 and_met so_far s [] = so_far
-and_met so_far s (condition ∷ rest) = and_met (so_far && is_met_if s condition) s rest
+and_met so_far s (condition ∷ rest) = and_met (so_far && is_met s condition) s rest
 
 -- each condition is met
-abbrev pub all_met : State → List (Option Condition) → Bool
+abbrev pub all_met : State → List Condition → Bool
 all_met s conditions = and_met true s conditions
+
+-- the first condition that isn't met
+abbrev pub first_unmet : State → List Condition → Option Condition
+first_unmet s conditions = find (λ condition. not (is_met s condition)) conditions

@@ -1,18 +1,17 @@
 //! Why a step that may be made isn't answered so.
 
-ghost use Rattle.std.specs.Prelude.{◌≡◌, ℕ, IsTrue, false, true};
+ghost use Rattle.std.specs.Prelude.{◌≡◌, IsTrue, false, true};
 ghost use Rattle.zone_blocks.specs.Areas.{IsFreeBlock};
 ghost use Rattle.group_tree.specs.Groups.{has_group};
 ghost use Rattle.group_tree.specs.Room.{has_room};
 ghost use Rattle.step_rules.specs.State.{free_in};
 ghost use Rattle.step_rules.specs.Usage.{usage_of};
 ghost use Rattle.step_rules.specs.declared.step.Action.{Action};
-ghost use Rattle.step_rules.specs.declared.step.Answer.{Answer};
-ghost use Rattle.step_rules.specs.declared.step.Answer.TheVariants.{Placed};
 ghost use Rattle.step_rules.specs.Legal.{Allows, is_legal};
 ghost use Rattle.mem_core.specs.Rows.{state_in};
 ghost use Rattle.mem_core.specs.Rooms.{FitsZone, IsBelowBounds};
-ghost use Rattle.log_check.specs.Reasons.{Decides, IsNoRoom};
+ghost use Rattle.log_check.specs.Reasons.{Decides, IsNoRoom, DeniesClaim, SaysFreeBlock};
+ghost use Rattle.log_check.specs.Reasons.{SaysNumber, SaysRoom, SaysStock};
 ghost use Rattle.log_check.specs.declared.reason.Reason.{Reason};
 
 use crate::reason::{Quantity, Reason};
@@ -21,7 +20,6 @@ use group_tree::group::GroupId;
 use group_tree::path::PathText;
 use mem_core::phases::is_free;
 use mem_core::rows::Rows;
-use mem_core::sums::is_of_group;
 use step_rules::step::{Action, Answer, Step};
 use zone_blocks::block::Block;
 use zone_blocks::order::Order;
@@ -33,18 +31,18 @@ pub(crate) fn decide(rows: &Rows, step: &Step, answer: &Answer, due: &Answer) ->
     requires legal { is_legal (state_in rows.now) step.now.seat step.now.action ≡ true }
     requires due { Allows (state_in rows.now) step.now.seat step.now.action due.now }
     requires denied { ¬ Allows (state_in rows.now) step.now.seat step.now.action answer.now }
-    ensures { Decides (state_in rows.now) step.now.seat step.now.action answer.now result }
+    ensures { Decides (state_in rows.now) step.now.seat step.now.action answer.now due.now result }
 {
     let seat = step.seat;
     match step.action {
         Action::Get { frame } => number(rows, &Quantity::References(frame)),
         Action::Put { frame } => number(rows, &Quantity::References(frame)),
         Action::Freeze { frame, .. } => number(rows, &Quantity::References(frame)),
-        Action::Consume { group } => decide_consume(rows, seat, group, answer),
+        Action::Consume { .. } => decide_consume(rows, seat, answer, due),
         Action::Credit { .. } => stock(rows, seat),
         Action::Absorb { cpu } => number(rows, &Quantity::Reported(cpu)),
         Action::DrainStock { cpu } => number(rows, &Quantity::InStock(cpu)),
-        Action::Grant { group, pages } => decide_grant(rows, seat, group, pages),
+        Action::Grant { group, pages } => decide_grant(rows, group, pages),
         Action::PlaceBlock { group, order } => decide_place(rows, seat, group, order, answer, due),
         Action::Make { path } => decide_make(rows, seat, &path, due),
         _ => Reason::OnlyDone,
@@ -63,14 +61,16 @@ fn stock(rows: &Rows, cpu: u32) -> Reason
     }
 }
 
-// The pages of a stock that would pay, or what stock it is.
-fn decide_consume(rows: &Rows, seat: u32, group: GroupId, answer: &Answer) -> Reason
+// The pages of the stock, if they alone decide between the answer and the one that is due; else what stock it is.
+fn decide_consume(rows: &Rows, seat: u32, answer: &Answer, due: &Answer) -> Reason
     requires fits { FitsZone rows.now }
     requires bounded { IsBelowBounds (state_in rows.now) }
-    ensures { Decides (state_in rows.now) seat (Action.Consume group) answer.now result }
+    ensures { SaysStock (state_in rows.now) seat answer.now due.now result }
 {
-    let is_payer = is_of_group(rows.stock_group(seat), group) && !rows.is_drained(seat);
-    if is_payer && matches!(answer, Answer::Took | Answer::Empty) {
+    if matches!(
+        (answer, due),
+        (Answer::Took, Answer::Empty) | (Answer::Empty, Answer::Took)
+    ) {
         number(rows, &Quantity::InStock(seat))
     } else {
         stock(rows, seat)
@@ -78,11 +78,11 @@ fn decide_consume(rows: &Rows, seat: u32, group: GroupId, answer: &Answer) -> Re
 }
 
 // The lowest group whose limit has no room, or that each has room.
-fn decide_grant(rows: &Rows, seat: u32, group: GroupId, pages: u32) -> Reason
+fn decide_grant(rows: &Rows, group: GroupId, pages: u32) -> Reason
     requires fits { FitsZone rows.now }
     requires bounded { IsBelowBounds (state_in rows.now) }
     requires there { IsTrue (has_group rows.now.tree group) }
-    ensures { (answer : Answer) → Decides (state_in rows.now) seat (Action.Grant group pages) answer result }
+    ensures { SaysRoom (state_in rows.now) group pages result }
 {
     match rows.lowest_over(group, pages) {
         None => Reason::Room { group, pages },
@@ -122,7 +122,7 @@ fn decide_place(
     requires legal { is_legal (state_in rows.now) seat (Action.PlaceBlock group order) ≡ true }
     requires due { Allows (state_in rows.now) seat (Action.PlaceBlock group order) due.now }
     requires denied { ¬ Allows (state_in rows.now) seat (Action.PlaceBlock group order) answer.now }
-    ensures { Decides (state_in rows.now) seat (Action.PlaceBlock group order) answer.now result }
+    ensures { Decides (state_in rows.now) seat (Action.PlaceBlock group order) answer.now due.now result }
 {
     match answer {
         Answer::Placed(block) => refuse_block(rows, order, block),
@@ -134,7 +134,7 @@ fn decide_place(
 fn free_block(rows: &Rows, seat: u32, group: GroupId, order: Order, due: &Answer) -> Reason
     requires legal { is_legal (state_in rows.now) seat (Action.PlaceBlock group order) ≡ true }
     requires due { Allows (state_in rows.now) seat (Action.PlaceBlock group order) due.now }
-    ensures { (answer : Answer) → Decides (state_in rows.now) seat (Action.PlaceBlock group order) answer result }
+    ensures { SaysFreeBlock (state_in rows.now) order due.now result }
 {
     match due {
         Answer::Placed(block) => Reason::FreeBlock(*block),
@@ -148,7 +148,7 @@ fn refuse_block(rows: &Rows, order: Order, block: &Block) -> Reason
     requires fits { FitsZone rows.now }
     requires denied { block.now.order ≡ order → ¬ IsFreeBlock (free_in (state_in rows.now).zone
         (state_in rows.now).phases) block.now }
-    ensures { (seat g : ℕ) → Decides (state_in rows.now) seat (Action.PlaceBlock g order) (Placed block.now) result }
+    ensures { DeniesClaim (state_in rows.now) order block.now result }
 {
     if block.order.exponent() != order.exponent() {
         return Reason::OtherOrder(order);
@@ -168,7 +168,7 @@ fn refuse_block(rows: &Rows, order: Order, block: &Block) -> Reason
 fn decide_make(rows: &Rows, seat: u32, path: &PathText, due: &Answer) -> Reason
     requires legal { is_legal (state_in rows.now) seat (Action.Make path.now) ≡ true }
     requires due { Allows (state_in rows.now) seat (Action.Make path.now) due.now }
-    ensures { (answer : Answer) → Decides (state_in rows.now) seat (Action.Make path.now) answer result }
+    ensures { SaysNumber (state_in rows.now) result }
 {
     match due {
         Answer::Number(group) => Reason::LeastNumber(*group),

@@ -1,9 +1,9 @@
 //! The conditions of the table of rules: those that each step has to meet.
 
-ghost use Rattle.std.specs.Prelude.{◌≡◌, ◌∷◌, [], None, Some};
+ghost use Rattle.std.specs.Prelude.{◌≡◌, ◌∷◌, [], None, Some, filter_map};
 ghost use Rattle.step_rules.specs.State.{State};
 ghost use Rattle.step_rules.specs.Legal.{is_legal};
-ghost use Rattle.log_check.specs.Conditions.{all_met};
+ghost use Rattle.log_check.specs.Conditions.{all_met, conditions_of};
 
 use crate::conditions::Condition::{
     AnySeat, AtLeast, Below, Cpu, Frame, Group, HeldBy, InPlace, IsZero, Locked, Makeable, NoChild,
@@ -96,7 +96,9 @@ type Conditions = [Option<Condition>; 6];
 
 /// The conditions of a step: it may be made exactly if each is met.
 pub(crate) fn conditions(step: &Step) -> Conditions
-    ensures { (t : State) → is_legal t step.now.seat step.now.action ≡ all_met t result }
+    ensures table { filter_map (λ condition. condition) result ≡ conditions_of step.now.seat step.now.action }
+    ensures exact { (t : State) → is_legal t step.now.seat step.now.action
+        ≡ all_met t (conditions_of step.now.seat step.now.action) }
 {
     let seat = step.seat;
     match step.action {

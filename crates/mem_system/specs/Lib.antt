@@ -24,3 +24,4 @@ pub mod Usage
 pub mod Visits
 pub mod KillLaws
 pub mod CommandLaws
+pub mod DirtyAllocs

@@ -16,10 +16,11 @@ use crate::gates::{Gate, NoGate};
 use crate::lock::Locked;
 use crate::visits::serve_into;
 use cpu_part::{BootName, Tables};
-use crossbeam_utils::Backoff;
 use group_tree::group::GroupId;
+use std::hint::spin_loop;
 use std::marker::Model;
 use std::sync::{Mutex, MutexGuard, Wait};
+use std::thread::yield_now;
 use zone_blocks::config::Config;
 
 // How often a thread tries the lock before it may sleep.
@@ -45,6 +46,18 @@ impl<N: BootName> Model for System<N> {
         record { frames = s.tables.words; stocks = stock_table_of s.tables.words; sizes = s.sizes } };
 
     ghost invariant = { λ s. IsValidConfig s.sizes × IsSizedAs s.sizes N.frames N.stocks };
+}
+
+// Waits after a try of this number, from 0: pauses 1 to 1,024 times, twice as often after each try, and gives up the
+// processor from the twelfth try on.
+fn pause(tries: u32) {
+    if tries >= 11 {
+        yield_now();
+        return;
+    }
+    for _ in 0..1u32 << tries {
+        spin_loop();
+    }
 }
 
 impl<N: BootName> System<N> {
@@ -109,11 +122,11 @@ impl<N: BootName> System<N> {
     }
 
     // Waits for the lock. `Mutex::lock` lets a thread sleep at once if another one sleeps, and a visit takes less time than
-    // that. So the lock is tried for a while first.
+    // that. So the lock is tried for a while first, after pauses that double: each try takes the lock's cache line from
+    // its holder.
     fn wait<R: Wait>(&self, rt: &R) -> MutexGuard<'_, Locked<N>> {
-        let backoff = Backoff::new();
-        for _ in 0..TRIES {
-            backoff.spin();
+        for tries in 0..TRIES {
+            pause(tries);
             if let Some(guard) = self.locked.try_lock() {
                 return guard;
             }

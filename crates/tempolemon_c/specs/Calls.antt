@@ -1,5 +1,5 @@
 -- What a typed call does to the boot behind a handle, and what it gives the host.
-use Rattle.std.specs.Prelude.{◌≡◌, ◌⊎◌, ◌↔◌, ℕ, ◌<◌, ◌≤◌, List, [], Option, None, length}
+use Rattle.std.specs.Prelude.{◌≡◌, ◌≢◌, ◌⊎◌, ◌↔◌, ℕ, ◌%◌, ◌^◌, ◌<◌, ◌≤◌, List, [], Option, None, length}
 use Rattle.std.specs.Borrow.{Bor}
 use Rattle.frame_word.specs.Seats.{KnownTable}
 use Rattle.stock_word.specs.Stock.{KnownStockTable}
@@ -12,6 +12,7 @@ use Rattle.reply_texts.specs.LineAnswer as answer
 use Rattle.control_files.specs.Text.{longest_text}
 use Rattle.script_lines.specs.declared.line.Command.{Command}
 use Rattle.script_lines.specs.declared.line.Command.TheVariants as cmd
+use Rattle.script_lines.specs.declared.line.FrameAct.TheVariants.{Dirty}
 use Rattle.tempolemon_c.specs.declared.calls.Call.{Call}
 use Rattle.tempolemon_c.specs.declared.calls.Call.TheVariants as call
 use Rattle.control_files.specs.declared.file.File.{File}
@@ -23,7 +24,7 @@ use Rattle.script_replay.specs.declared.answer_value.AnswerValue.TheVariants as 
 use Rattle.tempolemon_c.specs.Handles.{LiveBoot, OnBoot}
 use Rattle.host_memory.specs.Buffers.{PutsText}
 use Rattle.host_memory.specs.Kinds.{no_result}
-use Rattle.host_memory.specs.Statuses.{bad_cpu, bad_frame, bad_group, not_live, small_buffer}
+use Rattle.host_memory.specs.Statuses.{bad_cpu, bad_frame, bad_group, done, not_live, small_buffer}
 use Rattle.host_memory.specs.declared.typed_result.TypedResult.{TypedResult}
 use Rattle.tempolemon_c.specs.Kinds.{result_of, status_of}
 use Rattle.tempolemon_c.specs.Statuses.{IsNotServedStatus, most_refusal}
@@ -113,6 +114,34 @@ pub record CallsInto (cpu : ℕ) (asked : Call) (before after : Option LiveBoot)
 -- what a call without a buffer does, by its status
 abbrev pub CallsBehind : (cpu : ℕ) → Call → (before after : Option LiveBoot) (status : ℕ) (out : TypedResult) → Type 0
 CallsBehind cpu asked before after status out = CallsInto cpu asked before after status out [] []
+
+-- the frame of a result that names one: its number crosses in 32 bits
+abbrev pub frame_of : TypedResult → ℕ
+frame_of out = out.number % 2 ^ 32
+
+-- An allocation was done and gave this result. Right after it the unit was noted as dirty, with this status; if that was
+-- done, the unit is kept and dirty, and the result is that of the allocation.
+pub record AllocatesThenNotes (cpu group order : ℕ) (before after : Option LiveBoot) (status : ℕ) (out : TypedResult)
+    : Type 0 where
+  pub between : Option LiveBoot
+  pub given : TypedResult
+  pub noted : TypedResult
+  pub allocates : CallsBehind cpu (call.Alloc group order) before between done given
+  pub notes : CallsBehind cpu (call.Script (cmd.OnFrame Dirty (frame_of given))) between after status noted
+  pub is_given : status ≡ done → out ≡ given
+  pub is_noted : status ≢ done → out ≡ noted
+
+-- an allocation alone was made, and wasn't done
+pub record AllocatesNone (cpu group order : ℕ) (before after : Option LiveBoot) (status : ℕ) (out : TypedResult)
+    : Type 0 where
+  pub allocates : CallsBehind cpu (call.Alloc group order) before after status out
+  pub not_done : status ≢ done
+
+-- what an allocation of a dirty unit does
+abbrev pub AllocatesDirtyBehind : (cpu group order : ℕ) → (before after : Option LiveBoot) (status : ℕ)
+    → TypedResult → Type 0
+AllocatesDirtyBehind cpu group order before after status out =
+    AllocatesNone cpu group order before after status out ⊎ AllocatesThenNotes cpu group order before after status out
 
 -- the buffer is refused as too small, and nothing was done
 pub record IsTooSmall (before after : Option LiveBoot) (status : ℕ) (out : TypedResult) (old new : List ℕ)

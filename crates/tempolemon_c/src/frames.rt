@@ -4,11 +4,12 @@ ghost use Rattle.script_lines.specs.declared.line.Command.TheVariants as cmd;
 ghost use Rattle.script_lines.specs.declared.line.FrameAct.TheVariants.{Clean, Dirty, Owner, Touch};
 ghost use Rattle.tempolemon_c.specs.declared.calls.Call.TheVariants.{Alloc, Script};
 ghost use Rattle.tempolemon_c.specs.Behind.{behind};
-ghost use Rattle.tempolemon_c.specs.Calls.{CallsBehind};
+ghost use Rattle.tempolemon_c.specs.Calls.{AllocatesDirtyBehind, CallsBehind};
 
 use crate::calling::serve_call;
 use crate::calls::Call;
 use crate::handle::Handle;
+use host_memory::status::DONE;
 use host_memory::typed_result::TypedResult;
 use script_lines::line::{Command, FrameAct};
 use std::alloc::Global;
@@ -26,6 +27,31 @@ pub extern "C" fn tempolemon_alloc(
     ensures { CallsBehind cpu (Alloc group order) (behind handle.old) (behind handle.new) result out.new }
 {
     serve_call(alloc, handle, cpu, &Call::Alloc { group, order }, out)
+}
+
+/// Takes a unit of 2^order frames, charged to the group of this number, and notes it as dirty: two calls in one.
+#[unsafe(no_mangle)]
+pub extern "C" fn tempolemon_alloc_dirty(
+    alloc: Global,
+    handle: &mut Handle,
+    cpu: u32,
+    group: u32,
+    order: u32,
+    out: &mut TypedResult,
+) -> u8
+    ensures { AllocatesDirtyBehind cpu group order (behind handle.old) (behind handle.new) result out.new }
+{
+    let status = serve_call(alloc, handle, cpu, &Call::Alloc { group, order }, out);
+    if status != DONE {
+        return status;
+    }
+    let given = *out;
+    let dirty = Command::OnFrame(FrameAct::Dirty, given.number as u32);
+    let status = serve_call(alloc, handle, cpu, &Call::Script(dirty), out);
+    if status == DONE {
+        *out = given;
+    }
+    status
 }
 
 /// Releases the unit that this frame heads: a fresh frame of the CPU is listed again, or the zone's reference is put.

@@ -1,16 +1,22 @@
 -- From a call on the pointer behind a handle to what the handle leads to.
 use Rattle.std.proofs.Common.{◌≡◌, ◌∙◌, Some, None, ap, refl, subst, sym}
 use Rattle.std.proofs.lemmas.Bool.{false≢true}
-use Rattle.std.specs.Prelude.{Bool, IsSome, IsSomeAnd, Option}
+use Rattle.std.specs.Prelude.{ℕ, Bool, IsSome, IsSomeAnd, Option}
 use Rattle.std.specs.Global.{Global}
+use Rattle.std.specs.Global.{Box}
+use Rattle.host_memory.specs.Cells.{KnownLoan}
 use Rattle.mem_system.specs.Cpus.{CpuInRun}
+use Rattle.mem_system.specs.Ending.{HasEnded}
+use Rattle.mem_system.specs.declared.ending.SystemEnd.{SystemEnd}
 use Rattle.frame_word.specs.Seats.{KnownTable}
 use Rattle.stock_word.specs.Stock.{KnownStockTable}
-use Rattle.zone_threads.specs.Homes.{HasCpu, KnownHome}
+use Rattle.zone_threads.specs.Homes.{EndsParked, HasCpu, HasNoCpu, IfNotEntered, KnownBehind, KnownHome}
+use Rattle.zone_threads.specs.declared.home.NotEntered.{NotEntered}
+use Rattle.zone_threads.specs.declared.home.NotEntered.TheVariants as not_entered
 use Rattle.zone_threads.specs.declared.home.NotLeft.{NotLeft}
 use Rattle.zone_threads.specs.declared.home.NotLeft.TheVariants as not_left
-use Rattle.tempolemon_threads.specs.Serving.{DropsHome, OnRawHome, ServesHomeRequest}
-use Rattle.tempolemon_threads.specs.declared.requests.Request.TheVariants.{Leave}
+use Rattle.tempolemon_threads.specs.Serving.{DropsHome, OnHome, OnRawHome, ServesHomeRequest}
+use Rattle.tempolemon_threads.specs.declared.requests.Request.TheVariants.{Enter, Leave}
 use Rattle.tempolemon_threads.specs.declared.requests.RequestAnswer.{RequestAnswer}
 use Rattle.tempolemon_threads.specs.declared.requests.RequestAnswer.TheVariants as answer
 use Rattle.tempolemon_threads.specs.Zones.{IsCpuHandle, OnPart, led_of}
@@ -41,3 +47,44 @@ pub no_cpu_left : (f : KnownTable) (s : KnownStockTable) (a : Global) (is_live :
 no_cpu_left f s a is_live o before after said reason is same serves one two =
     let drops : DropsHome before after = subst (λ (x : RequestAnswer). ServesHomeRequest f s before (Leave a) after x) (one ∙ ap answer.NotLeft two) serves in
     false≢true (subst (λ (x : Option CpuInRun). IsSome x) drops.none (is.cpu drops.from (sym same ∙ drops.was)))
+
+-- a zone that ended with the CPUs that were parked ended
+pub has_ended : (f : KnownTable) (s : KnownStockTable) (loan : KnownLoan (Box KnownBehind)) (ended : SystemEnd) → EndsParked f s loan ended → HasEnded f s ended
+has_ended f s loan ended parked =
+    (parked.found.value.parked, record { locked = parked.found.value.locked; sound = parked.ends.sound; so = parked.ends })
+
+-- a refused entry leaves the home as it was
+home_stays : (cpus number : ℕ) (from to : KnownHome) (reason : NotEntered) → IfNotEntered cpus number from reason to → to ≡ from
+home_stays cpus number from to not_entered.NoCpu is = is.2
+home_stays cpus number from to not_entered.Out is = is.stays
+home_stays cpus number from to not_entered.HasCpu is = is.1
+home_stays cpus number from to not_entered.Busy is = is.stays
+
+-- a home without a CPU is gone after a return
+home_gone : (f : KnownTable) (s : KnownStockTable) (a : Global) (before after : Option KnownHome) (said : RequestAnswer) → IsSomeAnd before HasNoCpu
+    → ServesHomeRequest f s before (Leave a) after said → after ≡ None
+home_gone f s a before after (answer.Left shown) none serves = serves.is
+home_gone f s a before after (answer.NotLeft not_left.NoCpu) none serves = serves.is
+home_gone f s a None after (answer.NotLeft not_left.Busy) none serves = absurd none
+home_gone f s a (Some home) after (answer.NotLeft not_left.Busy) none serves =
+    absurd (false≢true (subst (λ (x : Option CpuInRun). IsSome x) none serves.0))
+home_gone f s a before after answer.Started none serves = absurd serves
+home_gone f s a before after answer.NoMemory none serves = absurd serves
+home_gone f s a before after answer.Entered none serves = absurd serves
+home_gone f s a before after (answer.NotEntered reason) none serves = absurd serves
+home_gone f s a before after (answer.Text text) none serves = absurd serves
+home_gone f s a before after answer.Busy none serves = absurd serves
+home_gone f s a before after answer.Out none serves = absurd serves
+home_gone f s a before after (answer.Ended ended) none serves = absurd serves
+home_gone f s a before after answer.Lost none serves = absurd serves
+
+-- a home that was refused a CPU is gone after a return
+pub refused_gone : (f g : KnownTable) (s t : KnownStockTable) (a : Global) (number : ℕ) (home between after : Option KnownHome)
+    (said left : RequestAnswer) (reason : NotEntered) → IsSomeAnd home HasNoCpu → ServesHomeRequest f s home (Enter number) between said
+    → said ≡ answer.NotEntered reason → ServesHomeRequest g t between (Leave a) after left → after ≡ None
+refused_gone f g s t a number home between after said left reason none enters is leaves =
+    let on : OnHome (λ (from to : KnownHome). IfNotEntered f.cpus number from reason to) home between =
+    subst (λ (x : RequestAnswer). ServesHomeRequest f s home (Enter number) between x) is enters in
+    let was : HasNoCpu on.from = subst (λ (o : Option KnownHome). IsSomeAnd o HasNoCpu) on.was none in
+    let now : HasNoCpu on.to = subst HasNoCpu (sym (home_stays f.cpus number on.from on.to reason on.done)) was in
+    home_gone g t a between after left (subst (λ (o : Option KnownHome). IsSomeAnd o HasNoCpu) (sym on.is) now) leaves

@@ -1,10 +1,10 @@
 -- What each request does to what a handle leads to.
-use Rattle.std.specs.Prelude.{◌≡◌, Option, None, Some}
+use Rattle.std.specs.Prelude.{◌≡◌, Option, None, Some, IsSomeAnd}
 use Rattle.frame_word.specs.Seats.{KnownTable}
 use Rattle.stock_word.specs.Stock.{KnownStockTable}
 use Rattle.zone_blocks.specs.declared.config.Config.{Config}
 use Rattle.mem_system.specs.Ending.{HasEnded}
-use Rattle.zone_threads.specs.Homes.{GetsCpu, HasCpu, HasNoCpu, IfNotEntered, KnownHome}
+use Rattle.zone_threads.specs.Homes.{HasCpu, HasNoCpu, IfNotEntered, KnownHome, TakesCpu}
 use Rattle.zone_threads.specs.Shown.{ReadsText}
 use Rattle.zone_threads.specs.declared.home.NotLeft.TheVariants as not_left
 use Rattle.tempolemon_threads.specs.declared.requests.Request.{Request}
@@ -86,13 +86,16 @@ abbrev pub ServesHomeRequest : KnownTable → KnownStockTable → (before : Opti
     (after : Option KnownHome) (answer : RequestAnswer) → Type 0
 ServesHomeRequest frames stock_table before (Start alloc boot) after returned.Started = StartsHome boot.sizes after
 ServesHomeRequest frames stock_table before (Start alloc boot) after returned.NoMemory = after ≡ None
-ServesHomeRequest frames stock_table before (Enter number) after returned.Entered = OnHome (GetsCpu number) before after
+ServesHomeRequest frames stock_table before (Enter number) after returned.Entered =
+    OnHome (TakesCpu number) before after
 ServesHomeRequest frames stock_table before (Enter number) after (returned.NotEntered reason) =
     OnHome (λ from to. IfNotEntered frames.cpus number from reason to) before after
-ServesHomeRequest frames stock_table before (Leave alloc) after returned.Left = LeavesHome before after
+ServesHomeRequest frames stock_table before (Leave alloc) after (returned.Left shown) =
+    LeavesHome before after
 ServesHomeRequest frames stock_table before (Leave alloc) after (returned.NotLeft not_left.NoCpu) =
     DropsHome before after
-ServesHomeRequest frames stock_table before (Leave alloc) after (returned.NotLeft not_left.Busy) = after ≡ before
+ServesHomeRequest frames stock_table before (Leave alloc) after (returned.NotLeft not_left.Busy) =
+    IsSomeAnd before HasCpu × (after ≡ before)
 ServesHomeRequest frames stock_table before (Text alloc asked) after (returned.Text text) =
     OnHome (ReadsText frames stock_table asked text) before after
 ServesHomeRequest frames stock_table before (Text alloc asked) after returned.Busy = after ≡ before

@@ -3,10 +3,9 @@ use Rattle.std.specs.Prelude.{◌≡◌, ◌↔◌, ℕ, Bool, Option, None, Som
 use Rattle.frame_word.specs.Seats.{KnownTable}
 use Rattle.stock_word.specs.Stock.{KnownStockTable}
 use Rattle.zone_blocks.specs.declared.config.Config.{Config}
-use Rattle.mem_system.specs.Cpus.{CpuInRun}
 use Rattle.mem_system.specs.Boots.{IsSizedAs}
 use Rattle.mem_system.specs.Ending.{HasEnded}
-use Rattle.zone_threads.specs.Homes.{HasCpu, HasNoCpu, IsCpu, KnownHome}
+use Rattle.zone_threads.specs.Homes.{HasCpu, HasNoCpu, HasCpuAsParked, IsCpu, KnownHome}
 use Rattle.mem_system.specs.declared.ending.SystemEnd.{SystemEnd}
 use Rattle.host_memory.specs.declared.report.Report.{Report}
 
@@ -69,17 +68,15 @@ pub record BootsZone (sizes : Config) (after : Option Led) : Type 0 where
   pub sized : IsSizedAs sizes zone.frames zone.stocks
   pub sizes_are : zone.home.sizes ≡ sizes
 
--- the handle leads to this CPU of the zone of these tables and of these sizes
+-- the handle leads to this CPU of the zone of these tables and of these sizes, just as the CPU was parked
 pub record CpuIn (number : ℕ) (frames : KnownTable) (stocks : KnownStockTable) (sizes : Config) (part : Option Led)
     : Type 0 where
   pub home : KnownHome
-  pub cpu : CpuInRun
   pub part_is : part ≡ Some (led frames stocks home)
   pub sizes_are : home.sizes ≡ sizes
-  pub cpu_is : home.cpu ≡ Some cpu
-  pub number_is : cpu.part.number ≡ number
+  pub taken : HasCpuAsParked number home
 
--- the part's handle leads to this CPU of the zone that the zone's handle leads to
+-- the part's handle leads to this CPU of the zone that the zone's handle leads to, just as the CPU was parked
 pub record TakesPart (number : ℕ) (zone part : Option Led) : Type 0 where
   pub zone_led : Led
   pub zone_is : zone ≡ Some zone_led

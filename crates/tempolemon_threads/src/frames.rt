@@ -1,7 +1,7 @@
 //! The calls that allocate, release, pin and note frames. None of them takes memory.
 
 ghost use Rattle.mem_system.specs.declared.command.Cmd.TheVariants.{Clean, Dirty, Owner, Touch};
-ghost use Rattle.zone_threads.specs.declared.calls.Call.TheVariants.{Get, Put, Release, Settle, Visit};
+ghost use Rattle.zone_threads.specs.declared.calls.Call.TheVariants.{AllocDirty, Get, Put, Release, Settle, Visit};
 ghost use Rattle.tempolemon_threads.specs.Behind.{part_behind};
 ghost use Rattle.tempolemon_threads.specs.Calls.{AllocsPart, CallsPart};
 
@@ -29,6 +29,21 @@ pub extern "C" fn tempolemon_try_alloc(
     } else {
         serve_call(alloc, part, &Call::AllocBlock { group, order }, out)
     }
+}
+
+/// Takes a dirty unit of 2^order frames, charged to the group of this number: the unit is kept and dirty before another
+/// thread gets the lock, which the call tries.
+#[unsafe(no_mangle)]
+pub extern "C" fn tempolemon_try_alloc_dirty(
+    alloc: Global,
+    part: &mut CpuPart,
+    group: u32,
+    order: u32,
+    out: &mut TypedResult,
+) -> u8
+    ensures { CallsPart (AllocDirty group order) (part_behind part.old) (part_behind part.new) result out.new }
+{
+    serve_call(alloc, part, &Call::AllocDirty { group, order }, out)
 }
 
 /// Releases the unit that this frame heads: a fresh frame of the CPU to its list, if its stock wasn't drained. Else it tries

@@ -32,9 +32,9 @@ impl Zone {
         requires sized { IsSizedAs boot.sizes boot.frames boot.stocks }
         ensures { MatchBool result (BootsZone boot.sizes (zone_behind self.new)) (zone_behind self.new ≡ None) }
     {
-        let raw = std::mem::replace(&mut self.raw, RawHome::none(alloc));
+        let raw = self.raw.take(alloc);
         let (raw, answer) = serve_raw(raw, Request::Start { alloc, boot });
-        self.raw = raw;
+        self.raw.put(raw);
         self.is_live = matches!(answer, RequestAnswer::Started);
         self.is_live
     }
@@ -46,9 +46,9 @@ impl Zone {
         ensures forked { ForksAs result.1 (zone_behind self.old)
             result.0.frames result.0.stocks result.0.home }
     {
-        let raw = std::mem::replace(&mut self.raw, RawHome::none(alloc));
+        let raw = self.raw.take(alloc);
         let (raw, other, forked) = fork_raw(raw, alloc);
-        self.raw = raw;
+        self.raw.put(raw);
         (other, forked)
     }
 
@@ -57,9 +57,9 @@ impl Zone {
         requires live { IsSome (zone_behind self.old) }
         ensures { EndsAs result (zone_behind self.old) (zone_behind self.new) }
     {
-        let raw = std::mem::replace(&mut self.raw, RawHome::none(alloc));
+        let raw = self.raw.take(alloc);
         let (raw, answer) = serve_raw(raw, Request::End { alloc });
-        self.raw = raw;
+        self.raw.put(raw);
         self.is_live = matches!(answer, RequestAnswer::Out);
         answer
     }
@@ -74,6 +74,7 @@ impl CpuPart {
     }
 
     /// Takes the CPU of this number, by a pointer to the zone.
+    #[tactic(auto, using(crate::proofs::Crossing::refused_gone))]
     pub(crate) fn enter(
         &mut self,
         alloc: Global,
@@ -89,12 +90,13 @@ impl CpuPart {
         let (raw, answer) = serve_raw(raw, Request::Enter { number });
         match answer {
             RequestAnswer::Entered => {
-                self.raw = raw;
+                self.raw.put(raw);
                 self.is_live = true;
                 Ok(())
             }
             RequestAnswer::NotEntered(reason) => {
-                let (_none, _left) = serve_raw(raw, Request::Leave { alloc });
+                let (none, _left) = serve_raw(raw, Request::Leave { alloc });
+                none.forget();
                 Err(reason)
             }
             _ => unreachable!(),
@@ -108,19 +110,19 @@ impl CpuPart {
             (ReturnsPart (part_behind self.old) (part_behind self.new))
             (part_behind self.new ≡ part_behind self.old) }
     {
-        let raw = std::mem::replace(&mut self.raw, RawHome::none(alloc));
+        let raw = self.raw.take(alloc);
         let (raw, answer) = serve_raw(raw, Request::Leave { alloc });
         if let RequestAnswer::NotLeft(reason) = answer {
             let NotLeft::Busy = reason else {
                 unreachable!()
             };
-            self.raw = raw;
+            self.raw.put(raw);
             return false;
         }
-        let RequestAnswer::Left = answer else {
+        let RequestAnswer::Left(_) = answer else {
             unreachable!()
         };
-        self.raw = raw;
+        self.raw.put(raw);
         self.is_live = false;
         true
     }
@@ -133,9 +135,9 @@ impl CpuPart {
         ensures { OnPart (λ frames stocks from to. Calls frames stocks call.now from to result)
             (part_behind self.old) (part_behind self.new) }
     {
-        let raw = std::mem::replace(&mut self.raw, RawHome::none(alloc));
+        let raw = self.raw.take(alloc);
         let (raw, answer) = call_raw(raw, call);
-        self.raw = raw;
+        self.raw.put(raw);
         answer
     }
 
@@ -146,9 +148,9 @@ impl CpuPart {
         ensures { OnPart (λ frames stocks from to. AnswersRead frames stocks asked.now from to result)
             (part_behind self.old) (part_behind self.new) }
     {
-        let raw = std::mem::replace(&mut self.raw, RawHome::none(alloc));
+        let raw = self.raw.take(alloc);
         let (raw, answer) = read_raw(raw, asked);
-        self.raw = raw;
+        self.raw.put(raw);
         answer
     }
 
@@ -160,9 +162,9 @@ impl CpuPart {
             (part_behind self.new)) }
         ensures busy { IfNone result (part_behind self.new ≡ part_behind self.old) }
     {
-        let raw = std::mem::replace(&mut self.raw, RawHome::none(alloc));
+        let raw = self.raw.take(alloc);
         let (raw, answer) = serve_raw(raw, Request::Text { alloc, asked });
-        self.raw = raw;
+        self.raw.put(raw);
         match answer {
             RequestAnswer::Text(answer) => Some(answer),
             RequestAnswer::Busy => None,

@@ -4,18 +4,16 @@ ghost use Rattle.tempolemon_threads.specs.Zones.{IsCpuHandle, IsZoneHandle};
 
 use crate::raw::RawHome;
 
-/// A zone, or none. A host begins with all bytes 0, which is none. If it is dropped, the zone stays in memory.
+/// A zone, or none. A host begins with all bytes 0, which is none.
 #[repr(C)]
-#[derive(Drop)]
 pub struct Zone {
     pub(crate) raw: RawHome,
     pub(crate) is_live: bool,
     pub ghost is_zone: { IsZoneHandle is_live raw.home },
 }
 
-/// A CPU of a zone, or none. A host begins with all bytes 0, which is none. If it is dropped, the CPU stays in memory.
+/// A CPU of a zone, or none. A host begins with all bytes 0, which is none.
 #[repr(C)]
-#[derive(Drop)]
 pub struct CpuPart {
     pub(crate) raw: RawHome,
     pub(crate) is_live: bool,

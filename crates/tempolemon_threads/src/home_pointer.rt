@@ -10,12 +10,11 @@ use cpu_part::BootName;
 use host_memory::box_parts::BoxParts;
 use std::alloc::Global;
 use std::marker::Model;
+use std::mem::ManuallyDrop;
 use zone_threads::home::Home;
 
 /// A pointer to a home, or to nothing, and the tables that the home is of. It has the fields of `RawHome`. Its type
-/// doesn't fix the tables, so a call may pick the name that has them. If it is dropped, what it points to stays in
-/// memory.
-#[derive(Drop)]
+/// doesn't fix the tables, so a call may pick the name that has them. It can't be dropped.
 pub struct HomePointer<B> {
     pub(crate) ptr: *mut B,
     pub(crate) alloc: Global,
@@ -37,6 +36,13 @@ impl<N: BootName> HomePointer<N> {
             ptr: std::ptr::null_mut(),
             alloc,
         }
+    }
+
+    /// Lets a pointer to nothing go.
+    pub fn forget(self)
+        requires { self.home ≡ None }
+    {
+        let _none = unsafe { ManuallyDrop::new_unchecked(self) };
     }
 
     /// A pointer to what is in this box.

@@ -13,12 +13,12 @@ use crate::requests::{Forked, Request, RequestAnswer};
 use crate::serving::{fork, serve, serve_call, serve_read};
 use std::alloc::Global;
 use std::marker::{Brand, Model};
+use std::mem::ManuallyDrop;
 use zone_threads::calls::{Call, CallAnswer, ReadAnswer, ReadCall};
 
-/// A pointer to a home, or to nothing, and the tables that the home is of. If it is dropped, what it points to
-/// stays in memory. It may go to another thread.
+/// A pointer to a home, or to nothing, and the tables that the home is of. It can't be dropped, so no home is left in
+/// memory. It may go to another thread.
 #[repr(C)]
-#[derive(Drop)]
 pub struct RawHome {
     ptr: *mut u8,
     alloc: Global,
@@ -39,6 +39,31 @@ impl RawHome {
         ensures { result.home ≡ None }
     {
         RawHome::of(HomePointer::none(alloc))
+    }
+
+    /// Lets a pointer to nothing go.
+    pub fn forget(self)
+        requires { self.home ≡ None }
+    {
+        let _none = unsafe { ManuallyDrop::new_unchecked(self) };
+    }
+
+    /// Takes the pointer out, and leaves one to nothing.
+    #[inline(always)]
+    pub fn take(&mut self, alloc: Global) -> RawHome
+        ensures taken { result ≡ self.old }
+        ensures none { self.new.home ≡ None }
+    {
+        std::mem::replace(self, RawHome::none(alloc))
+    }
+
+    /// Puts a pointer in the place of one to nothing.
+    #[inline(always)]
+    pub fn put(&mut self, raw: RawHome)
+        requires { self.old.home ≡ None }
+        ensures { self.new ≡ raw }
+    {
+        std::mem::replace(self, raw).forget();
     }
 
     /// The same pointer, without a name.

@@ -4,6 +4,7 @@ use mem_system::{Boot, SystemEnd};
 use std::alloc::Global;
 use zone_threads::home::{NotEntered, NotLeft};
 use zone_threads::texts::{TextAnswer, TextCall};
+use zone_threads::zone::entries::Returned;
 
 /// What a handle is asked.
 #[derive(Drop)]
@@ -31,8 +32,8 @@ pub enum RequestAnswer {
     Entered,
     /// Why no CPU was taken.
     NotEntered(NotEntered),
-    /// The CPU was returned.
-    Left,
+    /// The CPU was returned, as this shows.
+    Left(Returned),
     /// Why no CPU was returned.
     NotLeft(NotLeft),
     /// A text, or why there is none.

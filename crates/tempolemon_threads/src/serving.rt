@@ -94,16 +94,17 @@ pub fn fork<N: BootName>(
 }
 
 fn start<N: BootName>(
-    _pointer: HomePointer<N>,
+    pointer: HomePointer<N>,
     alloc: Global,
     boot: Boot,
 ) -> (HomePointer<N>, RequestAnswer)
-    requires none { _pointer.home ≡ None }
+    requires none { pointer.home ≡ None }
     requires frames { boot.frames ≡ N.frames }
     requires stocks { boot.stocks ≡ N.stocks }
     ensures named { (result.0.frames ≡ N.frames) × (result.0.stocks ≡ N.stocks) }
-    ensures serves { ServesHomeRequest N.frames N.stocks _pointer.home (Start alloc boot) result.0.home result.1 }
+    ensures serves { ServesHomeRequest N.frames N.stocks pointer.home (Start alloc boot) result.0.home result.1 }
 {
+    pointer.forget();
     let Ok(home) = Home::<N>::start(alloc, boot) else {
         return (HomePointer::none(alloc), RequestAnswer::NoMemory);
     };
@@ -121,7 +122,7 @@ fn enter<N: BootName>(pointer: HomePointer<N>, number: u32) -> (HomePointer<N>, 
 {
     let mut home = pointer.into_box_parts().into_box();
     match home.enter(number) {
-        Ok(_) => (HomePointer::of(BoxParts::of(home)), RequestAnswer::Entered),
+        Ok(()) => (HomePointer::of(BoxParts::of(home)), RequestAnswer::Entered),
         Err(reason) => (
             HomePointer::of(BoxParts::of(home)),
             RequestAnswer::NotEntered(reason),
@@ -145,7 +146,7 @@ fn leave<N: BootName>(pointer: HomePointer<N>, alloc: Global) -> (HomePointer<N>
     }
     let _home = Box::into_inner(home);
     match left {
-        Ok(_) => (HomePointer::none(alloc), RequestAnswer::Left),
+        Ok(returned) => (HomePointer::none(alloc), RequestAnswer::Left(returned)),
         Err(reason) => (HomePointer::none(alloc), RequestAnswer::NotLeft(reason)),
     }
 }
@@ -169,6 +170,7 @@ fn text<N: BootName>(
     (pointer, RequestAnswer::Text(text))
 }
 
+#[tactic(auto, using(crate::proofs::Crossing::has_ended))]
 fn end<N: BootName>(pointer: HomePointer<N>, alloc: Global) -> (HomePointer<N>, RequestAnswer)
     requires some { IsSomeAnd pointer.home HasNoCpu }
     requires named { (pointer.frames ≡ N.frames) × (pointer.stocks ≡ N.stocks) }
@@ -178,7 +180,7 @@ fn end<N: BootName>(pointer: HomePointer<N>, alloc: Global) -> (HomePointer<N>, 
     let home = Box::into_inner(pointer.into_box_parts().into_box());
     match home.into_zone() {
         Ok(zone) => match zone.end() {
-            Some(ended) => (HomePointer::none(alloc), RequestAnswer::Ended(ended)),
+            Some(end) => (HomePointer::none(alloc), RequestAnswer::Ended(end.ended)),
             None => (HomePointer::none(alloc), RequestAnswer::Lost),
         },
         Err(home) => match Box::new(alloc, home) {

@@ -96,6 +96,7 @@ pub extern "C" fn tempolemon_try_take(
     }
     let (raw, forked) = zone.fork(alloc);
     if forked == Forked::NoMemory {
+        raw.forget();
         return NO_MEMORY;
     }
     match part.enter(alloc, raw, cpu) {

@@ -22,6 +22,7 @@ use Rattle.cpu_part.specs.declared.answers.Fast.{Fast}
 use Rattle.cpu_part.specs.declared.answers.Fast.TheVariants.{Got}
 use Rattle.mem_system.specs.Commands.{IsOfZone}
 use Rattle.mem_system.specs.Cpus.{CpuInRun}
+use Rattle.mem_system.specs.DirtyAllocs.{ServesDirtyAlloc}
 use Rattle.mem_system.specs.Locked.{SeenBehindLock}
 use Rattle.mem_system.specs.Shown.{SettlesCaller}
 use Rattle.mem_system.specs.Visits.{IsServed, IsVisited, LockedState, ServesFrameOutcome, ServesOutcome}
@@ -45,6 +46,13 @@ pub record ServesBlock (frames : KnownTable) (group order : ℕ) (outcome : Outc
   pub path : Bor (List ℕ)
   pub path_is : path_of before.locked.machine.ledger.groups group ≡ Some path.now
   pub serves : ServesOutcome frames (cmd.Alloc path order) outcome before after
+
+-- a unit was allocated for the group of this number, by its path, and noted as dirty
+pub record ServesDirtyUnit (frames : KnownTable) (group order : ℕ) (outcome : Outcome) (before after : LockedState)
+    : Type 0 where
+  pub path : Bor (List ℕ)
+  pub path_is : path_of before.locked.machine.ledger.groups group ≡ Some path.now
+  pub serves : ServesDirtyAlloc frames path order outcome before after
 
 -- the fast allocation got no frame
 abbrev pub GetsNoFrame : Fast → Type 0
@@ -87,9 +95,9 @@ pub record MissesFast (group : ℕ) (from to : CpuInRun) : Type 0 where
   pub missed : GetsNoFrame fast
   pub allocs : AllocsFast group fast from to
 
--- the frame wasn't a fresh one of the CPU, or its stock was drained, and at most what its part knows of that has changed
+-- the frame isn't a fresh one of the CPU, or its stock was drained, and at most what its part knows of that has changed
 abbrev pub MissesDrop : (frame : ℕ) → (from to : CpuInRun) → Type 0
-MissesDrop frame from to = (to ≡ from) ⊎ DropsFast frame NeedVisit from to
+MissesDrop frame from to = ((times frame from.part.fresh ≡ 0) × (to ≡ from)) ⊎ DropsFast frame NeedVisit from to
 
 -- `first` leads from the CPU as it was to the CPU between, and `rest` on from there
 pub record Then (first rest : (from to : CpuInRun) → Type 0) (from to : CpuInRun) : Type 0 where
@@ -105,6 +113,21 @@ IsMissingIn groups number = (most_groups ≤ number) ⊎ (has_group groups numbe
 abbrev pub NoGroupBehindLock : KnownTable → KnownStockTable → ℕ → (from to : CpuInRun) → Type 0
 NoGroupBehindLock frames stock_table group from to =
     SeenBehindLock frames stock_table (λ found. IsMissingIn found.machine.ledger.groups group) from to
+
+-- What a get does to the CPU, by its answer. Whether the zone has the frame is looked at first.
+abbrev pub CallsGet : KnownTable → (frame : ℕ) → CallAnswer → (from to : CpuInRun) → Type 0
+CallsGet frames frame answer.NoFrame from to = (frames.frames ≤ frame) × (to ≡ from)
+CallsGet frames frame (answer.Got got) from to = Pins frame got from to
+CallsGet frames frame (answer.Refused fault) from to = (frame < frames.frames) × (fault ≡ PinsFull) × RefusesPin from to
+CallsGet frames frame returned from to = ⊥
+
+-- the same of a put
+abbrev pub CallsPut : KnownTable → (frame : ℕ) → CallAnswer → (from to : CpuInRun) → Type 0
+CallsPut frames frame answer.NoFrame from to = (frames.frames ≤ frame) × (to ≡ from)
+CallsPut frames frame (answer.Put put) from to = Unpins frame put from to
+CallsPut frames frame (answer.Refused fault) from to =
+    (frame < frames.frames) × (fault ≡ NotPinned) × (times frame from.part.pins ≡ 0) × (to ≡ from)
+CallsPut frames frame returned from to = ⊥
 
 -- what is so, if nothing was allocated under the lock for this reason
 abbrev pub IfMissing : KnownTable → KnownStockTable → (group : ℕ) → Missed → (from to : KnownHome) → Type 0
@@ -138,6 +161,11 @@ Calls frames stock_table (call.AllocBlock group order) from to answer.NoGroup =
     OnCpu (NoGroupBehindLock frames stock_table group) from to
 Calls frames stock_table (call.AllocBlock group order) from to (answer.Served outcome) =
     OnCpu (IsVisited frames stock_table from.sizes (ServesBlock frames group order outcome)) from to
+Calls frames stock_table (call.AllocDirty group order) from to answer.Busy = to ≡ from
+Calls frames stock_table (call.AllocDirty group order) from to answer.NoGroup =
+    OnCpu (NoGroupBehindLock frames stock_table group) from to
+Calls frames stock_table (call.AllocDirty group order) from to (answer.Served outcome) =
+    OnCpu (IsVisited frames stock_table from.sizes (ServesDirtyUnit frames group order outcome)) from to
 Calls frames stock_table (call.Release frame) from to answer.Busy =
     (frame < frames.frames) × OnCpu (MissesDrop frame) from to
 Calls frames stock_table (call.Release frame) from to answer.NoFrame = (frames.frames ≤ frame) × (to ≡ from)
@@ -145,15 +173,8 @@ Calls frames stock_table (call.Release frame) from to answer.Listed = OnCpu (Dro
 Calls frames stock_table (call.Release frame) from to (answer.Served outcome) =
     OnCpu (Then (MissesDrop frame)
     (IsVisited frames stock_table from.sizes (ServesOutcome frames (cmd.Release frame) outcome))) from to
-Calls frames stock_table (call.Get frame) from to answer.NoFrame = (frames.frames ≤ frame) × (to ≡ from)
-Calls frames stock_table (call.Get frame) from to (answer.Got got) = OnCpu (Pins frame got) from to
-Calls frames stock_table (call.Get frame) from to (answer.Refused fault) =
-    (frame < frames.frames) × (fault ≡ PinsFull) × OnCpu RefusesPin from to
-Calls frames stock_table (call.Put frame) from to answer.NoFrame = (frames.frames ≤ frame) × (to ≡ from)
-Calls frames stock_table (call.Put frame) from to (answer.Put put) = OnCpu (Unpins frame put) from to
-Calls frames stock_table (call.Put frame) from to (answer.Refused fault) =
-    (frame < frames.frames) × (fault ≡ NotPinned)
-    × OnCpu (λ cpu left. (times frame cpu.part.pins ≡ 0) × (left ≡ cpu)) from to
+Calls frames stock_table (call.Get frame) from to returned = OnCpu (CallsGet frames frame returned) from to
+Calls frames stock_table (call.Put frame) from to returned = OnCpu (CallsPut frames frame returned) from to
 Calls frames stock_table call.Settle from to answer.Busy = to ≡ from
 Calls frames stock_table call.Settle from to answer.Settled =
     OnCpu (IsVisited frames stock_table from.sizes (SettlesCaller frames)) from to

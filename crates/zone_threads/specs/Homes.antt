@@ -2,25 +2,35 @@
 use Rattle.std.specs.Prelude.{◌≡◌, ◌≢◌, ◌≤◌, ◌<◌, ℕ, All, List, length, [], ◌∷◌, ◌++◌, Option, Some, None, IsSome}
 use Rattle.std.specs.Global.{Box}
 use Rattle.std.specs.List.{HoldsAt, swap_remove}
-use Rattle.host_memory.specs.Cells.{KnownChange}
+use Rattle.host_memory.specs.Cells.{KnownChange, KnownLoan}
+use Rattle.frame_word.specs.Seats.{KnownTable}
+use Rattle.stock_word.specs.Stock.{KnownStockTable}
 use Rattle.zone_blocks.specs.declared.config.Config.{Config}
 use Rattle.mem_system.specs.Cpus.{CpuInRun}
+use Rattle.mem_system.specs.Ending.{PutsAndEnds}
 use Rattle.mem_system.specs.Locked.{KnownLocked}
+use Rattle.mem_system.specs.declared.ending.SystemEnd.{SystemEnd}
 use Rattle.zone_threads.specs.declared.home.NotEntered.{NotEntered}
 use Rattle.zone_threads.specs.declared.home.NotEntered.TheVariants as not_entered
 use Rattle.zone_threads.specs.declared.home.NotLeft.{NotLeft}
 use Rattle.zone_threads.specs.declared.home.NotLeft.TheVariants as not_left
-
--- what a thread has of a zone: a CPU, if it took one, and the sizes of the zone's boot
-pub record KnownHome : Type 0 where
-  pub cpu : Option CpuInRun
-  pub sizes : Config
 
 -- what lies behind the lock: the machine with its sizes, the parked parts, and for how many there is room
 pub record KnownBehind : Type 0 where
   pub locked : KnownLocked
   pub parked : List CpuInRun
   pub room : ℕ
+
+-- What a thread that has the lock took out from behind it, and what it put back.
+abbrev pub LockedChange : Type 0
+LockedChange = KnownChange (Box KnownBehind)
+
+-- What a thread has of a zone: a CPU, if it took one, and the sizes of the zone's boot. `change` is what the thread took out
+-- from behind the lock, and what it put back, as it last took or returned a CPU.
+pub record KnownHome : Type 0 where
+  pub cpu : Option CpuInRun
+  pub sizes : Config
+  pub change : Option LockedChange
 
 -- the same, with this part parked too
 abbrev pub parked_with : KnownBehind → CpuInRun → KnownBehind
@@ -38,11 +48,12 @@ IsNotParked number behind = All (λ cpu. cpu.part.number ≢ number) behind.park
 abbrev pub HasCpu : KnownHome → Type 0
 HasCpu home = IsSome home.cpu
 
--- there is a CPU before and after, and `does` leads from one to the other; the zone's sizes stay
+-- there is a CPU before and after, and `does` leads from one to the other; all else stays
 pub record OnCpu (does : (from to : CpuInRun) → Type 0) (before after : KnownHome) : Type 0 where
   pub from : CpuInRun
   pub to : CpuInRun
   pub sizes : after.sizes ≡ before.sizes
+  pub change : after.change ≡ before.change
   pub was : before.cpu ≡ Some from
   pub is : after.cpu ≡ Some to
   pub done : does from to
@@ -52,10 +63,6 @@ pub record IsCpu (cpus number : ℕ) : Type 0 where
   pub low : 1 ≤ number
   pub high : number ≤ cpus
 
--- What a thread that has the lock took out from behind it, and what it put back.
-abbrev pub LockedChange : Type 0
-LockedChange = KnownChange (Box KnownBehind)
-
 -- this part was parked, and was taken out: the last one has its place now
 pub record Unparks (cpu : CpuInRun) (found left : KnownBehind) : Type 0 where
   pub place : ℕ
@@ -63,27 +70,25 @@ pub record Unparks (cpu : CpuInRun) (found left : KnownBehind) : Type 0 where
   pub is_there : HoldsAt (λ part. part ≡ cpu) found.parked place
   pub left_is : left ≡ record found { parked = swap_remove found.parked place cpu }
 
--- the home had no CPU, and has the one of this number now
-pub record GetsCpu (number : ℕ) (before after : KnownHome) : Type 0 where
-  pub none : HasNoCpu before
-  pub sizes : after.sizes ≡ before.sizes
+-- The home's CPU is the one of this number, just as it was parked, with its past: what was put back behind the lock is
+-- what was taken out, without this part.
+pub record HasCpuAsParked (number : ℕ) (home : KnownHome) : Type 0 where
   pub cpu : CpuInRun
-  pub is : after.cpu ≡ Some cpu
+  pub is : home.cpu ≡ Some cpu
   pub number_is : cpu.part.number ≡ number
-
--- The CPU of this number was parked, and is the home's now: what was put back behind the lock is what was taken out,
--- without this part.
-pub record TakesCpu (number : ℕ) (change : LockedChange) (before after : KnownHome) : Type 0 where
-  pub none : HasNoCpu before
-  pub sizes : after.sizes ≡ before.sizes
-  pub cpu : CpuInRun
-  pub is : after.cpu ≡ Some cpu
-  pub number_is : cpu.part.number ≡ number
+  pub change : LockedChange
+  pub change_is : home.change ≡ Some change
   pub found : Box KnownBehind
   pub left : Box KnownBehind
   pub found_is : change.found ≡ Some found
   pub left_is : change.left ≡ Some left
   pub unparks : Unparks cpu found.value left.value
+
+-- the home had no CPU, and has the one of this number now, as it was parked
+pub record TakesCpu (number : ℕ) (before after : KnownHome) : Type 0 where
+  pub none : HasNoCpu before
+  pub sizes : after.sizes ≡ before.sizes
+  pub taken : HasCpuAsParked number after
 
 -- the home had no CPU, the zone has one of this number, and nothing was done
 pub record MissesCpu (cpus number : ℕ) (before after : KnownHome) : Type 0 where
@@ -101,11 +106,13 @@ IfNotEntered cpus number before not_entered.HasCpu after = HasCpu before × (aft
 IfNotEntered cpus number before not_entered.Busy after = MissesCpu cpus number before after
 
 -- The home's CPU was parked: what was put back behind the lock is what was taken out, with this part.
-pub record ParksCpu (change : LockedChange) (before after : KnownHome) : Type 0 where
+pub record ParksCpu (before after : KnownHome) : Type 0 where
   pub cpu : CpuInRun
   pub sizes : after.sizes ≡ before.sizes
   pub was : before.cpu ≡ Some cpu
   pub none : HasNoCpu after
+  pub change : LockedChange
+  pub change_is : after.change ≡ Some change
   pub found : Box KnownBehind
   pub left : Box KnownBehind
   pub found_is : change.found ≡ Some found
@@ -115,4 +122,12 @@ pub record ParksCpu (change : LockedChange) (before after : KnownHome) : Type 0 
 -- what is so, if no CPU was returned
 abbrev pub IfNotLeft : (before : KnownHome) → NotLeft → (after : KnownHome) → Type 0
 IfNotLeft before not_left.NoCpu after = HasNoCpu before × (after ≡ before)
-IfNotLeft before not_left.Busy after = after ≡ before
+IfNotLeft before not_left.Busy after = HasCpu before × (after ≡ before)
+
+-- A zone ended with what was taken out from behind its lock for it, the parts of the CPUs as they were parked: `held`
+-- counts their pins.
+pub record EndsParked (frames : KnownTable) (stock_table : KnownStockTable) (loan : KnownLoan (Box KnownBehind))
+    (ended : SystemEnd) : Type 0 where
+  pub found : Box KnownBehind
+  pub found_is : loan.found ≡ Some found
+  pub ends : PutsAndEnds frames stock_table found.value.locked found.value.parked ended

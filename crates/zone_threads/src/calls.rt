@@ -1,6 +1,11 @@
 //! What a thread asks for its CPU, and what it gets.
 
+ghost use Rattle.std.specs.Prelude.{IsSome};
+ghost use Rattle.zone_threads.specs.Calling.{Calls};
+
+use crate::home::Home;
 use control_files::text::ArrayText;
+use cpu_part::BootName;
 use frame_word::{Frame, Get, Put};
 use group_tree::fault::Fault;
 use mem_system::{Cmd, Outcome};
@@ -14,6 +19,9 @@ pub enum Call<'a> {
     AllocFrame { group: u32 },
     /// Takes a block of 2^order frames, charged to the group of this number, under the lock.
     AllocBlock { group: u32, order: u32 },
+    /// Takes a dirty unit of 2^order frames, charged to the group of this number, under the lock: it is kept and dirty
+    /// before another CPU is served.
+    AllocDirty { group: u32, order: u32 },
     /// Releases the unit that this frame heads: if it is a fresh frame of the CPU, to its list, or else under the lock.
     Release { frame: u32 },
     /// Pins this frame, without the lock.
@@ -65,4 +73,24 @@ pub enum ReadAnswer {
     Text(ArrayText),
     /// It is refused for this reason.
     Refused(Fault),
+}
+
+impl<N: BootName> Home<N> {
+    /// Serves a call of the home's CPU. It is inlined, so that a caller that names the call has its steps alone.
+    #[inline(always)]
+    pub fn call(&mut self, call: &Call<'_>) -> CallAnswer
+        requires some { IsSome self.old.cpu }
+        ensures { Calls N.frames N.stocks call.now self.old self.new result }
+    {
+        match *call {
+            Call::Visit(cmd) => self.visit(&cmd),
+            Call::AllocFrame { group } => self.alloc_frame(group),
+            Call::AllocBlock { group, order } => self.alloc_block(group, order),
+            Call::AllocDirty { group, order } => self.alloc_dirty(group, order),
+            Call::Release { frame } => self.release(frame),
+            Call::Get { frame } => self.get(frame),
+            Call::Put { frame } => self.put(frame),
+            Call::Settle => self.settle(),
+        }
+    }
 }

@@ -3,7 +3,7 @@
 ghost use Rattle.std.specs.Prelude.{◌<◌, IfNone, IfSome, IsSome, MatchBool};
 ghost use Rattle.cpu_part.specs.declared.answers.Dropped.TheVariants.{Listed};
 ghost use Rattle.cpu_part.specs.declared.answers.Fast.TheVariants.{Got};
-ghost use Rattle.zone_threads.specs.Calling.{AllocsFast, Calls, DropsFast, MissesDrop, MissesFast};
+ghost use Rattle.zone_threads.specs.Calling.{AllocsFast, Calls, DropsFast, CallsGet, MissesDrop, MissesFast, CallsPut};
 ghost use Rattle.zone_threads.specs.declared.calls.Call.TheVariants as call;
 
 use crate::calls::CallAnswer;
@@ -15,7 +15,9 @@ use group_tree::fault::Fault;
 use mem_system::{Cmd, Cpu};
 
 impl<N: BootName> Home<N> {
-    /// Takes a frame of the CPU's list, paid from its stock; else allocates one under the lock.
+    /// The functions below have the tables and the CPU, and no way to the lock.
+
+    // Takes a frame of the CPU's list, paid from its stock; else allocates one under the lock.
     #[inline(always)]
     pub fn alloc_frame(&mut self, group: u32) -> CallAnswer
         requires some { IsSome self.old.cpu }
@@ -38,7 +40,7 @@ impl<N: BootName> Home<N> {
         }
     }
 
-    /// Puts a fresh frame of the CPU on its list again; else releases the unit that this frame heads under the lock.
+    /// CallsPut a fresh frame of the CPU on its list again; else releases the unit that this frame heads under the lock.
     #[inline(always)]
     pub fn release(&mut self, number: u32) -> CallAnswer
         requires some { IsSome self.old.cpu }
@@ -66,38 +68,26 @@ impl<N: BootName> Home<N> {
         requires some { IsSome self.old.cpu }
         ensures { Calls N.frames N.stocks (call.Get number) self.old self.new result }
     {
-        let zone = &*self.zone;
         let Some(cpu) = &mut self.cpu else {
             unreachable!()
         };
-        let Some(frame) = zone.tables.words.frame(number) else {
-            return CallAnswer::NoFrame;
-        };
-        match cpu.get(&zone.tables, frame) {
-            Ok(got) => CallAnswer::Got(got),
-            Err(fault) => CallAnswer::Refused(fault),
-        }
+        get(&self.zone.tables, cpu, number)
     }
 
-    /// Puts a pin of the CPU, without the lock.
+    /// CallsPut a pin of the CPU, without the lock.
     #[inline(always)]
     pub fn put(&mut self, number: u32) -> CallAnswer
         requires some { IsSome self.old.cpu }
         ensures { Calls N.frames N.stocks (call.Put number) self.old self.new result }
     {
-        let zone = &*self.zone;
         let Some(cpu) = &mut self.cpu else {
             unreachable!()
         };
-        let Some(frame) = zone.tables.words.frame(number) else {
-            return CallAnswer::NoFrame;
-        };
-        if !cpu.has_pin(frame) {
-            return CallAnswer::Refused(Fault::NotPinned);
-        }
-        CallAnswer::Put(cpu.put(&zone.tables, frame))
+        put(&self.zone.tables, cpu, number)
     }
 }
+
+// The functions below have the tables and the CPU, and no way to the lock.
 
 // Takes a frame of the CPU's list, paid from its stock; `None` if one of them has none.
 #[inline(always)]
@@ -116,7 +106,7 @@ fn take_listed<N: BootName>(tables: &Tables<N>, cpu: &mut Cpu<N>, group: u32) ->
     }
 }
 
-// Puts the frame on the CPU's list again, if it is a fresh one of the CPU and its page can be credited. Returns whether it
+// CallsPut the frame on the CPU's list again, if it is a fresh one of the CPU and its page can be credited. Returns whether it
 // did.
 #[inline(always)]
 fn relist<N: BootName>(tables: &Tables<N>, cpu: &mut Cpu<N>, frame: Frame) -> bool
@@ -129,4 +119,32 @@ fn relist<N: BootName>(tables: &Tables<N>, cpu: &mut Cpu<N>, frame: Frame) -> bo
         Dropped::Listed => true,
         Dropped::NeedVisit => false,
     }
+}
+
+// Pins a frame.
+#[inline(always)]
+fn get<N: BootName>(tables: &Tables<N>, cpu: &mut Cpu<N>, number: u32) -> CallAnswer
+    ensures { CallsGet N.frames number result cpu.old cpu.new }
+{
+    let Some(frame) = tables.words.frame(number) else {
+        return CallAnswer::NoFrame;
+    };
+    match cpu.get(tables, frame) {
+        Ok(got) => CallAnswer::Got(got),
+        Err(fault) => CallAnswer::Refused(fault),
+    }
+}
+
+// CallsPut a pin of the CPU.
+#[inline(always)]
+fn put<N: BootName>(tables: &Tables<N>, cpu: &mut Cpu<N>, number: u32) -> CallAnswer
+    ensures { CallsPut N.frames number result cpu.old cpu.new }
+{
+    let Some(frame) = tables.words.frame(number) else {
+        return CallAnswer::NoFrame;
+    };
+    if !cpu.has_pin(frame) {
+        return CallAnswer::Refused(Fault::NotPinned);
+    }
+    CallAnswer::Put(cpu.put(tables, frame))
 }

@@ -1,7 +1,8 @@
 //! What a thread has of a zone.
 
-ghost use Rattle.std.specs.Prelude.{◌≡◌, IfErr, IfOk, MatchResult};
-ghost use Rattle.zone_threads.specs.Homes.{HasNoCpu, IfNotEntered, IfNotLeft, ParksCpu, TakesCpu};
+ghost use Rattle.std.specs.Arc.{arc_value};
+ghost use Rattle.std.specs.Prelude.{◌≡◌, IfErr, IfOk};
+ghost use Rattle.zone_threads.specs.Homes.{HasNoCpu};
 
 use crate::behind::Behind;
 use crate::zone::Zone;
@@ -18,6 +19,8 @@ use std::sync::Arc;
 pub struct Home<N: BootName> {
     pub(crate) zone: Arc<Zone<N>, Global>,
     pub(crate) cpu: Option<Cpu<N>>,
+    // Shows what was found behind the lock, and what was left there, as a CPU was last taken or returned.
+    pub(crate) change: Option<PutBack<Box<Behind<N>, Global>>>,
 }
 
 impl<N: BootName> Model for Home<N> {
@@ -26,7 +29,7 @@ impl<N: BootName> Model for Home<N> {
 
     ghost Value = { KnownHome };
 
-    ghost view = { λ h. record { cpu = h.cpu; sizes = (arc_value h.zone).sizes } };
+    ghost view = { λ h. record { cpu = h.cpu; sizes = (arc_value h.zone).sizes; change = h.change } };
 }
 
 /// Why no CPU was taken.
@@ -62,7 +65,7 @@ impl<N: BootName> Home<N> {
     {
         let zone = Zone::<N>::start(alloc, boot)?;
         let zone = Arc::new(alloc, zone)?;
-        Ok(Home { zone, cpu: None })
+        Ok(Home::of(zone))
     }
 
     /// Another home of the same zone, without a CPU.
@@ -71,59 +74,19 @@ impl<N: BootName> Home<N> {
         ensures sizes { IfOk result (λ home. home.sizes ≡ self.now.sizes) }
     {
         let zone = Arc::try_clone(&self.zone)?;
-        Ok(Home { zone, cpu: None })
+        Ok(Home::of(zone))
     }
 
-    /// Takes the part of the CPU of this number, from 1. What was put back behind the lock is shown.
-    pub fn enter(&mut self, number: u32) -> Result<PutBack<Box<Behind<N>, Global>>, NotEntered>
-        ensures { MatchResult result
-            (λ change. TakesCpu number change self.old self.new)
-            (λ reason. IfNotEntered N.frames.cpus number self.old reason self.new) }
+    // A home of this zone that took no CPU yet.
+    fn of(zone: Arc<Zone<N>, Global>) -> Home<N>
+        ensures no_cpu { HasNoCpu result }
+        ensures sizes { result.sizes ≡ (arc_value zone).sizes }
     {
-        if self.cpu.is_some() {
-            return Err(NotEntered::HasCpu);
+        Home {
+            zone,
+            cpu: None,
+            change: None,
         }
-        let zone = &*self.zone;
-        if number == 0 || number > zone.tables.words.cpus() {
-            return Err(NotEntered::NoCpu);
-        }
-        let Some((mut behind, loan)) = zone.lock.take() else {
-            return Err(NotEntered::Busy);
-        };
-        let found = behind.unpark(number);
-        let change = zone.lock.put_back(behind, loan);
-        let Some(cpu) = found else {
-            return Err(NotEntered::Out);
-        };
-        let old = std::mem::replace(&mut self.cpu, Some(cpu));
-        let None = old else { unreachable!() };
-        Ok(change)
-    }
-
-    /// Parks the CPU as it is, with its list, stock and pins: who takes it next goes on with them. What was put back
-    /// behind the lock is shown.
-    pub fn leave(&mut self) -> Result<PutBack<Box<Behind<N>, Global>>, NotLeft>
-        ensures { MatchResult result
-            (λ change. ParksCpu change self.old self.new)
-            (λ reason. IfNotLeft self.old reason self.new) }
-    {
-        let zone = &*self.zone;
-        let Some(cpu) = std::mem::replace(&mut self.cpu, None) else {
-            return Err(NotLeft::NoCpu);
-        };
-        let Some((mut behind, loan)) = zone.lock.take() else {
-            let old = std::mem::replace(&mut self.cpu, Some(cpu));
-            let None = old else { unreachable!() };
-            return Err(NotLeft::Busy);
-        };
-        let returned = behind.park(cpu);
-        let change = zone.lock.put_back(behind, loan);
-        let Some(cpu) = returned else {
-            return Ok(change);
-        };
-        let old = std::mem::replace(&mut self.cpu, Some(cpu));
-        let None = old else { unreachable!() };
-        Err(NotLeft::Busy)
     }
 
     /// What all homes shared, if there is no other one. Else the home is returned as it was.
@@ -132,11 +95,15 @@ impl<N: BootName> Home<N> {
         ensures alone { IfOk result (λ zone. zone.sizes ≡ self.sizes) }
         ensures shared { IfErr result (λ home. home ≡ self) }
     {
-        let Home { zone, cpu } = self;
+        let Home { zone, cpu, change } = self;
         let None = cpu else { unreachable!() };
         match Arc::try_unwrap(zone) {
             Ok(zone) => Ok(zone),
-            Err(zone) => Err(Home { zone, cpu: None }),
+            Err(zone) => Err(Home {
+                zone,
+                cpu: None,
+                change,
+            }),
         }
     }
 }
@@ -145,7 +112,11 @@ impl<N: BootName> Home<N> {
 // home that has a CPU.
 impl<N: BootName> Drop for Home<N> {
     fn drop(self) {
-        let Home { zone: _, cpu } = self;
+        let Home {
+            zone: _,
+            cpu,
+            change: _,
+        } = self;
         if let Some(cpu) = cpu {
             let _left = unsafe { ManuallyDrop::new_unchecked(cpu) };
         }

@@ -11,6 +11,5 @@ pub mod fast;
 pub mod home;
 pub mod served;
 pub mod texts;
-pub mod visits;
 pub mod zone;
 pub mod zone_end;

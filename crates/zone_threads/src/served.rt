@@ -6,6 +6,7 @@ ghost use Rattle.mem_system.specs.Commands.{IsOfZone};
 ghost use Rattle.mem_system.specs.Shown.{SettlesCaller};
 ghost use Rattle.mem_system.specs.Visits.{IsVisited, ServesFrameOutcome, ServesOutcome};
 ghost use Rattle.zone_threads.specs.Calling.{NoGroupBehindLock, IsMissingIn, IsReadUnderLock, ServesBlock};
+ghost use Rattle.zone_threads.specs.Calling.{ServesDirtyUnit};
 
 use crate::behind::Behind;
 use crate::calls::{ReadAnswer, ReadCall};
@@ -13,7 +14,9 @@ use control_files::file::file_text;
 use cpu_part::{BootName, Tables};
 use group_charge::charges::Charges;
 use group_tree::group::GroupId;
-use mem_system::{Cmd, Cpu, Outcome, serve_frame_outcome, serve_outcome, settle};
+use mem_system::{
+    Cmd, Cpu, Outcome, serve_dirty_alloc, serve_frame_outcome, serve_outcome, settle,
+};
 
 /// Why nothing was allocated under the lock.
 #[derive(Clone, Copy, Debug, PartialEq, Eq)]
@@ -84,6 +87,31 @@ impl<N: BootName> Behind<N> {
         let path = *self.locked.charges().tree().path_of(group);
         let path = path.as_bytes();
         let outcome = serve_outcome(&mut self.locked, tables, cpu, &Cmd::Alloc { path, order });
+        self.locked.prove_quiet();
+        Some(outcome)
+    }
+
+    /// Allocates a dirty unit for the group of this number; `None` if there is none.
+    pub fn alloc_dirty(
+        &mut self,
+        tables: &Tables<N>,
+        cpu: &mut Cpu<N>,
+        group: u32,
+        order: u32,
+    ) -> Option<Outcome>
+        ensures served { IfSome result (λ outcome.
+            IsVisited N.frames N.stocks self.old.locked.sizes (ServesDirtyUnit N.frames group order outcome)
+            cpu.old cpu.new) }
+        ensures none { IfNone result (NoGroupBehindLock N.frames N.stocks group cpu.old cpu.new) }
+    {
+        self.locked.prove_quiet();
+        let Some(group) = find_group(self.locked.charges(), group) else {
+            self.locked.meet(tables, cpu);
+            self.locked.prove_quiet();
+            return None;
+        };
+        let path = *self.locked.charges().tree().path_of(group);
+        let outcome = serve_dirty_alloc(&mut self.locked, tables, cpu, path.as_bytes(), order);
         self.locked.prove_quiet();
         Some(outcome)
     }

@@ -1,12 +1,10 @@
 //! The texts that a settled CPU gets of the zone.
 
-ghost use Rattle.std.specs.Prelude.{◌≡◌, IfNone, IfSome, IsSome};
 ghost use Rattle.mem_system.specs.Shown.{ReadsAfterSettling};
-ghost use Rattle.zone_threads.specs.Shown.{ReadsText, SaysText, SaysUnits};
+ghost use Rattle.zone_threads.specs.Shown.{SaysText, SaysUnits};
 ghost use Rattle.zone_threads.specs.declared.texts.TextCall.TheVariants.{Blocks, Show, Stock};
 
 use crate::behind::Behind;
-use crate::home::Home;
 use cpu_part::{BootName, Tables};
 use mem_system::{Cpu, blocks_text, settle, show_text, write_own_stock, write_units_at};
 use std::alloc::Global;
@@ -33,24 +31,6 @@ pub enum TextAnswer {
     NoGroup,
     /// Memory ran out.
     NoMemory,
-}
-
-impl<N: BootName> Home<N> {
-    /// Settles the CPU, and returns a text, under the lock; `None` if another thread has it.
-    pub fn text(&mut self, alloc: Global, asked: TextCall) -> Option<TextAnswer>
-        requires some { IsSome self.old.cpu }
-        ensures shown { IfSome result (λ answer. ReadsText N.frames N.stocks asked answer self.old self.new) }
-        ensures busy { IfNone result (self.new ≡ self.old) }
-    {
-        let zone = &*self.zone;
-        let Some(cpu) = &mut self.cpu else {
-            unreachable!()
-        };
-        let (mut behind, loan) = zone.lock.take()?;
-        let answer = behind.text(alloc, &zone.tables, cpu, asked);
-        zone.lock.put_back(behind, loan);
-        Some(answer)
-    }
 }
 
 impl<N: BootName> Behind<N> {

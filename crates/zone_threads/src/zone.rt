@@ -1,12 +1,16 @@
-//! What all threads share: the tables, and what lies behind a lock that is only tried.
+//! What all threads share: the tables, and what lies behind a lock that is only tried. The cell of the lock is private, so
+//! only this module and those in it can take the lock.
+
+pub mod entries;
+mod visits;
 
 ghost use Rattle.std.specs.Prelude.{◌≡◌, IfOk, IfSome};
 ghost use Rattle.mem_system.specs.Boots.{IsSizedAs};
-ghost use Rattle.mem_system.specs.Ending.{HasEnded};
+ghost use Rattle.zone_threads.specs.Homes.{EndsParked};
 ghost use Rattle.zone_blocks.specs.Config.{IsValidConfig};
 
 use crate::behind::Behind;
-use crate::zone_end::end_parts;
+use crate::zone_end::{ZoneEnd, end_parts, leave};
 use cpu_part::{BootName, Tables};
 use host_memory::try_cell::{Loan, TryCell};
 use mem_system::{Boot, SystemEnd};
@@ -16,7 +20,7 @@ use zone_blocks::config::Config;
 /// What all threads share.
 pub struct Zone<N: BootName> {
     pub(crate) tables: Tables<N>,
-    pub(crate) lock: TryCell<Box<Behind<N>, Global>>,
+    lock: TryCell<Box<Behind<N>, Global>>,
     // No clause can look through the lock: those of calls speak of these sizes.
     pub(crate) sizes: Config,
     ghost valid: { IsValidConfig sizes },
@@ -54,7 +58,7 @@ impl<N: BootName> Zone<N> {
 
     // Tries the lock: what is found has the sizes of the zone.
     #[inline(always)]
-    pub(crate) fn take(&self) -> Option<(Box<Behind<N>, Global>, Loan<Box<Behind<N>, Global>>)>
+    fn take(&self) -> Option<(Box<Behind<N>, Global>, Loan<Box<Behind<N>, Global>>)>
         ensures fits { IfSome result (λ taken. taken.1.table_id ≡ self.now.lock.table.shared.table_id) }
         ensures sizes { IfSome result (λ taken. taken.0.value.locked.sizes ≡ self.now.sizes) }
     {
@@ -65,16 +69,22 @@ impl<N: BootName> Zone<N> {
 
     /// Ends the zone. Pins that are still held are put first. `None` if the part of a CPU isn't there, which no call
     /// leaves so: the parts stay in memory then.
-    pub fn end(self) -> Option<SystemEnd>
-        ensures { IfSome result (HasEnded N.frames N.stocks) }
+    pub fn end(self) -> Option<ZoneEnd<N>>
+        ensures { IfSome result (λ end. EndsParked N.frames N.stocks end.found end.ended) }
     {
         let Zone {
             tables,
             lock,
             sizes: _,
         } = self;
-        let behind = lock.into_inner()?;
-        end_parts(tables, Box::into_inner(behind))
+        let taken = lock.take();
+        leave(lock.into_inner());
+        let (behind, found) = taken?;
+        let Some(ended) = end_parts(tables, Box::into_inner(behind)) else {
+            leave(found);
+            return None;
+        };
+        Some(ZoneEnd { ended, found })
     }
 }
 

@@ -5,8 +5,24 @@ ghost use Rattle.mem_system.specs.Ending.{PutsAndEnds};
 
 use crate::behind::Behind;
 use cpu_part::{BootName, Tables};
-use mem_system::{Cpu, SystemEnd, put_and_end};
+use host_memory::try_cell::Loan;
+use mem_system::{SystemEnd, put_and_end};
+use std::alloc::Global;
 use std::mem::ManuallyDrop;
+
+/// How a zone ended, with what shows what lay behind its lock until then.
+pub struct ZoneEnd<N: BootName> {
+    pub ended: SystemEnd,
+    pub found: Loan<Box<Behind<N>, Global>>,
+}
+
+// A loan can't be dropped.
+impl<N: BootName> Drop for ZoneEnd<N> {
+    fn drop(self) {
+        let ZoneEnd { ended: _, found } = self;
+        leave(found);
+    }
+}
 
 /// Ends a zone by its parts, once no thread has a CPU. Pins that are still held are put first. `None` if the part of a CPU
 /// isn't there, which no call leaves so: the parts stay in memory then.
@@ -16,13 +32,13 @@ pub fn end_parts<N: BootName>(tables: Tables<N>, behind: Behind<N>) -> Option<Sy
 {
     let Behind { locked, parked } = behind;
     if parked.len() != tables.words.cpus() as usize {
-        leave_parts(parked);
+        leave(parked);
         return None;
     }
     Some(put_and_end(locked, tables, parked))
 }
 
-// A part can't be dropped, so these stay in memory.
-fn leave_parts<N: BootName>(parts: Vec<Cpu<N>>) {
-    let _left = unsafe { ManuallyDrop::new_unchecked(parts) };
+// Leaves in memory what can't be dropped, such as a part or a loan.
+pub(crate) fn leave<T>(left: T) {
+    let _left = unsafe { ManuallyDrop::new_unchecked(left) };
 }

@@ -111,9 +111,7 @@ returns g c =
           ends = record { ended = told.0; ends = held; text_is = refl };
           whole = tells.run ++ held.leaves.steps;
           whole_is = refl;
-          legal = saw.legal;
-          promise = saw.promise;
-          last = whole_run t w tells.run end told.0 has held;
+          is_whole = whole_run t w tells.run end told.0 has held;
           text_is = c.in_ok-told.ensures.told;
         };
         text_is = c.in_ok-with_steps.ensures.told ∙ ap (λ (n : ℕ). shown ++ checked_text n) (ends.steps ∙ saw.count);

@@ -1,8 +1,10 @@
-use Rattle.std.proofs.Common.{◌∙◌, ◌++◌, Bor, List, ℕ, ap, length, map, refl, subst, sym}
+use Rattle.std.proofs.Common.{◌∙◌, ◌++◌, Bor, List, ℕ, ap, length, map, refl, subst, sym, true}
 use Rattle.mem_system.specs.Cpus.{CpuInRun}
 use Rattle.script_replay.specs.Lines.{SystemState, system_state}
-use Rattle.load_run.specs.Logs.{LogsAllAndEnd, LogsEnd, log_head_text}
-use Rattle.load_run.proofs.Logged.{both_logged}
+use Rattle.script_lines.specs.Script.{texts_of}
+use Rattle.script_replay.specs.Terms.{terms}
+use Rattle.load_run.specs.Logs.{LogsAllAndEnd, LogsEnd, log_head_text, steps_of_logs}
+use Rattle.load_run.proofs.Logged.{both_logged, logs_whole}
 use Rattle.load_run.proofs.Starting.{given_back, lent_parts, lent_so_far, lines_there, new_state}
 use Rattle.load_run.proofs.logging.steps_on_boot.Goals as goal
 
@@ -31,15 +33,23 @@ returns g c =
     (given_back _ _ _ _ c.deref_mut.ensures.value c.deref_mut.ensures.len c.log_each-served.auto.cpus) adds.so in
     let grown = both_logged t w _ c.args.lines.now start end _ _ _ adds.part c.in_ok-served.ensures.logged ends adds.added in
     let head = c.in_ok-log.ensures ∙ ap log_head_text (sym c.requires.sizes) in
+    let first = new_state _ _ t w _ c.deref_mut.result.now refl booted.sized booted.machine booted.sizes
+    (lent_parts _ _ c.deref_mut.ensures.value booted.cpus) (lent_so_far _ _ _ c.deref_mut.ensures.value booted.so_far) in
+    let lines = c.args.lines.now in
+    let script = texts_of c.args.script.now in
+    let logs : LogsAllAndEnd t w script lines start grown.text
+    = subst (λ (l : List (List ℕ)). LogsAllAndEnd t w l lines start grown.text) texts grown.so in
     record {
       steps = record {
         frames = t;
         stocks = w;
         start = start;
-        first = new_state _ _ t w _ c.deref_mut.result.now refl booted.sized booted.machine booted.sizes
-            (lent_parts _ _ c.deref_mut.ensures.value booted.cpus) (lent_so_far _ _ _ c.deref_mut.ensures.value booted.so_far);
+        first = first;
         log = grown.text;
-        logs = subst (λ (l : List (List ℕ)). LogsAllAndEnd t w l c.args.lines.now start grown.text) texts grown.so;
+        logs = logs;
+        whole = steps_of_logs (terms t w true) script lines start logs.end logs.served_log logs.served ++ logs.ends.ends.leaves.steps;
+        whole_is = refl;
+        is_whole = logs_whole t w script lines start grown.text first.so_far logs;
         text_is = grown.added ∙ ap (λ (l : List ℕ). l ++ grown.text) head;
       };
     }

@@ -1,7 +1,6 @@
 use Rattle.std.proofs.Common.{◌∙◌, ◌++◌, List, [], ap, length, refl, subst}
 use Rattle.mem_system.specs.Cpus.{CpuInRun}
 use Rattle.step_rules.specs.After.{Run}
-use Rattle.mem_core.proofs.Keeping.{always_keeps}
 use Rattle.mem_machine.specs.Interleaving.{zone_of}
 use Rattle.mem_history.proofs.Deciding.{legal_front}
 use Rattle.script_replay.specs.History.{past, steps_of}
@@ -45,8 +44,8 @@ returns g c =
     let told = c.end_boot-ended.result in
     let ends = subst (λ (cpus : List CpuInRun). EndsHeld t w (system_state left.locked cpus) told)
     (given_back _ _ _ _ c.deref_mut.ensures.value c.deref_mut.ensures.len c.replay-answers.auto.cpus) c.end_boot-ended.ensures.ends in
-    let last = whole_run t w run end told has ends in
-    let legal = legal_front (zone_of t) run ends.leaves.steps last.legal in
+    let all = whole_run t w run end told has ends in
+    let legal = legal_front (zone_of t) run ends.leaves.steps all.leads.legal in
     record {
       answers = IfOk-weaker c.with_end.result _ _ (λ text is. record {
         frames = t;
@@ -63,9 +62,7 @@ returns g c =
         ends = record { ended = told; ends = ends; text_is = refl };
         whole = run ++ ends.leaves.steps;
         whole_is = refl;
-        legal = last.legal;
-        promise = always_keeps (zone_of t) (run ++ ends.leaves.steps) last.legal;
-        last = last;
+        is_whole = all;
         text_is = is;
       }) c.with_end.ensures.told;
     }

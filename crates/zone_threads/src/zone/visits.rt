@@ -3,34 +3,20 @@
 ghost use Rattle.std.specs.Prelude.{◌≡◌, ◌↔◌, IfNone, IfSome, IsSome, IsTrue, MatchResult};
 ghost use Rattle.mem_system.specs.Commands.{IsOfZone, NamesFrameBelow};
 ghost use Rattle.mem_system.specs.Visits.{IsVisited, ServesFrameOutcome, ServesOutcome};
-ghost use Rattle.zone_threads.specs.Calling.{Calls, IfMissing, AnswersRead, ServesBlock};
+ghost use Rattle.zone_threads.specs.Calling.{Calls, IfMissing, AnswersRead, ServesBlock, ServesDirtyUnit};
 ghost use Rattle.zone_threads.specs.Homes.{OnCpu};
-ghost use Rattle.zone_threads.specs.declared.calls.Call.TheVariants.{AllocBlock, Settle, Visit};
+ghost use Rattle.zone_threads.specs.Shown.{ReadsText};
+ghost use Rattle.zone_threads.specs.declared.calls.Call.TheVariants.{AllocBlock, AllocDirty, Settle, Visit};
 
-use crate::calls::{Call, CallAnswer, ReadAnswer, ReadCall};
+use crate::calls::{CallAnswer, ReadAnswer, ReadCall};
 use crate::home::Home;
 use crate::served::Missed;
+use crate::texts::{TextAnswer, TextCall};
 use cpu_part::BootName;
 use mem_system::{Cmd, Outcome};
+use std::alloc::Global;
 
 impl<N: BootName> Home<N> {
-    /// Serves a call of the home's CPU. It is inlined, so that a caller that names the call has its steps alone.
-    #[inline(always)]
-    pub fn call(&mut self, call: &Call<'_>) -> CallAnswer
-        requires some { IsSome self.old.cpu }
-        ensures { Calls N.frames N.stocks call.now self.old self.new result }
-    {
-        match *call {
-            Call::Visit(cmd) => self.visit(&cmd),
-            Call::AllocFrame { group } => self.alloc_frame(group),
-            Call::AllocBlock { group, order } => self.alloc_block(group, order),
-            Call::Release { frame } => self.release(frame),
-            Call::Get { frame } => self.get(frame),
-            Call::Put { frame } => self.put(frame),
-            Call::Settle => self.settle(),
-        }
-    }
-
     /// Serves a command under the lock.
     pub fn visit(&mut self, cmd: &Cmd<'_>) -> CallAnswer
         requires some { IsSome self.old.cpu }
@@ -52,6 +38,18 @@ impl<N: BootName> Home<N> {
     {
         match self.serve_block(group, order) {
             Ok(outcome) => CallAnswer::Served(outcome),
+            Err(Missed::Busy) => CallAnswer::Busy,
+            Err(Missed::NoGroup) => CallAnswer::NoGroup,
+        }
+    }
+
+    /// Allocates a dirty unit under the lock.
+    pub fn alloc_dirty(&mut self, group: u32, order: u32) -> CallAnswer
+        requires some { IsSome self.old.cpu }
+        ensures { Calls N.frames N.stocks (AllocDirty group order) self.old self.new result }
+    {
+        match self.serve_dirty(group, order) {
+            Ok(served) => CallAnswer::Served(served),
             Err(Missed::Busy) => CallAnswer::Busy,
             Err(Missed::NoGroup) => CallAnswer::NoGroup,
         }
@@ -89,6 +87,22 @@ impl<N: BootName> Home<N> {
         let answer = behind.read(&zone.tables, cpu, asked);
         zone.lock.put_back(behind, loan);
         answer
+    }
+
+    /// Settles the CPU, and returns a text, under the lock; `None` if another thread has it.
+    pub fn text(&mut self, alloc: Global, asked: TextCall) -> Option<TextAnswer>
+        requires some { IsSome self.old.cpu }
+        ensures shown { IfSome result (λ answer. ReadsText N.frames N.stocks asked answer self.old self.new) }
+        ensures busy { IfNone result (self.new ≡ self.old) }
+    {
+        let zone = &*self.zone;
+        let Some(cpu) = &mut self.cpu else {
+            unreachable!()
+        };
+        let (mut behind, loan) = zone.lock.take()?;
+        let answer = behind.text(alloc, &zone.tables, cpu, asked);
+        zone.lock.put_back(behind, loan);
+        Some(answer)
     }
 
     // Serves a command under the lock; `None` if another thread has it.
@@ -154,6 +168,29 @@ impl<N: BootName> Home<N> {
             return Err(Missed::NoGroup);
         };
         Ok(outcome)
+    }
+
+    // Allocates a dirty unit under the lock.
+    fn serve_dirty(&mut self, group: u32, order: u32) -> Result<Outcome, Missed>
+        requires some { IsSome self.old.cpu }
+        ensures { MatchResult result
+            (λ outcome. OnCpu (IsVisited N.frames N.stocks self.old.sizes (ServesDirtyUnit N.frames group order outcome))
+            self.old self.new)
+            (λ missed. IfMissing N.frames N.stocks group missed self.old self.new) }
+    {
+        let zone = &*self.zone;
+        let Some(cpu) = &mut self.cpu else {
+            unreachable!()
+        };
+        let Some((mut behind, loan)) = zone.take() else {
+            return Err(Missed::Busy);
+        };
+        let served = behind.alloc_dirty(&zone.tables, cpu, group, order);
+        zone.lock.put_back(behind, loan);
+        match served {
+            None => Err(Missed::NoGroup),
+            Some(outcome) => Ok(outcome),
+        }
     }
 }
 

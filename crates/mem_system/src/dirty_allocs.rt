@@ -1,0 +1,56 @@
+//! Allocating units that are dirty from the first.
+
+ghost use Rattle.mem_system.specs.Commands.{IsSettled};
+ghost use Rattle.mem_system.specs.DirtyAllocs.{ServesDirtyAlloc};
+ghost use Rattle.mem_system.specs.Visits.{EndsVisit, IsVisited, locked_state};
+
+use crate::command::Cmd;
+use crate::cpus::Cpu;
+use crate::lock::Locked;
+use crate::outcome::Outcome;
+use crate::system::System;
+use crate::visits::serve_outcome;
+use cpu_part::{BootName, Tables};
+use std::sync::Wait;
+
+/// Serves an Alloc of this order for the group of the path, as `serve_outcome` does, and then a Dirty of the unit that it
+/// gave. So no other CPU's reclaim comes between the two: if the outcome is a frame, the unit that begins there is kept and
+/// dirty, whatever its order. A refusal is that of the Alloc. Earlier notes are forgotten, also those of the Alloc.
+pub fn serve_dirty_alloc<N: BootName>(
+    locked: &mut Locked<N>,
+    tables: &Tables<N>,
+    cpu: &mut Cpu<N>,
+    path: &[u8],
+    order: u32,
+) -> Outcome
+    ensures served { ServesDirtyAlloc N.frames path.entry order result (locked_state locked.old cpu.old)
+        (locked_state locked.new cpu.new) }
+    ensures settled { IsSettled cpu.new.part }
+    ensures ends { EndsVisit N.frames (locked_state locked.old cpu.old) (locked_state locked.new cpu.new) }
+{
+    let outcome = serve_outcome(locked, tables, cpu, &Cmd::Alloc { path, order });
+    let Outcome::Frame(frame) = outcome else {
+        return outcome;
+    };
+    locked.prove_quiet();
+    let _tied = cpu.number();
+    let _done = serve_outcome(locked, tables, cpu, &Cmd::Dirty { frame });
+    outcome
+}
+
+impl<N: BootName> System<N> {
+    /// Allocates a dirty unit as `serve_dirty_alloc` does, in one hold of the lock. As with `visit`, the contract says that
+    /// some sound value was behind the lock, and that a sound value was left.
+    pub fn alloc_dirty<R: Wait>(&self, rt: &R, cpu: &mut Cpu<N>, path: &[u8], order: u32) -> Outcome
+        ensures served { IsVisited N.frames N.stocks self.now.sizes (ServesDirtyAlloc N.frames path.entry order result)
+            cpu.old cpu.new }
+        ensures settled { IsSettled cpu.new.part }
+    {
+        let mut guard = self.lock(rt);
+        let locked = &mut *guard;
+        locked.prove_quiet();
+        let outcome = serve_dirty_alloc(locked, &self.tables, cpu, path, order);
+        locked.prove_quiet();
+        outcome
+    }
+}
