@@ -10,20 +10,38 @@ async function openSecond(name, log) {
     if (!run.styles.has(life.path)) run.styles.set(life.path, run.styles.size);
     life.style = run.styles.get(life.path);
   }
-  Object.assign(page, { other, otherName: name, otherLog: log, otherVerdict: found.verdict, differs: differences(run, other), warnings: warningsOf(run, other), timeX: null, zoneKey: "" });
+  const compared = await inPieces(comparison(run, other), "comparing");
+  if (!compared) return;
+  badge(page.verdict.state, page.verdict.text);
+  Object.assign(page, { other, otherName: name, otherLog: log, otherVerdict: found.verdict, ...compared, timeX: null, zoneKey: "" });
   drawWarnings();
   draw();
 }
 const zoneText = run => `${plural(run.frames, "frame")}, ${plural(run.cpus, "CPU")}`;
+function* comparison(run, other) {
+  const otherLives = yield* livesHere(run, other), differs = yield* differences(run, other, otherLives);
+  return { otherLives, differs, warnings: yield* warningsOf(run, other) };
+}
 /** What makes two runs no runs of one script on one zone. Other sizes of batches, lists and stocks are what is compared. */
-function warningsOf(run, other) {
-  const warnings = [], textsOf = where => new Map(Array.from({ length: commandCount(where) }, (_, at) => [where.lineNumbers.at(at + 1), where.textAt(where.from.at(at + 1)).replace(/^# line \d+: /, "")]));
+function* warningsOf(run, other) {
+  const warnings = [];
   if (run.frames !== other.frames || run.cpus !== other.cpus) warnings.push(`The zones differ: ${zoneText(run)} ≠ ${zoneText(other)}`);
   if (!run.sizes !== !other.sizes) return [...warnings, "Only one of the logs has commands: so lines of steps stand beside lines of a script."];
-  const [ours, theirs] = [run, other].map(textsOf), lines = [...new Set([...ours.keys(), ...theirs.keys()])].sort((a, b) => a - b).filter(line => ours.get(line) !== theirs.get(line));
-  const said = text => text === undefined ? "missing" : `\`${text}\``, [first] = lines;
-  if (lines.length) warnings.push(`The ${run.sizes ? "scripts" : "steps"} differ on ${plural(lines.length, "line")}${lines.length > 1 ? "; the first" : ""}: line ${first} is ${said(ours.get(first))} here and ${said(theirs.get(first))} there`);
+  const said = text => text === undefined ? "missing" : `\`${text}\``, { count, first: [line, ours, theirs] } = yield* otherTexts(run, other);
+  if (count) warnings.push(`The ${run.sizes ? "scripts" : "steps"} differ on ${plural(count, "line")}${count > 1 ? "; the first" : ""}: line ${line} is ${said(ours)} here and ${said(theirs)} there`);
   return warnings;
+}
+/** How many lines have another text in either script, and the first: its number and both texts. */
+function* otherTexts(run, other) {
+  const ends = [run, other].map(commandCount), textOf = (where, at) => where.textAt(where.from.at(at)).replace(/^# line \d+: /, "");
+  let count = 0, first = [];
+  for (let one = 1, two = 1; one <= ends[0] || two <= ends[1];) {
+    const [ours, theirs] = [one <= ends[0] ? run.lineNumbers.at(one) : Infinity, two <= ends[1] ? other.lineNumbers.at(two) : Infinity], line = Math.min(ours, theirs);
+    const texts = [ours === line ? textOf(run, one++) : undefined, theirs === line ? textOf(other, two++) : undefined];
+    if (texts[0] !== texts[1] && !count++) first = [line, ...texts];
+    if ((one + two) % 256 < 2) yield one / run.lines;
+  }
+  return { count, first };
 }
 function drawWarnings() {
   byId("warnings").replaceChildren(...page.warnings.map(text => paragraph("warning", `⚠ ${text}`)));
@@ -39,34 +57,60 @@ function positionIn(other, run, position = run.position) {
   return other.lineNumbers.at(found) === number ? found : -1;
 }
 /** Who is killed at the current position: how many bytes that freed, and for which limit. */
-const killsOf = run => run.events.filter(({ kind, position }) => kind === "kill" && position === run.position)
+const killsOf = run => run.eventsAt(run.position).filter(({ kind }) => kind === "kill")
   .map(event => `${event.life?.path ?? "?"}${event.note ? `: ${killWords(run, event, true)}` : ""}`);
 /** The events of each position: what is the same in two runs in which the same happened. */
 const happenedAt = run => run.happenedAt ??= run.events.reduce((words, { kind, position, life, name }) =>
   words.set(position, `${words.get(position) ?? ""}${kind} ${life?.path ?? name}, `), new Map());
 /** The positions of lines that the other run answered otherwise or with other events, and of those behind which a group's usage or limit is another one, and wasn't before. Kills are events. */
-function differences(run, other) {
+function* differences(run, other, otherLives) {
   const found = new Set(), [ours, theirs] = [run, other].map(happenedAt);
   for (let position = 1; position <= run.lines; position++) {
     const at = positionIn(other, run, position);
     if (at < 0 || run.answerAt(position) !== other.answerAt(at) || ours.get(position) !== theirs.get(at)) found.add(position);
+    if (position % 256 === 0) yield position / run.lines;
   }
-  for (const life of run.lives) for (const its of secondLives(run, other, life)) for (const what of ["series", "limits"]) {
-    let wasOther = false;
-    for (const position of [...new Set([...life[what], ...its[what]].map(([at]) => at))].sort((a, b) => a - b)) {
-      const isOther = isThereAt(life, position) && isThereAt(its, position) && valueAt(life[what], position) !== valueAt(its[what], position);
-      if (isOther && !wasOther) found.add(position);
-      wasOther = isOther;
-    }
+  const next = new Map(); // of each path, the first life of the second run that may have the time of a life that comes
+  for (const [at, life] of run.lives.entries()) {
+    const those = otherLives.get(life.path) ?? [];
+    let first = next.get(life.path) ?? 0;
+    while (first < those.length && endOf(those[first]) <= life.from) first++;
+    next.set(life.path, first);
+    for (let index = first; index < those.length && those[index].from < endOf(life); index++) addUnequal(found, life, those[index]);
+    if (at % 256 === 0) yield 1;
   }
   return [...found].sort((a, b) => a - b);
 }
-
-/** The second run's lives of the same path, at the positions of the same lines. */
-function secondLives(run, other, { path }) {
-  const here = position => positionOf(other.lineNumbers.at(position), run);
-  return other.lives.filter(life => life.path === path).map(life => ({ ...life, until: life.until === undefined ? undefined : here(life.until),
-    ...Object.fromEntries(["series", "limits"].map(what => [what, life[what].map(([position, pages]) => [here(position), pages])])) }));
+const endOf = life => life.until ?? Infinity;
+/** Adds the positions from which on two lives of a path have another usage or limit, while both are there. */
+function addUnequal(found, life, its) {
+  const from = Math.max(life.from, its.from), until = Math.min(endOf(life), endOf(its));
+  for (const what of ["series", "limits"]) {
+    const [ours, theirs] = [life[what], its[what]], nextOf = (pairs, at) => pairs[at + 1]?.[0] ?? Infinity;
+    let one = indexAt(ours, from), two = indexAt(theirs, from), wasOther = false;
+    for (let at = from; at < until; at = Math.min(nextOf(ours, one), nextOf(theirs, two))) {
+      while (nextOf(ours, one) <= at) one++;
+      while (nextOf(theirs, two) <= at) two++;
+      const isOther = ours[one][1] !== theirs[two][1];
+      if (isOther && !wasOther) found.add(at);
+      wasOther = isOther;
+    }
+  }
+}
+/** The second run's lives by their paths, at the positions of the same lines of the first. */
+function* livesHere(run, other) {
+  const places = new Int32Array(other.lines + 1), lives = new Map();
+  for (let at = 0, here = 0; at <= other.lines; at++) {
+    while (here < run.lines && run.lineNumbers.at(here + 1) <= other.lineNumbers.at(at)) here++;
+    places[at] = here;
+  }
+  const placed = pairs => pairs.map(([position, pages]) => [places[position], pages]);
+  for (const [at, life] of other.lives.entries()) {
+    const its = { ...life, from: places[life.from], until: life.until === undefined ? undefined : places[life.until], series: placed(life.series), limits: placed(life.limits) };
+    lives.has(life.path) ? lives.get(life.path).push(its) : lives.set(life.path, [its]);
+    if (at % 256 === 0) yield at / other.lives.length;
+  }
+  return lives;
 }
 /** What two runs have at the same line: the answers, the kills, and usage, limit and peak of each group; what differs comes first. */
 function comparedRows(run, other) {

@@ -34,9 +34,13 @@ function showCpu(cpu) {
 }
 /** The lives of the lit group and of those below it in its time; null if none is lit. */
 function litLives(run) {
-  const { life } = page, prefix = life?.path === "/" ? "/" : `${life?.path}/`, isIn = ({ path, from, until = Infinity }) =>
+  if (page.life && page.lit?.life !== page.life) page.lit = { life: page.life, lives: livesBelow(run, page.life) };
+  return page.life && page.lit.lives;
+}
+function livesBelow(run, life) {
+  const prefix = life.path === "/" ? "/" : `${life.path}/`, isIn = ({ path, from, until = Infinity }) =>
     path.startsWith(prefix) && from <= (life.until ?? Infinity) && until >= life.from;
-  return life && new Set(run.lives.filter(each => each === life || isIn(each)));
+  return new Set(run.lives.filter(each => each === life || isIn(each)));
 }
 /** The numbers of the lit groups that are there, or what the lit CPU has; null if nothing is lit. */
 function litNow() {

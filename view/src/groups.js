@@ -42,14 +42,16 @@ function drawGroups() {
   fill(byId("unit"), page.isMiB ? "in MiB" : "in pages");
   drawRemoved();
 }
-/** The groups that were removed before this line, with the lines that made and removed them. A button lights one, with its events. */
+const MOST_REMOVED = 50;
+/** The groups that were removed last before this line, with the lines that made and removed them. A button lights one, with its events. */
 function drawRemoved() {
-  const { run } = page, box = byId("removed"), lives = run.lives.filter(({ until }) => until !== undefined && until <= run.position);
-  box.hidden = byId("to-removed").hidden = !lives.length;
-  if (!isOther(box, run.lives.length, lives.length, page.life?.index, page.isMiB, colors.theme)) return;
+  const { run } = page, box = byId("removed"), count = indexIn(run.removed, run.position, ({ until }) => until) + 1;
+  box.hidden = byId("to-removed").hidden = !count;
+  if (!isOther(box, run.lives.length, count, page.life?.index, page.isMiB, colors.theme)) return;
+  const lives = run.removed.slice(Math.max(0, count - MOST_REMOVED), count), isCut = count > MOST_REMOVED;
   const lineOf = position => make("button", { textContent: `line ${run.lineNumbers.at(position)}`, onclick: () => go(position) });
-  fill(byId("to-removed"), `${grouped(lives.length)} removed`);
-  fill(box.firstElementChild, `${plural(lives.length, "removed group")}: ${listed(lives.slice(-3).map(life => nameOf(run, life)))}${lives.length > 3 ? " ..." : ""}`);
+  fill(byId("to-removed"), `${grouped(count)} removed`);
+  fill(box.firstElementChild, `${plural(count, "removed group")}${isCut ? `, the last ${MOST_REMOVED}` : ""}: ${listed(lives.slice(-3).map(life => nameOf(run, life)))}${count > 3 ? " ..." : ""}`);
   box.lastElementChild.replaceChildren(...lives.reverse().map(life => {
     const canvas = make("canvas", { "aria-hidden": "true" }), isLit = page.life === life;
     drawSwatch(canvas, life.style);

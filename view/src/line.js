@@ -66,7 +66,7 @@ function totalsOf(run, line) {
 /** The remark of the script, the command, and what it was answered. */
 function saidOf(run, line) {
   const remark = page.remarks.get(run.position), said = answeredBy(line), children = [];
-  const killed = run.events.filter(({ position, kind }) => kind === "kill" && position === run.position);
+  const killed = run.eventsAt(run.position).filter(({ kind }) => kind === "kill");
   const chip = (textContent, isStrong) => make("span", { className: isStrong ? "chip strong" : "chip", textContent });
   if (remark) children.push(paragraph("remark-said", remark));
   children.push(make("p", { className: "command-said" }, make("span", { className: "code", textContent: `${line.cpu} ${line.command}` }), " ", chip(`line ${line.line}`), chip(line.lock ? "took the lock" : "no lock", line.lock)));

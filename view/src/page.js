@@ -19,22 +19,25 @@ const BESIDE_TIME = 500; // the pixels of the time line's title and buttons
 const EVENT_COLUMNS = 16 + 4 * 7 + 36 + 24 + 86, GROUP_SHARE = 0.15;
 
 let opening = 0;
-/** Runs a log piece by piece, so that the page can do other things; null if another log was opened meanwhile. */
-async function loaded(log) {
-  const mine = ++opening, loading = load(log), { state, text } = page.verdict;
-  stop();
-  badge("busy", "checking …");
+/** Does work piece by piece, so that the page can do other things; null if other work began meanwhile. */
+async function inPieces(work, name) {
+  const mine = ++opening;
+  badge("busy", `${name} …`);
   for (let step, since = performance.now();;) {
-    if ((step = loading.next()).done) {
-      badge(state, text);
-      return step.value;
-    }
+    if ((step = work.next()).done) return step.value;
     if (performance.now() - since < 40) continue;
-    badge("busy", `checking … ${Math.floor(100 * step.value)} %`);
+    badge("busy", `${name} … ${Math.floor(100 * step.value)} %`);
     await new Promise(resolve => setTimeout(resolve));
     if (mine !== opening) return null;
     since = performance.now();
   }
+}
+/** Runs a log; null if another one was opened meanwhile. */
+async function loaded(log) {
+  stop();
+  const found = await inPieces(load(log), "checking");
+  if (found) badge(page.verdict.state, page.verdict.text);
+  return found;
 }
 async function openLog(name, log) {
   const found = await loaded(log);

@@ -67,6 +67,7 @@ class Run {
     this.styles = new Map(); // of each path: groups that have it one after the other look alike
     this.livesOf = new Map(); // of each path: how many groups had it
     this.births = new Array(MOST_GROUPS).fill(0);
+    this.removed = []; // the lives that ended, in that order
     this.record(state);
     // Of each position where its changes begin, its number in the script, and where its lines of the log begin.
     this.starts = [0, this.logCell.length];
@@ -217,6 +218,11 @@ class Run {
   happened(kind, group, name = "", note = 0) {
     this.events.push({ position: this.lineNumbers.length - 1, kind, life: group >= 0 ? this.life(group) : null, name, note });
   }
+  /** The events of a position. */
+  eventsAt(position) {
+    const indexOf = at => indexIn(this.events, at, event => event.position) + 1;
+    return this.events.slice(indexOf(position - 1), indexOf(position));
+  }
   /** The first event of this kind and group at this position that has no explanation yet gets it. */
   explain(kind, path, note) {
     const event = this.events.slice(this.firstEvent).find(each => each.kind === kind && !each.note && each.life?.path === path);
@@ -283,6 +289,7 @@ class Run {
     if (life && this.births[number] !== group?.birth) {
       life.series.push([this.position, 0]);
       life.until = this.position;
+      this.removed.push(life);
       this.set(this.LIFE + number, -1);
     }
     if (!group) return;

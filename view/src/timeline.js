@@ -23,22 +23,38 @@ function indexIn(numbers, number, valueOf = each => each) {
   return low;
 }
 const indexAt = (pairs, position) => indexIn(pairs, position, pair => pair[0]);
+/** These items with the least first; each is valued once. */
+const sortedBy = (items, valueOf) => items.map(item => [valueOf(item), item]).sort(([a], [b]) => a - b).map(([, item]) => item);
 const isThereAt = (life, position) => life.from <= position && position < (life.until ?? Infinity);
-const topLives = run => run.lives.filter(life => life.number || run.lives.length === 1);
+const topLives = run => run.top ??= run.lives.filter(life => life.number || run.lives.length === 1);
+const isInView = (life, view) => life.from <= view[1] && (life.until ?? Infinity) >= view[0];
 
+const curves = new WeakMap();
+/** The lives of each path, one behind the other, as one life: its curves end as a group is removed, and begin again. */
+function curvesOf(lives) {
+  if (!curves.has(lives)) curves.set(lives, joinedLives(lives));
+  return curves.get(lives);
+}
+function joinedLives(lives) {
+  const paths = new Map();
+  for (const life of lives) paths.has(life.path) ? paths.get(life.path).push(life) : paths.set(life.path, [life]);
+  const joined = (same, what) => same.flatMap(life => life.until === undefined ? life[what] : [...life[what], [life.until, -1]]);
+  return [...paths.values()].map(same => same.length === 1 ? same[0] :
+    { ...same[0], until: same.at(-1).until, ...Object.fromEntries(["series", "limits", "peaks"].map(what => [what, joined(same, what)])) });
+}
 /** Draws what of the time line doesn't depend on the line, and returns where a position is. */
 function drawTime(canvas, run, width, height, { view, lit, mode, events }) {
   const pen = penOf(canvas, width, height), frame = timeFrame(width, height), { left, top, wide, high } = frame;
   const x = position => left + (position - view[0]) / Math.max(1, view[1] - view[0]) * wide;
-  const lives = (lit ? [...lit] : topLives(run)).filter(life => life.from <= view[1] && (life.until ?? Infinity) >= view[0]);
+  const lives = lit ?? topLives(run), curves = curvesOf(lives).filter(life => isInView(life, view));
   drawKinds(pen, run, events, frame, view, x);
   lanes().forEach(([name, positions], at) => drawTicks(pen, positions, name, 10 + LANE * (Object.keys(LANES).length + at), frame, view, x));
   pen.save();
   pen.beginPath();
   pen.rect(0, top - 6, left + wide + 2, high + 12);
   pen.clip();
-  const ends = mode === "side" ? drawSideBySide(pen, run, lives, frame, view, x) : mode === "stack" ?
-    drawStack(pen, run, lives, frame, view) : drawOver(pen, run, lives, frame, view, x, lit);
+  const ends = mode === "side" ? drawSideBySide(pen, curves, frame, view, x) : mode === "stack" ?
+    drawStack(pen, run, [...lives], frame, view) : drawOver(pen, run, curves, lives, frame, view, x, lit);
   pen.restore();
   drawEnds(pen, run, ends, frame, width, view);
   drawPlaces(pen, run, frame, view, x);
@@ -98,17 +114,18 @@ function scaleOf(lives, view) {
   return Math.max(used, mostOf("limits", 3 * used));
 }
 /** The usages one over another, and the limits and peaks of those that are lit, or of all if they are few. */
-function drawOver(pen, run, lives, frame, view, x, lit) {
-  const most = scaleOf(lives, view), { top, high } = frame, y = pages => top + high - pages / most * high, ends = [];
-  const isDetailed = lit || lives.length <= 4;
+function drawOver(pen, run, curves, lives, frame, view, x, lit) {
+  const most = scaleOf(curves, view), killed = killedLives(run), { top, high } = frame, y = pages => top + high - pages / most * high, ends = [];
+  const isDetailed = lit || curves.length <= 4;
   drawScale(pen, frame, most, y);
-  for (const life of lit ? topLives(run).filter(each => !lit.has(each)) : []) drawSteps(pen, life, life.series, view, x, y, { alpha: 0.25 });
-  for (const life of lives) {
+  for (const life of lit ? curvesOf(topLives(run).filter(each => !lit.has(each))) : []) drawSteps(pen, life, life.series, view, x, y, { alpha: 0.25 });
+  for (const life of curves) {
     if (isDetailed) drawBounds(pen, life, view, x, y);
-    if (page.other) for (const its of secondLives(run, page.other, life)) drawSteps(pen, its, its.series, view, x, y, { dash: [9, 3, 2, 3] });
+    for (const its of page.other ? curvesOf(page.otherLives.get(life.path) ?? []) : []) drawSteps(pen, its, its.series, view, x, y, { dash: [9, 3, 2, 3] });
     drawSteps(pen, life, life.series, view, x, y, { width: 2, dash: styleAt(life.style).dash });
-    if (isThereAt(life, view[1]) || killedLives(run).has(life)) ends.push([life, y(valueAt(life.series, Math.min(view[1], (life.until ?? Infinity) - 1))) + 4]);
   }
+  for (const life of lives)
+    if (isThereAt(life, view[1]) || killed.has(life) && isInView(life, view)) ends.push([life, y(valueAt(life.series, Math.min(view[1], (life.until ?? Infinity) - 1))) + 4]);
   return ends;
 }
 /** A life's limit, dashed, and its peak, dotted: each as it was from line to line. */
@@ -116,11 +133,31 @@ function drawBounds(pen, life, view, x, y) {
   drawSteps(pen, life, life.limits, view, x, y, { width: 1.5, dash: [5, 3] });
   drawSteps(pen, life, life.peaks, view, x, y, { dash: [1, 3] });
 }
+const MOST_POINTS = 4000;
+/** Of many values at each pixel, the extremes, as a band: dashes would take long, and show nothing. */
+function drawBand(pen, pairs, view, x, y, width) {
+  let before = -1, column = -1, low = Infinity, high = -1;
+  const fill = (from, until) => high >= 0 && pen.fillRect(from, y(high) - width / 2, until - from, y(low) - y(high) + width);
+  for (let index = Math.max(0, indexAt(pairs, view[0])); index < pairs.length && pairs[index][0] <= view[1]; index++) {
+    const [position, pages] = pairs[index], here = Math.floor(x(position));
+    if (here !== column) {
+      fill(column, column + 1);
+      [low, high] = before < 0 ? [Infinity, -1] : [before, before];
+      if (column >= 0) fill(column + 1, here);
+      column = here;
+    }
+    if (pages >= 0) [low, high] = [Math.min(low, pages), Math.max(high, pages)];
+    before = pages;
+  }
+  fill(column, column + 1);
+  pen.globalAlpha = 1;
+}
 /** A stepped line of these pairs while the life is there. A value below 0 is none. Within half a pixel only extremes are drawn. */
 function drawSteps(pen, life, pairs, view, x, y, { width = 1, dash = [], alpha = 1 }) {
-  const end = x(Math.min(life.until ?? view[1], view[1]));
+  const end = x(Math.min(life.until ?? view[1], view[1])), color = styleAt(life.style).color;
   let before = -1, at = -9, low = 0, high = -1;
-  Object.assign(pen, { strokeStyle: styleAt(life.style).color, lineWidth: width, globalAlpha: alpha });
+  Object.assign(pen, { strokeStyle: color, fillStyle: color, lineWidth: width, globalAlpha: alpha });
+  if (indexAt(pairs, view[1]) - indexAt(pairs, view[0]) > MOST_POINTS) return drawBand(pen, pairs, view, x, y, width);
   pen.setLineDash(dash);
   pen.beginPath();
   for (let index = Math.max(0, indexAt(pairs, view[0])); index < pairs.length && pairs[index][0] <= view[1]; index++) {
@@ -141,10 +178,12 @@ function drawSteps(pen, life, pairs, view, x, y, { width = 1, dash = [], alpha =
 }
 /** What each group has without the groups below it, stacked. */
 function drawStack(pen, run, lives, frame, view) {
-  const { left, top, wide, high } = frame, sorted = lives.sort((a, b) => a.path < b.path ? -1 : 1), columns = [];
+  const { left, top, wide, high } = frame, columns = [];
+  let there = [], next = 0; // lives are in the order in which they begin
   for (let at = 0; at < wide; at++) {
-    const position = Math.round(view[0] + at / wide * (view[1] - view[0])), there = sorted.filter(life => isThereAt(life, position));
-    const below = new Map();
+    const position = Math.round(view[0] + at / wide * (view[1] - view[0])), below = new Map();
+    while (next < lives.length && lives[next].from <= position) there.push(lives[next++]);
+    there = there.filter(life => isThereAt(life, position)).sort((a, b) => a.path < b.path ? -1 : 1);
     for (const life of there) {
       const parent = parentPath(life.path), usage = valueAt(life.series, position);
       if (life.path !== "/") below.set(parent, (below.get(parent) ?? 0) + usage);
@@ -166,9 +205,9 @@ function drawStack(pen, run, lives, frame, view) {
     .filter(([, , pages]) => pages);
 }
 /** A row for each group, with a scale of its own: the greatest ones, as many as there is room for. */
-function drawSideBySide(pen, run, lives, { left, top, wide, high }, view, x) {
-  const count = Math.max(1, Math.min(lives.length, Math.floor(high / 16))), row = high / count;
-  const shown = lives.sort((a, b) => mostIn(b.series, view) - mostIn(a.series, view)).slice(0, count).sort((a, b) => a.path < b.path ? -1 : 1);
+function drawSideBySide(pen, curves, { left, top, wide, high }, view, x) {
+  const count = Math.max(1, Math.min(curves.length, Math.floor(high / 16))), row = high / count;
+  const shown = sortedBy(curves, ({ series }) => -mostIn(series, view)).slice(0, count).sort((a, b) => a.path < b.path ? -1 : 1);
   shown.forEach((life, at) => {
     const bottom = top + (at + 1) * row - 2, most = scaleOf([life], view), y = pages => bottom - pages / most * (row - 4);
     pen.fillStyle = css("soft");
@@ -177,7 +216,7 @@ function drawSideBySide(pen, run, lives, { left, top, wide, high }, view, x) {
     drawSteps(pen, life, life.series, view, x, y, { width: 2 });
     rightText(pen, amount(most), left - 6, bottom - row / 2 + 6, css("muted"), left - 6);
   });
-  page.unshown = lives.length - count;
+  page.unshown = curves.length - count;
   return shown.map((life, at) => [life, top + (at + 0.5) * row + 4]);
 }
 const killedLives = run => run.killed ??= new Set(run.events.filter(({ kind, life }) => kind === "kill" && life).map(({ life }) => life));
@@ -186,8 +225,8 @@ function drawEnds(pen, run, ends, { left, top, wide, high, right }, width, view)
   page.named = [];
   if (right < 40) return;
   const killed = killedLives(run), most = Math.floor((top + high - 4) / 12), room = ends.length > most ? most - 1 : most, x = left + wide + 6;
-  const rank = ([life]) => (killed.has(life) ? 2 ** 32 : 0) + mostIn(life.series, view);
-  const shown = ends.sort((a, b) => rank(b) - rank(a)).slice(0, room).sort((a, b) => a[1] - b[1]);
+  const rank = ([life]) => (killed.has(life) ? -(2 ** 32) : 0) - mostIn(life.series, view);
+  const shown = sortedBy(ends, rank).slice(0, room).sort((a, b) => a[1] - b[1]);
   let free = ends.length > room ? 10 : -2;
   for (const [index, [life, wanted]] of shown.entries()) {
     const at = free = Math.min(Math.max(free + 12, wanted), top + high + 6 - 12 * (shown.length - 1 - index));
