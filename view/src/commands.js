@@ -17,8 +17,14 @@ const FILES = { "memory.current": "r", "memory.max": "rw", "memory.peak": "r", "
 const COMMANDS = { mkdir: "p", rmdir: "p", write: "pnv", read: "pn", alloc: "po", fast: "g", release: "f", get: "f", put: "f",
   settle: "", touch: "f", dirty: "f", clean: "f", owner: "f", blocks: "", show: "", stock: "", units: "p" };
 const MOST_ROUNDS = 16, MOST_RUNS = 1024;
+const SECONDS = /^# ([0-9]+(?:\.[0-9]+)?) s$/; // a sample of `tools/whatif`
 const CUT = "the comment of this line is cut, so that nobody can say what it asks for";
 
+/** The sizes that the second line of a log of memcg has; null if it has none that `replay` takes. */
+function sizesOf(text) {
+  const [batch, high, stock] = (/^# memcg batch ([1-9][0-9]?) high ([1-9][0-9]{0,2}) stock ([1-9][0-9]?)$/.exec(text) ?? []).slice(1).map(Number);
+  return batch <= 64 && batch <= high && high <= 256 && stock <= 64 ? { batch, high, stock } : null;
+}
 /** The words of a command: the value of a write is all that follows. */
 function wordsOf(command) {
   const words = command.split(" ");

@@ -3,7 +3,9 @@
 /** Opens a second run beside the first. Its groups look like those of the same path. */
 async function openSecond(name, log) {
   const found = await loaded(log);
-  if (!found) return;
+  if (found) await showSecond(name, log, found);
+}
+async function showSecond(name, log, found) {
   if (!found.run) return tell(`${name} is no log: ${found.verdict.text}`);
   const { run } = page, other = found.run;
   for (const life of other.lives) {
@@ -14,7 +16,9 @@ async function openSecond(name, log) {
   if (!compared) return;
   badge(page.verdict.state, page.verdict.text);
   Object.assign(page, { other, otherName: name, otherLog: log, otherVerdict: found.verdict, ...compared, timeX: null, zoneKey: "" });
+  showRuns();
   drawWarnings();
+  measure();
   draw();
 }
 const zoneText = run => `${plural(run.frames, "frame")}, ${plural(run.cpus, "CPU")}`;
@@ -121,10 +125,13 @@ function comparedRows(run, other) {
   const groups = [...new Set([...ours.keys(), ...theirs.keys()])].map(name => ({ name, ours: valuesOf(run, ours.get(name)), theirs: valuesOf(other, theirs.get(name)) }));
   return [{ name: "answer", ours: [said(run)], theirs: [said(other)] }, { name: "killed", ours: [kills(run)], theirs: [kills(other)] }, ...groups.filter(isOther), ...groups.filter(each => !isOther(each))];
 }
+function showRuns() {
+  byId("runs-part").hidden = !page.other;
+  byId("time-part").classList.toggle("two", page.other !== null);
+}
 function drawRuns() {
-  const { run, other } = page, part = byId("runs-part");
-  part.hidden = !other;
-  byId("time-part").classList.toggle("two", other !== null);
+  const { run, other } = page;
+  showRuns();
   if (!other) return;
   const { status, text } = page.otherVerdict, number = run.lineNumbers.at(run.position);
   other.goto(positionOf(number, other));

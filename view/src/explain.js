@@ -10,7 +10,7 @@ const EXPLAINED = [
   [/^# reclaimed (\d+) more frames$/, frames => `${plural(Number(frames), "more frame")} ${frames === "1" ? "was" : "were"} reclaimed.`],
   [/^# reclaimed (\S+) (\d+)(?:-(\d+))?$/, (path, first, last) => `${capital(framesText(Number(first), Number(last ?? first)))} of ${path} ${last ? "are" : "is"} freed: clean and without a pin.`],
   [/^# round (\d+) tried \d+ missed (\d+) returned (\d+) bytes (\d+) usage (\d+)$/, (round, missed, freed, bytes, usage, dirty) =>
-    `Reclaim, round ${round}: ${Number(freed) ? `${plural(Number(freed), "unit")} freed (${pagesText(inPages(bytes))})` : "nothing could be freed"}.${!Number(freed) && dirty ? ` ${plural(dirty, "unit")} ${dirty === 1 ? "is" : "are"} dirty.` : ""}${Number(missed) ? ` ${plural(Number(missed), "try", "tries")} failed because of a pin.` : ""} The usage is then ${inPages(usage)}.`],
+    `Reclaim, round ${round}: ${Number(freed) ? `${plural(Number(freed), "unit")} freed (${pagesText(inPages(bytes))})` : "nothing could be freed"}.${!Number(freed) && dirty ? ` ${plural(dirty, "unit")} ${dirty === 1 ? "is" : "are"} dirty.` : ""}${Number(missed) ? ` Pins made ${plural(Number(missed), "try", "tries")} fail${missed === "1" ? "" : ", some perhaps at one unit"}.` : ""} The usage is then ${inPages(usage)}.`],
   [/^# oom (\S+)$/, path => `Reclaim wasn't enough: out of memory at ${path}. A group has to die.`],
   [/^# victim (\S+) frames (\d+) of (\d+) candidates(?:, next (\S+) frames (\d+))?$/, (path, frames, count, next, others) =>
     `The victim is ${path}: it has ${plural(Number(frames), "frame")}, ${next ? `the most of ${count} groups that may die. The next would be ${next} with ${others}.` : "and no other group may die."}`],
@@ -57,7 +57,7 @@ function killWords(run, event, isShort = false) {
   const [, path, freed, bytes, pinned, held] = /^# killed (\S+) returned (\d+) bytes (\d+) pinned (\d+) bytes (\d+)/.exec(run.textAt(event.note)) ?? [];
   const before = notesBefore(run, event), [, limited] = /^# oom (\S+)/.exec(before.findLast(text => /^# oom /.test(text)) ?? "") ?? [];
   const [, whole, count] = /^# group (\S+) groups (\d+)/.exec(before.findLast(text => /^# (group|oom) /.test(text)) ?? "") ?? [];
-  if (!path) return KINDS.kill[2];
+  if (!path) return "";
   if (isShort) return `${KiBText(bytes)} freed, limit of ${limited}${Number(held) ? `; ${KiBText(held)} still charged` : ""}${whole ? `; ${plural(Number(count), "group")} of ${whole} die${count === "1" ? "s" : ""} as a whole` : ""}`;
   return `for the limit of ${limited}: ${bytesText(bytes)} freed${Number(pinned) || Number(held) ? `, ${bytesText(held)} still charged` : ""}${whole && whole !== path ? `; dies with ${whole}, which is killed as a whole` : whole && Number(count) > 1 ? `; ${count} groups die as a whole` : ""}`;
 }
@@ -67,7 +67,7 @@ function reasonWords(run, event, line) {
   if (kind === "refused") return line.isStep ? line.answer : `${name.split(" ")[1]}: ${answeredBy(line).replace(/^Refused: |\.$/g, "")}`;
   if (!text) return KINDS[kind][2];
   if (kind === "oom") return `reclaim wasn't enough${isSpared(line.notes, notesIndex(run, event)) ? ", and no group is left that may die" : ": a group has to die"}`;
-  if (kind === "kill") return killWords(run, event, true);
+  if (kind === "kill") return killWords(run, event, true) || KINDS.kill[2];
   const [one, two, three] = numbers.slice(kind === "max" || kind === "lowered" ? -3 : 0);
   if (kind === "max") return `no room for ${pagesText(three / PAGE)}: usage ${grouped(two / PAGE)}, limit ${grouped(one / PAGE)}`;
   if (kind === "lowered") return `new limit ${grouped(one / PAGE)} is below the usage ${grouped(two / PAGE)}`;
@@ -80,10 +80,9 @@ function reasonWords(run, event, line) {
 function drainedText(run, { position, note }) {
   const cpus = [];
   let pages = 0;
-  for (let at = note; /^# stock /.test(run.textAt(at)); at += run.textAt(at).length + 1) {
-    const [, cpu, bytes] = /^# stock (\d+) bytes (\d+)/.exec(run.textAt(at));
-    if (Number(bytes)) cpus.push(cpu);
-    pages += inPages(bytes);
+  for (let at = note, found; found = /^# stock (\d+) bytes (\d+)/.exec(run.textAt(at)); at += run.textAt(at).length + 1) {
+    if (Number(found[2])) cpus.push(found[1]);
+    pages += inPages(found[2]);
   }
   return `${plural(pages, "prepaid page")} drained of the stock${cpus.length > 1 ? "s" : ""} of CPU${cpus.length > 1 ? "s" : ""} ${listed(cpus)}`;
 }

@@ -1,10 +1,26 @@
 /**
+ * What makes a kill: the limit and the usage under it, how many pages have no room, and how many pages reclaim would free
+ * besides, if the victim's units were clean, if all below the limit were, and if these had no pins either.
+ */
+function choiceOf(state, limited, need, victim = -1) {
+  const { max, current, path } = state.groups[limited], choice = { path, victim: state.groups[victim]?.path, max, usage: current, need, its: 0, dirty: 0, pinned: 0 };
+  for (const list of victim < 0 ? [] : state.subtree(limited).flatMap(group => [groupList(group, false), groupList(group, true)])) {
+    for (const frame of state.listed(list)) {
+      const pages = 2 ** orderOf(state.place[frame]), isPinned = state.pinsOn(frame) > 0;
+      choice[isPinned ? "pinned" : "dirty"] += pages;
+      if (!isPinned && groupOf(state.place[frame]) === victim) choice.its += pages;
+    }
+  }
+  choice.full = [...state.up(limited)].filter(above => above.number !== limited && state.missing(above.number, need)).map(above => above.path);
+  return choice;
+}
+/**
  * Follows a log of memcg, line by line of its script: what isn't a step (the order of a group's lists, marks and dirt)
  * follows from the commands and the manual's chapter on reclaim. Each method returns what doesn't fit, or nothing.
  */
 class Follower {
   constructor() {
-    Object.assign(this, { state: null, reader: null, sizes: null, line: null, isEnd: false, plan: null, expected: -1, number: 0, hasReasons: null });
+    Object.assign(this, { state: null, reader: null, sizes: null, lacksSizes: false, line: null, isEnd: false, plan: null, expected: -1, number: 0, seconds: -1, hasReasons: null, choice: null });
     this.sawNone = new Uint8Array(MOST_CPUS + 1); // whether the CPU saw last that its stock has no page
   }
   zone(state, reader) {
@@ -20,11 +36,14 @@ class Follower {
     if (!this.state) return;
     const { text, line } = this.reader;
     if (!this.isOurs) {
-      const found = line === 2 && /^# memcg batch ([0-9]{1,2}) high ([0-9]{1,3}) stock ([0-9]{1,2})$/.exec(text);
-      if (found) this.sizes = { batch: Number(found[1]), high: Number(found[2]), stock: Number(found[3]) };
+      if (line === 2) this.sizes = sizesOf(text);
+      this.lacksSizes ||= !this.isOurs && /^# line [0-9]+: /.test(text);
       return;
     }
-    if (text.startsWith("# bad: ")) return this.skipBadLine();
+    const [, seconds] = SECONDS.exec(text) ?? [];
+    if (seconds && !(Number(seconds) > this.seconds)) return "the seconds don't ascend";
+    if (seconds) this.seconds = Number(seconds);
+    if (seconds || text.startsWith("# bad: ")) return this.endLine();
     if (text !== "# end" && !text.startsWith("# line ")) return this.compare(text);
     const fault = this.close(), next = fault || text === "# end" ? null : lineOf(text, this.state);
     if (fault) return fault;
@@ -33,8 +52,8 @@ class Follower {
     if (next && next.number <= this.number) return "the lines' numbers don't ascend";
     this.begin(next);
   }
-  /** A line that a session couldn't read: it has no steps, and the line before it has ended. */
-  skipBadLine() {
+  /** The line before has ended: what comes is a sample's seconds, or a line that a session couldn't read. */
+  endLine() {
     const fault = this.close();
     if (fault) return fault;
     if (this.isEnd) return "nothing may follow the end";
@@ -212,6 +231,7 @@ class Follower {
       .filter(group => state.groups[group].oom_group);
     this.killedWhole = flagged.at(-1) ?? -1;
     this.dying = flagged.length ? state.subtree(this.killedWhole).filter(group => !state.groups[group].killed) : [victim[0]];
+    this.choice = choiceOf(state, limited, this.over?.pages ?? 0, victim[0]);
     this.notes.push(`# victim ${state.path(victim[0])} frames ${victim[1]} of ${next ? 2 + more.length : 1} candidates${next ? `, next ${state.path(next[0])} frames ${next[1]}` : ""}`);
     if (flagged.length) this.notes.push(`# group ${state.path(this.killedWhole)} groups ${this.dying.length}`);
   }
@@ -244,7 +264,7 @@ class Follower {
     const { owed } = this;
     if (owed && owed !== `${action} ${a}`) return `${owed} was due`;
     this.owed = null;
-    if (this.isEnd) return this.fitsEnd(action, seat, a);
+    if (this.isEnd) return this.fitsEnd(action, seat, reader);
     if (this.drains.length && !seat && action !== "ungrant" && !(action === "drain" && a === this.drains[0])) return `drain ${this.drains[0]} was due`;
     if (this.passed && !["pass-out", "take-in"].includes(action) && line.verb === "alloc" && this.passed < this.sizes.batch && state.blocks[0]) {
       return "pass-out was due";
@@ -255,9 +275,10 @@ class Follower {
     return fault && line.isCut ? CUT : fault;
   }
   /** At the end the pins are put, each CPU is settled, and then each gives back its list and its stock. */
-  fitsEnd(action, seat, a) {
+  fitsEnd(action, seat, { a, b }) {
     const { state, locks } = this, { cpus, holder } = state, isLast = locks > cpus;
     if (action === "lock") return seat === this.locks++ % cpus + 1 && locks < 2 * cpus ? null : `lock by CPU ${locks % cpus + 1} was due`;
+    if (action === "unfreeze" && b !== 1) return "the zone has one reference";
     if (action === "drain") return isLast && a === holder && !this.steps++ ? null : "no drain was due";
     if (action === "unlock") this.steps = isLast && this.steps ? 0 : isLast ? -1 : 0;
     const isDone = action !== "unlock" || this.steps === 0 && !(isLast && state.count("l", holder)) && !this.hand && !this.unlisted;

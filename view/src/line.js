@@ -38,7 +38,7 @@ function bootWords(run) {
   ];
 }
 const askedBy = line => line.isEnd ? "All pins are put, and all CPUs give back what they have." : line.isStep ?
-  `${line.cpu === "0" ? "The zone" : `CPU ${line.cpu}`}: ${line.command}.` : `CPU ${line.cpu} ${askedWords(line.command)}.`;
+  `${line.cpu === "0" ? "The zone" : `CPU ${line.cpu}`}: ${line.command}.` : line.isCut ? `CPU ${line.cpu}: the log has the first ${grouped(MOST_LINE)} bytes of this line.` : `CPU ${line.cpu} ${askedWords(line.command)}.`;
 const answeredBy = line => line.isEnd ? endWords(line.answer) : line.isStep ? "" : answeredWords(line);
 /** The report of the end. Its totals are listed with their lines. */
 function endWords(answer) {
@@ -70,7 +70,7 @@ function saidOf(run, line) {
   const chip = (textContent, isStrong) => make("span", { className: isStrong ? "chip strong" : "chip", textContent });
   if (remark) children.push(paragraph("remark-said", remark));
   children.push(make("p", { className: "command-said" }, make("span", { className: "code", textContent: `${line.cpu} ${line.command}` }), " ", chip(`line ${line.line}`), chip(line.lock ? "took the lock" : "no lock", line.lock)));
-  children.push(...killed.slice(0, 3).map(event => paragraph("note-killed", `◆ ${event.life ? nameOf(run, event.life) : "A group"} is killed ${killWords(run, event)}.`)));
+  children.push(...killed.slice(0, 3).map(event => paragraph("note-killed", `◆ ${event.life ? nameOf(run, event.life) : "A group"} is killed${spaced(killWords(run, event))}.`)));
   if (killed.length > 3) children.push(paragraph("note-killed", `And ${killed.length - 3} more, below.`));
   children.push(paragraph("what", askedBy(line)));
   children.push(...heldOf(run));
@@ -106,7 +106,7 @@ function listOf(title, tag, items, most) {
 function foldedNotes(notes) {
   const folds = [];
   for (const [at, note] of notes.entries()) {
-    const key = /^# stock \d+ bytes 0 /.test(note) ? "#" : /^# reclaimed (\/\S*) \d/.exec(note)?.[1] ?? "";
+    const key = /^# stock \d+ bytes 0 /.test(note) ? "#" : /^# reclaimed (\/\S*) \d+(?:-\d+)?$/.exec(note)?.[1] ?? "";
     if (key && folds.at(-1)?.key === key) folds.at(-1).notes.push(note);
     else folds.push({ key, notes: [note], at });
   }

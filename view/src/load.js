@@ -3,7 +3,7 @@
 /** Runs a log, and records each position. It yields how far it is, and returns the run with the verdict. */
 function* load(log) {
   const follower = new Follower();
-  let drawn = null, reader = null, state = null, isOpen = false, remarks = [];
+  let drawn = null, reader = null, state = null, isOpen = false, remarks = [], over = null, limited = null;
   const closes = () => {
     if (isOpen) drawn.close(state);
     isOpen = false;
@@ -18,9 +18,10 @@ function* load(log) {
     comment() {
       const fault = follower.comment();
       if (fault || !drawn) return fault;
-      drawn.sizes = follower.sizes;
+      Object.assign(drawn, { sizes: follower.sizes, lacksSizes: follower.lacksSizes });
       const text = follower.isOurs ? "" : reader.text.slice(1).trim(), isAnswer = follower.told > 0;
       if (text) remarks.push(text);
+      if (follower.isOurs && SECONDS.test(reader.text)) drawn.seconds.push([drawn.lineNumbers.length, follower.seconds]);
       if (!follower.isOurs || !follower.line && !follower.isEnd) return;
       if (!isAnswer) {
         closes();
@@ -48,8 +49,13 @@ function* load(log) {
     after() {
       const action = ACTIONS[reader.action][0];
       if (action === "kill") drawn.mark(KILLS);
+      if (reader.answer === OVER) over = { group: reader.n, pages: reader.b };
+      else if (action === "grant" || action === "limit") over = null;
+      if (action === "note-oom") limited = { group: reader.a, need: over?.group === reader.a ? over.pages : 0 };
       if (reader.answer === MISSED) drawn.missed.push(drawn.lineNumbers.length - 1);
       if (Object.hasOwn(EVENT_STEPS, action)) drawn.happened(EVENT_STEPS[action], reader.a);
+      if (action === "note-max") drawn.tighten(state.groups[reader.a], over?.pages ?? 0);
+      if (action === "kill") drawn.events.at(-1).choice = follower.isOurs ? follower.choice : limited && state.groups[limited.group] && choiceOf(state, limited.group, limited.need);
       if (action === "lock") drawn.locks[reader.seat].push(drawn.lineNumbers.length - 1);
       if (action === "lock" || !follower.isOurs && reader.seat === 0) drawn.mark(LOCKED);
       if (!follower.isOurs) {

@@ -44,6 +44,7 @@ async function openLog(name, log) {
   if (!found) return;
   if (found.run) begin(name, log, found.run);
   judge(name, found.verdict, found.run);
+  if (found.run) byId("live").textContent = [byId("warned").textContent, verdictText(found.run, MOST_VERDICTS)].filter(Boolean).join(" ");
 }
 function begin(name, log, run) {
   run.high = run.sizes?.high ?? MOST_FRESH;
@@ -76,7 +77,9 @@ function waysOf(run) {
 }
 /** What the rules say of the log, in the words of `memcg check`. */
 function judge(name, { status, text, steps }, run) {
+  if (run) drawVerdict();
   Object.assign(document.documentElement.dataset, { lines: run?.lines ?? 0, status });
+  byId("warned").textContent = run?.lacksSizes ? "⚠ commands and answers aren't checked: line 2 isn't `# memcg batch B high H stock S`" : "";
   if (status) return badge("bad", run ? `✕ ${text}` : `✕ ${name} is no log: ${text}`);
   badge("good", `✓ ${plural(steps, "legal step")}${run.sizes ? "; all answers agree" : ""}`);
 }

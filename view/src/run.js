@@ -68,6 +68,9 @@ class Run {
     this.livesOf = new Map(); // of each path: how many groups had it
     this.births = new Array(MOST_GROUPS).fill(0);
     this.removed = []; // the lives that ended, in that order
+    this.tight = null; // the moment at which a limit had least room
+    this.leastFree = [0, this.frames]; // where, and how many frames
+    this.seconds = []; // of samples: the position that comes next, and their seconds
     this.record(state);
     // Of each position where its changes begin, its number in the script, and where its lines of the log begin.
     this.starts = [0, this.logCell.length];
@@ -279,6 +282,7 @@ class Run {
     }
     for (const group of groups) this.recordGroup(group, state.groups[group]);
     this.set(this.FREE, state.blocks[0]);
+    if (state.blocks[0] < this.leastFree[1]) this.leastFree = [this.position, state.blocks[0]];
     this.set(this.LENT, state.lent);
     for (let at = 0; at < TOTALS.length; at++) this.set(this.TOTALS + at, state[TOTALS[at]]);
     frames.length = pins.length = 0;
@@ -303,10 +307,17 @@ class Run {
     }
     ROW.forEach((name, at) => this.set(this.ROWS + number * ROW.length + at, group[name]));
     this.set(this.OWN + number, group.frames);
+    this.tighten(group, 0);
     const { series, limits, peaks } = this.life(number);
     if (series.at(-1)[1] !== group.current) series.push([this.position, group.current]);
     if (limits.at(-1)[1] !== group.max) limits.push([this.position, group.max]);
     if (peaks.at(-1)[1] !== group.peak) peaks.push([this.position, group.peak]);
+  }
+
+  /** Keeps the moment at which a group's limit had least room: for pages that are needed, or behind a line. */
+  tighten({ number, max, current }, need) {
+    const room = max - current - need;
+    if (max >= 0 && current + need > 0 && !(room >= this.tight?.room)) this.tight = { room, max, usage: current, need, life: this.life(number), position: need ? this.lineNumbers.length - 1 : this.position };
   }
 
   // What the log says
@@ -320,7 +331,7 @@ class Run {
   said(position) {
     const text = this.textAt(this.from.at(position)), found = this.sizes && lineOf(text, this), behind = this.behind.at(position);
     const answer = behind ? this.textAt(behind).replace(/^# (= )?/, "") : "", isEnd = this.sizes && !found;
-    if (this.sizes) return { line: this.lineNumbers.at(position), cpu: found?.cpu ?? "", command: found?.command ?? "the end", isEnd, answer };
+    if (this.sizes) return { line: this.lineNumbers.at(position), cpu: found?.cpu ?? "", command: found?.command ?? "the end", isCut: found?.isCut, isEnd, answer };
     const step = /^([0-9]+) (.*) > (.*)$/.exec(text);
     return { line: this.lineNumbers.at(position), cpu: step?.[1] ?? "", command: step?.[2] ?? text, isEnd, isStep: true, answer: step?.[3] ?? "" };
   }
@@ -339,7 +350,7 @@ class Run {
     const steps = this.sizes ? linesOf(from, behind).filter(text => text && text[0] !== "#") : [], comments = this.sizes ? linesOf(behind, end) : [];
     const answer = this.sizes ? comments.filter(text => text.startsWith("# = ")).map(text => text.slice(4)).join("\n") : said.answer;
     const rest = Math.max(0, behind - from - most) + Math.max(0, end - behind - most);
-    return { ...said, rest, lock: (this.marks.at(position) & LOCKED) > 0, steps, answer, notes: comments.filter(text => /^# (?!=|refused )/.test(text)),
+    return { ...said, rest, lock: (this.marks.at(position) & LOCKED) > 0, steps, answer, notes: comments.filter(text => /^# (?!=|refused |bad: )/.test(text) && !SECONDS.test(text)),
       reason: comments.find(text => text.startsWith("# refused "))?.replace(/^# refused \d+: /, "") };
   }
   /** Whether the steps of this position changed anything of a frame. */

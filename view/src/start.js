@@ -14,6 +14,8 @@ function wire() {
     if (file) openSecond(file.name, new TextDecoder("latin1").decode(await file.arrayBuffer()));
   });
   on("save", whenOpen(save));
+  on("copy", whenOpen(copyVerdict));
+  on("dismiss", () => byId("verdict-part").hidden = true);
   on("picture", whenOpen(savePicture));
   on("time-csv", whenOpen(() => download(".csv", "text/csv", csvOf(timeTable(page.run)))));
   on("events-csv", whenOpen(() => download("-events.csv", "text/csv", csvOf(eventTable(page.run)))));
@@ -102,7 +104,7 @@ function wire() {
   });
   window.addEventListener("hashchange", () => followHash());
   const observer = new ResizeObserver(() => {
-    measure();
+    if (!measure()) return;
     resizeTime();
     if (page.run) {
       showRows();
@@ -113,13 +115,16 @@ function wire() {
   measure();
 }
 
-/** The sizes of what is drawn on, which are asked for when they change. */
+/** The sizes of what is drawn on, which are asked for when they change. Returns whether they did. */
 function measure() {
   const size = id => [byId(id).clientWidth, byId(id).clientHeight];
   page.zoneSize = size("zone-box");
   page.timeSize = size("time-box");
   page.lineRows.measure();
   page.eventRows.measure();
+  const sizes = [page.zoneSize, page.timeSize, ...[page.lineRows, page.eventRows].map(rows => [rows.height, rows.inside])].join(), isOther = sizes !== page.sizes;
+  page.sizes = sizes;
+  return isOther;
 }
 
 /** What a block of the page has inside. */

@@ -103,8 +103,10 @@ function drawScale(pen, { left, wide }, most, y) {
 }
 /** The greatest value of these pairs from one position to another. */
 function mostIn(pairs, [from, until]) {
+  if (from <= pairs[0]?.[0] && until >= pairs.at(-1)[0] && pairs.most !== undefined) return pairs.most;
   let most = valueAt(pairs, from);
   for (let at = Math.max(0, indexAt(pairs, from)); at < pairs.length && pairs[at][0] <= until; at++) most = Math.max(most, pairs[at][1]);
+  if (from <= pairs[0]?.[0] && until >= pairs.at(-1)[0]) pairs.most = most;
   return most;
 }
 /** The greatest number of the scale: limits are on it if they aren't far above the usages. */

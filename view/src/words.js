@@ -11,6 +11,7 @@ const framesText = (first, last) => first === last ? `frame ${first}` :
   `frames ${first} ${last === first + 1 ? "and" : "to"} ${last}`;
 const limitText = pages => pages < 0 ? "no limit" : pagesText(pages);
 const listed = words => words.length < 2 ? words.join("") : `${words.slice(0, -1).join(", ")} and ${words.at(-1)}`;
+const spaced = text => text && ` ${text}`;
 const capital = text => text.charAt(0).toUpperCase() + text.slice(1);
 
 const FAST_WORDS = {
@@ -87,39 +88,26 @@ function amountText(value) {
     `${pagesText(pages)} (${grouped(pages * 4)} KiB)`;
 }
 
+/** Of each command, what its answers mean. An answer of another form means nothing. */
+const ANSWERED = {
+  mkdir: [[/^group (\d+)$/, group => `The group has number ${group}.`]],
+  rmdir: [[/^ok$/, () => "The group is gone."]],
+  fast: [[/^frame (\d+)$/, head => `It gets frame ${head}.`], [/^([a-z-]+)$/, why => Object.hasOwn(FAST_WORDS, why) ? `It gets none, since ${FAST_WORDS[why]}.` : ""]],
+  get: [[/^held$/, () => "It has the pin."], [/^zero$/, () => "It gets none: the frame has no reference yet."], [/^full$/, () => "It gets none: the frame has 255 references."]],
+  put: [[/^last$/, () => "That was the last reference. The unit is freed when this CPU settles."], [/^left (\d+)$/, left => `${plural(Number(left), "reference")} ${left === "1" ? "is" : "are"} left.`]],
+  release: [[/^listed$/, () => "It was fresh, and is on the CPU's list again."], [/^returned$/, () => "No reference is left: it is freed."],
+    [/^left (\d+)$/, left => `${plural(Number(left), "pin")} ${left === "1" ? "is" : "are"} left, so it stays charged.`]],
+  touch: [[/^marked$/, () => "It is marked: reclaim will spare it once."], [/^active$/, () => "It is the newest active unit."]],
+  owner: [[/^free$/, () => "It is free."], [/^cpu (\d+)$/, cpu => `It is on the list of CPU ${cpu}, or fresh there.`], [/^(\/\S*)$/, path => `It is charged to ${path}.`]]
+};
 /** What the answer means. */
 function answeredWords(line) {
   const [verb, first, second] = wordsOf(line.command), { answer } = line, [, number, path] = /^refused (\d+) \w+ ?(\S*)/.exec(answer) ?? [];
   if (number) return `Refused: ${(line.reason || REFUSALS[number]?.[1] || answer).replace(/of a group$/, `of ${path}`)}.`;
-  const head = Number(answer.split(" ")[1]);
-  switch (verb) {
-    case "mkdir":
-      return `The group has number ${head}.`;
-    case "rmdir":
-      return "The group is gone.";
-    case "alloc":
-      return `It gets ${framesText(head, head + 2 ** Number(second) - 1)}.`;
-    case "fast":
-      return answer.startsWith("frame") ? `It gets frame ${head}.` : `It gets none, since ${FAST_WORDS[answer] ?? answer}.`;
-    case "get":
-      return answer === "held" ? "It has the pin." : answer === "zero" ? "It gets none: the frame has no reference yet." :
-        "It gets none: the frame has 255 references.";
-    case "put":
-      return answer === "last" ? "That was the last reference. The unit is freed when this CPU settles." :
-        `${plural(head, "reference")} ${head === 1 ? "is" : "are"} left.`;
-    case "release":
-      return answer === "listed" ? "It was fresh, and is on the CPU's list again." : answer === "returned" ?
-        "No reference is left: it is freed." : `${plural(head, "pin")} ${head === 1 ? "is" : "are"} left, so it stays charged.`;
-    case "touch":
-      return answer === "marked" ? "It is marked: reclaim will spare it once." : "It is the newest active unit.";
-    case "read":
-      return Object.hasOwn(FILE_WORDS, second) && /^\d+$/.test(answer) && second !== "memory.oom.group" ?
-        `${capital(FILE_WORDS[second])} of ${first}: ${grouped(Number(answer))} bytes, ${pagesText(Number(answer) / PAGE)}.` :
-        "";
-    case "owner":
-      return answer === "free" ? "It is free." : answer.startsWith("cpu ") ?
-        `It is on the list of CPU ${answer.slice(4)}, or fresh there.` : `It is charged to ${answer}.`;
-    default:
-      return "";
-  }
+  if (verb === "read") return Object.hasOwn(FILE_WORDS, second) && /^\d+$/.test(answer) && second !== "memory.oom.group" ?
+    `${capital(FILE_WORDS[second])} of ${first}: ${grouped(Number(answer))} bytes, ${pagesText(Number(answer) / PAGE)}.` : "";
+  const [, head] = verb === "alloc" && /^[0-9]$|^10$/.test(second) && /^frame (\d+)$/.exec(answer) || [];
+  if (head) return `It gets ${framesText(Number(head), Number(head) + 2 ** Number(second) - 1)}.`;
+  for (const [form, said] of Object.hasOwn(ANSWERED, verb) ? ANSWERED[verb] : []) if (form.test(answer)) return said(...form.exec(answer).slice(1));
+  return "";
 }
