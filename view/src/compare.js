@@ -12,6 +12,7 @@ async function showSecond(name, log, found) {
     if (!run.styles.has(life.path)) run.styles.set(life.path, run.styles.size);
     life.style = run.styles.get(life.path);
   }
+  other.styles = run.styles;
   const compared = await inPieces(comparison(run, other), "comparing");
   if (!compared) return;
   badge(page.verdict.state, page.verdict.text);
@@ -22,9 +23,35 @@ async function showSecond(name, log, found) {
   draw();
 }
 const zoneText = run => `${plural(run.frames, "frame")}, ${plural(run.cpus, "CPU")}`;
+/** Makes the second run the first one, at the same line. */
+async function swapRuns() {
+  const { run, name, log, runVerdict, other, otherName, otherLog, otherVerdict, script } = page, number = run.lineNumbers.at(run.position);
+  begin(otherName, otherLog, other);
+  judge(otherName, otherVerdict, other);
+  if (script) addRemarks(script);
+  go(positionOf(number));
+  await showSecond(name, log, { run, verdict: runVerdict });
+}
 function* comparison(run, other) {
-  const otherLives = yield* livesHere(run, other), differs = yield* differences(run, other, otherLives);
-  return { otherLives, differs, warnings: yield* warningsOf(run, other) };
+  const places = placesIn(run, other), otherLives = yield* livesHere(other, places), differs = yield* differences(run, other, otherLives);
+  const otherMarks = other.events.filter(({ kind }) => kind !== "refused").map(({ position, kind }) => ({ position: places[position], kind }));
+  return { otherLives, otherMarks, differs, warnings: yield* warningsOf(run, other), effect: effectOf(run, other, differs, otherLives) };
+}
+/** The first line that differs though its command is the same: its position, and what it does here and there. */
+function effectOf(run, other, differs, otherLives) {
+  const textOf = (where, at) => where.textAt(where.from.at(at)), placeOf = position => positionIn(other, run, position);
+  const position = run.sizes && other.sizes && differs.find(each => placeOf(each) > 0 && textOf(run, each) === textOf(other, placeOf(each)));
+  if (!position) return null;
+  const at = placeOf(position), [ours, theirs] = [[run, position], [other, at]].map(([where, its]) =>
+    where.eventsAt(its).map(({ kind, life, name }) => `${KINDS[kind][0]} ${kind} ${life?.path ?? name}`).join(", ") || "no event");
+  if (ours !== theirs) return { position, words: `${ours} here, and ${theirs} there` };
+  const answers = [run.said(position).answer, other.said(at).answer];
+  if (answers[0] !== answers[1]) return { position, words: `${answers[0]} here, and ${answers[1]} there` };
+  for (const life of run.lives.filter(each => isThereAt(each, position))) for (const its of otherLives.get(life.path)?.filter(each => isThereAt(each, position)) ?? []) {
+    const [usage, second] = [life, its].map(each => valueAt(each.series, position));
+    if (usage !== second) return { position, words: `the usage of ${life.path} is ${memoryText(usage)} here, and ${memoryText(second)} there` };
+  }
+  return { position, words: "it makes other steps" };
 }
 /** What makes two runs no runs of one script on one zone. Other sizes of batches, lists and stocks are what is compared. */
 function* warningsOf(run, other) {
@@ -48,7 +75,9 @@ function* otherTexts(run, other) {
   return { count, first };
 }
 function drawWarnings() {
-  byId("warnings").replaceChildren(...page.warnings.map(text => paragraph("warning", `⚠ ${text}`)));
+  const { run, warnings, effect } = page, cause = warnings.some(text => /^The (scripts|zones)/.test(text)) ? "the change" : "the other sizes";
+  byId("warnings").replaceChildren(...warnings.map(text => paragraph("warning", `⚠ ${text}`)), ...(effect ? [make("p", { className: "inline", id: "effect" },
+    `First effect of ${cause}: `, make("button", { textContent: `line ${run.lineNumbers.at(effect.position)}`, onclick: () => go(effect.position) }), ` ${effect.words}.`)] : []));
   byId("runs-box").scrollTop = 0;
 }
 function closeSecond() {
@@ -101,13 +130,18 @@ function addUnequal(found, life, its) {
     }
   }
 }
-/** The second run's lives by their paths, at the positions of the same lines of the first. */
-function* livesHere(run, other) {
-  const places = new Int32Array(other.lines + 1), lives = new Map();
+/** Of each position of the second run that of the same line of the first, or of the one before. */
+function placesIn(run, other) {
+  const places = new Int32Array(other.lines + 1);
   for (let at = 0, here = 0; at <= other.lines; at++) {
     while (here < run.lines && run.lineNumbers.at(here + 1) <= other.lineNumbers.at(at)) here++;
     places[at] = here;
   }
+  return places;
+}
+/** The second run's lives by their paths, at these places. */
+function* livesHere(other, places) {
+  const lives = new Map();
   const placed = pairs => pairs.map(([position, pages]) => [places[position], pages]);
   for (const [at, life] of other.lives.entries()) {
     const its = { ...life, from: places[life.from], until: life.until === undefined ? undefined : places[life.until], series: placed(life.series), limits: placed(life.limits) };
@@ -144,7 +178,15 @@ function drawRuns() {
   });
   byId("runs").replaceChildren(head([[`line ${number}`, 1, "left"], ["this run", 3, "left"], [`second run${its === number ? "" : `: no such line, so behind its line ${its}`}`, 3, "left"]]), ...rows.slice(0, 2),
     head([["in " + (page.isMiB ? "MiB" : "pages"), 1, "left"], ["usage", 1, ""], ["2nd", 1, ""], ["limit", 1, ""], ["2nd", 1, ""], ["peak", 1, ""], ["2nd", 1, ""]]), ...rows.slice(2));
+  byId("runs-why").replaceChildren(happenedOf(run, "This run"), its === number ? happenedOf(other, "Second run") : paragraph("", "The second run has no such line."));
   drawWhole(run, other);
+}
+/** What happened in a run at its line, and what was tried for room. */
+function happenedOf(where, title) {
+  const line = where.line(where.position), notes = line?.notes ?? [];
+  return make("div", {}, make("h4", { textContent: title }), ...where.eventsAt(where.position).map(event => paragraph(`note-${event.kind}`,
+    `${KINDS[event.kind][0]} ${event.kind} ${event.life ? nameOf(where, event.life) : ""}: ${reasonWords(where, event, line)}`)),
+    ...listOf("", "ol", notes.map((note, at) => make("li", { textContent: noteWords(note, 0, isSpared(notes, at)) })), 40).slice(1), ...(notes.length ? [] : ["Nothing was tried for room."]));
 }
 /** How often each kind of event is in either run, and all lines that differ. */
 function drawWhole(run, other) {

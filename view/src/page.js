@@ -43,6 +43,7 @@ async function openLog(name, log) {
   const found = await loaded(log);
   if (!found) return;
   if (found.run) begin(name, log, found.run);
+  page.runVerdict = found.verdict;
   judge(name, found.verdict, found.run);
   if (found.run) byId("live").textContent = [byId("warned").textContent, verdictText(found.run, MOST_VERDICTS)].filter(Boolean).join(" ");
 }

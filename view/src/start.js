@@ -8,6 +8,7 @@ function wire() {
   on("show-example", showExample);
   on("compare", () => page.run ? byId("second").click() : tell("open a first log"));
   on("alone", closeSecond);
+  on("swap", swapRuns);
   byId("second").addEventListener("change", async event => {
     const [file] = event.target.files;
     event.target.value = "";

@@ -1,8 +1,8 @@
 // The time line: marks in rows, the usages, and below them the whole run. What doesn't depend on the line is kept.
 
 const LANE = 11, OVERVIEW = 13;
-/** The rows of ticks: where the lit CPU took the lock, and where the second run differs. */
-const lanes = () => [...(page.cpu ? [[`CPU ${page.cpu}'s lock`, page.run.locks[page.cpu]]] : []), ...(page.other ? [["differs ≠", page.differs]] : [])];
+/** The rows below the kinds: where the lit CPU took the lock, where the second run differs, and its events. */
+const lanes = () => [...(page.cpu ? [[`CPU ${page.cpu}'s lock`, page.run.locks[page.cpu]]] : []), ...(page.other ? [["differs ≠", page.differs], ["second's", null, page.otherMarks]] : [])];
 /** Where the parts of the time line are, in a canvas of this size. */
 function timeFrame(width, height) {
   const left = width < 600 ? 72 : 84, right = width < 600 ? 8 : 92, top = LANE * (Object.keys(LANES).length + lanes().length) + 6;
@@ -48,7 +48,11 @@ function drawTime(canvas, run, width, height, { view, lit, mode, events }) {
   const x = position => left + (position - view[0]) / Math.max(1, view[1] - view[0]) * wide;
   const lives = lit ?? topLives(run), curves = curvesOf(lives).filter(life => isInView(life, view));
   drawKinds(pen, run, events, frame, view, x);
-  lanes().forEach(([name, positions], at) => drawTicks(pen, positions, name, 10 + LANE * (Object.keys(LANES).length + at), frame, view, x));
+  lanes().forEach(([name, positions, marks], at) => {
+    const y = 10 + LANE * (Object.keys(LANES).length + at);
+    if (marks) drawSigns(pen, marks, name, "text", y, frame, view, x);
+    else drawTicks(pen, positions, name, y, frame, view, x);
+  });
   pen.save();
   pen.beginPath();
   pen.rect(0, top - 6, left + wide + 2, high + 12);
@@ -62,22 +66,27 @@ function drawTime(canvas, run, width, height, { view, lit, mode, events }) {
   return x;
 }
 /** A row of marks for each kind of event. */
-function drawKinds(pen, run, events, { left, top, high, wide }, view, x) {
+function drawKinds(pen, run, events, frame, view, x) {
+  const { top, high } = frame;
   Object.entries(LANES).forEach(([lane, name], row) => {
-    let drawn = -9, before = "";
-    const y = 10 + row * LANE, [, color] = KINDS[lane];
-    rightText(pen, name, left - 6, y, css(color), left - 6);
-    pen.fillStyle = css(color);
-    pen.textAlign = "center";
-    for (const { position, kind } of events.filter(event => KINDS[event.kind][3] === lane)) {
-      const here = x(position), [sign] = KINDS[kind];
-      if (position < view[0] || position > view[1] || here - drawn < 2 && sign === before) continue;
-      [drawn, before] = [here, sign];
-      pen.fillText(sign, here, y);
-      if (kind === "kill") pen.fillRect(here, y + 2, 0.6, top + high - y);
-    }
-    pen.textAlign = "left";
+    const y = 10 + row * LANE, its = events.filter(event => KINDS[event.kind][3] === lane);
+    drawSigns(pen, its, name, KINDS[lane][1], y, frame, view, x);
+    if (lane === "kill") for (const { position } of its) if (position >= view[0] && position <= view[1]) pen.fillRect(x(position), y + 2, 0.6, top + high - y);
   });
+}
+/** A row of the signs of events, under a name. */
+function drawSigns(pen, events, name, color, y, { left }, view, x) {
+  let drawn = -9, before = "";
+  rightText(pen, name, left - 6, y, css(color), left - 6);
+  pen.textAlign = "center";
+  for (const { position, kind } of events) {
+    const here = x(position), [sign, its] = KINDS[kind];
+    if (position < view[0] || position > view[1] || here - drawn < 2 && sign === before) continue;
+    [drawn, before] = [here, sign];
+    pen.fillStyle = css(its);
+    pen.fillText(sign, here, y);
+  }
+  pen.textAlign = "left";
 }
 /** A row with a tick at each of these positions. */
 function drawTicks(pen, positions, name, y, { left }, view, x) {
