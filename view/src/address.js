@@ -14,5 +14,6 @@ function placeText() {
   if (life) words.set("group", life.path);
   if (life && run.lives.some(other => other !== life && other.path === life.path)) words.set("life", life.index);
   words.set("theme", document.documentElement.dataset.theme);
+  if (panelSizes.size) words.set("panels", sizesText());
   return words.toString().replaceAll("%2F", "/");
 }

@@ -151,6 +151,7 @@ function followHash(hash = location.hash) {
   const words = new URLSearchParams(hash.slice(1)),
     number = name => /^\d{1,7}$/.test(words.get(name) ?? "") ? Number(words.get(name)) : null, run = page.run;
   if (words.get("theme") === "dark" || words.get("theme") === "light") setTheme(words.get("theme"));
+  followSizes(words.get("panels") ?? "");
   if (!run) return;
   const line = number("line"), frame = number("frame"), group = number("group"), path = words.get("group");
   if (line !== null) go(positionOf(line));

@@ -29,7 +29,8 @@ class Rows {
   measure() {
     this.height = this.box.clientHeight;
     this.inside = this.box.clientWidth;
-    this.width = Math.max(480, this.inside);
+    this.isNarrow = isNarrow();
+    this.width = this.isNarrow ? this.inside : Math.max(480, this.inside);
     this.top = this.box.scrollTop;
   }
   /** Has so many other rows now. */
@@ -46,12 +47,16 @@ class Rows {
     Object.assign(this, { open: first, more });
     this.inner.style.height = `${this.topOf(this.count)}px`;
   }
+  /** The height of a row that isn't unfolded: in a narrow window, a cause is below the other cells. */
+  get least() {
+    return this.isNarrow && this.rowAt === eventRow ? ROW_HEIGHT + TEXT_HEIGHT + 2 : ROW_HEIGHT;
+  }
   topOf(at) {
-    return at * ROW_HEIGHT + this.more[Math.max(0, Math.min(at - this.open, this.more.length - 1))];
+    return at * this.least + this.more[Math.max(0, Math.min(at - this.open, this.more.length - 1))];
   }
   /** The row that has this place. */
   rowNear(y) {
-    let at = Math.floor(y / ROW_HEIGHT);
+    let at = Math.floor(y / this.least);
     while (at > 0 && this.topOf(at) > y) at--;
     return at;
   }
@@ -116,8 +121,9 @@ function monoWidth() {
   return pen.measureText("0".repeat(100)).width / 100;
 }
 const causeAt = at => page.shown[at].cause ??= causesOf(page.run, page.shown[at]);
-const groupWidth = () => (page.eventRows.width - 16) * GROUP_SHARE;
-const eventLines = at => linesOf(causeAt(at)[0], page.eventRows.width - EVENT_COLUMNS - groupWidth() - 1, textWidth);
+const groupWidth = () => page.eventRows.isNarrow ? page.eventRows.inside - 180 : (page.eventRows.width - 16) * GROUP_SHARE;
+const isNarrow = () => innerWidth <= 700;
+const eventLines = at => linesOf(causeAt(at)[0], page.eventRows.isNarrow ? page.eventRows.inside - 18 : page.eventRows.width - EVENT_COLUMNS - groupWidth() - 1, textWidth);
 function remarkRow(position) {
   const remark = page.remarks.get(position);
   return make("div", { className: "row remark", role: "presentation" }, make("span", { className: "number" }), make("span", { className: "command", textContent: remark, title: remark }));
@@ -135,11 +141,15 @@ function lineRow(position) {
   return row;
 }
 
-/** Scrolls to the line that is shown, and to the events of it, or those before it. */
-function showRows() {
-  const { run, shownAt } = page, at = page.rowOf[run.position];
+function showScript() {
+  const { run } = page, at = page.rowOf[run.position];
   page.lineRows.unfold(at, at);
   page.lineRows.show(at - (page.remarks.has(run.position) ? 1 : 0), at);
+}
+/** Scrolls to the line that is shown, and to the events of it, or those before it. */
+function showRows() {
+  const { run, shownAt } = page;
+  showScript();
   showEvents(run, shownAt);
   showCpu(actingCpu(run));
 }

@@ -104,18 +104,24 @@ function wire() {
     openFiles(event.dataTransfer.files);
   });
   window.addEventListener("hashchange", () => followHash());
-  const observer = new ResizeObserver(() => {
-    if (!measure()) return;
-    resizeTime();
-    if (page.run) {
-      showRows();
-      draw();
-    }
-  });
+  wireSplits();
+  const observer = new ResizeObserver(resized);
   for (const id of ["zone-box", "time-box", "script", "events"]) observer.observe(byId(id));
   measure();
 }
 
+/** Draws anew what has another size. The script's height alone changes with the text of each line. */
+function resized() {
+  const before = page.drawnSizes, isOther = measure();
+  if (!isOther || !page.run) return;
+  if (before === page.drawnSizes) {
+    showScript();
+    return page.lineRows.draw();
+  }
+  resizeTime();
+  showRows();
+  draw();
+}
 /** The sizes of what is drawn on, which are asked for when they change. Returns whether they did. */
 function measure() {
   const size = id => [byId(id).clientWidth, byId(id).clientHeight];
@@ -123,7 +129,8 @@ function measure() {
   page.timeSize = size("time-box");
   page.lineRows.measure();
   page.eventRows.measure();
-  const sizes = [page.zoneSize, page.timeSize, ...[page.lineRows, page.eventRows].map(rows => [rows.height, rows.inside])].join(), isOther = sizes !== page.sizes;
+  page.drawnSizes = [page.zoneSize, page.timeSize, page.eventRows.height, page.eventRows.inside, page.lineRows.inside].join();
+  const sizes = `${page.drawnSizes},${page.lineRows.height}`, isOther = sizes !== page.sizes;
   page.sizes = sizes;
   return isOther;
 }
