@@ -177,7 +177,7 @@ function drawRuns() {
     return make("tr", { className: differs ? "differs" : "" }, cell(`${differs ? "≠ " : ""}${name}`, "td", { className: "left" }), ...values.map(([value, colSpan]) => cell(value, "td", { colSpan })));
   });
   byId("runs").replaceChildren(head([[`line ${number}`, 1, "left"], ["this run", 3, "left"], [`second run${its === number ? "" : `: no such line, so behind its line ${its}`}`, 3, "left"]]), ...rows.slice(0, 2),
-    head([["in " + (page.isMiB ? "MiB" : "pages"), 1, "left"], ["usage", 1, ""], ["2nd", 1, ""], ["limit", 1, ""], ["2nd", 1, ""], ["peak", 1, ""], ["2nd", 1, ""]]), ...rows.slice(2));
+    head([["in " + (UNITS[page.unit][0]), 1, "left"], ["usage", 1, ""], ["2nd", 1, ""], ["limit", 1, ""], ["2nd", 1, ""], ["peak", 1, ""], ["2nd", 1, ""]]), ...rows.slice(2));
   byId("runs-why").replaceChildren(happenedOf(run, "This run"), its === number ? happenedOf(other, "Second run") : paragraph("", "The second run has no such line."));
   drawWhole(run, other);
 }
@@ -194,6 +194,6 @@ function drawWhole(run, other) {
   const count = (where, kind) => where.events.reduce((sum, event) => sum + (event.kind === kind), 0);
   const counts = Object.keys(KINDS).map(kind => [kind, count(run, kind), count(other, kind)]).filter(([, one, two]) => one || two);
   const words = counts.map(([kind, one, two]) => `${one === two ? "" : "≠ "}${KINDS[kind][0]} ${kind} ${grouped(one)} and ${grouped(two)}`);
-  byId("runs-whole").replaceChildren(paragraph("inline", `Events in the whole run, this and the second: ${words.join(" · ") || "none"}.`),
-    inlineOf("Lines that differ (keys d and D)", page.differs, position => [`${run.lineNumbers.at(position)}`, () => go(position)], Math.max(0, indexIn(page.differs, run.position) - 9)));
+  keepFocus(byId("runs-whole"), () => byId("runs-whole").replaceChildren(paragraph("inline", `Events in the whole run, this and the second: ${words.join(" · ") || "none"}.`),
+    inlineOf("Lines that differ (keys d and D)", page.differs, position => [`${run.lineNumbers.at(position)}`, () => go(position)], Math.max(0, indexIn(page.differs, run.position) - 9))));
 }

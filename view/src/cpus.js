@@ -78,8 +78,9 @@ function drawCpu() {
 /** Buttons in a row under a title, each with its text and what it does: 20 from this one on, and what opens the rest. */
 function inlineOf(title, items, buttonOf, from = 0) {
   const line = make("p", { className: "inline" }, `${title}: ${items.length ? "" : "none"}`), add = (first, count) => {
-    line.append(...items.slice(first, first + count).map(buttonOf).map(([textContent, onclick]) => make("button", { textContent, onclick })));
-    if (first + count < items.length) line.append(more(items.length - first - count, () => add(first + count, 2000)));
+    const buttons = items.slice(first, first + count).map(buttonOf).map(([textContent, onclick]) => make("button", { textContent, onclick }));
+    line.append(...buttons.flatMap((button, at) => first + at > from ? [", ", button] : [button]));
+    if (first + count < items.length) line.append(" ", more(items.length - first - count, () => add(first + count, 2000)));
   };
   if (from > 0) line.append(more(from, () => line.replaceWith(inlineOf(title, items, buttonOf)), "before"));
   add(from, 20);

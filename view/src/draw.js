@@ -17,8 +17,8 @@ function draw() {
   byId("where").textContent = run.position ?
     `line ${run.lineNumbers.at(run.position)}: ${isAtEnd(run) ? "the end" : `${run.sizes ? "command" : "step"} ${grouped(run.position)} of ${grouped(commandCount(run))}`}` :
     `boot: ${grouped(commandCount(run))} ${run.sizes ? "commands" : "steps"} follow`;
-  byId("first").disabled = byId("back").disabled = run.position === 0;
-  byId("last").disabled = byId("next").disabled = run.position === run.lines;
+  for (const [id, isThere] of [["first", run.position === 0], ["back", run.position === 0], ["next", run.position === run.lines], ["last", run.position === run.lines]])
+    byId(id).setAttribute("aria-disabled", String(isThere)); // one that is disabled would lose the focus
   byId("told").textContent = "";
   drawWays();
   nameAddress();

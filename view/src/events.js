@@ -33,6 +33,22 @@ function drawEvents() {
     `${grouped(shown.length)} shown of ${grouped(run.events.length)}${page.life ? " (lit)" : ""}`;
   byId("events-said").title = isDefault && hidden ? `${plural(hidden, "refusal")} of commands that charge and reclaim nothing: choose all events, and they are shown` : "";
 }
+/** The row of the table that is the current one: that to which a key led, or the first one of the line; -1 if the line has none. */
+function currentEvent() {
+  const { run, shownAt } = page, first = indexIn(shownAt, run.position - 1) + 1;
+  return shownAt[page.eventAt] === run.position ? page.eventAt : shownAt[first] === run.position ? first : -1;
+}
+/** Goes to the row above or below, and says it: rows of one line too. */
+function goEvent(by) {
+  const { run, shown, shownAt } = page, current = currentEvent(), next = indexIn(shownAt, run.position) + 1, to = current >= 0 ? current + by : by > 0 ? next : next - 1;
+  if (!shown[to]) return tell(`no ${by > 0 ? "later" : "earlier"} event in the table`);
+  page.eventAt = to;
+  if (shownAt[to] !== run.position) go(shownAt[to]);
+  page.eventRows.show(to);
+  page.eventRows.draw();
+  const { kind, life } = shown[to];
+  byId("live").textContent = `Line ${run.lineNumbers.at(shownAt[to])}: ${kind}${life ? ` ${nameOf(run, life)}` : ""}: ${causeAt(to).join("")}`;
+}
 function eventRow(at) {
   const { run } = page, event = page.shown[at], { position, kind, life, name } = event, [sign, color] = KINDS[kind], [reason, by] = causeAt(at);
   const cell = (className, textContent) => make("span", { className, textContent, title: textContent, role: "gridcell" });

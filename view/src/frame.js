@@ -24,13 +24,13 @@ function drawFrame() {
     Object.assign(page, { wholeOf: frame, history: page.history.rest ? historyOf(run, frame, Infinity) : page.history });
     drawFrame();
   };
-  byId("history").replaceChildren(...(first ? [make("li", {}, more(first, open, "before"))] : []), ...shown.map(([position, words], index) => {
+  keepFocus(byId("frame"), () => byId("history").replaceChildren(...(first ? [make("li", {}, more(first, open, "before"))] : []), ...shown.map(([position, words], index) => {
     const item = make("li", {
       className: first + index === at ? "now" : ""
     }, make("button", { textContent: `line ${run.lineNumbers.at(position)}`, onclick: () => go(position) }), words);
     if (first + index === at) item.setAttribute("aria-current", "step");
     return item;
-  }), ...(behind ? [make("li", {}, more(behind, open))] : []));
+  }), ...(behind ? [make("li", {}, more(behind, open))] : [])));
   showEntry(`${frame} ${at}`);
   lens.hidden = !page.layout || page.layout.wide >= 12;
   if (!lens.hidden) {

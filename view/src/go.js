@@ -121,12 +121,17 @@ function stop() {
   byId("play").textContent = "Play";
 }
 
+/** Who is killed at the line that is shown. */
+function killedWords(run) {
+  const kills = run.eventsAt(run.position).filter(({ kind }) => kind === "kill").map(event => `${event.life ? nameOf(run, event.life) : "a group"} is killed${spaced(killWords(run, event))}`);
+  return kills.length ? ` ${kills.slice(0, 3).join("; ")}${kills.length > 3 ? `; and ${kills.length - 3} more` : ""}.` : "";
+}
 /** For those who can't see the page: the line and the frame picked. While it plays nothing is said. */
 function say() {
   if (page.playing) return;
   const run = page.run, line = run.line(run.position);
   const said = line ?
-    `Line ${line.line}: ${askedBy(line)} ${answeredBy(line) || `Answer: ${line.answer.slice(0, 200)}`}${run.marks.at(run.position) & KILLS ? " Groups were killed." : ""}` :
+    `Line ${line.line}: ${askedBy(line)} ${answeredBy(line) || `Answer: ${line.answer.slice(0, 200)}`}${killedWords(run)}` :
     "Before the first line: all frames are free.";
   byId("live").textContent = said + (page.frame < 0 ? "" : ` Frame ${page.frame}: ${frameWords(run, page.frame).join(", ")}.`);
 }

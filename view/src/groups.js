@@ -1,7 +1,8 @@
 // The groups, with those that were removed
 
 /** Pages in the unit that is chosen. */
-const amount = pages => grouped(page.isMiB ? pages / 256 : pages);
+const UNITS = [["pages", 1], ["KiB", 4], ["MiB", 1 / 256]];
+const amount = pages => grouped(pages * UNITS[page.unit][1]);
 /** The groups in the order that is chosen: as a tree, or those with the most, or nearest to their limit, first. */
 function sortedGroups(run) {
   const sort = byId("sort").value, usage = group => run.row(group, "current"), max = group => run.row(group, "max");
@@ -39,7 +40,7 @@ function drawGroups() {
     if (focused !== null)(body.querySelector(`button[data-group="${focused}"]`) ?? body.querySelector("button")).focus();
   }
   sorted.forEach((group, at) => fillRow(run, group, body.children[at], prepaid.get(group) ?? { sum: 0, by: [] }, changed.get(group)?.has("current") ?? false));
-  fill(byId("unit"), page.isMiB ? "in MiB" : "in pages");
+  fill(byId("unit"), `in ${UNITS[page.unit][0]}`);
   drawRemoved();
 }
 const MOST_REMOVED = 50;
@@ -47,17 +48,17 @@ const MOST_REMOVED = 50;
 function drawRemoved() {
   const { run } = page, box = byId("removed"), count = indexIn(run.removed, run.position, ({ until }) => until) + 1;
   box.hidden = byId("to-removed").hidden = !count;
-  if (!isOther(box, run.lives.length, count, page.life?.index, page.isMiB, colors.theme)) return;
+  if (!isOther(box, run.lives.length, count, page.life?.index, page.unit, colors.theme)) return;
   const lives = run.removed.slice(Math.max(0, count - MOST_REMOVED), count), isCut = count > MOST_REMOVED;
   const lineOf = position => make("button", { textContent: `line ${run.lineNumbers.at(position)}`, onclick: () => go(position) });
   fill(byId("to-removed"), `${grouped(count)} removed`);
   fill(box.firstElementChild, `${plural(count, "removed group")}${isCut ? `, the last ${MOST_REMOVED}` : ""}: ${listed(lives.slice(-3).map(life => nameOf(run, life)))}${count > 3 ? " ..." : ""}`);
-  box.lastElementChild.replaceChildren(...lives.reverse().map(life => {
+  keepFocus(box.lastElementChild, () => box.lastElementChild.replaceChildren(...lives.reverse().map(life => {
     const canvas = make("canvas", { "aria-hidden": "true" }), isLit = page.life === life;
     drawSwatch(canvas, life.style);
     return make("li", {}, canvas, make("button", { textContent: nameOf(run, life), "aria-pressed": String(isLit), onclick: () => light(isLit ? null : life) }),
       ` peak ${amount(life.peaks.at(-1)[1])}, made on `, lineOf(life.from), ", removed on ", lineOf(life.until));
-  }));
+  })));
 }
 
 function groupRow(run, group) {
@@ -86,7 +87,7 @@ function fillRow(run, group, row, prepaid, isChanged) {
   const [usage, max, peak, killed, isWhole, ...counts] = ["current", "max", "peak", "killed", "oom_group", "max_local", "max_events",
     "oom_local", "oom_events", "kill_local", "kill_events"].map(each => run.row(group, each));
   const limit = leastLimit(run, group), own = run.cells[run.OWN + group], isLit = page.life === run.life(group);
-  if (!isOther(row, usage, max, peak, killed, isWhole, counts, limit, own, prepaid.by, isChanged, isLit, page.isMiB, styles[group], colors.theme)) return;
+  if (!isOther(row, usage, max, peak, killed, isWhole, counts, limit, own, prepaid.by, isChanged, isLit, page.unit, styles[group], colors.theme)) return;
   const [swatch, name, bar, ...cells] = row.children, [button, tag] = name.children;
   const { nth } = run.life(group), words = [...(nth > 1 ? [ordinal(nth)] : []), ...(killed ? ["killed"] : []), ...(isWhole ? ["oom.group"] : [])];
   drawSwatch(swatch.firstChild, styles[group]);

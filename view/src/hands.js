@@ -60,8 +60,8 @@ function zoneKey(event) {
   return frame === undefined ? null : () => pick(Math.max(0, Math.min(last, frame)));
 }
 const eventsKey = event => ({
-  ArrowUp: () => goWay("e", false),
-  ArrowDown: () => goWay("e", true)
+  ArrowUp: () => goEvent(-1),
+  ArrowDown: () => goEvent(1)
 })[event.key] ?? null;
 const scriptKey = event => ({
   ArrowUp: () => go(page.run.position - 1),

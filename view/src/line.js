@@ -2,7 +2,7 @@
 
 function drawLine() {
   const run = page.run, line = run.line(run.position, page.opened === run.position ? Infinity : undefined), box = byId("line");
-  box.replaceChildren(...(line ? [...saidOf(run, line), ...totalsOf(run, line), ...notesOf(run, line), ...changesOf(run, line), ...stepsOf(line)] : bootWords(run)));
+  keepFocus(box, () => box.replaceChildren(...(line ? [...saidOf(run, line), ...totalsOf(run, line), ...notesOf(run, line), ...changesOf(run, line), ...stepsOf(line)] : bootWords(run))));
   if (line?.rest) box.append(more(line.rest, () => {
     page.opened = run.position;
     drawLine();

@@ -1,6 +1,12 @@
 // Opening a log
 
 const byId = id => document.getElementById(id);
+/** Changes what is in a box: the button there that has the focus keeps it, by its place, or the box gets it. */
+function keepFocus(box, change) {
+  const at = [...box.querySelectorAll("button")].indexOf(document.activeElement);
+  change();
+  if (at >= 0) (box.querySelectorAll("button")[at] ?? box).focus({ preventScroll: true });
+}
 /** An element. Words are text only, never markup. */
 function make(tag, properties = {}, ...children) {
   const element = document.createElement(tag);
@@ -11,7 +17,7 @@ function make(tag, properties = {}, ...children) {
   return element;
 }
 const pristine = document.documentElement.cloneNode(true);
-const page = { run: null, log: "", name: "", script: null, remarks: new Map(), rows: [], isMiB: false, naming: 0, frame: -1, life: null, cpu: 0, other: null, otherLog: "", differs: [], warnings: [], verdict: { state: "none", text: "no log is open" }, playing: 0, layout: null,
+const page = { run: null, log: "", name: "", script: null, remarks: new Map(), rows: [], unit: 0, naming: 0, frame: -1, life: null, cpu: 0, other: null, otherLog: "", differs: [], warnings: [], verdict: { state: "none", text: "no log is open" }, playing: 0, layout: null,
   history: [], timeX: null, hover: null, zone: [0, 0], view: [0, 0], unshown: 0, shownGroups: "", shown: [], shownAt: [], zoneSize: [0, 0], timeSize: [0, 0] };
 const ROW_HEIGHT = 20, TEXT_HEIGHT = 16, MOST_UNFOLDED = 40, ANSWER_SHARE = 0.22;
 const BESIDE_TIME = 500; // the pixels of the time line's title and buttons
@@ -40,6 +46,7 @@ async function loaded(log) {
   return found;
 }
 async function openLog(name, log) {
+  page.tried = log;
   const found = await loaded(log);
   if (!found) return;
   if (found.run) begin(name, log, found.run);
@@ -81,7 +88,8 @@ function judge(name, { status, text, steps }, run) {
   if (run) drawVerdict();
   Object.assign(document.documentElement.dataset, { lines: run?.lines ?? 0, status });
   byId("warned").textContent = run?.lacksSizes ? "⚠ commands and answers aren't checked: line 2 isn't `# memcg batch B high H stock S`" : "";
-  if (status) return badge("bad", run ? `✕ ${text}` : `✕ ${name} is no log: ${text}`);
+  const coding = status === 2 && codingOf(page.tried ?? ""), why = coding ? ` (${coding})` : "";
+  if (status) return badge("bad", run ? `✕ ${text}${why}` : `✕ ${name} is no log: ${text}${why}`);
   badge("good", `✓ ${plural(steps, "legal step")}${run.sizes ? "; all answers agree" : ""}`);
 }
 
@@ -92,16 +100,26 @@ function badge(state, text) {
   document.documentElement.dataset.state = state;
 }
 
+/** The bytes of a file, each as a character; null if it can't be read. */
+const textOf = file => file.arrayBuffer().then(bytes => new TextDecoder("latin1").decode(bytes), () => null);
+/** How a text is coded that isn't plain lines; nothing if it is. */
+const codingOf = text => /^(\xff\xfe|\xfe\xff)/.test(text) || /^z\0|^\0z/.test(text) ? "it is in UTF-16: save it as plain ASCII" :
+  text.startsWith("\xef\xbb\xbf") ? "it begins with a byte order mark: save it without" : /^[^\n]*\r\n/.test(text) ? "its lines end with CR LF: save it with LF alone" : "";
 const isLog = text => /^(?:(?:#.*)?\n)*zone /.test(text.slice(0, 100000));
 async function openFiles(files) {
-  const texts = await Promise.all([...files].map(async file => [file.name, new TextDecoder("latin1").decode(await file.arrayBuffer())]));
+  const texts = [];
+  for (const file of files) {
+    const text = await textOf(file);
+    if (text === null) tell(`${file.name} can't be read: it may be a folder`);
+    else texts.push([file.name, text]);
+  }
   const [name, log] = texts.find(([, text]) => isLog(text)) ?? [];
   if (log !== undefined) await openLog(name, log);
   for (const [other, text] of texts) {
     if (other === name && text === log) continue;
     if (page.run && isLog(text)) await openSecond(other, text);
-    else if (!page.run) badge("bad", `✕ ${other} is no log`);
-    else if (!addRemarks(text)) byId("live").textContent = byId("said").textContent = `${other} is neither a log nor this log's script`;
+    else if (!page.run) badge("bad", `✕ ${other} is no log${codingOf(text) && `: ${codingOf(text)}`}`);
+    else if (!addRemarks(text)) byId("live").textContent = byId("said").textContent = `${other} is neither a log nor this log's script${codingOf(text) && `: ${codingOf(text)}`}`;
   }
 }
 /** The comments of this log's script, by the line that they are above. Those that repeat the answer before them are left out. */

@@ -74,7 +74,7 @@ function fillStyled(pen, style, x, y, width, height, isPale = false) {
 }
 /** A pen for a canvas of this size in CSS pixels. */
 function penOf(canvas, width, height) {
-  const ratio = window.devicePixelRatio || 1, wide = Math.round(width * ratio), high = Math.round(height * ratio);
+  const ratio = page.ratio || window.devicePixelRatio || 1, wide = Math.round(width * ratio), high = Math.round(height * ratio);
   if (canvas.width !== wide || canvas.height !== high) {
     canvas.width = wide;
     canvas.height = high;

@@ -18,8 +18,8 @@ function placeRows() {
  * and which ones are unfolded: a row from `open` on has `more` pixels of such rows before it.
  */
 class Rows {
-  constructor(box, isChosen, rowAt, linesAt) {
-    Object.assign(this, { box, inner: box.firstElementChild, isChosen, rowAt, linesAt, count: 0, top: 0, height: 0, width: 0, made: new Map(), open: 0, more: [0] });
+  constructor(box, isChosen, rowAt, linesAt, isCurrent = isChosen) {
+    Object.assign(this, { box, inner: box.firstElementChild, isChosen, rowAt, linesAt, isCurrent, count: 0, top: 0, height: 0, width: 0, made: new Map(), open: 0, more: [0] });
     box.addEventListener("scroll", () => {
       this.top = box.scrollTop;
       if (page.run) this.draw();
@@ -68,6 +68,19 @@ class Rows {
     this.top = Math.max(0, near, Math.min(this.topOf(first), this.topOf(last + 1) - this.height)); // all of these rows, if there is room
     this.box.scrollTop = this.top;
   }
+  /** Makes the rows around this one, as many as are printed. */
+  spread(row) {
+    const first = Math.max(0, Math.min(row - MOST_PRINTED / 2, this.count - MOST_PRINTED)), end = Math.min(this.count, first + MOST_PRINTED);
+    this.top = this.topOf(first);
+    this.height = this.topOf(end) - this.top;
+    this.box.style.setProperty("--paper", `${this.height}px`);
+    this.inner.style.marginTop = `${-this.top}px`;
+    this.draw();
+  }
+  fold() {
+    this.inner.style.marginTop = "";
+    this.measure();
+  }
   draw() {
     const first = Math.max(0, this.rowNear(this.top) - 4), last = Math.min(this.count, this.rowNear(this.top + this.height) + 7);
     let active = "";
@@ -85,7 +98,8 @@ class Rows {
       const top = this.topOf(at), height = this.topOf(at + 1) - top;
       if (isOther(row, top, height)) Object.assign(row.style, { top: `${top}px`, height: `${height}px` });
       if (row.id && row.getAttribute("aria-selected") !== chosen) row.setAttribute("aria-selected", chosen);
-      if (chosen === "true") active = row.id;
+      row.classList.toggle("current", this.isCurrent(at));
+      if (this.isCurrent(at)) active = row.id;
     }
     if ((this.box.getAttribute("aria-activedescendant") ?? "") === active) return;
     if (active) this.box.setAttribute("aria-activedescendant", active);

@@ -2,7 +2,7 @@
 
 function wire() {
   page.lineRows = new Rows(byId("script"), at => page.rows[at] === page.run.position, at => page.rows[at] < 0 ? remarkRow(-page.rows[at]) : lineRow(page.rows[at]), scriptLines);
-  page.eventRows = new Rows(byId("events"), at => page.shownAt[at] === page.run.position, eventRow, eventLines);
+  page.eventRows = new Rows(byId("events"), at => page.shownAt[at] === page.run.position, eventRow, eventLines, at => at === currentEvent());
   const on = (id, act) => byId(id).addEventListener("click", act), whenOpen = act => () => page.run && act();
   on("open", () => byId("file").click());
   on("show-example", showExample);
@@ -12,7 +12,8 @@ function wire() {
   byId("second").addEventListener("change", async event => {
     const [file] = event.target.files;
     event.target.value = "";
-    if (file) openSecond(file.name, new TextDecoder("latin1").decode(await file.arrayBuffer()));
+    const text = file ? await textOf(file) : null;
+    if (text !== null) openSecond(file.name, text);
   });
   on("save", whenOpen(save));
   on("copy", whenOpen(copyVerdict));
@@ -78,7 +79,7 @@ function wire() {
   byId("time").addEventListener("wheel", wheelTime, { passive: false });
   byId("sort").addEventListener("change", draw);
   on("unit", () => {
-    page.isMiB = !page.isMiB;
+    page.unit = (page.unit + 1) % UNITS.length;
     draw();
   });
   byId("mode").addEventListener("change", () => {
@@ -104,6 +105,8 @@ function wire() {
     openFiles(event.dataTransfer.files);
   });
   window.addEventListener("hashchange", () => followHash());
+  window.addEventListener("beforeprint", layOnPaper);
+  window.addEventListener("afterprint", takeFromPaper);
   wireSplits();
   const observer = new ResizeObserver(resized);
   for (const id of ["zone-box", "time-box", "script", "events"]) observer.observe(byId(id));
@@ -148,7 +151,7 @@ async function showExample() {
 async function start() {
   wire();
   setTheme(matchMedia("(prefers-color-scheme: dark)").matches ? "dark" : "light");
-  const inside = held("log"), remarks = held("remarks"), second = held("second-log"), { hash } = location; // which is another one soon
+  const inside = held("log"), remarks = held("remarks"), second = held("second-log"), hash = location.hash || (held("place") ?? ""); // the address is another one soon
   byId("welcome").hidden = inside !== null;
   document.body.classList.toggle("empty", inside === null);
   if (inside) {

@@ -24,7 +24,7 @@ function drawTimeline() {
   const { run, view } = page, canvas = byId("time"), [width, height] = page.timeSize, mode = byId("mode").value,
     sheet = drawTimeline.sheet ??= document.createElement("canvas");
   if (width < 250) return;
-  const key = [width, height, colors.theme, page.life?.index, page.cpu, page.isMiB, mode, ...view].join(" ");
+  const key = [width, height, colors.theme, page.life?.index, page.cpu, page.unit, mode, ...view].join(" ");
   if (page.timeX === null || key !== page.timeKey) {
     page.unshown = 0;
     page.timeX = drawTime(sheet, run, width, height, { view, lit: litLives(run), mode, events: page.shown });
@@ -65,7 +65,7 @@ function sayTime(run) {
   };
   const happened = page.shown.slice(indexIn(page.shownAt, position - 1) + 1, indexIn(page.shownAt, position) + 1)
     .map(({ kind, name, life }) => `${KINDS[kind][0]} ${kind} ${name || life?.path || ""}`.trim());
-  const wordsOf = (groups, events) => `${position ? `line ${run.lineNumbers.at(position)}` : "boot"}, in ${page.isMiB ? "MiB" : "pages"}: ` + [...there.slice(0, groups).map(said),
+  const wordsOf = (groups, events) => `${position ? `line ${run.lineNumbers.at(position)}` : "boot"}${run.seconds.length ? `, ${secondsText(run, position)}` : ""}, in ${UNITS[page.unit][0]}: ` + [...there.slice(0, groups).map(said),
     ...(there.length > groups ? [`and ${there.length - groups} more`] : []), ...happened.slice(0, events), ...(happened.length > events ? [events ? `and ${happened.length - events} more events` : plural(happened.length, "event")] : [])].join(" · ") +
     (page.unshown ? `. No room for ${plural(page.unshown, "group")}: light one` : "");
   byId("time-said").title = wordsOf(5, 6);

@@ -248,13 +248,15 @@ function drawEnds(pen, run, ends, { left, top, wide, high, right }, width, view)
   }
   if (ends.length > room) write(pen, `and ${ends.length - room} more`, x, 10, css("muted"), width - x);
 }
-/** The lines' numbers below the usages. */
+/** The seconds of the last sample up to a line, of a log of `tools/whatif`. */
+const secondsText = (run, position) => `${grouped(valueAt(run.seconds, position))} s`;
+/** The lines' numbers below the usages, or the seconds. */
 function drawPlaces(pen, run, { left, wide, over }, view, x) {
   const parts = wide < 420 ? 2 : 4;
   for (let at = 0; at <= parts; at++) {
     const position = Math.round(view[0] + (view[1] - view[0]) * at / parts);
     pen.textAlign = at === 0 ? "left" : at < parts ? "center" : "right";
-    write(pen, position ? `line ${run.lineNumbers.at(position)}` : "boot", x(position), over - 5, css("muted"), 100);
+    write(pen, run.seconds.length ? secondsText(run, position) : position ? `line ${run.lineNumbers.at(position)}` : "boot", x(position), over - 5, css("muted"), 100);
     pen.textAlign = "left";
   }
 }
