@@ -1,6 +1,8 @@
+const MOST_CHOICES = 20;
 /**
  * What makes a kill: the limit and the usage under it, how many pages have no room, and how many pages reclaim would free
- * besides, if the victim's units were clean, if all below the limit were, and if these had no pins either.
+ * besides, if the victim's units were clean, if all below the limit were, and if these had no pins either. To find these takes a look at each
+ * unit, so it is done for the first kills only: those of the verdict.
  */
 function choiceOf(state, limited, need, victim = -1) {
   const { max, current, path } = state.groups[limited], choice = { path, victim: state.groups[victim]?.path, max, usage: current, need, its: 0, dirty: 0, pinned: 0 };
@@ -20,7 +22,7 @@ function choiceOf(state, limited, need, victim = -1) {
  */
 class Follower {
   constructor() {
-    Object.assign(this, { state: null, reader: null, sizes: null, lacksSizes: false, line: null, isEnd: false, plan: null, expected: -1, number: 0, seconds: -1, hasReasons: null, choice: null });
+    Object.assign(this, { state: null, reader: null, sizes: null, lacksSizes: false, line: null, isEnd: false, plan: null, expected: -1, number: 0, seconds: -1, hasReasons: null, choice: null, choices: 0 });
     this.sawNone = new Uint8Array(MOST_CPUS + 1); // whether the CPU saw last that its stock has no page
   }
   zone(state, reader) {
@@ -231,7 +233,7 @@ class Follower {
       .filter(group => state.groups[group].oom_group);
     this.killedWhole = flagged.at(-1) ?? -1;
     this.dying = flagged.length ? state.subtree(this.killedWhole).filter(group => !state.groups[group].killed) : [victim[0]];
-    this.choice = choiceOf(state, limited, this.over?.pages ?? 0, victim[0]);
+    this.choice = choiceOf(state, limited, this.over?.pages ?? 0, ++this.choices > MOST_CHOICES ? -1 : victim[0]);
     this.notes.push(`# victim ${state.path(victim[0])} frames ${victim[1]} of ${next ? 2 + more.length : 1} candidates${next ? `, next ${state.path(next[0])} frames ${next[1]}` : ""}`);
     if (flagged.length) this.notes.push(`# group ${state.path(this.killedWhole)} groups ${this.dying.length}`);
   }

@@ -3,7 +3,7 @@
 const byId = id => document.getElementById(id);
 /** Changes what is in a box: the button there that has the focus keeps it, by its place, or the box gets it. */
 function keepFocus(box, change) {
-  const at = [...box.querySelectorAll("button")].indexOf(document.activeElement);
+  const at = box.contains(document.activeElement) ? [...box.querySelectorAll("button")].indexOf(document.activeElement) : -1;
   change();
   if (at >= 0) (box.querySelectorAll("button")[at] ?? box).focus({ preventScroll: true });
 }

@@ -18,8 +18,8 @@ function placeRows() {
  * and which ones are unfolded: a row from `open` on has `more` pixels of such rows before it.
  */
 class Rows {
-  constructor(box, isChosen, rowAt, linesAt, isCurrent = isChosen) {
-    Object.assign(this, { box, inner: box.firstElementChild, isChosen, rowAt, linesAt, isCurrent, count: 0, top: 0, height: 0, width: 0, made: new Map(), open: 0, more: [0] });
+  constructor(box, isChosen, rowAt, linesAt, currentAt) {
+    Object.assign(this, { box, inner: box.firstElementChild, isChosen, rowAt, linesAt, currentAt, count: 0, top: 0, height: 0, width: 0, made: new Map(), open: 0, more: [0] });
     box.addEventListener("scroll", () => {
       this.top = box.scrollTop;
       if (page.run) this.draw();
@@ -83,7 +83,7 @@ class Rows {
   }
   draw() {
     const first = Math.max(0, this.rowNear(this.top) - 4), last = Math.min(this.count, this.rowNear(this.top + this.height) + 7);
-    let active = "";
+    const current = this.currentAt();
     for (const [at, row] of this.made) {
       if (at >= first && at < last) continue;
       row.remove();
@@ -98,9 +98,9 @@ class Rows {
       const top = this.topOf(at), height = this.topOf(at + 1) - top;
       if (isOther(row, top, height)) Object.assign(row.style, { top: `${top}px`, height: `${height}px` });
       if (row.id && row.getAttribute("aria-selected") !== chosen) row.setAttribute("aria-selected", chosen);
-      row.classList.toggle("current", this.isCurrent(at));
-      if (this.isCurrent(at)) active = row.id;
+      if (row.classList.contains("current") !== (at === current)) row.classList.toggle("current");
     }
+    const active = this.made.get(current)?.id ?? "";
     if ((this.box.getAttribute("aria-activedescendant") ?? "") === active) return;
     if (active) this.box.setAttribute("aria-activedescendant", active);
     else this.box.removeAttribute("aria-activedescendant");

@@ -1,8 +1,8 @@
 // The beginning: buttons, the log inside the page
 
 function wire() {
-  page.lineRows = new Rows(byId("script"), at => page.rows[at] === page.run.position, at => page.rows[at] < 0 ? remarkRow(-page.rows[at]) : lineRow(page.rows[at]), scriptLines);
-  page.eventRows = new Rows(byId("events"), at => page.shownAt[at] === page.run.position, eventRow, eventLines, at => at === currentEvent());
+  page.lineRows = new Rows(byId("script"), at => page.rows[at] === page.run.position, at => page.rows[at] < 0 ? remarkRow(-page.rows[at]) : lineRow(page.rows[at]), scriptLines, () => page.rowOf[page.run.position]);
+  page.eventRows = new Rows(byId("events"), at => page.shownAt[at] === page.run.position, eventRow, eventLines, currentEvent);
   const on = (id, act) => byId(id).addEventListener("click", act), whenOpen = act => () => page.run && act();
   on("open", () => byId("file").click());
   on("show-example", showExample);
