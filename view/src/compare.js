@@ -34,8 +34,17 @@ async function swapRuns() {
 }
 function* comparison(run, other) {
   const places = placesIn(run, other), otherLives = yield* livesHere(other, places), differs = yield* differences(run, other, otherLives);
-  const otherMarks = other.events.filter(({ kind }) => kind !== "refused").map(({ position, kind }) => ({ position: places[position], kind }));
-  return { otherLives, otherMarks, differs, warnings: yield* warningsOf(run, other), effect: effectOf(run, other, differs, otherLives) };
+  return { otherLives, otherMarks: marksOf(other, places), differs, warnings: yield* warningsOf(run, other), effect: effectOf(run, other, differs, otherLives) };
+}
+const GRAVER = ["drain", "reclaim", "max", "lowered", "oom", "kill"];
+/** Of each line with events in the second run the gravest kind, at these places. */
+function marksOf(other, places) {
+  const gravest = new Map();
+  for (const { position, kind } of other.events) {
+    const place = places[position];
+    if (GRAVER.indexOf(kind) > GRAVER.indexOf(gravest.get(place))) gravest.set(place, kind);
+  }
+  return [...gravest].map(([position, kind]) => ({ position, kind }));
 }
 /** The first line that differs though its command is the same: its position, and what it does here and there. */
 function effectOf(run, other, differs, otherLives) {

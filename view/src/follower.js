@@ -43,7 +43,7 @@ class Follower {
       return;
     }
     const [, seconds] = SECONDS.exec(text) ?? [];
-    if (seconds && !(Number(seconds) > this.seconds)) return "the seconds don't ascend";
+    if (seconds && Number(seconds) < this.seconds) return "the seconds don't ascend";
     if (seconds) this.seconds = Number(seconds);
     if (seconds || text.startsWith("# bad: ")) return this.endLine();
     if (text !== "# end" && !text.startsWith("# line ")) return this.compare(text);

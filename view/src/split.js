@@ -9,10 +9,10 @@ function setSize(name, percent) {
   const size = Math.max(8, Math.min(70, Math.round(percent))), root = document.documentElement.style;
   if (Number.isNaN(size)) {
     panelSizes.delete(name);
-    root.removeProperty(`--${name}`);
+    root.removeProperty(`--size-${name}`);
   } else {
     panelSizes.set(name, size);
-    root.setProperty(`--${name}`, `${size}${SPLITS[name][1] === "x" ? "vw" : "vh"}`);
+    root.setProperty(`--size-${name}`, `${size}${SPLITS[name][1] === "x" ? "vw" : "vh"}`);
   }
   byId(`split-${name}`).setAttribute("aria-valuenow", sizeOf(name));
   if (page.run) nameAddress();

@@ -121,9 +121,11 @@ function resized() {
     showScript();
     return page.lineRows.draw();
   }
+  const told = byId("told").textContent; // which drawing takes away
   resizeTime();
   showRows();
   draw();
+  byId("told").textContent = told;
 }
 /** The sizes of what is drawn on, which are asked for when they change. Returns whether they did. */
 function measure() {

@@ -14,7 +14,7 @@ function savedBy({ path, victim, max, usage, need, its, dirty, pinned, full }, n
 /** What became of a killed group, in a sentence, and what would have saved it. */
 function killVerdict(run, event) {
   const { life, choice, note } = event, [, freed] = /^# killed \S+ returned \d+ bytes (\d+) /.exec(note ? run.textAt(note) : "") ?? [];
-  const words = [life ? nameOf(run, life) : "a group", choice && `, for the limit of ${choice.path} (${memoryText(choice.max)})`, freed && `: ${memoryText(inPages(freed))} freed`];
+  const words = [life ? nameOf(run, life) : "a group", choice && `, for the limit of ${choice.path} (${memoryText(choice.max)}${choice.need ? `, no room for ${memoryText(choice.need)} more` : `, usage ${memoryText(choice.usage)}`})`, freed && `: ${memoryText(inPages(freed))} freed`];
   return `${words.filter(Boolean).join("")}. ${choice ? savedBy(choice, life?.path) : ""}`.trim();
 }
 /** The verdict of a log without kills: the moment at which a limit had least room; without limits, at which least frames were free. */
