@@ -11,7 +11,13 @@ function drawLine() {
     box.scrollTop = 0;
     page.isLineScrolled = false;
   }
+  if (page.lineShown !== run.position) requestAnimationFrame(growLine); // as the browser lays out in any case
   page.lineShown = run.position;
+}
+/** Makes the panel as high as its text, up to half the window. It stays so: panels that change with each line are hard to read. */
+function growLine() {
+  const box = byId("line"), lacking = box.scrollHeight - box.clientHeight, high = byId("line-part").offsetHeight;
+  if (lacking > 0 && high < innerHeight / 2 - 1) document.documentElement.style.setProperty("--grown", `${Math.min(high + lacking, innerHeight / 2)}px`);
 }
 /** As much of a path's end as fits, from a name on. */
 function tailOf(path, fits) {

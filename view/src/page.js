@@ -58,6 +58,7 @@ function begin(name, log, run) {
   run.high = run.sizes?.high ?? MOST_FRESH;
   Object.assign(page, { run, log, name, frame: -1, life: null, cpu: 0, other: null, otherLog: "", differs: [], history: [], remarks: run.remarks, script: null, shownGroups: "", livesKey: "", zoneKey: "",
     ways: waysOf(run), eventsKey: null, shown: [], shownAt: [], view: [0, run.lines], hover: null, zone: [0, run.frames] });
+  document.documentElement.style.removeProperty("--grown");
   offerKinds(run);
   byId("frame-number").value = "";
   byId("name").textContent = name;
