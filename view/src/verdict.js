@@ -25,29 +25,30 @@ function tightVerdict(run) {
   return [tight.position, room < 0 ? need ? `the limit of ${name} had no room for ${memoryText(need)}: usage ${memoryText(usage)} of ${memoryText(max)}. ${run.marks.at(tight.position) & REFUSED ? "The command was refused." : "Reclaim made room."}` :
     `the limit of ${name}, ${memoryText(max)}, was below its usage of ${memoryText(usage)}.` : `${name} used ${memoryText(usage)} of the ${memoryText(max)} that its limit has.`];
 }
-/** The verdict: a headline, and its lines, each a position with words. */
+/** The verdict: a headline, its first lines, each a position with words, and how many more there are. */
 function verdictOf(run) {
-  const kills = run.events.filter(({ kind }) => kind === "kill");
-  if (!run.lines) return { head: "", lines: [] };
-  if (!kills.length) return { head: "Nobody was killed. Tightest moment:", lines: [tightVerdict(run)] };
-  return { head: `${plural(kills.length, "group")} ${kills.length === 1 ? "was" : "were"} killed.`, lines: kills.map(event => [event.position, killVerdict(run, event)]) };
+  const kills = run.events.filter(({ kind }) => kind === "kill"), lines = kills.slice(0, MOST_CHOICES).map(event => [event.position, killVerdict(run, event)]);
+  if (!run.lines) return { head: "", lines: [], rest: 0 };
+  if (!kills.length) return { head: "Nobody was killed. Tightest moment:", lines: [tightVerdict(run)], rest: 0 };
+  return { head: `${plural(kills.length, "group")} ${kills.length === 1 ? "was" : "were"} killed.`, lines, rest: kills.length - lines.length };
 }
-const verdictLine = (run, [position, words]) => `${position ? `Line ${run.lineNumbers.at(position)}` : "At boot"}: ${words}`;
+const placeName = (run, position) => position ? `Line ${run.lineNumbers.at(position)}` : "At boot";
 /** The verdict as text, of so many lines. */
-function verdictText(run, most = Infinity) {
-  const { head, lines } = run.verdict ??= verdictOf(run), rest = lines.length - most;
-  return [...(run.fault ? [`The log disagrees: ${run.fault.text}. Up to there:`] : []), head, ...lines.slice(0, most).map(line => verdictLine(run, line)), ...(rest > 0 ? [`And ${plural(rest, "more kill")}.`] : [])].join(" ");
+function verdictText(run, most = MOST_CHOICES) {
+  const { head, lines, rest } = run.verdict ??= verdictOf(run), more = rest + Math.max(0, lines.length - most);
+  return [...(run.fault ? [`The log disagrees: ${run.fault.text}. Up to there:`] : []), head,
+    ...lines.slice(0, most).map(([position, words]) => `${placeName(run, position)}: ${words}`), ...(more ? [`And ${plural(more, "more kill")}.`] : [])].join(" ");
 }
 /** The card above all. */
 function drawVerdict() {
-  const { run } = page, box = byId("verdict"), { head, lines } = run.verdict ??= verdictOf(run), rest = lines.length - MOST_VERDICTS;
+  const { run } = page, { head, lines, rest } = run.verdict ??= verdictOf(run), more = rest + Math.max(0, lines.length - MOST_VERDICTS);
   byId("verdict-part").hidden = !head;
-  box.replaceChildren(make("strong", { textContent: head }), ...lines.slice(0, MOST_VERDICTS).map(([position, words]) => make("p", {},
-    make("button", { textContent: position ? `Line ${run.lineNumbers.at(position)}` : "At boot", onclick: () => go(position) }), ` ${words}`)),
-    ...(rest > 0 ? [paragraph("", `And ${plural(rest, "more kill")}: the key k leads from one to the next.`)] : []));
+  byId("verdict").replaceChildren(make("strong", { textContent: head }), ...lines.slice(0, MOST_VERDICTS).map(([position, words]) => make("p", {},
+    make("button", { textContent: placeName(run, position), onclick: () => go(position) }), ` ${words}`)),
+    ...(more ? [paragraph("", `And ${plural(more, "more kill")}: the key k leads from one to the next.`)] : []));
 }
 /** The text of a bug report. */
-const reportText = () => [`${page.name}: ${byId("sizes").textContent}`, byId("badge").textContent, byId("warned").textContent, verdictText(page.run, 20)].filter(Boolean).join("\n");
+const reportText = () => [`${page.name}: ${byId("sizes").textContent}`, byId("badge").textContent, byId("warned").textContent, verdictText(page.run)].filter(Boolean).join("\n");
 async function copyVerdict() {
   const text = reportText(), area = make("textarea", { value: text });
   const copied = await navigator.clipboard?.writeText(text).then(() => true, () => false);
