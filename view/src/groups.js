@@ -1,0 +1,106 @@
+// The groups, with those that were removed
+
+/** Pages in the unit that is chosen. */
+const UNITS = [["pages", 1], ["KiB", 4], ["MiB", 1 / 256]];
+const amount = pages => grouped(pages * UNITS[page.unit][1]);
+/** The groups in the order that is chosen: as a tree, or those with the most, or nearest to their limit, first. */
+function sortedGroups(run) {
+  const sort = byId("sort").value, usage = group => run.row(group, "current"), max = group => run.row(group, "max");
+  const nearness = group => max(group) < 0 ? -1 : usage(group) / Math.max(1, max(group)) + (max(group) ? 0 : 1);
+  return sort === "tree" ? page.tree : [...page.tree].sort((a, b) => sort === "limit" && nearness(b) - nearness(a) || usage(b) - usage(a));
+}
+/** The groups in the order of a tree. */
+function treeOf(run) {
+  return run.groups().map(group => [group, run.path(group).split("/")]).sort(([, a], [, b]) => {
+    for (let at = 0;; at++) {
+      if (a[at] === undefined || b[at] === undefined) return a.length - b.length;
+      if (a[at] !== b[at]) return a[at] < b[at] ? -1 : 1;
+    }
+  }).map(([group]) => group);
+}
+
+function leastLimit(run, group) {
+  let least = -1;
+  for (const above of run.up(group)) {
+    const max = run.row(above, "max");
+    if (max >= 0 && (least < 0 || max < least)) least = max;
+  }
+  return least;
+}
+
+function drawGroups() {
+  const run = page.run, lives = run.groups().map(group => run.cells[run.LIFE + group]).join();
+  if (lives !== page.livesKey) Object.assign(page, { livesKey: lives, tree: treeOf(run) });
+  const sorted = sortedGroups(run), there = [byId("sort").value, lives, ...sorted].join(), body = byId("groups"),
+    changed = run.position ? run.changes().groups : new Map(), prepaid = prepaidPages(run);
+  if (there !== page.shownGroups) {
+    const focused = body.contains(document.activeElement) ? Number(document.activeElement.dataset.group) : null;
+    body.replaceChildren(...sorted.map(group => groupRow(run, group)));
+    page.shownGroups = there;
+    if (focused !== null)(body.querySelector(`button[data-group="${focused}"]`) ?? body.querySelector("button")).focus();
+  }
+  sorted.forEach((group, at) => fillRow(run, group, body.children[at], prepaid.get(group) ?? { sum: 0, by: [] }, changed.get(group)?.has("current") ?? false));
+  fill(byId("unit"), `in ${UNITS[page.unit][0]}`);
+  drawRemoved();
+}
+const MOST_REMOVED = 50;
+/** The groups that were removed last before this line, with the lines that made and removed them. A button lights one, with its events. */
+function drawRemoved() {
+  const { run } = page, box = byId("removed"), count = indexIn(run.removed, run.position, ({ until }) => until) + 1;
+  box.hidden = byId("to-removed").hidden = !count;
+  if (!isOther(box, run.lives.length, count, page.life?.index, page.unit, colors.theme)) return;
+  const lives = run.removed.slice(Math.max(0, count - MOST_REMOVED), count), isCut = count > MOST_REMOVED;
+  const lineOf = position => make("button", { textContent: `line ${run.lineNumbers.at(position)}`, onclick: () => go(position) });
+  fill(byId("to-removed"), `${grouped(count)} removed`);
+  fill(box.firstElementChild, `${plural(count, "removed group")}${isCut ? `, the last ${MOST_REMOVED}` : ""}: ${listed(lives.slice(-3).map(life => nameOf(run, life)))}${count > 3 ? " ..." : ""}`);
+  keepFocus(box.lastElementChild, () => box.lastElementChild.replaceChildren(...lives.reverse().map(life => {
+    const canvas = make("canvas", { "aria-hidden": "true" }), isLit = page.life === life;
+    drawSwatch(canvas, life.style);
+    return make("li", {}, canvas, make("button", { textContent: nameOf(run, life), "aria-pressed": String(isLit), onclick: () => light(isLit ? null : life) }),
+      ` peak ${amount(life.peaks.at(-1)[1])}, made on `, lineOf(life.from), ", removed on ", lineOf(life.until));
+  })));
+}
+
+function groupRow(run, group) {
+  const path = run.path(group), life = run.life(group), isTree = byId("sort").value === "tree", depth = path === "/" ? 0 : path.split("/").length - 1;
+  const button = make("button", { textContent: path === "/" ? "/ (root)" : isTree ? path.slice(path.lastIndexOf("/")) : path, title: path,
+    onclick: () => light(page.life === life ? null : life) });
+  const name = make("td", { className: "left" }, button, make("span", { className: "tag" })), canvas = more => make("td", { className: `picture ${more}` }, make("canvas", { "aria-hidden": "true" }));
+  button.dataset.group = group;
+  if (isTree) name.style.paddingLeft = `${4 + 8 * Math.max(0, depth - 1)}px`;
+  return make("tr", {}, canvas(""), name, canvas("bar-cell"), ...Array.from({ length: 8 }, () => make("td")));
+}
+/** Sets words and class of an element, if they are others: the browser lays out again what is set. */
+function fill(element, text, className = "") {
+  if (element.textContent !== text) element.textContent = text;
+  if (element.className !== className) element.className = className;
+}
+/** Whether a row has to be filled, since what it shows isn't what it showed. */
+function isOther(row, ...shows) {
+  const key = shows.join(" ");
+  if (row.shows === key) return false;
+  row.shows = key;
+  return true;
+}
+
+function fillRow(run, group, row, prepaid, isChanged) {
+  const [usage, max, peak, killed, isWhole, ...counts] = ["current", "max", "peak", "killed", "oom_group", "max_local", "max_events",
+    "oom_local", "oom_events", "kill_local", "kill_events"].map(each => run.row(group, each));
+  const limit = leastLimit(run, group), own = run.cells[run.OWN + group], isLit = page.life === run.life(group);
+  if (!isOther(row, usage, max, peak, killed, isWhole, counts, limit, own, prepaid.by, isChanged, isLit, page.unit, styles[group], colors.theme)) return;
+  const [swatch, name, bar, ...cells] = row.children, [button, tag] = name.children;
+  const { nth } = run.life(group), words = [...(nth > 1 ? [ordinal(nth)] : []), ...(killed ? ["killed"] : []), ...(isWhole ? ["oom.group"] : [])];
+  drawSwatch(swatch.firstChild, styles[group]);
+  drawBar(bar.firstChild, run, group, limit, prepaid.sum);
+  row.className = killed ? "killed" : "";
+  button.setAttribute("aria-pressed", String(isLit));
+  button.setAttribute("aria-label", [run.path(group), ...words].join(", "));
+  fill(tag, words.join(", "), "tag");
+  [amount(usage), amount(own), amount(prepaid.sum), max < 0 ? "max" : amount(max), amount(peak)].forEach((text, at) => fill(cells[at], text, !at && isChanged ? "changed" : text === "0" ? "zero" : ""));
+  cells[2].title = prepaid.by.join(", ");
+  for (let at = 0; at < 3; at++) {
+    const [local, all] = counts.slice(2 * at);
+    fill(cells[5 + at], local === all ? `${all}` : `${local}+${all - local}`, all ? "" : "zero");
+    cells[5 + at].title = `${local} at the group itself, ${all - local} below it`;
+  }
+}

@@ -1,0 +1,90 @@
+// A log becomes a run
+
+/** Runs a log, and records each position. It yields how far it is, and returns the run with the verdict. */
+function* load(log) {
+  const follower = new Follower();
+  let drawn = null, reader = null, state = null, isOpen = false, remarks = [], over = null, limited = null;
+  const closes = () => {
+    if (isOpen) drawn.close(state);
+    isOpen = false;
+  };
+  const seen = {
+    zone(made, its) {
+      [state, reader] = [made, its];
+      follower.zone(state, reader);
+      drawn = new Run(state, log);
+      drawn.remarks = new Map();
+    },
+    comment() {
+      const fault = follower.comment();
+      if (fault || !drawn) return fault;
+      Object.assign(drawn, { sizes: follower.sizes, lacksSizes: follower.lacksSizes });
+      const text = follower.isOurs ? "" : reader.text.slice(1).trim(), isAnswer = follower.told > 0;
+      if (text) remarks.push(text);
+      if (follower.isOurs && SECONDS.test(reader.text)) drawn.seconds.push([drawn.lineNumbers.length, follower.seconds]);
+      if (!follower.isOurs || !follower.line && !follower.isEnd) return;
+      if (!isAnswer) {
+        closes();
+        drawn.open(follower.line ? follower.line.number : follower.number + 1, reader.start);
+        drawn.wanting = state.numbers.get(follower.line?.words[0]) ?? 0; // `rmdir` reclaims from its group, and names no cause
+        isOpen = true;
+      } else if (follower.told === 1) {
+        const refusal = /^# = refused (\d+ \w+)/.exec(reader.text);
+        drawn.behind.items[drawn.behind.length - 1] = reader.start;
+        if (refusal) {
+          drawn.mark(REFUSED);
+          drawn.happened("refused", state.numbers.get(follower.line?.words[0]) ?? -1, refusal[1]);
+        }
+      } else drawn.explained(reader.text, reader.start, state.numbers);
+    },
+    before() {
+      if (!follower.isOurs) {
+        drawn.open(reader.line, reader.start);
+        isOpen = true;
+        if (remarks.length) drawn.remarks.set(drawn.lineNumbers.length - 1, remarks.join(" "));
+        remarks = [];
+      }
+      return follower.before();
+    },
+    after() {
+      const action = ACTIONS[reader.action][0];
+      if (action === "kill") drawn.mark(KILLS);
+      if (reader.answer === OVER) over = { group: reader.n, pages: reader.b };
+      else if (action === "grant" || action === "limit") over = null;
+      if (action === "note-oom") limited = { group: reader.a, need: over?.group === reader.a ? over.pages : 0 };
+      if (reader.answer === MISSED) drawn.missed.push(drawn.lineNumbers.length - 1);
+      if (Object.hasOwn(EVENT_STEPS, action)) drawn.happened(EVENT_STEPS[action], reader.a);
+      if (action === "note-max") drawn.tighten(state.groups[reader.a], over?.pages ?? 0);
+      if (action === "kill") drawn.events.at(-1).choice = follower.isOurs ? follower.choice : limited && state.groups[limited.group] && choiceOf(state, limited.group, limited.need);
+      if (action === "lock") drawn.locks[reader.seat].push(drawn.lineNumbers.length - 1);
+      if (action === "lock" || !follower.isOurs && reader.seat === 0) drawn.mark(LOCKED);
+      if (!follower.isOurs) {
+        if ([ILLEGAL, OVER, NO_BLOCK, MISSED].includes(reader.answer)) {
+          drawn.mark(REFUSED);
+          drawn.happened("refused", ["grant", "place"].includes(action) ? reader.a : -1, ANSWERS[reader.answer][0]);
+        }
+        closes();
+      } else follower.after();
+    },
+    end: () => follower.end()
+  };
+  const running = run(log, seen);
+  let step, turns = 0, effort = 0;
+  while (!(step = running.next()).done) {
+    if (++turns % 64 && !(state?.effort > effort)) continue;
+    effort = (state?.effort ?? 0) + 5000;
+    yield (reader?.at ?? 0) / log.length;
+  }
+  if (!drawn) return { run: null, verdict: step.value };
+  if (!step.value.status) closes();
+  else if (isOpen) {
+    // The line that disagrees has the state before it.
+    drawn.position++;
+    drawn.starts.push(drawn.logCell.length);
+    drawn.fault = { position: drawn.lines, text: step.value.text };
+    drawn.until = reader.at;
+  } else drawn.fault = { position: drawn.lines, text: step.value.text };
+  drawn.steps = step.value.steps;
+  drawn.orderEvents();
+  return { run: drawn, verdict: step.value };
+}

@@ -1,0 +1,386 @@
+// What is drawn: the states that the rules made of the steps, one for each line of the script.
+
+const COL = Object.fromEntries(ROW.map((name, at) => [name, at]));
+const HELD_BY_ZONE = 4, IN_HAND = 8; // beside DIRTY and MARKED
+const AT_REST = [NOTHING, LISTED, FRESH, IN_USE, LAST_PUT];
+const KILLS = 1, REFUSED = 2, LOCKED = 4;
+const TOTALS = ["puts", "freezes", "drops", "returns"];
+const EVENT_STEPS = { "note-max": "max", "note-oom": "oom", kill: "kill" };
+
+/** A list of numbers that grows. */
+class Numbers {
+  constructor(Kind) {
+    this.items = new Kind(1024);
+    this.length = 0;
+  }
+  push(value) {
+    if (this.length === this.items.length) {
+      const larger = new this.items.constructor(2 * this.length);
+      larger.set(this.items);
+      this.items = larger;
+    }
+    this.items[this.length++] = value;
+  }
+  at(index) {
+    return this.items[index];
+  }
+}
+
+/**
+ * All that is drawn is cells of numbers. Each change of a cell is logged with the value before and after, so that any
+ * moment is reached by going forward or back along that log. Position 0 is the boot, position P the state behind the Pth
+ * line of the script; of a log that names no lines, behind the Pth step.
+ */
+class Run {
+  constructor(state, log) {
+    const F = state.frames;
+    Object.assign(this, { frames: F, cpus: state.cpus, log, LIST: F, SEQUENCE: 2 * F, FLAGS: 3 * F, sizes: null });
+    let at = 4 * F;
+    const room = count => {
+      at += count;
+      return at - count;
+    };
+    this.STOCK_GROUP = room(65);
+    this.STOCK_PAGES = room(65);
+    this.CPU_PINS = room(65);
+    this.LIFE = room(64);
+    this.ROWS = room(64 * ROW.length);
+    this.LENGTH = room(LISTS);
+    this.OWN = room(64);
+    this.FREE = room(1);
+    this.LENT = room(1);
+    this.TOTALS = room(TOTALS.length);
+    this.PINS = at;
+    this.cells = new Float64Array(at);
+    this.pinCells = new Numbers(Float64Array);
+    this.pinNames = []; // of each pin's cell, its CPU and unit
+    this.pinSlots = new Map();
+    this.pinsAt = new Map();
+    this.cells.fill(-1, this.STOCK_GROUP, this.STOCK_GROUP + 65);
+    this.cells.fill(-1, this.LIFE, this.LIFE + 64);
+    this.logCell = new Numbers(Int32Array);
+    this.logOld = new Numbers(Float64Array);
+    this.logNew = new Numbers(Float64Array);
+    this.position = 0;
+    // A life of a group: a number that is given again is another one.
+    this.lives = [];
+    this.styles = new Map(); // of each path: groups that have it one after the other look alike
+    this.livesOf = new Map(); // of each path: how many groups had it
+    this.births = new Array(MOST_GROUPS).fill(0);
+    this.removed = []; // the lives that ended, in that order
+    this.tight = null; // the moment at which a limit had least room
+    this.leastFree = [0, this.frames]; // where, and how many frames
+    this.seconds = []; // of samples: the position that comes next, and their seconds
+    this.record(state);
+    // Of each position where its changes begin, its number in the script, and where its lines of the log begin.
+    this.starts = [0, this.logCell.length];
+    this.lineNumbers = new Numbers(Int32Array);
+    this.marks = new Numbers(Uint8Array);
+    this.from = new Numbers(Int32Array);
+    this.behind = new Numbers(Int32Array);
+    this.open(0, 0);
+    this.events = [];
+    this.firstEvent = 0; // of this position
+    this.missed = []; // where a unit couldn't be frozen
+    this.locks = Array.from({ length: MOST_CPUS + 1 }, () => []); // where each CPU took the lock
+    this.wanting = 0;
+    this.fault = null;
+  }
+
+  // Cells
+
+  get(cell) {
+    return cell < this.PINS ? this.cells[cell] : this.pinCells.items[cell - this.PINS];
+  }
+  put(cell, value) {
+    if (cell < this.PINS) this.cells[cell] = value;
+    else this.pinCells.items[cell - this.PINS] = value;
+  }
+  set(cell, value) {
+    const old = this.get(cell);
+    if (old === value) return;
+    this.logCell.push(cell);
+    this.logOld.push(old);
+    this.logNew.push(value);
+    this.put(cell, value);
+  }
+  row(group, name) {
+    return this.cells[this.ROWS + group * ROW.length + COL[name]];
+  }
+  life(group) {
+    const life = this.cells[this.LIFE + group];
+    return life < 0 ? null : this.lives[life];
+  }
+  path(group) {
+    return this.life(group)?.path ?? `group ${group}`;
+  }
+  list(frame) {
+    return this.cells[this.LIST + frame];
+  }
+  flags(frame) {
+    return this.cells[this.FLAGS + frame];
+  }
+  listLength(list) {
+    return this.cells[this.LENGTH + list];
+  }
+  pinSlot(cpu, head) {
+    const key = cpu * 2 ** 20 + head;
+    if (!this.pinSlots.has(key)) {
+      const cell = this.PINS + this.pinCells.length;
+      this.pinCells.push(0);
+      this.pinNames.push([cpu, head]);
+      this.pinSlots.set(key, cell);
+      this.pinsAt.set(head, [...(this.pinsAt.get(head) ?? []), [cpu, cell]]);
+    }
+    return this.pinSlots.get(key);
+  }
+  pinners(head) {
+    return (this.pinsAt.get(head) ?? []).map(([cpu, cell]) => [cpu, this.get(cell)]).filter(([, pins]) => pins);
+  }
+  pinsOn(head) {
+    return this.pinners(head).reduce((sum, [, pins]) => sum + pins, 0);
+  }
+  isKept(head) {
+    return isGroupList(this.list(head));
+  }
+  groups() {
+    return [...Array(MOST_GROUPS).keys()].filter(group => this.cells[this.LIFE + group] >= 0);
+  }
+  /** The numbers of a group and of all below it. */
+  subtree(group) {
+    const path = this.path(group), prefix = path === "/" ? "/" : path + "/";
+    return this.groups().filter(other => other === group || this.path(other).startsWith(prefix));
+  }
+  /** The numbers of the groups from this one up to the root. */
+  up(group) {
+    const numbers = this.here("numbers", () => new Map(this.groups().map(number => [this.path(number), number]))), above = [];
+    for (let path = this.path(group);; path = parentPath(path)) {
+      if (numbers.has(path)) above.push(numbers.get(path));
+      if (path === "/" || !path.startsWith("/")) return above;
+    }
+  }
+  /** The first frame of the unit, or of the list's frame, that has this one; -1 if it is free. */
+  headOf(frame) {
+    return headIn(this.cells, frame);
+  }
+  /** Calls `visit(first, size, place)` for each free block, lent frame and unit that begins in these frames. */
+  walk(first, end, visit) {
+    for (let frame = first; frame < end;) {
+      const place = this.cells[frame];
+      if (place > 0) {
+        const size = place >= UNIT ? 2 ** orderOf(place) : 1;
+        visit(frame, size, place);
+        frame += size;
+        continue;
+      }
+      let last = frame + 1;
+      while (last < this.frames && last < frame + 1024 && this.cells[last] === 0) last++;
+      let size = Math.min(frame & -frame || 1024, 1024);
+      while (frame + size > last) size /= 2;
+      visit(frame, size, 0);
+      frame += size;
+    }
+  }
+
+  // Positions
+
+  /** What was found of this position, or is found now. */
+  here(name, find) {
+    if (this.found?.position !== this.position) this.found = { position: this.position };
+    return this.found[name] ??= find();
+  }
+  goto(position) {
+    while (this.position < position) {
+      this.position++;
+      for (let at = this.starts[this.position]; at < this.starts[this.position + 1]; at++) {
+        this.put(this.logCell.items[at], this.logNew.items[at]);
+      }
+    }
+    while (this.position > position) {
+      for (let at = this.starts[this.position + 1] - 1; at >= this.starts[this.position]; at--) {
+        this.put(this.logCell.items[at], this.logOld.items[at]);
+      }
+      this.position--;
+    }
+  }
+  get lines() {
+    return this.starts.length - 2;
+  }
+  /** A position begins: its number in the script or log, and where its lines of the log begin. */
+  open(number, from) {
+    this.drained = false;
+    this.lineNumbers.push(number);
+    this.from.push(from);
+    this.behind.push(0);
+    this.marks.push(0);
+  }
+  mark(mark) {
+    this.marks.items[this.marks.length - 1] |= mark;
+  }
+  /** What happened at this position: the kind, the life of the group, the name of a refusal, where the log explains it. */
+  happened(kind, group, name = "", note = 0) {
+    this.events.push({ position: this.lineNumbers.length - 1, kind, life: group >= 0 ? this.life(group) : null, name, note });
+  }
+  /** The events of a position. */
+  eventsAt(position) {
+    const indexOf = at => indexIn(this.events, at, event => event.position) + 1;
+    return this.events.slice(indexOf(position - 1), indexOf(position));
+  }
+  /** The first event of this kind and group at this position that has no explanation yet gets it. */
+  explain(kind, path, note) {
+    const event = this.events.slice(this.firstEvent).find(each => each.kind === kind && !each.note && each.life?.path === path);
+    if (event) event.note = note;
+    return event !== undefined;
+  }
+  /** A line of an explanation. A round that freed something is an event of the group that had no room, and so are stocks that had pages. */
+  explained(text, start, numbers) {
+    const [, what, path, bytes] = /^# (\w+) (\S+)(?: bytes (\d+))?/.exec(text) ?? [];
+    if (["limit", "asked", "zone"].includes(what)) {
+      this.wanting = numbers.get(what === "zone" ? "/" : path) ?? 0;
+      this.drained = false;
+    }
+    if (what === "limit" && !this.explain("max", path, start)) this.happened("lowered", this.wanting, "", start);
+    else if (what === "stock" && Number(bytes) && !this.drained) {
+      this.happened("drain", this.wanting, "", start);
+      this.drained = true;
+    } else if (what === "round" && / returned [1-9]/.test(text)) this.happened("reclaim", this.wanting, "", start);
+    else if (what === "oom") this.explain("oom", path, start);
+    else if (what === "killed") this.explain("kill", path, start);
+  }
+  /** The events of this position in the order in which one led to the next: that of the explanation, and the refusal last. */
+  orderEvents() {
+    const turn = ({ kind, note }) => kind === "refused" ? Infinity : note;
+    const events = this.events.splice(this.firstEvent).sort((a, b) => turn(a) === turn(b) ? 0 : turn(a) - turn(b));
+    for (const event of events) this.events.push(event);
+    this.firstEvent = this.events.length;
+  }
+  close(state) {
+    this.orderEvents();
+    this.position++;
+    this.record(state);
+    this.starts.push(this.logCell.length);
+  }
+  /** Takes over what the steps changed of the state. */
+  record(state) {
+    const { frames, pins, lists, cpus, groups } = state.touched;
+    for (const frame of frames) {
+      const stage = state.stage[frame], isInHand = !AT_REST.includes(stage);
+      this.set(frame, state.place[frame]);
+      this.set(this.LIST + frame, state.list[frame]);
+      this.set(this.SEQUENCE + frame, state.list[frame] ? state.turn[frame] : 0);
+      this.set(this.FLAGS + frame, state.flags[frame] | (state.kept[frame] ? HELD_BY_ZONE : 0) | (isInHand ? IN_HAND : 0));
+    }
+    for (let at = 0; at < pins.length; at += 2) {
+      this.set(this.pinSlot(pins[at], pins[at + 1]), state.parts[pins[at]].pins.get(pins[at + 1]) ?? 0);
+    }
+    for (const list of lists) this.set(this.LENGTH + list, state.length[list]);
+    for (const cpu of cpus) {
+      const part = state.parts[cpu];
+      this.set(this.STOCK_GROUP + cpu, part.group);
+      this.set(this.STOCK_PAGES + cpu, part.isDrained ? -1 : part.pages);
+      this.set(this.CPU_PINS + cpu, part.pinned);
+    }
+    for (const group of groups) this.recordGroup(group, state.groups[group]);
+    this.set(this.FREE, state.blocks[0]);
+    if (state.blocks[0] < this.leastFree[1]) this.leastFree = [this.position, state.blocks[0]];
+    this.set(this.LENT, state.lent);
+    for (let at = 0; at < TOTALS.length; at++) this.set(this.TOTALS + at, state[TOTALS[at]]);
+    frames.length = pins.length = 0;
+    for (const set of [lists, cpus, groups]) set.clear();
+  }
+  recordGroup(number, group) {
+    const life = this.life(number);
+    if (life && this.births[number] !== group?.birth) {
+      life.series.push([this.position, 0]);
+      life.until = this.position;
+      this.removed.push(life);
+      this.set(this.LIFE + number, -1);
+    }
+    if (!group) return;
+    if (this.births[number] !== group.birth) {
+      this.births[number] = group.birth;
+      this.set(this.LIFE + number, this.lives.length);
+      if (!this.styles.has(group.path)) this.styles.set(group.path, this.styles.size);
+      this.livesOf.set(group.path, (this.livesOf.get(group.path) ?? 0) + 1);
+      this.lives.push({ number, path: group.path, nth: this.livesOf.get(group.path), from: this.position, index: this.lives.length, style: this.styles.get(group.path),
+        series: [[this.position, 0]], limits: [[this.position, -1]], peaks: [[this.position, 0]] });
+    }
+    ROW.forEach((name, at) => this.set(this.ROWS + number * ROW.length + at, group[name]));
+    this.set(this.OWN + number, group.frames);
+    this.tighten(group, 0);
+    const { series, limits, peaks } = this.life(number);
+    if (series.at(-1)[1] !== group.current) series.push([this.position, group.current]);
+    if (limits.at(-1)[1] !== group.max) limits.push([this.position, group.max]);
+    if (peaks.at(-1)[1] !== group.peak) peaks.push([this.position, group.peak]);
+  }
+
+  /** Keeps the moment at which a group's limit had least room: for pages that are needed, or behind a line. */
+  tighten({ number, max, current }, need) {
+    const room = max - current - need;
+    if (max >= 0 && current + need > 0 && !(room >= this.tight?.room)) this.tight = { room, max, usage: current, need, life: this.life(number), position: need ? this.lineNumbers.length - 1 : this.position };
+  }
+
+  // What the log says
+
+  /** The line of the log that begins here, without its line feed. */
+  textAt(from) {
+    const end = this.log.indexOf("\n", from);
+    return this.log.slice(from, end < 0 ? Math.min(this.log.length, from + MOST_LINE) : end);
+  }
+  /** A position's command and the first line of its answer. */
+  said(position) {
+    const text = this.textAt(this.from.at(position)), found = this.sizes && lineOf(text, this), behind = this.behind.at(position);
+    const answer = behind ? this.textAt(behind).replace(/^# (= )?/, "") : "", isEnd = this.sizes && !found;
+    if (this.sizes) return { line: this.lineNumbers.at(position), cpu: found?.cpu ?? "", command: found?.command ?? "the end", isCut: found?.isCut, isEnd, answer };
+    const step = /^([0-9]+) (.*) > (.*)$/.exec(text);
+    return { line: this.lineNumbers.at(position), cpu: step?.[1] ?? "", command: step?.[2] ?? text, isEnd, isStep: true, answer: step?.[3] ?? "" };
+  }
+  /** A position's answer, which may have many lines. */
+  answerAt(position) {
+    const lines = /(?:# = .*(?:\n|$))*/y, behind = this.behind.at(position);
+    lines.lastIndex = behind;
+    return this.sizes ? behind ? lines.exec(this.log)[0] : "" : this.said(position).answer;
+  }
+  /** All that the log says of a position: its steps, its answer and its explanation. Of each, the first so many bytes. */
+  line(position, most = 200000) {
+    if (!position) return null;
+    const end = position < this.from.length - 1 ? this.from.at(position + 1) : this.until ?? this.log.length;
+    const from = this.from.at(position), behind = this.behind.at(position) || end, said = this.said(position);
+    const linesOf = (first, last) => this.log.slice(first, Math.min(last, first + most)).split("\n").slice(0, -1);
+    const steps = this.sizes ? linesOf(from, behind).filter(text => text && text[0] !== "#") : [], comments = this.sizes ? linesOf(behind, end) : [];
+    const answer = this.sizes ? comments.filter(text => text.startsWith("# = ")).map(text => text.slice(4)).join("\n") : said.answer;
+    const rest = Math.max(0, behind - from - most) + Math.max(0, end - behind - most);
+    return { ...said, rest, lock: (this.marks.at(position) & LOCKED) > 0, steps, answer, notes: comments.filter(text => /^# (?!=|refused |bad: )/.test(text) && !SECONDS.test(text)),
+      reason: comments.find(text => text.startsWith("# refused "))?.replace(/^# refused \d+: /, "") };
+  }
+  /** Whether the steps of this position changed anything of a frame. */
+  movesFrames(position) {
+    for (let at = this.starts[position]; at < this.starts[position + 1]; at++) {
+      const cell = this.logCell.items[at];
+      if (cell < 4 * this.frames || cell >= this.PINS) return true;
+    }
+    return false;
+  }
+  /** What the steps of this position changed: units and frames by their place, and the rest by what it is of. */
+  changes() {
+    return this.here("changes", () => this.findChanges());
+  }
+  findChanges() {
+    const F = this.frames, changes = { places: new Map(), flags: new Set(), lists: new Map(), pins: new Set(), stocks: new Set(),
+      groups: new Map() };
+    for (let at = this.starts[this.position]; at < this.starts[this.position + 1]; at++) {
+      const cell = this.logCell.items[at], old = this.logOld.items[at], row = cell - this.ROWS, stock = cell - this.STOCK_GROUP;
+      if (cell < F) changes.places.set(cell, old);
+      else if (cell < 2 * F) changes.lists.set(cell - F, changes.lists.get(cell - F) ?? old);
+      else if (cell >= 3 * F && cell < 4 * F) {
+        if ((old ^ this.logNew.items[at]) & (DIRTY | MARKED)) changes.flags.add(cell - 3 * F);
+      } else if (stock >= 0 && stock < 130) changes.stocks.add(stock % 65);
+      else if (cell >= this.PINS) changes.pins.add(cell - this.PINS);
+      else if (row >= 0 && row < 64 * ROW.length) {
+        const group = Math.floor(row / ROW.length), rows = changes.groups.get(group) ?? new Map();
+        changes.groups.set(group, rows.set(ROW[row % ROW.length], old));
+      }
+    }
+    return changes;
+  }
+}

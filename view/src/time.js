@@ -1,0 +1,84 @@
+// The panel of the time line
+
+function resizeTime() {
+  page.timeX = null;
+}
+/** Shows this part of the run, of 4 lines or more. */
+function showTime(from, until) {
+  const { run } = page, length = Math.min(run.lines, Math.max(4, until - from)), first = Math.max(0, Math.min(from, run.lines - length));
+  page.view = [first, first + length];
+  drawTimeline();
+}
+/** Zooms by a factor: what is at this share of the time line stays there. */
+function zoomTime(factor, share = 0.5) {
+  const [from, until] = page.view, length = Math.max(4, Math.min(page.run.lines, (until - from) * factor));
+  showTime(from + (until - from - length) * share, from + (until - from - length) * share + length);
+}
+function panTime(share) {
+  const [from, until] = page.view, by = (until - from) * share;
+  showTime(from + by, until + by);
+}
+const hereShare = () => Math.max(0, Math.min(1, (page.run.position - page.view[0]) / Math.max(1, page.view[1] - page.view[0])));
+
+function drawTimeline() {
+  const { run, view } = page, canvas = byId("time"), [width, height] = page.timeSize, mode = byId("mode").value,
+    sheet = drawTimeline.sheet ??= document.createElement("canvas");
+  if (width < 250) return;
+  const key = [width, height, colors.theme, page.life?.index, page.cpu, page.unit, mode, ...view].join(" ");
+  if (page.timeX === null || key !== page.timeKey) {
+    page.unshown = 0;
+    page.timeX = drawTime(sheet, run, width, height, { view, lit: litLives(run), mode, events: page.shown });
+    page.timeKey = key;
+  }
+  const pen = penOf(canvas, width, height), frame = timeFrame(width, height), end = height - OVERVIEW - 18;
+  pen.drawImage(sheet, 0, 0, width, height);
+  if (page.hover !== null) cursor(pen, page.timeX(page.hover), end, css("muted"));
+  cursor(pen, page.timeX(run.position), end, css("accent"));
+  pen.fillStyle = css("accent");
+  pen.fillRect(frame.left + run.position / Math.max(1, run.lines) * frame.wide - 1, frame.over, 2, OVERVIEW);
+  sayTime(run);
+  canvas.setAttribute("aria-valuemax", run.lines);
+  canvas.setAttribute("aria-valuenow", run.position);
+  canvas.setAttribute("aria-valuetext", byId("time-said").title);
+}
+function cursor(pen, x, end, color) {
+  pen.strokeStyle = pen.fillStyle = color;
+  pen.lineWidth = 1.5;
+  pen.beginPath();
+  pen.moveTo(x, 0);
+  pen.lineTo(x, end);
+  pen.stroke();
+  pen.beginPath();
+  pen.moveTo(x - 6, 0);
+  pen.lineTo(x + 6, 0);
+  pen.lineTo(x, 8);
+  pen.fill();
+}
+/** The values at the pointer, or at the line that is shown: those of the lit group, or of the greatest ones. */
+function sayTime(run) {
+  const position = page.hover ?? run.position, lit = litLives(run), all = page.hover === null ? run.groups().map(group => run.life(group)) :
+    run.lives.filter(life => isThereAt(life, position));
+  const there = all.filter(life => lit ? lit.has(life) : life.number || all.length === 1).map(life => [life, valueAt(life.series, position)]).sort((a, b) => b[1] - a[1]);
+  const said = ([life, usage]) => {
+    const [limit, peak] = [life.limits, life.peaks].map(pairs => valueAt(pairs, position));
+    return `${nameOf(run, life)} ${amount(usage)} (${limit < 0 ? "" : `limit ${amount(limit)}, `}peak ${amount(peak)})`;
+  };
+  const happened = page.shown.slice(indexIn(page.shownAt, position - 1) + 1, indexIn(page.shownAt, position) + 1)
+    .map(({ kind, name, life }) => `${KINDS[kind][0]} ${kind} ${name || life?.path || ""}`.trim());
+  const wordsOf = (groups, events) => `${position ? `line ${run.lineNumbers.at(position)}` : "boot"}${run.seconds.length ? `, ${secondsText(run, position)}` : ""}, in ${UNITS[page.unit][0]}: ` + [...there.slice(0, groups).map(said),
+    ...(there.length > groups ? [`and ${there.length - groups} more`] : []), ...happened.slice(0, events), ...(happened.length > events ? [events ? `and ${happened.length - events} more events` : plural(happened.length, "event")] : [])].join(" · ") +
+    (page.unshown ? `. No room for ${plural(page.unshown, "group")}: light one` : "");
+  byId("time-said").title = wordsOf(5, 6);
+  byId("time-said").textContent = fittingWords(wordsOf, happened.length, page.timeSize[0]);
+}
+/** The words of as many of 5 groups and 6 events as the heading of a time line has room for, beside its buttons. A small window has lines for all. */
+function fittingWords(wordsOf, happened, wide) {
+  const least = happened === 1 ? 1 : 0;
+  let [groups, events] = [5, 6], words = wordsOf(groups, events);
+  while (wide > 700 && groups + events > 1 && textWidth(words) * 13 / 12 > wide - BESIDE_TIME) {
+    if (groups > 3 || events === least && groups > 1) groups--;
+    else events--;
+    words = wordsOf(groups, events);
+  }
+  return words;
+}

@@ -1,0 +1,280 @@
+// The time line: marks in rows, the usages, and below them the whole run. What doesn't depend on the line is kept.
+
+const LANE = 11, OVERVIEW = 13;
+/** The rows below the kinds: where the lit CPU took the lock, where the second run differs, and its events. */
+const lanes = () => [...(page.cpu ? [[`CPU ${page.cpu}'s lock`, page.run.locks[page.cpu]]] : []), ...(page.other ? [["differs ≠", page.differs], ["second's", null, page.otherMarks]] : [])];
+/** Where the parts of the time line are, in a canvas of this size. */
+function timeFrame(width, height) {
+  const left = width < 600 ? 72 : 84, right = width < 600 ? 8 : 92, top = LANE * (Object.keys(LANES).length + lanes().length) + 6;
+  return { left, right, top, wide: width - left - right, high: height - top - OVERVIEW - 20, over: height - OVERVIEW };
+}
+/** The value that a list of positions and values has at a position. */
+function valueAt(pairs, position) {
+  return pairs[indexAt(pairs, position)]?.[1] ?? 0;
+}
+/** The last of these ascending numbers that isn't above this one; -1 if there is none. */
+function indexIn(numbers, number, valueOf = each => each) {
+  let [low, high] = [-1, numbers.length - 1];
+  while (low < high) {
+    const middle = Math.ceil((low + high) / 2);
+    if (valueOf(numbers[middle]) <= number) low = middle;
+    else high = middle - 1;
+  }
+  return low;
+}
+const indexAt = (pairs, position) => indexIn(pairs, position, pair => pair[0]);
+/** These items with the least first; each is valued once. */
+const sortedBy = (items, valueOf) => items.map(item => [valueOf(item), item]).sort(([a], [b]) => a - b).map(([, item]) => item);
+const isThereAt = (life, position) => life.from <= position && position < (life.until ?? Infinity);
+const topLives = run => run.top ??= run.lives.filter(life => life.number || run.lives.length === 1);
+const isInView = (life, view) => life.from <= view[1] && (life.until ?? Infinity) >= view[0];
+
+const curves = new WeakMap();
+/** The lives of each path, one behind the other, as one life: its curves end as a group is removed, and begin again. */
+function curvesOf(lives) {
+  if (!curves.has(lives)) curves.set(lives, joinedLives(lives));
+  return curves.get(lives);
+}
+function joinedLives(lives) {
+  const paths = new Map();
+  for (const life of lives) paths.has(life.path) ? paths.get(life.path).push(life) : paths.set(life.path, [life]);
+  const joined = (same, what) => same.flatMap(life => life.until === undefined ? life[what] : [...life[what], [life.until, -1]]);
+  return [...paths.values()].map(same => same.length === 1 ? same[0] :
+    { ...same[0], until: same.at(-1).until, ...Object.fromEntries(["series", "limits", "peaks"].map(what => [what, joined(same, what)])) });
+}
+/** Draws what of the time line doesn't depend on the line, and returns where a position is. */
+function drawTime(canvas, run, width, height, { view, lit, mode, events }) {
+  const pen = penOf(canvas, width, height), frame = timeFrame(width, height), { left, top, wide, high } = frame;
+  const x = position => left + (position - view[0]) / Math.max(1, view[1] - view[0]) * wide;
+  const lives = lit ?? topLives(run), curves = curvesOf(lives).filter(life => isInView(life, view));
+  drawKinds(pen, run, events, frame, view, x);
+  lanes().forEach(([name, positions, marks], at) => {
+    const y = 10 + LANE * (Object.keys(LANES).length + at);
+    if (marks) drawSigns(pen, marks, name, "text", y, frame, view, x);
+    else drawTicks(pen, positions, name, y, frame, view, x);
+  });
+  pen.save();
+  pen.beginPath();
+  pen.rect(0, top - 6, left + wide + 2, high + 12);
+  pen.clip();
+  const ends = mode === "side" ? drawSideBySide(pen, curves, frame, view, x) : mode === "stack" ?
+    drawStack(pen, run, [...lives], frame, view) : drawOver(pen, run, curves, lives, frame, view, x, lit);
+  pen.restore();
+  drawEnds(pen, run, ends, frame, width, view);
+  drawPlaces(pen, run, frame, view, x);
+  drawOverview(pen, run, frame, view, lit ? page.life : run.lives[0]);
+  return x;
+}
+/** A row of marks for each kind of event. */
+function drawKinds(pen, run, events, frame, view, x) {
+  const { top, high } = frame;
+  Object.entries(LANES).forEach(([lane, name], row) => {
+    const y = 10 + row * LANE, its = events.filter(event => KINDS[event.kind][3] === lane);
+    drawSigns(pen, its, name, KINDS[lane][1], y, frame, view, x);
+    if (lane === "kill") for (const { position } of its) if (position >= view[0] && position <= view[1]) pen.fillRect(x(position), y + 2, 0.6, top + high - y);
+  });
+}
+/** A row of the signs of events, under a name. */
+function drawSigns(pen, events, name, color, y, { left }, view, x) {
+  let drawn = -9, before = "";
+  rightText(pen, name, left - 6, y, css(color), left - 6);
+  pen.textAlign = "center";
+  for (const { position, kind } of events) {
+    const here = x(position), [sign, its] = KINDS[kind];
+    if (position < view[0] || position > view[1] || here - drawn < 2 && sign === before) continue;
+    [drawn, before] = [here, sign];
+    pen.fillStyle = css(its);
+    pen.fillText(sign, here, y);
+  }
+  pen.textAlign = "left";
+}
+/** A row with a tick at each of these positions. */
+function drawTicks(pen, positions, name, y, { left }, view, x) {
+  let drawn = -9;
+  rightText(pen, name, left - 6, y, css("text"), left - 6);
+  for (let at = indexIn(positions, view[0] - 1) + 1; at < positions.length && positions[at] <= view[1]; at++) {
+    const here = Math.round(x(positions[at]));
+    if (here > drawn) pen.fillRect(drawn = here, y - 8, 1, 8);
+  }
+}
+/** The lines of the scale, with a number at each. */
+function drawScale(pen, { left, wide }, most, y) {
+  pen.lineWidth = 1;
+  pen.strokeStyle = css("line");
+  for (const share of [0, 0.5, 1]) {
+    pen.beginPath();
+    pen.moveTo(left, y(most * share));
+    pen.lineTo(left + wide, y(most * share));
+    pen.stroke();
+    if (share === 0.5 && most < 4) continue;
+    rightText(pen, amount(Math.round(most * share)), left - 6, y(most * share) + 4, css("muted"), left - 6);
+  }
+}
+/** The greatest value of these pairs from one position to another. */
+function mostIn(pairs, [from, until]) {
+  if (from <= pairs[0]?.[0] && until >= pairs.at(-1)[0] && pairs.most !== undefined) return pairs.most;
+  let most = valueAt(pairs, from);
+  for (let at = Math.max(0, indexAt(pairs, from)); at < pairs.length && pairs[at][0] <= until; at++) most = Math.max(most, pairs[at][1]);
+  if (from <= pairs[0]?.[0] && until >= pairs.at(-1)[0]) pairs.most = most;
+  return most;
+}
+/** The greatest number of the scale: limits are on it if they aren't far above the usages. */
+function scaleOf(lives, view) {
+  const mostOf = (name, bound) => lives.map(life => mostIn(life[name], view)).reduce((most, value) => value <= bound && value > most ? value : most, 1);
+  const used = Math.max(mostOf("series", Infinity), mostOf("peaks", Infinity));
+  return Math.max(used, mostOf("limits", 3 * used));
+}
+/** The usages one over another, and the limits and peaks of those that are lit, or of all if they are few. */
+function drawOver(pen, run, curves, lives, frame, view, x, lit) {
+  const most = scaleOf(curves, view), killed = killedLives(run), { top, high } = frame, y = pages => top + high - pages / most * high, ends = [];
+  const isDetailed = lit || curves.length <= 4;
+  drawScale(pen, frame, most, y);
+  for (const life of lit ? curvesOf(topLives(run).filter(each => !lit.has(each))) : []) drawSteps(pen, life, life.series, view, x, y, { alpha: 0.25 });
+  for (const life of curves) {
+    if (isDetailed) drawBounds(pen, life, view, x, y);
+    for (const its of page.other ? curvesOf(page.otherLives.get(life.path) ?? []) : []) drawSteps(pen, its, its.series, view, x, y, { dash: [9, 3, 2, 3] });
+    drawSteps(pen, life, life.series, view, x, y, { width: 2, dash: styleAt(life.style).dash });
+  }
+  for (const life of lives)
+    if (isThereAt(life, view[1]) || killed.has(life) && isInView(life, view)) ends.push([life, y(valueAt(life.series, Math.min(view[1], (life.until ?? Infinity) - 1))) + 4]);
+  return ends;
+}
+/** A life's limit, dashed, and its peak, dotted: each as it was from line to line. */
+function drawBounds(pen, life, view, x, y) {
+  drawSteps(pen, life, life.limits, view, x, y, { width: 1.5, dash: [5, 3] });
+  drawSteps(pen, life, life.peaks, view, x, y, { dash: [1, 3] });
+}
+const MOST_POINTS = 4000;
+/** Of many values at each pixel, the extremes, as a band: dashes would take long, and show nothing. */
+function drawBand(pen, pairs, view, x, y, width) {
+  let before = -1, column = -1, low = Infinity, high = -1;
+  const fill = (from, until) => high >= 0 && pen.fillRect(from, y(high) - width / 2, until - from, y(low) - y(high) + width);
+  for (let index = Math.max(0, indexAt(pairs, view[0])); index < pairs.length && pairs[index][0] <= view[1]; index++) {
+    const [position, pages] = pairs[index], here = Math.floor(x(position));
+    if (here !== column) {
+      fill(column, column + 1);
+      [low, high] = before < 0 ? [Infinity, -1] : [before, before];
+      if (column >= 0) fill(column + 1, here);
+      column = here;
+    }
+    if (pages >= 0) [low, high] = [Math.min(low, pages), Math.max(high, pages)];
+    before = pages;
+  }
+  fill(column, column + 1);
+  pen.globalAlpha = 1;
+}
+/** A stepped line of these pairs while the life is there. A value below 0 is none. Within half a pixel only extremes are drawn. */
+function drawSteps(pen, life, pairs, view, x, y, { width = 1, dash = [], alpha = 1 }) {
+  const end = x(Math.min(life.until ?? view[1], view[1])), color = styleAt(life.style).color;
+  let before = -1, at = -9, low = 0, high = -1;
+  Object.assign(pen, { strokeStyle: color, fillStyle: color, lineWidth: width, globalAlpha: alpha });
+  if (indexAt(pairs, view[1]) - indexAt(pairs, view[0]) > MOST_POINTS) return drawBand(pen, pairs, view, x, y, width);
+  pen.setLineDash(dash);
+  pen.beginPath();
+  for (let index = Math.max(0, indexAt(pairs, view[0])); index < pairs.length && pairs[index][0] <= view[1]; index++) {
+    const [position, pages] = pairs[index], here = x(position), isNear = here - at < 0.5;
+    if (isNear && low <= pages && pages <= high) {
+      before = pages;
+      continue;
+    }
+    if (before >= 0) pen.lineTo(here, y(before));
+    if (pages >= 0) before < 0 ? pen.moveTo(here, y(pages)) : pen.lineTo(here, y(pages));
+    [low, high] = isNear ? [Math.min(low, pages), Math.max(high, pages)] : [pages, pages];
+    [before, at] = [pages, here];
+  }
+  if (before >= 0) pen.lineTo(end, y(before));
+  pen.stroke();
+  pen.setLineDash([]);
+  pen.globalAlpha = 1;
+}
+/** What each group has without the groups below it, stacked. */
+function drawStack(pen, run, lives, frame, view) {
+  const { left, top, wide, high } = frame, columns = [];
+  let there = [], next = 0; // lives are in the order in which they begin
+  for (let at = 0; at < wide; at++) {
+    const position = Math.round(view[0] + at / wide * (view[1] - view[0])), below = new Map();
+    while (next < lives.length && lives[next].from <= position) there.push(lives[next++]);
+    there = there.filter(life => isThereAt(life, position)).sort((a, b) => a.path < b.path ? -1 : 1);
+    for (const life of there) {
+      const parent = parentPath(life.path), usage = valueAt(life.series, position);
+      if (life.path !== "/") below.set(parent, (below.get(parent) ?? 0) + usage);
+    }
+    columns.push(there.map(life => [life, valueAt(life.series, position) - (below.get(life.path) ?? 0)]));
+  }
+  const most = Math.max(1, ...columns.map(column => column.reduce((sum, [, pages]) => sum + pages, 0)));
+  drawScale(pen, frame, most, pages => top + high - pages / most * high);
+  columns.forEach((column, at) => {
+    let y = top + high;
+    for (const [life, pages] of column) {
+      y -= pages / most * high;
+      pen.fillStyle = styleAt(life.style).color;
+      pen.fillRect(left + at, y, 1, pages / most * high);
+    }
+  });
+  let y = top + high;
+  return (columns.at(-1) ?? []).map(([life, pages]) => [life, (y -= pages / most * high) + pages / most * high / 2 + 4, pages])
+    .filter(([, , pages]) => pages);
+}
+/** A row for each group, with a scale of its own: the greatest ones, as many as there is room for. */
+function drawSideBySide(pen, curves, { left, top, wide, high }, view, x) {
+  const count = Math.max(1, Math.min(curves.length, Math.floor(high / 16))), row = high / count;
+  const shown = sortedBy(curves, ({ series }) => -mostIn(series, view)).slice(0, count).sort((a, b) => a.path < b.path ? -1 : 1);
+  shown.forEach((life, at) => {
+    const bottom = top + (at + 1) * row - 2, most = scaleOf([life], view), y = pages => bottom - pages / most * (row - 4);
+    pen.fillStyle = css("soft");
+    pen.fillRect(left, bottom, wide, 1);
+    drawBounds(pen, life, view, x, y);
+    drawSteps(pen, life, life.series, view, x, y, { width: 2 });
+    rightText(pen, amount(most), left - 6, bottom - row / 2 + 6, css("muted"), left - 6);
+  });
+  page.unshown = curves.length - count;
+  return shown.map((life, at) => [life, top + (at + 0.5) * row + 4]);
+}
+const killedLives = run => run.killed ??= new Set(run.events.filter(({ kind, life }) => kind === "kill" && life).map(({ life }) => life));
+/** The names of the groups at the right, as many as there is room for: the killed ones, then those whose usage was greatest. */
+function drawEnds(pen, run, ends, { left, top, wide, high, right }, width, view) {
+  page.named = [];
+  if (right < 40) return;
+  const killed = killedLives(run), most = Math.floor((top + high - 4) / 12), room = ends.length > most ? most - 1 : most, x = left + wide + 6;
+  const rank = ([life]) => (killed.has(life) ? -(2 ** 32) : 0) - mostIn(life.series, view);
+  const shown = sortedBy(ends, rank).slice(0, room).sort((a, b) => a[1] - b[1]);
+  let free = ends.length > room ? 10 : -2;
+  for (const [index, [life, wanted]] of shown.entries()) {
+    const at = free = Math.min(Math.max(free + 12, wanted), top + high + 6 - 12 * (shown.length - 1 - index));
+    fillStyled(pen, styleAt(life.style), x, at - 9, 10, 10);
+    const sign = killed.has(life) ? "◆ " : "", wide = width - x - 16 - pen.measureText(sign).width;
+    write(pen, `${sign}${tailOf(life.path, text => pen.measureText(text).width <= wide)}`, x + 14, at, css(sign ? "purple" : "text"), width - x - 16);
+    page.named.push(life);
+  }
+  if (ends.length > room) write(pen, `and ${ends.length - room} more`, x, 10, css("muted"), width - x);
+}
+/** The seconds of the last sample up to a line, of a log of `tools/whatif`. */
+const secondsText = (run, position) => `${grouped(valueAt(run.seconds, position))} s`;
+/** The lines' numbers below the usages, or the seconds. */
+function drawPlaces(pen, run, { left, wide, over }, view, x) {
+  const parts = wide < 420 ? 2 : 4;
+  for (let at = 0; at <= parts; at++) {
+    const position = Math.round(view[0] + (view[1] - view[0]) * at / parts);
+    pen.textAlign = at === 0 ? "left" : at < parts ? "center" : "right";
+    write(pen, run.seconds.length ? secondsText(run, position) : position ? `line ${run.lineNumbers.at(position)}` : "boot", x(position), over - 5, css("muted"), 100);
+    pen.textAlign = "left";
+  }
+}
+/** The whole run, and which part of it is above. */
+function drawOverview(pen, run, { left, wide, over }, view, life) {
+  const x = position => left + position / Math.max(1, run.lines) * wide, whole = [0, run.lines], most = Math.max(1, mostIn(life.series, whole));
+  pen.fillStyle = css("soft");
+  pen.fillRect(left, over, wide, OVERVIEW);
+  drawSteps(pen, life, life.series, whole, x, pages => over + OVERVIEW - 1 - pages / most * (OVERVIEW - 3), {});
+  pen.fillStyle = css("accent");
+  pen.globalAlpha = 0.18;
+  pen.fillRect(x(view[0]), over, x(view[1]) - x(view[0]), OVERVIEW);
+  pen.globalAlpha = 1;
+  pen.strokeStyle = css("accent");
+  pen.strokeRect(x(view[0]) + 0.5, over + 0.5, x(view[1]) - x(view[0]) - 1, OVERVIEW - 1);
+}
+function rightText(pen, text, x, y, color, room = 84) {
+  pen.textAlign = "right";
+  write(pen, text, x, y, color, room);
+  pen.textAlign = "left";
+}
