@@ -1,9 +1,9 @@
-//! The calls that take no lock, or only if the CPU's list and stock can't serve.
+//! The calls that take no lock, or only if the CPU's list and stock can't serve. Nothing here has a way to the lock's cell.
 
 ghost use Rattle.std.specs.Prelude.{◌<◌, IfNone, IfSome, IsSome, MatchBool};
 ghost use Rattle.cpu_part.specs.declared.answers.Dropped.TheVariants.{Listed};
 ghost use Rattle.cpu_part.specs.declared.answers.Fast.TheVariants.{Got};
-ghost use Rattle.zone_threads.specs.Calling.{AllocsFast, Calls, DropsFast, CallsGet, MissesDrop, MissesFast, CallsPut};
+ghost use Rattle.zone_threads.specs.Calling.{AllocsFast, Calls, CallsGet, CallsPut, DropsFast, MissesDrop, MissesFast};
 ghost use Rattle.zone_threads.specs.declared.calls.Call.TheVariants as call;
 
 use crate::calls::CallAnswer;
@@ -15,9 +15,7 @@ use group_tree::fault::Fault;
 use mem_system::{Cmd, Cpu};
 
 impl<N: BootName> Home<N> {
-    /// The functions below have the tables and the CPU, and no way to the lock.
-
-    // Takes a frame of the CPU's list, paid from its stock; else allocates one under the lock.
+    /// Takes a frame of the CPU's list, paid from its stock; else allocates one under the lock.
     #[inline(always)]
     pub fn alloc_frame(&mut self, group: u32) -> CallAnswer
         requires some { IsSome self.old.cpu }
@@ -40,7 +38,7 @@ impl<N: BootName> Home<N> {
         }
     }
 
-    /// CallsPut a fresh frame of the CPU on its list again; else releases the unit that this frame heads under the lock.
+    /// Puts a fresh frame of the CPU on its list again; else releases the unit that this frame heads under the lock.
     #[inline(always)]
     pub fn release(&mut self, number: u32) -> CallAnswer
         requires some { IsSome self.old.cpu }
@@ -74,7 +72,7 @@ impl<N: BootName> Home<N> {
         get(&self.zone.tables, cpu, number)
     }
 
-    /// CallsPut a pin of the CPU, without the lock.
+    /// Puts a pin of the CPU, without the lock.
     #[inline(always)]
     pub fn put(&mut self, number: u32) -> CallAnswer
         requires some { IsSome self.old.cpu }
@@ -86,8 +84,6 @@ impl<N: BootName> Home<N> {
         put(&self.zone.tables, cpu, number)
     }
 }
-
-// The functions below have the tables and the CPU, and no way to the lock.
 
 // Takes a frame of the CPU's list, paid from its stock; `None` if one of them has none.
 #[inline(always)]
@@ -106,7 +102,7 @@ fn take_listed<N: BootName>(tables: &Tables<N>, cpu: &mut Cpu<N>, group: u32) ->
     }
 }
 
-// CallsPut the frame on the CPU's list again, if it is a fresh one of the CPU and its page can be credited. Returns whether it
+// Puts the frame on the CPU's list again, if it is a fresh one of the CPU and its page can be credited. Returns whether it
 // did.
 #[inline(always)]
 fn relist<N: BootName>(tables: &Tables<N>, cpu: &mut Cpu<N>, frame: Frame) -> bool
@@ -135,7 +131,7 @@ fn get<N: BootName>(tables: &Tables<N>, cpu: &mut Cpu<N>, number: u32) -> CallAn
     }
 }
 
-// CallsPut a pin of the CPU.
+// Puts a pin of the CPU.
 #[inline(always)]
 fn put<N: BootName>(tables: &Tables<N>, cpu: &mut Cpu<N>, number: u32) -> CallAnswer
     ensures { CallsPut N.frames number result cpu.old cpu.new }
