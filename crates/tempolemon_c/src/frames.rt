@@ -46,7 +46,8 @@ pub extern "C" fn tempolemon_alloc_dirty(
         return status;
     }
     let given = *out;
-    let dirty = Command::OnFrame(FrameAct::Dirty, given.number as u32);
+    let frame = (given.number % (1 << 32)) as u32;
+    let dirty = Command::OnFrame(FrameAct::Dirty, frame);
     let status = serve_call(alloc, handle, cpu, &Call::Script(dirty), out);
     if status == DONE {
         *out = given;
