@@ -2,6 +2,11 @@
 
 const [SPACE, HASH, DIGIT] = [32, 35, 48];
 
+/** Why a text that is that of no line is none. */
+const noLine = text => text.startsWith("\xef\xbb\xbf") ? "it begins with a UTF-8 byte order mark: a log is plain ASCII"
+  : text.includes("\0") ? "it looks like UTF-16: a log is plain ASCII"
+  : text.endsWith("\r") ? "it ends with a carriage return: the log has Windows line ends" : "it is neither a step nor sizes";
+
 /**
  * Reads the lines of a log, a text with a character for each byte. `next` says what a line is, and leaves what it holds in
  * the fields.
@@ -26,7 +31,7 @@ class Reader {
     const first = log.charCodeAt(this.start);
     if (first === HASH) return "comment";
     const wasSized = this.isSized, isZone = first === 122; // z
-    if (!(isZone ? this.zone() : this.step())) return this.bad("it is neither a step nor sizes");
+    if (!(isZone ? this.zone() : this.step())) return this.bad(noLine(log.slice(this.start, end)));
     if (isZone === wasSized) return this.bad(isZone ? "the sizes were given before" : "the sizes come first");
     return isZone ? "zone" : "step";
   }
