@@ -15,11 +15,12 @@ use Rattle.zone_threads.specs.declared.home.NotEntered.{NotEntered}
 use Rattle.zone_threads.specs.declared.home.NotEntered.TheVariants as not_entered
 use Rattle.zone_threads.specs.declared.home.NotLeft.{NotLeft}
 use Rattle.zone_threads.specs.declared.home.NotLeft.TheVariants as not_left
-use Rattle.tempolemon_threads.specs.Serving.{DropsHome, OnHome, OnRawHome, ServesHomeRequest}
-use Rattle.tempolemon_threads.specs.declared.requests.Request.TheVariants.{Enter, Leave}
+use Rattle.tempolemon_threads.specs.Serving.{DropsHome, OnHome, OnRawHome, ServesHomeRequest, ServesRawHome}
+use Rattle.tempolemon_threads.specs.declared.requests.Request.TheVariants.{End, Enter, Leave}
 use Rattle.tempolemon_threads.specs.declared.requests.RequestAnswer.{RequestAnswer}
 use Rattle.tempolemon_threads.specs.declared.requests.RequestAnswer.TheVariants as answer
-use Rattle.tempolemon_threads.specs.Zones.{IsCpuHandle, OnPart, led_of}
+use Rattle.tempolemon_threads.specs.Handling.{EndsAs}
+use Rattle.tempolemon_threads.specs.Zones.{IsCpuHandle, OnPart, led, led_of}
 
 -- what was done to the home that the pointer leads to was done behind the handle
 pub crossed : (does : KnownTable → KnownStockTable → (from to : KnownHome) → Type 0) (f : KnownTable) (s : KnownStockTable) (o : Option KnownHome)
@@ -88,3 +89,25 @@ refused_gone f g s t a number home between after said left reason none enters is
     let was : HasNoCpu on.from = subst (λ (o : Option KnownHome). IsSomeAnd o HasNoCpu) on.was none in
     let now : HasNoCpu on.to = subst HasNoCpu (sym (home_stays f.cpus number on.from on.to reason on.done)) was in
     home_gone g t a between after left (subst (λ (o : Option KnownHome). IsSomeAnd o HasNoCpu) (sym on.is) now) leaves
+
+-- an end by the pointer behind a zone's handle is one by the handle
+pub ends_led : (f : KnownTable) (s : KnownStockTable) (a : Global) (before : Option KnownHome) (g : KnownTable) (t : KnownStockTable) (after : Option KnownHome)
+    (said : RequestAnswer) → IsSome (led_of f s before) → ServesRawHome f s before (End a) g t after said → EndsAs said (led_of f s before) (led_of g t after)
+ends_led f s a before g t after answer.Out some is =
+    ap (λ (h : KnownTable). led_of h t after) is.frames_are ∙ (ap (λ (u : KnownStockTable). led_of f u after) is.stocks_are ∙ ap (led_of f s) is.serves)
+ends_led f s a None g t after (answer.Ended ended) some is = absurd (false≢true some)
+ends_led f s a (Some home) g t after (answer.Ended ended) some is = record {
+  zone = led f s home;
+  was = refl;
+  done = subst (λ (h : KnownTable). HasEnded h s ended) is.frames_are (subst (λ (u : KnownStockTable). HasEnded g u ended) is.stocks_are is.serves.0);
+  is = ap (led_of g t) is.serves.1;
+}
+ends_led f s a before g t after answer.NoMemory some is = ap (led_of g t) is.serves
+ends_led f s a before g t after answer.Lost some is = ap (led_of g t) is.serves
+ends_led f s a before g t after answer.Started some is = absurd is.serves
+ends_led f s a before g t after answer.Entered some is = absurd is.serves
+ends_led f s a before g t after (answer.NotEntered reason) some is = absurd is.serves
+ends_led f s a before g t after (answer.Left shown) some is = absurd is.serves
+ends_led f s a before g t after (answer.NotLeft reason) some is = absurd is.serves
+ends_led f s a before g t after (answer.Text text) some is = absurd is.serves
+ends_led f s a before g t after answer.Busy some is = absurd is.serves

@@ -5,7 +5,7 @@ use Rattle.stock_word.specs.Stock.{KnownStockTable}
 use Rattle.zone_blocks.specs.declared.config.Config.{Config}
 use Rattle.mem_system.specs.Boots.{IsSizedAs}
 use Rattle.mem_system.specs.Ending.{HasEnded}
-use Rattle.zone_threads.specs.Homes.{HasCpu, HasNoCpu, HasCpuAsParked, IsCpu, KnownHome}
+use Rattle.zone_threads.specs.Homes.{HasCpu, HasCpuAsParked, HasNoCpu, IsCpu, KnownHome}
 use Rattle.mem_system.specs.declared.ending.SystemEnd.{SystemEnd}
 use Rattle.host_memory.specs.declared.report.Report.{Report}
 
