@@ -1,0 +1,150 @@
+-- The reference rule and the stock rule follow from the run.
+use Rattle.std.proofs.Common.{◌≡◌, ◌≢◌, ℕ, zero, suc, ◌+◌, ◌<◌, ◌≤◌, ◌&&◌, true, false, List, [], ◌∷◌, ◌++◌, length, take, refl, ap, sym, ◌∙◌, subst, arith, inl, inr, eq-eqb}
+use Rattle.std.specs.Prelude.{◌⊎◌, not}
+use Rattle.std.specs.List.{fold}
+use Rattle.std.proofs.lemmas.Bool.{cases_Bool, ne_eqb, true≢false}
+use mathlib.Core.Logic.{dite}
+use native.Mathlib.Decide.{ℕ_discrete}
+use Rattle.frame_word.specs.ReferenceRule.{mark}
+use Rattle.step_rules.specs.declared.phase.Way.TheVariants.{OnList, PassingOut, PassingBack}
+use Rattle.step_rules.specs.declared.phase.Stage.TheVariants.{FreshPassing, BackPassing}
+use Rattle.step_rules.specs.declared.phase.Hold.{Hold}
+use Rattle.step_rules.specs.declared.phase.Hold.TheVariants.{Visiting}
+use Rattle.step_rules.specs.declared.phase.Phase.{Phase}
+use Rattle.step_rules.specs.declared.phase.Phase.TheVariants.{InZone, Lent, Head}
+use Rattle.step_rules.specs.declared.step.Action.{Action}
+use Rattle.step_rules.specs.declared.step.Action.TheVariants.{Get, Put, Freeze, Unfreeze, Lock}
+use Rattle.step_rules.specs.declared.step.Answer.{Answer}
+use Rattle.step_rules.specs.declared.step.Answer.TheVariants.{Illegal, Done, Full, Held, Left, Last, Zero}
+use Rattle.step_rules.specs.Phases.{is_live_phase, passes_back, passes_out}
+use Rattle.step_rules.specs.State.{State, Zone, at_boot, is_cpu, is_unheld, live_references, may_zone_act, sum_to, visits}
+use Rattle.step_rules.specs.Legal.{Allows, IsMade, get_answer}
+use Rattle.step_rules.specs.Live.{LiveIsReferenced}
+use Rattle.step_rules.specs.declared.step.Step.{Step}
+use Rattle.step_rules.proofs.Living.{live_are_referenced}
+use Rattle.boot_words.specs.Pasts.{own_past}
+use Rattle.boot_words.specs.Seats.{zone_of_boot}
+use Rattle.boot_words.proofs.Counting.{held_answer}
+use Rattle.boot_words.proofs.Holding.{allowed_at, take_length}
+use Rattle.step_rules.specs.After.{Run, after, state_of, IsLegalRun}
+use Rattle.step_rules.specs.Invariant.{KeepsInvariant}
+use Rattle.step_rules.proofs.Basics.{at_other}
+use Rattle.step_rules.proofs.Freeing.{zone_of_run}
+use Rattle.step_rules.proofs.LegalTests.{freeze_tests, unfreeze_tests}
+use Rattle.step_rules.proofs.LocalLaws.{no_illegal}
+use Rattle.step_rules.proofs.Runs.{after_illegal, allowed, legal_from, next, IsLegalFrom}
+use Rattle.boot_words.specs.Runs.{HasNoStepOf, OthersFollow}
+use Rattle.boot_words.specs.Words.{word_in_phase}
+use Rattle.boot_words.proofs.Draining.{legal_behind}
+use Rattle.boot_words.proofs.Following.{stands_in, visited_cpu}
+use Rattle.boot_words.proofs.Owning.{fold_on, lists_are_own}
+use Rattle.run_words.specs.Laws.{NeverZero, ReferencesAreOwn, WordsAreStocks, WordsCountReferences}
+
+-- ---- a seat's references
+no_zone : (s : State) (q : ℕ) → q ≢ 0 → may_zone_act s.hold q ≡ true → ⊥
+no_zone s q ne acts = true≢false (sym acts ∙ ap (λ b. b && not (is_unheld s.hold)) (ne_eqb q 0 ne))
+
+zone_step : (s : State) (q : ℕ) (action : Action) (answer : Answer) → q ≢ 0 → IsMade s q action answer → (after s q action answer).references 0 ≡ s.references 0
+zone_step s q action Illegal ne made = absurd (no_illegal s q action made.answered)
+zone_step s q (Get f) Held ne made = at_other s.references q _ 0 (λ e. ne (sym e))
+zone_step s q (Put f) (Left n) ne made = at_other s.references q _ 0 (λ e. ne (sym e))
+zone_step s q (Put f) Last ne made = at_other s.references q _ 0 (λ e. ne (sym e))
+zone_step s q (Freeze f n) Done ne made = absurd (no_zone s q ne (freeze_tests s q f n made.legal).0)
+zone_step s q (Unfreeze f n) Done ne made = absurd (no_zone s q ne (unfreeze_tests s q f n made.legal).0)
+zone_step s q Lock answer ne made = refl
+zone_step s q action answer ne made = refl
+
+zone_one : (s : State) (q : ℕ) (action : Action) (answer : Answer) → q ≢ 0 → Allows s q action answer → (after s q action answer).references 0 ≡ s.references 0
+zone_one s q action answer ne ok = elim (allowed s q action answer ok) [
+  | inl illegal ↦ ap (λ (t : State). t.references 0) (ap (after s q action) illegal ∙ after_illegal s q action)
+  | inr made ↦ zone_step s q action answer ne made
+]
+
+zone_rest : (s : State) (rest : Run) → IsLegalFrom s rest → HasNoStepOf 0 rest → (fold next s rest).references 0 ≡ s.references 0
+zone_rest s [] legal none = refl
+zone_rest s (e ∷ rest) legal none = zone_rest (next s e) rest (λ k. legal (suc k)) none.1 ∙ zone_one s e.0.seat e.0.action e.1 none.0 (legal zero)
+
+zone_own : (zone : Zone) (seen run : Run) → IsLegalRun zone run → OthersFollow 0 seen run → (state_of zone run).references 0 ≡ (state_of zone seen).references 0
+zone_own zone seen run legal goes =
+    ap (λ r. (state_of zone r).references 0) goes.is ∙ ap (λ (t : State). t.references 0) (fold_on (at_boot zone) seen goes.rest)
+    ∙ zone_rest (state_of zone seen) goes.rest (legal_behind (at_boot zone) seen goes.rest (subst (IsLegalRun zone) goes.is legal)) goes.others
+
+pub references_are_own : ReferencesAreOwn
+references_are_own zone seen run seat legal goes = dite (ℕ_discrete seat 0)
+    (λ e. subst (λ (k : ℕ). OthersFollow k seen run → (state_of zone run).references k ≡ (state_of zone seen).references k) (sym e) (zone_own zone seen run legal) goes)
+    (λ ne. (lists_are_own zone seen run seat ne goes).references)
+
+-- ---- words
+-- the word of a frame in this phase counts its references, or it is the mark of the CPU whose visit is open
+record Marked (s : State) (x : Phase) (live : ℕ) : Type 0 where
+  pub cpu : ℕ
+  pub visit : visits cpu s.hold ≡ true
+  pub word : word_in_phase x live ≡ mark cpu
+  pub dead : is_live_phase x ≡ false
+
+visiting : (hold : Hold) (q : ℕ) → hold ≡ Visiting q → visits q hold ≡ true
+visiting hold q e = ap (visits q) e ∙ eq-eqb q q refl
+
+by_phase : (s : State) (f live : ℕ) (x : Phase) → s.phases f ≡ x → KeepsInvariant s → (word_in_phase x live ≡ live) ⊎ Marked s x live
+by_phase s f live (Lent q PassingOut) e sound =
+    inr (record { cpu = q; visit = visiting s.hold q ((sound.frames f).out q (ap (passes_out q) e ∙ eq-eqb q q refl)); word = refl; dead = refl })
+by_phase s f live (Lent q PassingBack) e sound =
+    inr (record { cpu = q; visit = visiting s.hold q ((sound.frames f).returning q (ap (passes_back q) e ∙ eq-eqb q q refl)); word = refl; dead = refl })
+by_phase s f live (Head u (FreshPassing q)) e sound =
+    inr (record { cpu = q; visit = visiting s.hold q ((sound.frames f).returning q (ap (passes_back q) e ∙ eq-eqb q q refl)); word = refl; dead = refl })
+by_phase s f live (Head u (BackPassing q)) e sound =
+    inr (record { cpu = q; visit = visiting s.hold q ((sound.frames f).returning q (ap (passes_back q) e ∙ eq-eqb q q refl)); word = refl; dead = refl })
+by_phase s f live (Lent q OnList) e sound = inl refl
+by_phase s f live InZone e sound = inl refl
+by_phase s f live x e sound = inl refl
+
+pub words_count_references : WordsCountReferences
+words_count_references zone words run is f inside =
+    let s = state_of zone run in
+    let stands = stands_in zone words run is in
+    let same = zone_of_run zone run in
+    let found = stands.frames.frame f (subst (λ z. f < z.frames) (sym same) inside) in
+    elim (by_phase s f (live_references s f) (s.phases f) refl stands.sound) [
+      | inl live ↦ inl (found ∙ live ∙ ap (λ z. sum_to (z.cpus + 1) (λ seat. s.references seat f)) same)
+      | inr m ↦ inr (m.cpu, ap (λ z. is_cpu z m.cpu) (sym same) ∙ visited_cpu s words m.cpu stands m.visit, found ∙ m.word, λ seat. (stands.sound.frames f).unreferred m.dead seat)
+    ]
+
+pub words_are_stocks : WordsAreStocks
+words_are_stocks zone words run is cpu low high =
+    let s = state_of zone run in
+    let within : cpu ≤ s.zone.cpus = subst (λ z. cpu ≤ z.cpus) (sym (zone_of_run zone run)) high in record {
+      has_word = is.stocks.has_word cpu low within;
+      word = is.stocks.stock cpu low within;
+      report = is.stocks.report cpu low within;
+      booked = (stands_in zone words run is).sound.booked cpu;
+    }
+
+-- ---- a get answered Zero
+full_word : (n : ℕ) → n ≡ 255 → Zero ≡ get_answer n → ⊥
+full_word n e z = let a : Zero ≡ Full = z ∙ ap get_answer e in cc
+
+held_word : (n : ℕ) → 1 ≤ n → n ≤ 254 → Zero ≡ get_answer n → ⊥
+held_word n low high z = let a : Zero ≡ Held = z ∙ held_answer n low high in cc
+
+not_live : (s : State) (f : ℕ) → LiveIsReferenced s f → Zero ≡ get_answer (live_references s f) → is_live_phase (s.phases f) ≡ false
+not_live s f is said = elim (cases_Bool (is_live_phase (s.phases f))) [
+  | inl live ↦
+      let range = is.some live in
+      dite (ℕ_discrete (live_references s f) 255) (λ e. absurd (full_word (live_references s f) e said))
+      (λ ne. absurd (held_word (live_references s f) range.0 (let a = range.1 in omega (arith, a, ne)) said))
+  | inr dead ↦ dead
+]
+
+pub never_zero : NeverZero
+never_zero t s f s' is m =
+    let zone = zone_of_boot t in
+    let p = own_past s in
+    let q = p.number in
+    let before = p.seen ++ m.grew.between in
+    let e : Step × Answer = (record { seat = q; action = Get f }, Zero) in
+    let whole : IsLegalRun zone (before ++ e ∷ []) = subst (IsLegalRun zone) m.grew.seen m.is_past.legal in
+    let legal : IsLegalRun zone before = subst (IsLegalRun zone) (take_length before (e ∷ [])) (legal_from zone (before ++ e ∷ []) (length before) whole) in
+    let made = allowed_at zone before e [] whole in
+    let dead = not_live (state_of zone before) f (live_are_referenced zone before legal f) made.counted in
+    let own = references_are_own zone p.seen before q legal (record { rest = m.grew.between; is = refl; others = m.grew.others }) in
+    sym (ap (λ h. h f) own) ∙ (live_are_referenced zone before legal f).none dead q

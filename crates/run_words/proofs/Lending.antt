@@ -1,0 +1,314 @@
+-- A put, a drain and a lend under the lock.
+use Rattle.std.proofs.Common.{◌≡◌, ◌≢◌, ℕ, zero, suc, ◌+◌, ◌-◌, ◌*◌, ◌%◌, ◌^◌, ◌<◌, ◌≤◌, ◌==◌, Bool, true, false, Option, Some, None, List, [], ◌∷◌, set, refl, ap, sym, ◌∙◌, subst, arith, inl, inr}
+use Rattle.std.specs.Prelude.{◌⊎◌, slice_index}
+use Rattle.std.proofs.lemmas.List.{set-get_or}
+use mathlib.Core.Logic.{dite}
+use mathlib.Core.Option.{some, some-ne-none}
+use native.Mathlib.Decide.{ℕ_discrete}
+use lib.ListN.{get_elem?}
+use Rattle.atomic_table.specs.Table.{State as Board, keeps}
+use Rattle.frame_word.specs.ReferenceRule.{mark}
+use Rattle.frame_word.specs.Seats.{KnownTable}
+use Rattle.stock_word.specs.declared.view.Stock.{Stock}
+use Rattle.stock_word.specs.declared.view.Stock.TheVariants.{NoGroup, HeldBy, DrainedOf}
+use Rattle.stock_word.specs.Stock.{HasWord, group_of, stock_pages_of, word_of}
+use Rattle.stock_word.specs.StockRule.{stock_index}
+use Rattle.step_rules.specs.declared.phase.Phase.{Phase}
+use Rattle.step_rules.specs.declared.phase.Phase.TheVariants.{InZone}
+use Rattle.step_rules.specs.declared.step.Step.{Step}
+use Rattle.step_rules.specs.declared.step.Action.TheVariants.{DrainStock, PassOut, Put, TakeIn}
+use Rattle.step_rules.specs.declared.step.Answer.{Answer}
+use Rattle.step_rules.specs.declared.step.Answer.TheVariants.{Done, Pages}
+use Rattle.step_rules.specs.Phases.{is_free, is_live_phase}
+use Rattle.step_rules.specs.State.{Part, State, Zone, is_cpu, is_frame, live_references}
+use Rattle.step_rules.specs.Legal.{is_legal}
+use Rattle.step_rules.specs.After.{after, state_of}
+use Rattle.step_rules.specs.Views.{seen_by}
+use Rattle.step_rules.proofs.CoverParts.{part_seen}
+use Rattle.step_rules.proofs.Freeing.{zone_of_run}
+use Rattle.step_rules.proofs.LegalTests.{drain_stock_tests, pass_out_tests, put_tests}
+use Rattle.step_rules.proofs.SoundSteps.{below_frames, cpu_range}
+use Rattle.boot_words.specs.Words.{Words, stock_in, stock_said, with_frame_word, with_stock_word, word_in_phase}
+use Rattle.boot_words.specs.Steps.{ChangesWords, OfGroup, OfNone, frame_word_at, stock_word_at}
+use Rattle.boot_words.specs.Allowed.{put_answer_at}
+use Rattle.boot_words.specs.Composed.{AreLegal, GrewInTurn, GrewUnderLock, MakesInTurn, lend_run}
+use Rattle.boot_words.specs.Held.{HoldsLock, local_seen}
+use Rattle.boot_words.specs.declared.view.Past.{Past}
+use Rattle.boot_words.specs.Rule.{frame_base, words_in}
+use Rattle.boot_words.specs.Pasts.{KnownPasts, IsHeld, IsHolder, MakesStep, MayMake, cpu_past, local_by_pasts, own_past}
+use Rattle.boot_words.specs.Seats.{zone_of_boot}
+use Rattle.boot_words.proofs.Counting.{none_live}
+use Rattle.boot_words.proofs.Following.{stands_in}
+use Rattle.boot_words.proofs.Parts.{frame_reads, words_set}
+use Rattle.boot_words.proofs.Putting.{less_one, put_changes}
+use Rattle.boot_words.proofs.StockSteps.{stock_is_at, stock_low, stock_words_set}
+use Rattle.boot_words.proofs.UnderLock.{shows_now}
+use Rattle.run_words.specs.declared.word.Word.{Word}
+use Rattle.run_words.specs.declared.word.Word.TheVariants.{OfFrame, Quiet, StockOf}
+use Rattle.run_words.specs.Rule.{RunRule, run_rule}
+use Rattle.run_words.specs.Seats.{MayStep}
+use Rattle.run_words.proofs.Fast.{Leaves, stays}
+use Rattle.run_words.proofs.Prepaying.{same_word}
+use Rattle.run_words.proofs.Referring.{word_positive}
+use Rattle.run_words.proofs.UnderLock.{MadeHeld, both_fit, held_made, held_makes, legal_held}
+
+of_both : (t : KnownTable) (s : KnownPasts) (word : Word) (change : ℕ → ℕ) (told : ℕ → List Past → Type 0) → IsHeld t s
+    → MayStep (zone_of_boot t) (own_past s ∷ cpu_past s ∷ []) word change told → MayStep (zone_of_boot t) s.pasts word change told
+of_both t s word change told is may = subst (λ (l : List Past). MayStep (zone_of_boot t) l word change told) (sym is.both) may
+
+zone_left : (t : KnownTable) (s : KnownPasts) → (local_seen (zone_of_boot t) (cpu_past s)).zone ≡ zone_of_boot t
+zone_left t s = zone_of_run (zone_of_boot t) (cpu_past s).seen
+
+-- ---- put
+pub record PutsHeld (zone : Zone) (z c : Past) (seat f found : ℕ) (later : List Past) : Type 0 where
+  pub some : 1 ≤ found
+  pub made : MadeHeld zone z c (record { seat = seat; action = Put f }) (put_answer_at found) later
+
+pub puts_held : (t : KnownTable) (s : KnownPasts) (seat f : ℕ) → IsHeld t s → (seat ≡ 0) ⊎ IsHolder s seat → MayMake t s seat (Put f)
+    → MayStep (zone_of_boot t) s.pasts (OfFrame f) (λ n. (n + (2 ^ 64 - 1)) % 2 ^ 64) (PutsHeld (zone_of_boot t) (own_past s) (cpu_past s) seat f)
+puts_held t s seat f is own legal =
+    let zone = zone_of_boot t in
+    let z = own_past s in
+    let c = cpu_past s in
+    let made_step : Step = record { seat = seat; action = Put f } in
+    of_both t s (OfFrame f) (λ n. (n + (2 ^ 64 - 1)) % 2 ^ 64) (PutsHeld zone z c seat f) is
+    (λ id b k homes at small.
+    let j = frame_base zone + f in
+    let n = slice_index b.words j in
+    let words = words_in zone b.words in
+    let reads : frame_word_at words f ≡ n = frame_reads zone f b.words in
+    let positive = word_positive zone words k.run seat f k.is (legal_held zone b k id z c made_step at is.holds own refl legal) in
+    let some : 1 ≤ n = omega (arith, positive, reads) in
+    let r = held_makes zone b k id j ((n + (2 ^ 64 - 1)) % 2 ^ 64) z c made_step (put_answer_at n) at is.holds own refl tt legal
+    (subst (ChangesWords zone words seat (Put f) (put_answer_at n)) (ap (with_frame_word words f) (sym (less_one n some small)) ∙ sym (words_set zone f ((n + (2 ^ 64 - 1)) % 2 ^ 64) b.words))
+    (put_changes zone words seat f n reads some)) in
+    (r.0, r.1, r.2, r.3, (r.4.0, record { some = some; made = r.4.1 })))
+
+pub frame_of_put_held : (t : KnownTable) (s : KnownPasts) (seat f : ℕ) → MayMake t s seat (Put f) → f < t.frames
+frame_of_put_held t s seat f legal =
+    below_frames (zone_of_boot t) f (ap (λ z. is_frame z f) (sym (zone_left t s)) ∙ (put_tests (local_seen (zone_of_boot t) (cpu_past s)) seat f legal).1)
+
+-- ---- drain
+pub cpu_of_drain : (t : KnownTable) (s : KnownPasts) (cpu : ℕ) → MayMake t s 0 (DrainStock cpu) → (1 ≤ cpu) × (cpu ≤ t.cpus)
+cpu_of_drain t s cpu legal =
+    cpu_range (zone_of_boot t) cpu (ap (λ z. is_cpu z cpu) (sym (zone_left t s)) ∙ (drain_stock_tests (local_seen (zone_of_boot t) (cpu_past s)) 0 cpu legal).1)
+
+group_by : (o : Option ℕ) (n : ℕ) (d : Bool) → group_of (stock_said o n d) ≡ o
+group_by None n d = refl
+group_by (Some k) n true = refl
+group_by (Some k) n false = refl
+
+no_group : (s : Stock) → group_of s ≡ None → s ≡ NoGroup
+no_group NoGroup e = refl
+no_group (HeldBy g n) e = absurd (let a : Some g ≡ None = e in cc)
+no_group (DrainedOf g) e = absurd (let a : Some g ≡ None = e in cc)
+
+some_word : (s : Stock) (g : ℕ) → group_of s ≡ Some g → word_of s ≢ 0
+some_word NoGroup g e none = absurd (let a : None ≡ Some g = e in cc)
+some_word (HeldBy k n) g e none = let a : (k + 1) * 65536 + n ≡ 0 = none in absurd (omega arith)
+some_word (DrainedOf k) g e none = let a : 4294967296 + (k + 1) * 65536 ≡ 0 = none in absurd (omega arith)
+
+-- the CPU's stock word is that of a stock of the group that the holder sees
+pub record StockFound (zone : Zone) (c : Past) (cpu found : ℕ) : Type 0 where
+  pub stock : Stock
+  pub fits : HasWord stock
+  pub word : found ≡ word_of stock
+  pub group : group_of stock ≡ ((local_seen zone c).parts cpu).stock.group
+
+stock_found : (zone : Zone) (b : Board (Unit {0}) (List Past)) (k : run_rule zone b) (id : ℕ) (z c : Past) (cpu : ℕ) → get_elem? b.views id ≡ some (z ∷ c ∷ [])
+    → HoldsLock zone z c (local_seen zone c) → 1 ≤ cpu → cpu ≤ zone.cpus → StockFound zone c cpu (slice_index b.words (stock_index cpu))
+stock_found zone b k id z c cpu at holds low high =
+    let fit = both_fit zone b k id z c at in
+    let s = state_of zone k.run in
+    let part = s.parts cpu in
+    let within : cpu ≤ s.zone.cpus = subst (λ y. cpu ≤ y.cpus) (sym (zone_of_run zone k.run)) high in
+    let shows = shows_now zone z c (local_seen zone c) k.run holds fit.0 fit.1 k.is.legal in record {
+      stock = stock_in part;
+      fits = k.is.stocks.has_word cpu low within;
+      word = sym ((stock_is_at zone (stock_index cpu) (stock_low zone cpu high)).reads b.words) ∙ k.is.stocks.stock cpu low within;
+      group = group_by part.stock.group part.stock.pages part.stock.is_drained ∙ sym (part_seen (λ (x : Part). x.stock.group) (λ x. refl) c.number s.parts cpu)
+          ∙ sym (ap (λ (l : State). (l.parts cpu).stock.group) shows.sees);
+    }
+
+-- the load of a drain: a stock of no group is drained by it
+pub record LooksToDrain (zone : Zone) (z c : Past) (cpu found : ℕ) (later : List Past) : Type 0 where
+  pub is : StockFound zone c cpu found
+  pub none : found ≡ 0 → MadeHeld zone z c (record { seat = 0; action = DrainStock cpu }) (Pages 0) later
+  pub looked : found ≢ 0 → later ≡ z ∷ c ∷ []
+
+-- the swap of a drain
+pub record Drains (zone : Zone) (z c : Past) (cpu found : ℕ) (later : List Past) : Type 0 where
+  pub stock : Stock
+  pub fits : HasWord stock
+  pub word : found ≡ word_of stock
+  pub made : MadeHeld zone z c (record { seat = 0; action = DrainStock cpu }) (Pages (stock_pages_of stock)) later
+
+pub looks_to_drain : (t : KnownTable) (s : KnownPasts) (cpu : ℕ) → IsHeld t s → MayMake t s 0 (DrainStock cpu)
+    → MayStep (zone_of_boot t) s.pasts (StockOf cpu) (λ n. n) (LooksToDrain (zone_of_boot t) (own_past s) (cpu_past s) cpu)
+looks_to_drain t s cpu is legal =
+    let zone = zone_of_boot t in
+    let z = own_past s in
+    let c = cpu_past s in
+    let range = cpu_of_drain t s cpu legal in
+    let j = stock_index cpu in
+    of_both t s (StockOf cpu) (λ n. n) (LooksToDrain zone z c cpu) is
+    (λ id b k homes at small.
+    let n = slice_index b.words j in
+    let there = stock_found zone b k id z c cpu at is.holds range.0 range.1 in
+    let words = words_in zone b.words in
+    let same : words_in zone (set b.words j n) ≡ words = ap (words_in zone) (set-get_or b.words j 0) in
+    let reads = (stock_is_at zone j (stock_low zone cpu range.1)).reads b.words in
+    dite (ℕ_discrete n 0)
+    (λ e.
+    let r = held_makes zone b k id j n z c (record { seat = 0; action = DrainStock cpu }) (Pages 0) at is.holds (inl refl) refl tt legal
+    (OfNone refl (record { fits = tt; found = reads ∙ e; later_is = same })) in
+    (r.0, r.1, r.2, r.3, (r.4.0, record { is = there; none = λ h. r.4.1; looked = λ ne. absurd (ne e) })))
+    (λ ne.
+    let r = stays zone b k id j n (z ∷ c ∷ []) at refl in
+    (r.0, r.1, r.2, r.3, (r.4.0, record { is = there; none = λ e. absurd (ne e); looked = λ h. r.4.1 }))))
+
+pub drains : (t : KnownTable) (s : KnownPasts) (cpu g : ℕ) → IsHeld t s → MayMake t s 0 (DrainStock cpu) → ((local_by_pasts t s).parts cpu).stock.group ≡ Some g → g < 64
+    → MayStep (zone_of_boot t) s.pasts (StockOf cpu) (λ n. word_of (DrainedOf g)) (Drains (zone_of_boot t) (own_past s) (cpu_past s) cpu)
+drains t s cpu g is legal group few =
+    let zone = zone_of_boot t in
+    let z = own_past s in
+    let c = cpu_past s in
+    let range = cpu_of_drain t s cpu legal in
+    let j = stock_index cpu in
+    let x = word_of (DrainedOf g) in
+    of_both t s (StockOf cpu) (λ n. x) (Drains zone z c cpu) is
+    (λ id b k homes at small.
+    let there = stock_found zone b k id z c cpu at is.holds range.0 range.1 in
+    let low = stock_low zone cpu range.1 in
+    let r = held_makes zone b k id j x z c (record { seat = 0; action = DrainStock cpu }) (Pages (stock_pages_of there.stock)) at is.holds (inl refl) refl tt legal
+    (OfGroup there.stock g (there.group ∙ group) refl
+    (record { before_fits = there.fits; after_fits = few; found = (stock_is_at zone j low).reads b.words ∙ there.word; later_is = stock_words_set zone j x low b.words })) in
+    (r.0, r.1, r.2, r.3, (r.4.0, record { stock = there.stock; fits = there.fits; word = there.word; made = r.4.1 })))
+
+-- ---- lend
+set_there : {A : Type 0} (xs : List A) (i : ℕ) (x y : A) → get_elem? xs i ≡ some x → get_elem? (set xs i y) i ≡ some y
+set_there [] i x y at = absurd (some-ne-none x (sym at))
+set_there (z ∷ xs) zero x y at = refl
+set_there (z ∷ xs) (suc i) x y at = set_there xs i x y at
+
+set_over : {A : Type 0} (xs : List A) (i : ℕ) (x y : A) → set (set xs i x) i y ≡ set xs i y
+set_over [] i x y = refl
+set_over (z ∷ xs) zero x y = refl
+set_over (z ∷ xs) (suc i) x y = ap (λ l. z ∷ l) (set_over xs i x y)
+
+free_dead : (x : Phase) → is_free x ≡ true → (live : ℕ) → (word_in_phase x live ≡ live) × (is_live_phase x ≡ false)
+free_dead InZone e live = (refl, refl)
+free_dead x e live = absurd (let a : false ≡ true = e in cc)
+
+-- the two steps of a lend, by one load
+pub record Lends (zone : Zone) (z c : Past) (f found : ℕ) (later : List Past) : Type 0 where
+  pub zone_past : Past
+  pub cpu_past : Past
+  pub later_is : later ≡ zone_past ∷ cpu_past ∷ []
+  pub holds : HoldsLock zone zone_past cpu_past (local_seen zone cpu_past)
+  pub grew : GrewInTurn zone z c (lend_run c.number f) zone_past cpu_past
+
+under_lock : (zone : Zone) (z c : Past) (made_step : Step) (answer : Answer) (later : List Past) (m : MadeHeld zone z c made_step answer later)
+    → GrewUnderLock zone z c (made_step, answer) m.zone_past m.cpu_past
+under_lock zone z c made_step answer later m = record { zone_grew = m.zone_grew; cpu_grew = m.cpu_grew; holds = m.holds; local_is = m.local_is }
+
+may_lend : (zone : Zone) (z c : Past) (f : ℕ) → HoldsLock zone z c (local_seen zone c) → AreLegal (local_seen zone c) (lend_run c.number f)
+    → MayStep zone (z ∷ c ∷ []) Quiet (λ n. n) (Lends zone z c f)
+may_lend zone z c f holds legal id b k homes at small =
+    let q = c.number in
+    let j = frame_base zone + f in
+    let state = state_of zone k.run in
+    let words = words_in zone b.words in
+    let now = legal_held zone b k id z c (record { seat = 0; action = PassOut f q }) at holds (inl refl) refl legal.0 in
+    let tests = pass_out_tests state 0 f q now in
+    let stands = stands_in zone words k.run k.is in
+    let free = free_dead (state.phases f) tests.3 in
+    let none : slice_index b.words j ≡ 0 =
+    sym (frame_reads zone f b.words) ∙ stands.frames.frame f (below_frames state.zone f tests.1) ∙ (free (live_references state f)).0 ∙ none_live state f stands.sound (free 0).1 in
+    let r = held_makes zone b k id j (mark q) z c (record { seat = 0; action = PassOut f q }) Done at holds (inl refl) refl tt legal.0 (words_set zone f (mark q) b.words) in
+    let m = r.4.1 in
+    let x = m.zone_past in
+    let y = m.cpu_past in
+    let same : y.number ≡ q = m.cpu_grew.number in
+    let mid : Board (Unit {0}) (List Past) = record { words = set b.words j (mark q); homes = []; views = set b.views id (x ∷ y ∷ []) } in
+    let first : RunRule zone (set b.words j (mark q)) (set b.views id (x ∷ y ∷ [])) = subst (λ (l : List Past). RunRule zone (set b.words j (mark q)) (set b.views id l)) m.later_is r.3 in
+    let n = held_makes zone mid first id j 0 x y (record { seat = y.number; action = TakeIn f }) Done (set_there b.views id (z ∷ c ∷ []) (x ∷ y ∷ []) at) m.holds (inr refl) refl tt
+    (subst (λ (p : State × ℕ). is_legal p.0 p.1 (TakeIn f) ≡ true) (λ i. (sym m.local_is i, sym same i)) legal.1.0)
+    (words_set zone f 0 (set b.words j (mark q))) in
+    let w = n.4.1 in
+    let back : set (set b.words j (mark q)) j 0 ≡ set b.words 0 (slice_index b.words 0) =
+    set_over b.words j (mark q) 0 ∙ ap (set b.words j) (sym none) ∙ set-get_or b.words j 0 ∙ sym (set-get_or b.words 0 0) in (
+      n.0,
+      keeps,
+      tt,
+      subst (λ (l : List ℕ × List (List Past)). RunRule zone l.0 l.1) (λ i. (back i, set_over b.views id (x ∷ y ∷ []) n.0 i)) n.3,
+      (
+        refl,
+        record {
+          zone_past = w.zone_past;
+          cpu_past = w.cpu_past;
+          later_is = w.later_is;
+          holds = w.holds;
+          grew = (
+            x,
+            y,
+            under_lock zone z c (record { seat = 0; action = PassOut f q }) Done r.0 m,
+            (
+              w.zone_past,
+              w.cpu_past,
+              subst (λ (p : ℕ). GrewUnderLock zone x y (record { seat = p; action = TakeIn f }, Done) w.zone_past w.cpu_past) same
+                  (under_lock zone x y (record { seat = y.number; action = TakeIn f }) Done n.0 w),
+              (refl, refl),
+            ),
+          );
+        },
+      ),
+    )
+
+pub lends : (t : KnownTable) (s : KnownPasts) (cpu f : ℕ) → IsHeld t s → IsHolder s cpu → AreLegal (local_by_pasts t s) (lend_run cpu f)
+    → MayStep (zone_of_boot t) s.pasts Quiet (λ n. n) (Lends (zone_of_boot t) (own_past s) (cpu_past s) f)
+lends t s cpu f is holder legal =
+    let zone = zone_of_boot t in
+    of_both t s Quiet (λ n. n) (Lends zone (own_past s) (cpu_past s) f) is
+    (may_lend zone (own_past s) (cpu_past s) f is.holds (subst (λ q. AreLegal (local_by_pasts t s) (lend_run q f)) holder legal))
+
+pub lent : (t : KnownTable) (s : KnownPasts) (cpu f found : ℕ) (s' : KnownPasts) → IsHeld t s → IsHolder s cpu → s'.table ≡ s.table
+    → Lends (zone_of_boot t) (own_past s) (cpu_past s) f found s'.pasts → MakesInTurn t s (lend_run cpu f) s'
+lent t s cpu f found s' is holder table m =
+    subst (λ (y : ℕ × List Past). MakesInTurn t s (lend_run y.0 f) (record { table = s'.table; pasts = y.1 })) (λ i. (sym holder i, sym m.later_is i)) (record {
+      held = record { table_is = table ∙ is.table_is; both = refl; holds = m.holds };
+      grew = m.grew;
+    })
+
+-- ---- the answers of a drain
+group_few : (s : Stock) (g : ℕ) → HasWord s → group_of s ≡ Some g → g < 64
+group_few NoGroup g h e = absurd (let a : None ≡ Some g = e in cc)
+group_few (HeldBy k n) g h e = let a : Some k ≡ Some g = e in let b : k ≡ g = cc in subst (λ x. x < 64) b h.0
+group_few (DrainedOf k) g h e = let a : Some k ≡ Some g = e in let b : k ≡ g = cc in subst (λ x. x < 64) b h
+
+-- the seat knows what it knew before the load, if the stock has a group
+pub looked_on : (t : KnownTable) (s : KnownPasts) (cpu found : ℕ) (s' : KnownPasts) (read : Stock) (g : ℕ) → IsHeld t s → s'.table ≡ s.table
+    → (told : LooksToDrain (zone_of_boot t) (own_past s) (cpu_past s) cpu found s'.pasts) → ((stock : Stock) → HasWord stock → found ≡ word_of stock → read ≡ stock) → group_of read ≡ Some g
+    → (s' ≡ s) × (((local_by_pasts t s).parts cpu).stock.group ≡ Some g) × (g < 64)
+looked_on t s cpu found s' read g is table told decodes group =
+    let stock = told.is.stock in
+    let read_is : read ≡ stock = decodes stock told.is.fits told.is.word in
+    let has : group_of stock ≡ Some g = sym (ap group_of read_is) ∙ group in
+    let later = told.looked (λ none. some_word stock g has (sym told.is.word ∙ none)) in
+    ((λ i. record { table = table i; pasts = (later ∙ sym is.both) i }), sym told.is.group ∙ has, group_few stock g told.is.fits has)
+
+pub drained_none : (t : KnownTable) (s : KnownPasts) (cpu found : ℕ) (s' : KnownPasts) (read : Stock) → IsHeld t s → s'.table ≡ s.table
+    → (told : LooksToDrain (zone_of_boot t) (own_past s) (cpu_past s) cpu found s'.pasts) → ((stock : Stock) → HasWord stock → found ≡ word_of stock → read ≡ stock) → group_of read ≡ None
+    → MakesStep t s 0 (DrainStock cpu) (Pages 0) s'
+drained_none t s cpu found s' read is table told decodes group =
+    let stock = told.is.stock in
+    let none : stock ≡ NoGroup = no_group stock (sym (ap group_of (decodes stock told.is.fits told.is.word)) ∙ group) in
+    held_made t s (record { seat = 0; action = DrainStock cpu }) (Pages 0) s' is table (told.none (told.is.word ∙ ap word_of none))
+
+pub drained_some : (t : KnownTable) (s : KnownPasts) (cpu found : ℕ) (s' : KnownPasts) (read : Stock) (pages : ℕ) → IsHeld t s → s'.table ≡ s.table
+    → (told : Drains (zone_of_boot t) (own_past s) (cpu_past s) cpu found s'.pasts) → ((stock : Stock) → HasWord stock → found ≡ word_of stock → read ≡ stock) → pages ≡ stock_pages_of read
+    → MakesStep t s 0 (DrainStock cpu) (Pages pages) s'
+drained_some t s cpu found s' read pages is table told decodes all =
+    held_made t s (record { seat = 0; action = DrainStock cpu }) (Pages pages) s' is table
+    (subst (λ n. MadeHeld (zone_of_boot t) (own_past s) (cpu_past s) (record { seat = 0; action = DrainStock cpu }) (Pages n) s'.pasts)
+    (sym (all ∙ ap stock_pages_of (decodes told.stock told.fits told.word))) told.made)

@@ -1,0 +1,16 @@
+pub mod Booking
+pub mod Seats
+pub mod Growing
+pub mod Sharing
+pub mod Beginning
+pub mod Fast
+pub mod Referring
+pub mod Calling
+pub mod UnderLock
+pub mod PlainNotes
+pub mod Zoning
+pub mod Locking
+pub mod Prepaying
+pub mod Counts
+pub mod Lending
+pub mod Keeping

@@ -1,0 +1,155 @@
+-- What the steps of get and put tell.
+use Rattle.std.proofs.Common.{◌≡◌, ◌≢◌, ℕ, eqb, ◌+◌, ◌-◌, ◌%◌, ◌^◌, ◌<◌, ◌≤◌, ◌==◌, ◌&&◌, Bool, true, false, cond, List, [], ◌∷◌, set, refl, ap, sym, ◌∙◌, subst, arith, eq-eqb}
+use Rattle.std.specs.Prelude.{slice_index, nat_le}
+use Rattle.std.proofs.lemmas.Bool.{cond-false, cond-true, leb-true, ne_eqb}
+use Rattle.std.proofs.lemmas.List.{set-get_or}
+use prog.Atomic.{either}
+use Rattle.atomic_table.proofs.Lists.{exchanged}
+use Rattle.frame_word.specs.ReferenceRule.{most_references}
+use Rattle.step_rules.specs.declared.step.Action.TheVariants.{Get, Put}
+use Rattle.step_rules.specs.declared.step.Answer.{Answer}
+use Rattle.step_rules.specs.declared.step.Answer.TheVariants.{Held, Zero, Full, Left, Last}
+use Rattle.step_rules.specs.State.{Zone, State, is_frame, live_references}
+use Rattle.step_rules.specs.Legal.{get_answer, is_legal}
+use Rattle.step_rules.specs.After.{Run, state_of}
+use Rattle.step_rules.proofs.Freeing.{zone_of_run}
+use Rattle.step_rules.proofs.LegalTests.{put_tests}
+use Rattle.step_rules.proofs.Referring.{live_from_one, seat_there}
+use Rattle.step_rules.proofs.SoundSteps.{below_frames}
+use Rattle.step_rules.proofs.Sums.{sum_part}
+use Rattle.boot_words.specs.Words.{Words, IsRunOf, frame_word, with_frame_word}
+use Rattle.boot_words.specs.Steps.{ChangesWords, frame_word_at}
+use Rattle.boot_words.specs.Allowed.{put_answer_at}
+use Rattle.boot_words.specs.Rule.{frame_base, words_in}
+use Rattle.boot_words.specs.declared.view.Past.{Past}
+use Rattle.boot_words.proofs.Counting.{live_word}
+use Rattle.boot_words.proofs.Following.{stands_in}
+use Rattle.boot_words.proofs.Parts.{frame_reads, words_set}
+use Rattle.boot_words.proofs.Putting.{less_one, put_changes}
+use Rattle.run_words.specs.declared.word.Word.TheVariants.{OfFrame}
+use Rattle.run_words.specs.Seats.{MayStep}
+use Rattle.run_words.proofs.Fast.{Leaves, Made, legal_still, makes, stays}
+
+-- a seat that may put a frame has a reference in its word
+pub word_positive : (zone : Zone) (words : Words) (run : Run) (seat f : ℕ) → IsRunOf zone words run → is_legal (state_of zone run) seat (Put f) ≡ true → 1 ≤ frame_word_at words f
+word_positive zone words run seat f is legal =
+    let s = state_of zone run in
+    let stands = stands_in zone words run is in
+    let tests = put_tests s seat f legal in
+    let below = below_frames s.zone f tests.1 in
+    let one : 1 ≤ s.references seat f = leb-true 1 (s.references seat f) tests.2 in
+    let part = sum_part (s.zone.cpus + 1) (λ q. s.references q f) seat (let there = seat_there s seat f stands.sound one in omega (arith, there)) in
+    let found = stands.frames.frame f below ∙ live_word s f (live_from_one s seat f stands.sound one) (live_references s f) in
+    omega (arith, one, part, found)
+
+-- a put that finds this word, at least 1
+pub record Puts (zone : Zone) (p : Past) (f found : ℕ) (later : List Past) : Type 0 where
+  pub some : 1 ≤ found
+  pub made : Made zone p (Put f) (put_answer_at found) later
+
+pub may_put : (zone : Zone) (p : Past) (f : ℕ) → p.number ≢ 0 → is_legal (state_of zone p.seen) p.number (Put f) ≡ true
+    → MayStep zone (p ∷ []) (OfFrame f) (λ n. (n + (2 ^ 64 - 1)) % 2 ^ 64) (Puts zone p f)
+may_put zone p f ne legal id s k homes at small =
+    let j = frame_base zone + f in
+    let n = slice_index s.words j in
+    let words = words_in zone s.words in
+    let reads : frame_word_at words f ≡ n = frame_reads zone f s.words in
+    let positive = word_positive zone words k.run p.number f k.is (legal_still zone s k id p (Put f) at ne tt legal) in
+    let some : 1 ≤ n = omega (arith, positive, reads) in
+    let r = makes zone s k id j ((n + (2 ^ 64 - 1)) % 2 ^ 64) p (Put f) (put_answer_at n) at ne tt legal
+    (subst (ChangesWords zone words p.number (Put f) (put_answer_at n)) (ap (with_frame_word words f) (sym (less_one n some small)) ∙ sym (words_set zone f _ s.words))
+    (put_changes zone words p.number f n reads some)) in
+    (r.0, r.1, r.2, r.3, (r.4.0, record { some = some; made = r.4.1 }))
+
+pub says_last : (n : ℕ) → n ≡ 1 → put_answer_at n ≡ Last
+says_last n e = cond-true (n == 1) Last (Left (n - 1)) (eq-eqb n 1 e)
+
+pub says_left : (n : ℕ) → (n ≡ 1 → ⊥) → put_answer_at n ≡ Left (n - 1)
+says_left n e = cond-false (n == 1) Last (Left (n - 1)) (ne_eqb n 1 e)
+
+-- ---- get
+
+-- the load of a get: a word that refuses it is that step
+pub record Sees (zone : Zone) (p : Past) (f found : ℕ) (later : List Past) : Type 0 where
+  pub refused : get_answer found ≢ Held → Made zone p (Get f) (get_answer found) later
+  pub goes_on : get_answer found ≡ Held → later ≡ p ∷ []
+
+-- the exchange of a get: the step, or a race, which is none
+pub record Adds (zone : Zone) (p : Past) (f seen found : ℕ) (later : List Past) : Type 0 where
+  pub held : found ≡ seen → Made zone p (Get f) Held later
+  pub raced : found ≢ seen → later ≡ p ∷ []
+
+-- the answer that a word decides is Held, or Zero or Full
+data GetAnswered (n : ℕ) : Type 0 where
+  Gives : get_answer n ≡ Held → GetAnswered n
+  HasNone : get_answer n ≡ Zero → GetAnswered n
+  HasAll : get_answer n ≡ Full → GetAnswered n
+
+get_answered : (n : ℕ) → GetAnswered n
+get_answered n = by_room (nat_le 1 n && nat_le n 254) refl
+  where
+    by_full : (b c : Bool) → (n == 255) ≡ c → (nat_le 1 n && nat_le n 254) ≡ b → b ≡ false → GetAnswered n
+    by_full b true e f g = HasAll ((λ i. cond ((f ∙ g) i) Held (cond (e i) Full Zero)))
+    by_full b false e f g = HasNone ((λ i. cond ((f ∙ g) i) Held (cond (e i) Full Zero)))
+
+    by_room : (b : Bool) → (nat_le 1 n && nat_le n 254) ≡ b → GetAnswered n
+    by_room true e = Gives (ap (λ t. cond t Held (cond (n == 255) Full Zero)) e)
+    by_room false e = by_full false (n == 255) refl e refl
+
+pub zero_not_held : Zero ≡ Held → ⊥
+zero_not_held e = cc
+
+pub full_not_held : Full ≡ Held → ⊥
+full_not_held e = cc
+
+pub may_see : (zone : Zone) (p : Past) (f : ℕ) → p.number ≢ 0 → is_legal (state_of zone p.seen) p.number (Get f) ≡ true
+    → MayStep zone (p ∷ []) (OfFrame f) (λ n. n) (Sees zone p f)
+may_see zone p f ne legal id s k homes at small =
+    let j = frame_base zone + f in
+    let n = slice_index s.words j in
+    let words = words_in zone s.words in
+    let reads : frame_word_at words f ≡ n = frame_reads zone f s.words in
+    let same : words_in zone (set s.words j n) ≡ words = ap (words_in zone) (set-get_or s.words j 0) in
+    let refused : (answer : Answer) → get_answer n ≡ answer → (answer ≡ Held → ⊥) → ChangesWords zone words p.number (Get f) answer words → Leaves zone s id j n (Sees zone p f n)
+    = λ answer says other changes.
+    let r = makes zone s k id j n p (Get f) answer at ne tt legal (subst (ChangesWords zone words p.number (Get f) answer) (sym same) changes) in (
+      r.0,
+      r.1,
+      r.2,
+      r.3,
+      (
+        r.4.0,
+        record {
+          refused = λ not. subst (λ a. Made zone p (Get f) a r.0) (sym says) r.4.1;
+          goes_on = λ held. absurd (other (sym says ∙ held));
+        },
+      ),
+    ) in
+    elim (get_answered n) [
+      | Gives held ↦
+          let r = stays zone s k id j n (p ∷ []) at refl in
+          (r.0, r.1, r.2, r.3, (r.4.0, record { refused = λ not. absurd (not held); goes_on = λ h. r.4.1 }))
+      | HasNone says ↦ refused Zero says zero_not_held (record { answered = ap get_answer reads ∙ says; later_is = refl })
+      | HasAll says ↦ refused Full says full_not_held (record { answered = ap get_answer reads ∙ says; later_is = refl })
+    ]
+
+pub may_add : (zone : Zone) (p : Past) (f seen : ℕ) → p.number ≢ 0 → 1 ≤ seen → seen < most_references → is_legal (state_of zone p.seen) p.number (Get f) ≡ true
+    → MayStep zone (p ∷ []) (OfFrame f) (λ n. either (n == seen) (seen + 1) n) (Adds zone p f seen)
+may_add zone p f seen ne low high legal id s k homes at small =
+    let j = frame_base zone + f in
+    let n = slice_index s.words j in
+    let words = words_in zone s.words in
+    let reads : frame_word_at words f ≡ n = frame_reads zone f s.words in
+    let x = either (eqb n seen) (seen + 1) n in
+    let F : ℕ → Type 0 = λ word. word ≡ x → Leaves zone s id j x (Adds zone p f seen n) in
+    exchanged n seen (seen + 1) F
+    (λ hit word.
+    let found : frame_word_at words f ≡ seen = reads ∙ hit in
+    let later : words_in zone (set s.words j x) ≡ with_frame_word words f (frame_word_at words f + 1) =
+    words_set zone f x s.words ∙ ap (with_frame_word words f) (sym word ∙ ap (λ m. m + 1) (sym found)) in
+    let r = makes zone s k id j x p (Get f) Held at ne tt legal
+    (record { some = subst (λ m. 1 ≤ m) (sym found) low; room = subst (λ m. m < most_references) (sym found) high; later_is = later }) in
+    (r.0, r.1, r.2, r.3, (r.4.0, record { held = λ h. r.4.1; raced = λ not. absurd (not hit) })))
+    (λ miss word.
+    let r = stays zone s k id j x (p ∷ []) at (sym word) in
+    (r.0, r.1, r.2, r.3, (r.4.0, record { held = λ h. absurd (miss h); raced = λ not. r.4.1 }))) refl
