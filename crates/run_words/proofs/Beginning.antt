@@ -1,16 +1,16 @@
 -- The rule holds at the start of the table.
-use Rattle.std.proofs.Common.{◌≡◌, ◌≢◌, ℕ, zero, suc, ◌+◌, ◌*◌, ◌-◌, ◌<◌, ◌≤◌, List, [], ◌∷◌, cond, drop, length, replicate, take, refl, ap, sym, ◌∙◌, subst, arith, eq-eqb}
-use Rattle.std.specs.Prelude.{slice_index}
+use Rattle.std.proofs.Common.{◌≡◌, ◌≢◌, ℕ, zero, suc, ◌+◌, ◌*◌, ◌-◌, ◌<◌, ◌≤◌, List, [], ◌∷◌, cond, drop, length, replicate, take, refl, ap, sym, ◌∙◌, subst, arith, inl, inr, eq-eqb}
+use Rattle.std.specs.Prelude.{◌⊎◌, nat_le, slice_index}
 use Rattle.std.proofs.lemmas.List.{drop-replicate, length-replicate, take-replicate}
-use Rattle.std.proofs.lemmas.Bool.{ne_eqb}
+use Rattle.std.proofs.lemmas.Bool.{cases_Bool, le-leb, leb-false, leb-true, lt-leb, ne_eqb}
 use mathlib.Core.Logic.{dite}
 use native.Mathlib.Decide.{ℕ_discrete}
 use Rattle.frame_word.specs.Totals.{sum_over}
-use Rattle.step_rules.specs.State.{Zone}
-use Rattle.boot_words.specs.Rule.{AllOf, IsPastOf, frame_base, words_in}
+use Rattle.step_rules.specs.State.{Zone, one_if}
+use Rattle.boot_words.specs.Rule.{AllOf, frame_base, words_in}
 use Rattle.boot_words.specs.Seating.{no_past, word_count}
 use Rattle.boot_words.proofs.Booting.{a_boot_has_words}
-use Rattle.run_words.specs.Rule.{RunRule, past_of}
+use Rattle.run_words.specs.Rule.{IsBeginning, RunRule, of_number}
 use Rattle.run_words.specs.Seats.{all_pasts, cpus_pasts}
 
 zeros : (n k : ℕ) → slice_index (replicate n 0) k ≡ 0
@@ -25,35 +25,53 @@ frame_zeros zone = drop-replicate (frame_base zone) (word_count zone) 0
 stock_zeros : (zone : Zone) → take {A = ℕ} (frame_base zone) (replicate (word_count zone) 0) ≡ replicate (frame_base zone) 0
 stock_zeros zone = take-replicate (frame_base zone) (word_count zone) 0 (omega arith)
 
-is_past : (q p : ℕ) → p ≡ q → past_of q (no_past p) ≡ 1
-is_past q p e = ap (λ b. cond b 1 0) (eq-eqb p q e)
+is_past : (q p : ℕ) → p ≡ q → of_number q (no_past p) ≡ 1
+is_past q p e = ap one_if (eq-eqb p q e)
 
-no_such_past : (q p : ℕ) → p ≢ q → past_of q (no_past p) ≡ 0
-no_such_past q p ne = ap (λ b. cond b 1 0) (ne_eqb p q ne)
+no_such_past : (q p : ℕ) → p ≢ q → of_number q (no_past p) ≡ 0
+no_such_past q p ne = ap one_if (ne_eqb p q ne)
 
-none_below : (q p n : ℕ) → q < p → sum_over (past_of q) (cpus_pasts p n) ≡ 0
-none_below q p zero below = refl
-none_below q p (suc n) below =
-    let a = no_such_past q p (λ e. absurd (omega (arith, below, e))) in
-    let b = none_below q (p + 1) n (omega arith) in omega (arith, a, b)
+none_else : (q p n : ℕ) → ((k : ℕ) → p ≤ k → k < p + n → k ≢ q) → sum_over (of_number q) (cpus_pasts p n) ≡ 0
+none_else q p zero else = refl
+none_else q p (suc n) else =
+    let a = no_such_past q p (else p (omega arith) (omega arith)) in
+    let b = none_else q (p + 1) n (λ k low high. else k (omega (arith, low)) (omega (arith, high))) in omega (arith, a, b)
 
-at_most_one : (q p n : ℕ) → sum_over (past_of q) (cpus_pasts p n) ≤ 1
-at_most_one q p zero = omega arith
-at_most_one q p (suc n) = dite (ℕ_discrete p q)
-    (λ e. let a = is_past q p e in let b = none_below q (p + 1) n (omega (arith, e)) in omega (arith, a, b))
-    (λ ne. let a = no_such_past q p ne in let b = at_most_one q (p + 1) n in omega (arith, a, b))
+one_among : (q p n : ℕ) → p ≤ q → q < p + n → sum_over (of_number q) (cpus_pasts p n) ≡ 1
+one_among q p zero low high = absurd (omega (arith, low, high))
+one_among q p (suc n) low high = dite (ℕ_discrete p q)
+    (λ e. let a = is_past q p e in let b = none_else q (p + 1) n (λ k above below same. absurd (omega (arith, e, above, same))) in omega (arith, a, b))
+    (λ ne. let a = no_such_past q p ne in let b = one_among q (p + 1) n (omega (arith, low, ne)) (omega (arith, high)) in omega (arith, a, b))
 
-one_each : (cpus q : ℕ) → sum_over (past_of q) (all_pasts cpus) + 0 ≤ 1
+case_le : (n m : ℕ) → (n ≤ m) ⊎ (m < n)
+case_le n m = elim (cases_Bool (nat_le n m)) [
+  | inl e ↦ inl (leb-true n m e)
+  | inr e ↦ inr (leb-false n m e)
+]
+
+is_low : (n m : ℕ) → n ≤ m → one_if (nat_le n m) ≡ 1
+is_low n m low = ap one_if (le-leb n m low)
+
+is_high : (n m : ℕ) → m < n → one_if (nat_le n m) ≡ 0
+is_high n m high = ap one_if (lt-leb n m high)
+
+one_each : (cpus q : ℕ) → sum_over (of_number q) (all_pasts cpus) + 0 ≡ one_if (nat_le q cpus)
 one_each cpus q = dite (ℕ_discrete 0 q)
-    (λ e. let a = is_past q 0 e in let b = none_below q 1 cpus (omega (arith, e)) in omega (arith, a, b))
-    (λ ne. let a = no_such_past q 0 ne in let b = at_most_one q 1 cpus in omega (arith, a, b))
+    (λ e. let a = is_past q 0 e in
+    let b = none_else q 1 cpus (λ k low high same. absurd (omega (arith, low, same, e))) in
+    let c = is_low q cpus (omega (arith, e)) in omega (arith, a, b, c))
+    (λ ne. let a = no_such_past q 0 ne in
+    elim (case_le q cpus) [
+      | inl low ↦ let b = one_among q 1 cpus (omega (arith, ne)) (omega (arith, low)) in let c = is_low q cpus low in omega (arith, a, b, c)
+      | inr high ↦ let b = none_else q 1 cpus (λ k above below same. absurd (omega (arith, below, same, high))) in let c = is_high q cpus high in omega (arith, a, b, c)
+    ])
 
-fits_first : (number : ℕ) → IsPastOf [] (no_past number)
-fits_first number = record { goes = record { rest = []; is = refl; others = tt }; leaves_lock = λ z. tt }
+first_begins : (zone : Zone) (number : ℕ) → IsBeginning zone [] (no_past number)
+first_begins zone number = record { goes = record { rest = []; is = refl; others = tt }; fast = λ lock. tt }
 
-cpus_fit : (p n : ℕ) → AllOf (IsPastOf []) (cpus_pasts p n)
-cpus_fit p zero = tt
-cpus_fit p (suc n) = (fits_first p, cpus_fit (p + 1) n)
+cpus_begin : (zone : Zone) (p n : ℕ) → AllOf (IsBeginning zone []) (cpus_pasts p n)
+cpus_begin zone p zero = tt
+cpus_begin zone p (suc n) = (first_begins zone p, cpus_begin zone (p + 1) n)
 
 pub rule_opens : (zone : Zone) → RunRule zone (replicate (word_count zone) 0) (all_pasts zone.cpus ∷ [])
 rule_opens zone =
@@ -65,7 +83,8 @@ rule_opens zone =
         frames = λ i. ap (λ l. slice_index l i) (frame_zeros zone) ∙ zeros (zone.frames + zone.cpus) i;
         stocks = λ i. ap (λ l. slice_index l i) (stock_zeros zone) ∙ zeros (16 * (zone.cpus + 1)) i;
       });
+      wide = length-replicate (word_count zone) 0;
       small = λ cpu. (let e : 0 < 65536 = omega arith in e);
       one_past = one_each zone.cpus;
-      fits = ((fits_first 0, cpus_fit 1 zone.cpus), tt);
+      fits = ((first_begins zone 0, cpus_begin zone 1 zone.cpus), tt);
     }

@@ -23,8 +23,8 @@ use Rattle.boot_words.specs.Pasts.{KnownPasts, first_past, own_past, IsCpuPast, 
 use Rattle.boot_words.specs.Seats.{zone_of_boot}
 use Rattle.boot_words.proofs.Counting.{held_answer}
 use Rattle.run_words.specs.declared.word.Word.TheVariants.{OfFrame}
-use Rattle.run_words.specs.Calls.{Makes}
-use Rattle.run_words.specs.Seats.{MayStep}
+use Rattle.run_words.specs.Calls.{CpuMakes}
+use Rattle.run_words.specs.Seats.{MayChange}
 use Rattle.run_words.proofs.Fast.{Made}
 use Rattle.run_words.proofs.Referring.{Adds, Puts, Sees, full_not_held, may_add, may_put, may_see, zero_not_held}
 
@@ -43,28 +43,28 @@ frame_of_put t s f legal =
     below_frames zone f (ap (λ z. is_frame z f) (sym (zone_of_run zone (own_past s).seen)) ∙ (put_tests (state_of zone (own_past s).seen) (own_past s).number f legal).1)
 
 pub sees : (t : KnownTable) (s : KnownPasts) (f : ℕ) → IsCpuPast t s → MayDo t s (Get f)
-    → MayStep (zone_of_boot t) s.pasts (OfFrame f) (λ n. n) (Sees (zone_of_boot t) (own_past s) f)
+    → MayChange (zone_of_boot t) s.pasts (OfFrame f) (λ n. n) (Sees (zone_of_boot t) (own_past s) f)
 sees t s f is legal =
     let zone = zone_of_boot t in
-    subst (λ (l : List Past). MayStep zone l (OfFrame f) (λ n. n) (Sees zone (own_past s) f)) (sym is.alone) (may_see zone (own_past s) f (not_zone t s is) legal)
+    subst (λ (l : List Past). MayChange zone l (OfFrame f) (λ n. n) (Sees zone (own_past s) f)) (sym is.alone) (may_see zone (own_past s) f (not_zone t s is) legal)
 
 pub adds : (t : KnownTable) (s : KnownPasts) (f seen : ℕ) → IsCpuPast t s → MayDo t s (Get f) → 1 ≤ seen → seen < most_references
-    → MayStep (zone_of_boot t) s.pasts (OfFrame f) (λ n. either (n == seen) (seen + 1) n) (Adds (zone_of_boot t) (own_past s) f seen)
+    → MayChange (zone_of_boot t) s.pasts (OfFrame f) (λ n. either (n == seen) (seen + 1) n) (Adds (zone_of_boot t) (own_past s) f seen)
 adds t s f seen is legal low high =
     let zone = zone_of_boot t in
-    subst (λ (l : List Past). MayStep zone l (OfFrame f) (λ n. either (n == seen) (seen + 1) n) (Adds zone (own_past s) f seen)) (sym is.alone)
+    subst (λ (l : List Past). MayChange zone l (OfFrame f) (λ n. either (n == seen) (seen + 1) n) (Adds zone (own_past s) f seen)) (sym is.alone)
     (may_add zone (own_past s) f seen (not_zone t s is) low high legal)
 
 pub puts : (t : KnownTable) (s : KnownPasts) (f : ℕ) → IsCpuPast t s → MayDo t s (Put f)
-    → MayStep (zone_of_boot t) s.pasts (OfFrame f) (λ n. (n + (2 ^ 64 - 1)) % 2 ^ 64) (Puts (zone_of_boot t) (own_past s) f)
+    → MayChange (zone_of_boot t) s.pasts (OfFrame f) (λ n. (n + (2 ^ 64 - 1)) % 2 ^ 64) (Puts (zone_of_boot t) (own_past s) f)
 puts t s f is legal =
     let zone = zone_of_boot t in
-    subst (λ (l : List Past). MayStep zone l (OfFrame f) (λ n. (n + (2 ^ 64 - 1)) % 2 ^ 64) (Puts zone (own_past s) f)) (sym is.alone)
+    subst (λ (l : List Past). MayChange zone l (OfFrame f) (λ n. (n + (2 ^ 64 - 1)) % 2 ^ 64) (Puts zone (own_past s) f)) (sym is.alone)
     (may_put zone (own_past s) f (not_zone t s is) legal)
 
 -- the CPU's seat after a step
 pub made : (t : KnownTable) (s : KnownPasts) (action : Action) (answer : Answer) (s' : KnownPasts) → IsCpuPast t s → s'.table ≡ s.table
-    → Made (zone_of_boot t) (own_past s) action answer s'.pasts → Makes t s action answer s'
+    → Made (zone_of_boot t) (own_past s) action answer s'.pasts → CpuMakes t s action answer s'
 made t s action answer s' is table m =
     let p = own_past s in
     let past : own_past s' ≡ m.past = ap first_past m.later_is in
@@ -107,16 +107,16 @@ zero_answer n e = elim e [
 ]
 
 pub refuses : (t : KnownTable) (s : KnownPasts) (f found : ℕ) (answer : Answer) (s' : KnownPasts) → IsCpuPast t s → s'.table ≡ s.table
-    → get_answer found ≡ answer → (answer ≡ Held → ⊥) → Sees (zone_of_boot t) (own_past s) f found s'.pasts → Makes t s (Get f) answer s'
+    → get_answer found ≡ answer → (answer ≡ Held → ⊥) → Sees (zone_of_boot t) (own_past s) f found s'.pasts → CpuMakes t s (Get f) answer s'
 refuses t s f found answer s' is table says other told =
     made t s (Get f) answer s' is table (subst (λ a. Made (zone_of_boot t) (own_past s) (Get f) a s'.pasts) says (told.refused (λ held. other (sym says ∙ held))))
 
 pub answers_zero : (t : KnownTable) (s : KnownPasts) (f found : ℕ) (s' : KnownPasts) → IsCpuPast t s → s'.table ≡ s.table
-    → (found ≡ 0) ⊎ (((found ≡ 0) → ⊥) × (255 < found)) → Sees (zone_of_boot t) (own_past s) f found s'.pasts → Makes t s (Get f) Zero s'
+    → (found ≡ 0) ⊎ (((found ≡ 0) → ⊥) × (255 < found)) → Sees (zone_of_boot t) (own_past s) f found s'.pasts → CpuMakes t s (Get f) Zero s'
 answers_zero t s f found s' is table e told = refuses t s f found Zero s' is table (zero_answer found e) zero_not_held told
 
 pub answers_full : (t : KnownTable) (s : KnownPasts) (f found : ℕ) (s' : KnownPasts) → IsCpuPast t s → s'.table ≡ s.table
-    → found ≡ 255 → Sees (zone_of_boot t) (own_past s) f found s'.pasts → Makes t s (Get f) Full s'
+    → found ≡ 255 → Sees (zone_of_boot t) (own_past s) f found s'.pasts → CpuMakes t s (Get f) Full s'
 answers_full t s f found s' is table e told = refuses t s f found Full s' is table (ap get_answer e) full_not_held told
 
 -- behind the load of a get that goes on, the seat knows what it knew

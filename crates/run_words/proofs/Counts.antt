@@ -38,7 +38,7 @@ use Rattle.boot_words.specs.Words.{word_in_phase}
 use Rattle.boot_words.proofs.Draining.{legal_behind}
 use Rattle.boot_words.proofs.Following.{stands_in, visited_cpu}
 use Rattle.boot_words.proofs.Owning.{fold_on, lists_are_own}
-use Rattle.run_words.specs.Laws.{NeverZero, ReferencesAreOwn, WordsAreStocks, WordsCountReferences}
+use Rattle.run_words.specs.Laws.{NeverZero, ReferencesAreOwn, WordsAreStocks, FrameWordsCount}
 
 -- ---- a seat's references
 no_zone : (s : State) (q : ℕ) → q ≢ 0 → may_zone_act s.hold q ≡ true → ⊥
@@ -98,7 +98,7 @@ by_phase s f live (Lent q OnList) e sound = inl refl
 by_phase s f live InZone e sound = inl refl
 by_phase s f live x e sound = inl refl
 
-pub words_count_references : WordsCountReferences
+pub words_count_references : FrameWordsCount
 words_count_references zone words run is f inside =
     let s = state_of zone run in
     let stands = stands_in zone words run is in

@@ -19,9 +19,10 @@ use Rattle.boot_words.specs.Seats.{zone_of_boot}
 use Rattle.boot_words.proofs.Away.{away_stays}
 use Rattle.frame_word.specs.declared.answers.Get as gets
 use Rattle.frame_word.specs.declared.answers.Get.TheVariants as said
-use Rattle.run_words.specs.Calls.{Gets, Makes}
-use Rattle.run_words.specs.Cpus.{IsCpu, KnownCpu, SawLast}
-use Rattle.run_words.proofs.Prepaying.{fast_hold, saw_still}
+use Rattle.run_words.specs.Calls.{GetsReference, CpuMakes}
+use Rattle.run_words.specs.Cpus.{IsAwayCpu, KnownCpuSeat, SawLast}
+use Rattle.run_words.proofs.Growing.{fast_hold}
+use Rattle.run_words.proofs.Prepaying.{saw_still}
 
 same_get : (s : State) (q f : ℕ) (answer : Answer) → ((after s q (Get f) answer).parts q).stock ≡ (s.parts q).stock
 same_get s q f Held = refl
@@ -37,9 +38,9 @@ same_put s q f Last = by_seat (q == 0)
 same_put s q f answer = refl
 
 -- a step that leaves the CPU's stock and its hold of the lock leaves what the CPU knows of them
-pub keeps_cpu : (t : KnownTable) (c : KnownCpu) (action : Action) (answer : Answer) (s' : KnownPasts) → IsCpu t c → IsFast action
+pub keeps_cpu : (t : KnownTable) (c : KnownCpuSeat) (action : Action) (answer : Answer) (s' : KnownPasts) → IsAwayCpu t c → IsFast action
     → ((s : State) (q : ℕ) → ((after s q action answer).parts q).stock ≡ (s.parts q).stock)
-    → Makes t c.seat action answer s' → IsCpu t (record { seat = s'; number = c.number; last = c.last })
+    → CpuMakes t c.seat action answer s' → IsAwayCpu t (record { seat = s'; number = c.number; last = c.last })
 keeps_cpu t c action answer s' is fast same m =
     let zone = zone_of_boot t in
     let p = own_past c.seat in
@@ -62,18 +63,18 @@ keeps_cpu t c action answer s' is fast same m =
       has_word = is.has_word;
     }
 
-pub keeps_get : (t : KnownTable) (c : KnownCpu) (f : ℕ) (answer : Answer) (s' : KnownPasts) → IsCpu t c → Makes t c.seat (Get f) answer s'
-    → IsCpu t (record { seat = s'; number = c.number; last = c.last })
+pub keeps_get : (t : KnownTable) (c : KnownCpuSeat) (f : ℕ) (answer : Answer) (s' : KnownPasts) → IsAwayCpu t c → CpuMakes t c.seat (Get f) answer s'
+    → IsAwayCpu t (record { seat = s'; number = c.number; last = c.last })
 keeps_get t c f answer s' is m = keeps_cpu t c (Get f) answer s' is tt (λ s q. same_get s q f answer) m
 
-pub keeps_put : (t : KnownTable) (c : KnownCpu) (f : ℕ) (answer : Answer) (s' : KnownPasts) → IsCpu t c → Makes t c.seat (Put f) answer s'
-    → IsCpu t (record { seat = s'; number = c.number; last = c.last })
+pub keeps_put : (t : KnownTable) (c : KnownCpuSeat) (f : ℕ) (answer : Answer) (s' : KnownPasts) → IsAwayCpu t c → CpuMakes t c.seat (Put f) answer s'
+    → IsAwayCpu t (record { seat = s'; number = c.number; last = c.last })
 keeps_put t c f answer s' is m = keeps_cpu t c (Put f) answer s' is tt (λ s q. same_put s q f answer) m
 
 -- after a get, whatever its answer
-pub keeps_gets : (t : KnownTable) (c : KnownCpu) (f : ℕ) (answer : gets.Get) (s' : KnownPasts) → IsCpu t c → Gets t c.seat f answer s'
-    → IsCpu t (record { seat = s'; number = c.number; last = c.last })
+pub keeps_gets : (t : KnownTable) (c : KnownCpuSeat) (f : ℕ) (answer : gets.Get) (s' : KnownPasts) → IsAwayCpu t c → GetsReference t c.seat f answer s'
+    → IsAwayCpu t (record { seat = s'; number = c.number; last = c.last })
 keeps_gets t c f said.Held s' is m = keeps_get t c f Held s' is m
 keeps_gets t c f said.Zero s' is m = keeps_get t c f Zero s' is m
 keeps_gets t c f said.Full s' is m = keeps_get t c f Full s' is m
-keeps_gets t c f (said.Raced n) s' is m = subst (λ (s : KnownPasts). IsCpu t (record { seat = s; number = c.number; last = c.last })) (sym m) is
+keeps_gets t c f (said.Raced n) s' is m = subst (λ (s : KnownPasts). IsAwayCpu t (record { seat = s; number = c.number; last = c.last })) (sym m) is

@@ -42,19 +42,14 @@ use Rattle.boot_words.proofs.Following.{stands_in}
 use Rattle.boot_words.proofs.Parts.{frame_reads, words_set}
 use Rattle.boot_words.proofs.Putting.{less_one, put_changes}
 use Rattle.boot_words.proofs.StockSteps.{stock_is_at, stock_low, stock_words_set}
-use Rattle.boot_words.proofs.UnderLock.{shows_now}
 use Rattle.run_words.specs.declared.word.Word.{Word}
 use Rattle.run_words.specs.declared.word.Word.TheVariants.{OfFrame, Quiet, StockOf}
 use Rattle.run_words.specs.Rule.{RunRule, run_rule}
-use Rattle.run_words.specs.Seats.{MayStep}
+use Rattle.run_words.specs.Seats.{MayChange}
 use Rattle.run_words.proofs.Fast.{Leaves, stays}
 use Rattle.run_words.proofs.Prepaying.{same_word}
 use Rattle.run_words.proofs.Referring.{word_positive}
-use Rattle.run_words.proofs.UnderLock.{MadeHeld, both_fit, held_made, held_makes, legal_held}
-
-of_both : (t : KnownTable) (s : KnownPasts) (word : Word) (change : ℕ → ℕ) (told : ℕ → List Past → Type 0) → IsHeld t s
-    → MayStep (zone_of_boot t) (own_past s ∷ cpu_past s ∷ []) word change told → MayStep (zone_of_boot t) s.pasts word change told
-of_both t s word change told is may = subst (λ (l : List Past). MayStep (zone_of_boot t) l word change told) (sym is.both) may
+use Rattle.run_words.proofs.UnderLock.{MadeHeld, held_made, held_makes, legal_end, of_held, shows_end, stands_at}
 
 zone_left : (t : KnownTable) (s : KnownPasts) → (local_seen (zone_of_boot t) (cpu_past s)).zone ≡ zone_of_boot t
 zone_left t s = zone_of_run (zone_of_boot t) (cpu_past s).seen
@@ -65,19 +60,19 @@ pub record PutsHeld (zone : Zone) (z c : Past) (seat f found : ℕ) (later : Lis
   pub made : MadeHeld zone z c (record { seat = seat; action = Put f }) (put_answer_at found) later
 
 pub puts_held : (t : KnownTable) (s : KnownPasts) (seat f : ℕ) → IsHeld t s → (seat ≡ 0) ⊎ IsHolder s seat → MayMake t s seat (Put f)
-    → MayStep (zone_of_boot t) s.pasts (OfFrame f) (λ n. (n + (2 ^ 64 - 1)) % 2 ^ 64) (PutsHeld (zone_of_boot t) (own_past s) (cpu_past s) seat f)
+    → MayChange (zone_of_boot t) s.pasts (OfFrame f) (λ n. (n + (2 ^ 64 - 1)) % 2 ^ 64) (PutsHeld (zone_of_boot t) (own_past s) (cpu_past s) seat f)
 puts_held t s seat f is own legal =
     let zone = zone_of_boot t in
     let z = own_past s in
     let c = cpu_past s in
     let made_step : Step = record { seat = seat; action = Put f } in
-    of_both t s (OfFrame f) (λ n. (n + (2 ^ 64 - 1)) % 2 ^ 64) (PutsHeld zone z c seat f) is
+    of_held t s (OfFrame f) (λ n. (n + (2 ^ 64 - 1)) % 2 ^ 64) (PutsHeld zone z c seat f) is
     (λ id b k homes at small.
     let j = frame_base zone + f in
     let n = slice_index b.words j in
     let words = words_in zone b.words in
     let reads : frame_word_at words f ≡ n = frame_reads zone f b.words in
-    let positive = word_positive zone words k.run seat f k.is (legal_held zone b k id z c made_step at is.holds own refl legal) in
+    let positive = word_positive zone words k.run seat f k.is (legal_end zone b.words b.views id z c (stands_at zone b k id z c at is.holds) made_step own refl legal) in
     let some : 1 ≤ n = omega (arith, positive, reads) in
     let r = held_makes zone b k id j ((n + (2 ^ 64 - 1)) % 2 ^ 64) z c made_step (put_answer_at n) at is.holds own refl tt legal
     (subst (ChangesWords zone words seat (Put f) (put_answer_at n)) (ap (with_frame_word words f) (sym (less_one n some small)) ∙ sym (words_set zone f ((n + (2 ^ 64 - 1)) % 2 ^ 64) b.words))
@@ -118,11 +113,10 @@ pub record StockFound (zone : Zone) (c : Past) (cpu found : ℕ) : Type 0 where
 stock_found : (zone : Zone) (b : Board (Unit {0}) (List Past)) (k : run_rule zone b) (id : ℕ) (z c : Past) (cpu : ℕ) → get_elem? b.views id ≡ some (z ∷ c ∷ [])
     → HoldsLock zone z c (local_seen zone c) → 1 ≤ cpu → cpu ≤ zone.cpus → StockFound zone c cpu (slice_index b.words (stock_index cpu))
 stock_found zone b k id z c cpu at holds low high =
-    let fit = both_fit zone b k id z c at in
     let s = state_of zone k.run in
     let part = s.parts cpu in
     let within : cpu ≤ s.zone.cpus = subst (λ y. cpu ≤ y.cpus) (sym (zone_of_run zone k.run)) high in
-    let shows = shows_now zone z c (local_seen zone c) k.run holds fit.0 fit.1 k.is.legal in record {
+    let shows = shows_end zone b.words b.views id z c (stands_at zone b k id z c at holds) in record {
       stock = stock_in part;
       fits = k.is.stocks.has_word cpu low within;
       word = sym ((stock_is_at zone (stock_index cpu) (stock_low zone cpu high)).reads b.words) ∙ k.is.stocks.stock cpu low within;
@@ -144,14 +138,14 @@ pub record Drains (zone : Zone) (z c : Past) (cpu found : ℕ) (later : List Pas
   pub made : MadeHeld zone z c (record { seat = 0; action = DrainStock cpu }) (Pages (stock_pages_of stock)) later
 
 pub looks_to_drain : (t : KnownTable) (s : KnownPasts) (cpu : ℕ) → IsHeld t s → MayMake t s 0 (DrainStock cpu)
-    → MayStep (zone_of_boot t) s.pasts (StockOf cpu) (λ n. n) (LooksToDrain (zone_of_boot t) (own_past s) (cpu_past s) cpu)
+    → MayChange (zone_of_boot t) s.pasts (StockOf cpu) (λ n. n) (LooksToDrain (zone_of_boot t) (own_past s) (cpu_past s) cpu)
 looks_to_drain t s cpu is legal =
     let zone = zone_of_boot t in
     let z = own_past s in
     let c = cpu_past s in
     let range = cpu_of_drain t s cpu legal in
     let j = stock_index cpu in
-    of_both t s (StockOf cpu) (λ n. n) (LooksToDrain zone z c cpu) is
+    of_held t s (StockOf cpu) (λ n. n) (LooksToDrain zone z c cpu) is
     (λ id b k homes at small.
     let n = slice_index b.words j in
     let there = stock_found zone b k id z c cpu at is.holds range.0 range.1 in
@@ -168,7 +162,7 @@ looks_to_drain t s cpu is legal =
     (r.0, r.1, r.2, r.3, (r.4.0, record { is = there; none = λ e. absurd (ne e); looked = λ h. r.4.1 }))))
 
 pub drains : (t : KnownTable) (s : KnownPasts) (cpu g : ℕ) → IsHeld t s → MayMake t s 0 (DrainStock cpu) → ((local_by_pasts t s).parts cpu).stock.group ≡ Some g → g < 64
-    → MayStep (zone_of_boot t) s.pasts (StockOf cpu) (λ n. word_of (DrainedOf g)) (Drains (zone_of_boot t) (own_past s) (cpu_past s) cpu)
+    → MayChange (zone_of_boot t) s.pasts (StockOf cpu) (λ n. word_of (DrainedOf g)) (Drains (zone_of_boot t) (own_past s) (cpu_past s) cpu)
 drains t s cpu g is legal group few =
     let zone = zone_of_boot t in
     let z = own_past s in
@@ -176,7 +170,7 @@ drains t s cpu g is legal group few =
     let range = cpu_of_drain t s cpu legal in
     let j = stock_index cpu in
     let x = word_of (DrainedOf g) in
-    of_both t s (StockOf cpu) (λ n. x) (Drains zone z c cpu) is
+    of_held t s (StockOf cpu) (λ n. x) (Drains zone z c cpu) is
     (λ id b k homes at small.
     let there = stock_found zone b k id z c cpu at is.holds range.0 range.1 in
     let low = stock_low zone cpu range.1 in
@@ -184,101 +178,6 @@ drains t s cpu g is legal group few =
     (OfGroup there.stock g (there.group ∙ group) refl
     (record { before_fits = there.fits; after_fits = few; found = (stock_is_at zone j low).reads b.words ∙ there.word; later_is = stock_words_set zone j x low b.words })) in
     (r.0, r.1, r.2, r.3, (r.4.0, record { stock = there.stock; fits = there.fits; word = there.word; made = r.4.1 })))
-
--- ---- lend
-set_there : {A : Type 0} (xs : List A) (i : ℕ) (x y : A) → get_elem? xs i ≡ some x → get_elem? (set xs i y) i ≡ some y
-set_there [] i x y at = absurd (some-ne-none x (sym at))
-set_there (z ∷ xs) zero x y at = refl
-set_there (z ∷ xs) (suc i) x y at = set_there xs i x y at
-
-set_over : {A : Type 0} (xs : List A) (i : ℕ) (x y : A) → set (set xs i x) i y ≡ set xs i y
-set_over [] i x y = refl
-set_over (z ∷ xs) zero x y = refl
-set_over (z ∷ xs) (suc i) x y = ap (λ l. z ∷ l) (set_over xs i x y)
-
-free_dead : (x : Phase) → is_free x ≡ true → (live : ℕ) → (word_in_phase x live ≡ live) × (is_live_phase x ≡ false)
-free_dead InZone e live = (refl, refl)
-free_dead x e live = absurd (let a : false ≡ true = e in cc)
-
--- the two steps of a lend, by one load
-pub record Lends (zone : Zone) (z c : Past) (f found : ℕ) (later : List Past) : Type 0 where
-  pub zone_past : Past
-  pub cpu_past : Past
-  pub later_is : later ≡ zone_past ∷ cpu_past ∷ []
-  pub holds : HoldsLock zone zone_past cpu_past (local_seen zone cpu_past)
-  pub grew : GrewInTurn zone z c (lend_run c.number f) zone_past cpu_past
-
-under_lock : (zone : Zone) (z c : Past) (made_step : Step) (answer : Answer) (later : List Past) (m : MadeHeld zone z c made_step answer later)
-    → GrewUnderLock zone z c (made_step, answer) m.zone_past m.cpu_past
-under_lock zone z c made_step answer later m = record { zone_grew = m.zone_grew; cpu_grew = m.cpu_grew; holds = m.holds; local_is = m.local_is }
-
-may_lend : (zone : Zone) (z c : Past) (f : ℕ) → HoldsLock zone z c (local_seen zone c) → AreLegal (local_seen zone c) (lend_run c.number f)
-    → MayStep zone (z ∷ c ∷ []) Quiet (λ n. n) (Lends zone z c f)
-may_lend zone z c f holds legal id b k homes at small =
-    let q = c.number in
-    let j = frame_base zone + f in
-    let state = state_of zone k.run in
-    let words = words_in zone b.words in
-    let now = legal_held zone b k id z c (record { seat = 0; action = PassOut f q }) at holds (inl refl) refl legal.0 in
-    let tests = pass_out_tests state 0 f q now in
-    let stands = stands_in zone words k.run k.is in
-    let free = free_dead (state.phases f) tests.3 in
-    let none : slice_index b.words j ≡ 0 =
-    sym (frame_reads zone f b.words) ∙ stands.frames.frame f (below_frames state.zone f tests.1) ∙ (free (live_references state f)).0 ∙ none_live state f stands.sound (free 0).1 in
-    let r = held_makes zone b k id j (mark q) z c (record { seat = 0; action = PassOut f q }) Done at holds (inl refl) refl tt legal.0 (words_set zone f (mark q) b.words) in
-    let m = r.4.1 in
-    let x = m.zone_past in
-    let y = m.cpu_past in
-    let same : y.number ≡ q = m.cpu_grew.number in
-    let mid : Board (Unit {0}) (List Past) = record { words = set b.words j (mark q); homes = []; views = set b.views id (x ∷ y ∷ []) } in
-    let first : RunRule zone (set b.words j (mark q)) (set b.views id (x ∷ y ∷ [])) = subst (λ (l : List Past). RunRule zone (set b.words j (mark q)) (set b.views id l)) m.later_is r.3 in
-    let n = held_makes zone mid first id j 0 x y (record { seat = y.number; action = TakeIn f }) Done (set_there b.views id (z ∷ c ∷ []) (x ∷ y ∷ []) at) m.holds (inr refl) refl tt
-    (subst (λ (p : State × ℕ). is_legal p.0 p.1 (TakeIn f) ≡ true) (λ i. (sym m.local_is i, sym same i)) legal.1.0)
-    (words_set zone f 0 (set b.words j (mark q))) in
-    let w = n.4.1 in
-    let back : set (set b.words j (mark q)) j 0 ≡ set b.words 0 (slice_index b.words 0) =
-    set_over b.words j (mark q) 0 ∙ ap (set b.words j) (sym none) ∙ set-get_or b.words j 0 ∙ sym (set-get_or b.words 0 0) in (
-      n.0,
-      keeps,
-      tt,
-      subst (λ (l : List ℕ × List (List Past)). RunRule zone l.0 l.1) (λ i. (back i, set_over b.views id (x ∷ y ∷ []) n.0 i)) n.3,
-      (
-        refl,
-        record {
-          zone_past = w.zone_past;
-          cpu_past = w.cpu_past;
-          later_is = w.later_is;
-          holds = w.holds;
-          grew = (
-            x,
-            y,
-            under_lock zone z c (record { seat = 0; action = PassOut f q }) Done r.0 m,
-            (
-              w.zone_past,
-              w.cpu_past,
-              subst (λ (p : ℕ). GrewUnderLock zone x y (record { seat = p; action = TakeIn f }, Done) w.zone_past w.cpu_past) same
-                  (under_lock zone x y (record { seat = y.number; action = TakeIn f }) Done n.0 w),
-              (refl, refl),
-            ),
-          );
-        },
-      ),
-    )
-
-pub lends : (t : KnownTable) (s : KnownPasts) (cpu f : ℕ) → IsHeld t s → IsHolder s cpu → AreLegal (local_by_pasts t s) (lend_run cpu f)
-    → MayStep (zone_of_boot t) s.pasts Quiet (λ n. n) (Lends (zone_of_boot t) (own_past s) (cpu_past s) f)
-lends t s cpu f is holder legal =
-    let zone = zone_of_boot t in
-    of_both t s Quiet (λ n. n) (Lends zone (own_past s) (cpu_past s) f) is
-    (may_lend zone (own_past s) (cpu_past s) f is.holds (subst (λ q. AreLegal (local_by_pasts t s) (lend_run q f)) holder legal))
-
-pub lent : (t : KnownTable) (s : KnownPasts) (cpu f found : ℕ) (s' : KnownPasts) → IsHeld t s → IsHolder s cpu → s'.table ≡ s.table
-    → Lends (zone_of_boot t) (own_past s) (cpu_past s) f found s'.pasts → MakesInTurn t s (lend_run cpu f) s'
-lent t s cpu f found s' is holder table m =
-    subst (λ (y : ℕ × List Past). MakesInTurn t s (lend_run y.0 f) (record { table = s'.table; pasts = y.1 })) (λ i. (sym holder i, sym m.later_is i)) (record {
-      held = record { table_is = table ∙ is.table_is; both = refl; holds = m.holds };
-      grew = m.grew;
-    })
 
 -- ---- the answers of a drain
 group_few : (s : Stock) (g : ℕ) → HasWord s → group_of s ≡ Some g → g < 64

@@ -13,4 +13,5 @@ pub mod Locking
 pub mod Prepaying
 pub mod Counts
 pub mod Lending
+pub mod InTurn
 pub mod Keeping

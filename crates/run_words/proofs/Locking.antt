@@ -31,7 +31,7 @@ use Rattle.boot_words.specs.Hidden.{hide, hide_phase, zone_references}
 use Rattle.boot_words.specs.Sight.{HasSameLists}
 use Rattle.boot_words.specs.Allowed.{GrewBy, IsLegalLater}
 use Rattle.boot_words.specs.declared.view.Past.{Past}
-use Rattle.boot_words.specs.Rule.{AllOf, IsPastOf}
+use Rattle.boot_words.specs.Rule.{AllOf}
 use Rattle.boot_words.specs.Held.{HoldsLock, local_seen}
 use Rattle.boot_words.specs.Locks.{LeavesFree}
 use Rattle.boot_words.specs.Pasts.{KnownPasts, IsCpuPast, IsHeld, IsHolder, IsZonePast, Locks, MayMake, Unlocks, cpu_past, local_by_pasts, first_past, own_past, second_past}
@@ -40,11 +40,13 @@ use Rattle.boot_words.proofs.Growing.{grown, grown_legal}
 use Rattle.boot_words.proofs.Owning.{lists_are_own}
 use Rattle.boot_words.proofs.Resting.{zone_rests}
 use Rattle.boot_words.proofs.Seats.{all_at}
-use Rattle.boot_words.proofs.UnderLock.{same_seen, shows_now}
+use Rattle.boot_words.proofs.UnderLock.{same_seen}
 use Rattle.run_words.specs.declared.word.Word.TheVariants.{Quiet, StockOf}
-use Rattle.run_words.specs.Cpus.{IsCpu, KnownCpu}
-use Rattle.run_words.specs.Seats.{MayStep, first_alone, rest_of}
-use Rattle.run_words.proofs.UnderLock.{both_fit, plain_step}
+use Rattle.run_words.specs.Cpus.{IsAwayCpu, KnownCpuSeat}
+use Rattle.run_words.specs.Seats.{MayChange, first_alone, rest_of}
+use Rattle.run_words.specs.Rule.{IsBeginning}
+use Rattle.run_words.proofs.Growing.{free_holder, past_of_run}
+use Rattle.run_words.proofs.UnderLock.{fits_both, only_holder, plain_step, shows_end, stands_at}
 
 -- a CPU has taken the lock
 pub record Takes (zone : Zone) (z c : Past) (found : ℕ) (later : List Past) : Type 0 where
@@ -63,16 +65,16 @@ not_none zone cpu is none = let range = cpu_range zone cpu is in let low = range
 in_range : (zone : Zone) (cpu : ℕ) → 1 ≤ cpu → cpu ≤ zone.cpus → is_cpu zone cpu ≡ true
 in_range zone cpu low high = grind arith
 
-may_lock : (zone : Zone) (z c : Past) → z.number ≡ 0 → is_cpu zone c.number ≡ true → LeavesFree zone z → MayStep zone (z ∷ c ∷ []) Quiet (λ n. n) (Takes zone z c)
+may_lock : (zone : Zone) (z c : Past) → z.number ≡ 0 → is_cpu zone c.number ≡ true → LeavesFree zone z → MayChange zone (z ∷ c ∷ []) Quiet (λ n. n) (Takes zone z c)
 may_lock zone z c zone_is cpu free id s k homes at small =
     let q = c.number in
-    let all = all_at (AllOf (IsPastOf k.run)) s.views id (z ∷ c ∷ []) at k.fits in
+    let all = all_at (AllOf (IsBeginning zone k.run)) s.views id (z ∷ c ∷ []) at k.fits in
     let zone_fits : OthersFollow z.number z.seen k.run = all.0.goes in
     let fits : OthersFollow q c.seen k.run = all.1.0.goes in
     let made_step : Step = record { seat = q; action = Lock } in
     let e : Step × Answer = (made_step, Done) in
     let state = state_of zone k.run in
-    let rests : hide state ≡ hide (state_of zone z.seen) = zone_rests zone k.run z k.is.legal all.0 zone_is free in
+    let rests : hide state ≡ hide (state_of zone z.seen) = zone_rests zone k.run z k.is.legal (past_of_run zone k.run z all.0) zone_is free in
     let free_now : is_unheld state.hold ≡ true = ap (λ (t : State). is_unheld t.hold) rests ∙ free in
     let is_one : is_cpu state.zone q ≡ true = ap (λ (y : Zone). is_cpu y q) (zone_of_run zone k.run) ∙ cpu in
     let legal : is_legal state q Lock ≡ true = (λ i. is_one i && free_now i) in
@@ -88,7 +90,7 @@ may_lock zone z c zone_is cpu free id s k homes at small =
       zone_past ∷ cpu_past ∷ [],
       keeps,
       tt,
-      plain_step zone s k id 0 z c made_step Done zone_is (inr refl) at zone_fits fits tt ok,
+      plain_step zone s k id 0 z c made_step Done zone_is (inr refl) at (λ p holds. absurd (free_holder state.hold p free_now holds)) zone_fits fits tt ok,
       (
         refl,
         record {
@@ -155,16 +157,17 @@ unlock_seen p s i = is_cpu s.zone p && is_held_by p s.hold && no_page_pends s
     && all_to s.zone.frames (λ f. not (seen_through is_passing p (λ u r. refl) (λ u r. refl) (s.phases f) i))
 
 may_unlock : (zone : Zone) (z c : Past) → HoldsLock zone z c (local_seen zone c) → is_legal (local_seen zone c) c.number Unlock ≡ true
-    → MayStep zone (z ∷ c ∷ []) (StockOf c.number) (λ n. n) (Releases zone z c)
+    → MayChange zone (z ∷ c ∷ []) (StockOf c.number) (λ n. n) (Releases zone z c)
 may_unlock zone z c holds legal id s k homes at small =
     let q = c.number in
     let j = stock_index q in
     let local = local_seen zone c in
-    let fit = both_fit zone s k id z c at in
+    let st = stands_at zone s k id z c at holds in
+    let fit = fits_both zone s.words s.views id z c st in
     let made_step : Step = record { seat = q; action = Unlock } in
     let e : Step × Answer = (made_step, Done) in
     let state = state_of zone k.run in
-    let shows = shows_now zone z c local k.run holds fit.0 fit.1 k.is.legal in
+    let shows = shows_end zone s.words s.views id z c st in
     let legal_now : is_legal state q Unlock ≡ true = sym (unlock_seen q state) ∙ sym (ap (λ (l : State). is_legal l q Unlock) shows.sees) ∙ legal in
     let ok : Allows state q Unlock Done = record { legal = legal_now; answered = tt; counted = tt } in
     let longer = legal_more zone k.run made_step Done k.is.legal ok in
@@ -181,7 +184,7 @@ may_unlock zone z c holds legal id s k homes at small =
       zone_past ∷ cpu_past ∷ [],
       keeps,
       tt,
-      plain_step zone s k id j z c made_step Done holds.zone_is (inr refl) at fit.0 fit.1 tt ok,
+      plain_step zone s k id j z c made_step Done holds.zone_is (inr refl) at (only_holder zone s.words s.views id z c st) fit.0 fit.1 tt ok,
       (
         refl,
         record {
@@ -204,10 +207,10 @@ may_unlock zone z c holds legal id s k homes at small =
 
 -- ---- by what contracts see of the seats
 pub locks : (t : KnownTable) (z c s : KnownPasts) → IsZonePast t z → IsCpuPast t c → LeavesFree (zone_of_boot t) (own_past z) → s.pasts ≡ z.pasts ++ c.pasts
-    → MayStep (zone_of_boot t) s.pasts Quiet (λ n. n) (Takes (zone_of_boot t) (own_past s) (cpu_past s))
+    → MayChange (zone_of_boot t) s.pasts Quiet (λ n. n) (Takes (zone_of_boot t) (own_past s) (cpu_past s))
 locks t z c s zone cpu free is =
     let table = zone_of_boot t in
-    subst (λ (l : List Past). MayStep table l Quiet (λ n. n) (Takes table (first_past l) (second_past l))) (sym (is ∙ (λ i. zone.alone i ++ cpu.alone i)))
+    subst (λ (l : List Past). MayChange table l Quiet (λ n. n) (Takes table (first_past l) (second_past l))) (sym (is ∙ (λ i. zone.alone i ++ cpu.alone i)))
     (may_lock table (own_past z) (own_past c) zone.zone_is (in_range table (own_past c).number cpu.low cpu.high) free)
 
 pub locked : (t : KnownTable) (z c s : KnownPasts) (found : ℕ) → s.table ≡ t.table → Takes (zone_of_boot t) (own_past z) (own_past c) found s.pasts → Locks t z c s
@@ -221,10 +224,10 @@ locked t z c s found table m =
     })
 
 pub unlocks : (t : KnownTable) (s : KnownPasts) (cpu : ℕ) → IsHeld t s → IsHolder s cpu → MayMake t s cpu Unlock
-    → MayStep (zone_of_boot t) s.pasts (StockOf cpu) (λ n. n) (Releases (zone_of_boot t) (own_past s) (cpu_past s))
+    → MayChange (zone_of_boot t) s.pasts (StockOf cpu) (λ n. n) (Releases (zone_of_boot t) (own_past s) (cpu_past s))
 unlocks t s cpu is holder legal =
     let table = zone_of_boot t in
-    subst (λ (y : ℕ × List Past). MayStep table y.1 (StockOf y.0) (λ n. n) (Releases table (own_past s) (cpu_past s))) (λ i. (sym holder i, sym is.both i))
+    subst (λ (y : ℕ × List Past). MayChange table y.1 (StockOf y.0) (λ n. n) (Releases table (own_past s) (cpu_past s))) (λ i. (sym holder i, sym is.both i))
     (may_unlock table (own_past s) (cpu_past s) is.holds (subst (λ q. is_legal (local_by_pasts t s) q Unlock ≡ true) holder legal))
 
 pub cpu_of_unlock : (t : KnownTable) (s : KnownPasts) (cpu : ℕ) → MayMake t s cpu Unlock → cpu ≤ t.cpus
@@ -256,7 +259,7 @@ unlocked t s z c pasts found is m zone cpu =
 -- the CPU's seat after it released the lock
 pub released : (t : KnownTable) (s c : KnownPasts) (pasts : List Past) (found cpu : ℕ) (last : Stock) → IsHeld t s → IsHolder s cpu → Releases (zone_of_boot t) (own_past s) (cpu_past s) found pasts
     → c ≡ record { table = t.table; pasts = rest_of pasts } → ((stock : Stock) → HasWord stock → found ≡ word_of stock → last ≡ stock)
-    → IsCpu t (record { seat = c; number = cpu; last = last })
+    → IsAwayCpu t (record { seat = c; number = cpu; last = last })
 released t s c pasts found cpu last is holder m cpu_is decodes =
     let left = unlocked t s (record { table = t.table; pasts = first_alone pasts }) c pasts found is m refl cpu_is in
     let past : own_past c ≡ m.cpu_past = ap own_past cpu_is ∙ ap (λ l. first_past (rest_of l)) m.later_is in

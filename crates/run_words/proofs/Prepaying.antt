@@ -37,12 +37,13 @@ use Rattle.run_words.specs.declared.word.Word.TheVariants.{StockOf}
 use Rattle.frame_word.specs.Seats.{KnownTable}
 use Rattle.boot_words.specs.Pasts.{MayDo, first_past, own_past}
 use Rattle.boot_words.specs.Seats.{zone_of_boot}
-use Rattle.run_words.specs.Cpus.{Exchanges, IsCpu, KnownCpu, SawLast}
+use Rattle.run_words.specs.Cpus.{Exchanges, IsAwayCpu, KnownCpuSeat, SawLast}
 use Rattle.run_words.proofs.Calling.{made}
 use Rattle.run_words.specs.Rule.{run_rule}
-use Rattle.run_words.specs.Seats.{MayStep}
-use Rattle.run_words.proofs.Fast.{Leaves, Made, MadeOn, legal_still, makes_on, past_fits}
+use Rattle.run_words.specs.Seats.{MayChange}
+use Rattle.run_words.proofs.Fast.{Leaves, Made, MadeOn, legal_still, makes_on, past_begins}
 use Rattle.run_words.proofs.Booking.{AreSmall}
+use Rattle.run_words.proofs.Growing.{fast_hold}
 
 -- ---- a word says one stock
 drained_word : (s : Stock) (g : ℕ) → HasWord s → g < 64 → word_of s ≡ word_of (DrainedOf g) → s ≡ DrainedOf g
@@ -82,15 +83,6 @@ saw_still a b last same saw = elim same.stock [
       ]
 ]
 
--- a fast step leaves who holds the lock
-pub fast_hold : (s : State) (q : ℕ) (action : Action) (answer : Answer) → IsFast action → (after s q action answer).hold ≡ s.hold
-fast_hold s q action Illegal fast = ap (λ (t : State). t.hold) (after_illegal s q action)
-fast_hold s q Lock answer fast = absurd fast
-fast_hold s q Unlock answer fast = absurd fast
-fast_hold s q (OpenVisit p) answer fast = absurd fast
-fast_hold s q (ShutVisit p) answer fast = absurd fast
-fast_hold s q action answer fast = refl
-
 -- what the CPU knows behind its step: its stock, and that it doesn't hold the lock
 pub record Knows (zone : Zone) (p : Past) (action : Action) (answer : Answer) (stock : Stock) (later : List Past) : Type 0 where
   pub made : Made zone p action answer later
@@ -110,7 +102,7 @@ pub stock_now : (zone : Zone) (s : Board (Unit {0}) (List Past)) (k : run_rule z
     → StockNow zone s.words k.run p.number last
 stock_now zone s k id p last at low high away saw =
     let q = p.number in
-    let fits = (past_fits zone s k id p at).goes in
+    let fits = (past_begins zone s k id p at).goes in
     let legal : IsLegalRun zone (p.seen ++ fits.rest) = subst (IsLegalRun zone) fits.is k.is.legal in
     let stays = away_stays zone p.seen fits.rest q legal fits.others away in
     let is = sym fits.is in
@@ -144,7 +136,7 @@ exchange_page : (zone : Zone) (p : Past) (action : Action) (answer : Answer) (g 
     → ((words : List ℕ) → m < 65536 → stock_word_at (words_in zone words) p.number ≡ word_of (HeldBy g n)
     → ChangesWords zone (words_in zone words) p.number action answer (with_stock_word (words_in zone words) p.number (word_of (HeldBy g m))))
     → ((words : List ℕ) → stock_word_at (words_in zone words) p.number ≡ word_of (DrainedOf g) → ChangesWords zone (words_in zone words) p.number action Drained (words_in zone words))
-    → MayStep zone (p ∷ []) (StockOf p.number) (λ x. either (x == word_of (HeldBy g n)) (word_of (HeldBy g m)) x) (TellsPage zone p action answer (HeldBy g n) (HeldBy g m) (DrainedOf g))
+    → MayChange zone (p ∷ []) (StockOf p.number) (λ x. either (x == word_of (HeldBy g n)) (word_of (HeldBy g m)) x) (TellsPage zone p action answer (HeldBy g n) (HeldBy g m) (DrainedOf g))
 exchange_page zone p action answer g n m low high fast legal away saw few before_few room takes drains id s k homes at small =
     let q = p.number in
     let j = stock_index q in
@@ -214,7 +206,7 @@ exchange_page zone p action answer g n m low high fast legal away saw few before
 
 pub may_consume : (zone : Zone) (p : Past) (g n : ℕ) → 1 ≤ p.number → p.number ≤ zone.cpus → is_legal (state_of zone p.seen) p.number (Consume g) ≡ true
     → holds_lock p.number (state_of zone p.seen).hold ≡ false → SawLast (stock_in ((state_of zone p.seen).parts p.number)) (HeldBy g (n + 1)) → HasWord (HeldBy g (n + 1))
-    → MayStep zone (p ∷ []) (StockOf p.number) (λ x. either (x == word_of (HeldBy g (n + 1))) (word_of (HeldBy g n)) x)
+    → MayChange zone (p ∷ []) (StockOf p.number) (λ x. either (x == word_of (HeldBy g (n + 1))) (word_of (HeldBy g n)) x)
     (TellsPage zone p (Consume g) Took (HeldBy g (n + 1)) (HeldBy g n) (DrainedOf g))
 may_consume zone p g n low high legal away saw fits =
     let few : n < 65536 = let b = fits.1 in omega (arith, b) in
@@ -248,7 +240,7 @@ page_fits s q f g n sound small legal is =
 
 pub may_credit : (zone : Zone) (p : Past) (f g n : ℕ) → 1 ≤ p.number → p.number ≤ zone.cpus → is_legal (state_of zone p.seen) p.number (Credit f) ≡ true
     → holds_lock p.number (state_of zone p.seen).hold ≡ false → SawLast (stock_in ((state_of zone p.seen).parts p.number)) (HeldBy g n) → HasWord (HeldBy g n)
-    → MayStep zone (p ∷ []) (StockOf p.number) (λ x. either (x == word_of (HeldBy g n)) (word_of (HeldBy g (n + 1))) x)
+    → MayChange zone (p ∷ []) (StockOf p.number) (λ x. either (x == word_of (HeldBy g n)) (word_of (HeldBy g (n + 1))) x)
     (TellsPage zone p (Credit f) Stocked (HeldBy g n) (HeldBy g (n + 1)) (DrainedOf g))
 may_credit zone p f g n low high legal away saw fits =
     exchange_page zone p (Credit f) Stocked g n (n + 1) low high tt legal away saw fits.0 fits.1 (λ s sound small ok is. page_fits s p.number f g n sound small ok is)
@@ -256,34 +248,34 @@ may_credit zone p f g n low high legal away saw fits =
     (λ words found. (g, record { fits = fits.0; found = found; later_is = refl }))
 
 -- ---- by what contracts see of the seat
-pub consumes : (t : KnownTable) (c : KnownCpu) (g n m : ℕ) → IsCpu t c → MayDo t c.seat (Consume g) → c.last ≡ HeldBy g n → n ≡ m + 1
-    → MayStep (zone_of_boot t) c.seat.pasts (StockOf c.number) (λ x. either (x == word_of (HeldBy g n)) (word_of (HeldBy g m)) x)
+pub consumes : (t : KnownTable) (c : KnownCpuSeat) (g n m : ℕ) → IsAwayCpu t c → MayDo t c.seat (Consume g) → c.last ≡ HeldBy g n → n ≡ m + 1
+    → MayChange (zone_of_boot t) c.seat.pasts (StockOf c.number) (λ x. either (x == word_of (HeldBy g n)) (word_of (HeldBy g m)) x)
     (TellsPage (zone_of_boot t) (own_past c.seat) (Consume g) Took (HeldBy g n) (HeldBy g m) (DrainedOf g))
 consumes t c g n m is legal last more =
     let zone = zone_of_boot t in
     let p = own_past c.seat in
     let at = is.number in
     let q = p.number in
-    subst (λ (y : List Past × (ℕ × ℕ)). MayStep zone y.0 (StockOf y.1.0) (λ x. either (x == word_of (HeldBy g y.1.1)) (word_of (HeldBy g m)) x)
+    subst (λ (y : List Past × (ℕ × ℕ)). MayChange zone y.0 (StockOf y.1.0) (λ x. either (x == word_of (HeldBy g y.1.1)) (word_of (HeldBy g m)) x)
     (TellsPage zone p (Consume g) Took (HeldBy g y.1.1) (HeldBy g m) (DrainedOf g))) (λ i. (sym is.past.alone i, (sym at i, sym more i)))
     (may_consume zone p g m is.past.low is.past.high legal (subst (λ k. holds_lock k (state_of zone p.seen).hold ≡ false) at is.away)
     (subst (λ (y : ℕ × Stock). SawLast (stock_in ((state_of zone p.seen).parts y.0)) y.1) (λ i. (at i, (last ∙ ap (HeldBy g) more) i)) is.last)
     (subst HasWord (last ∙ ap (HeldBy g) more) is.has_word))
 
-pub credits : (t : KnownTable) (c : KnownCpu) (f g n : ℕ) → IsCpu t c → MayDo t c.seat (Credit f) → c.last ≡ HeldBy g n
-    → MayStep (zone_of_boot t) c.seat.pasts (StockOf c.number) (λ x. either (x == word_of (HeldBy g n)) (word_of (HeldBy g (n + 1))) x)
+pub credits : (t : KnownTable) (c : KnownCpuSeat) (f g n : ℕ) → IsAwayCpu t c → MayDo t c.seat (Credit f) → c.last ≡ HeldBy g n
+    → MayChange (zone_of_boot t) c.seat.pasts (StockOf c.number) (λ x. either (x == word_of (HeldBy g n)) (word_of (HeldBy g (n + 1))) x)
     (TellsPage (zone_of_boot t) (own_past c.seat) (Credit f) Stocked (HeldBy g n) (HeldBy g (n + 1)) (DrainedOf g))
 credits t c f g n is legal last =
     let zone = zone_of_boot t in
     let p = own_past c.seat in
     let at = is.number in
-    subst (λ (y : List Past × ℕ). MayStep zone y.0 (StockOf y.1) (λ x. either (x == word_of (HeldBy g n)) (word_of (HeldBy g (n + 1))) x)
+    subst (λ (y : List Past × ℕ). MayChange zone y.0 (StockOf y.1) (λ x. either (x == word_of (HeldBy g n)) (word_of (HeldBy g (n + 1))) x)
     (TellsPage zone p (Credit f) Stocked (HeldBy g n) (HeldBy g (n + 1)) (DrainedOf g))) (λ i. (sym is.past.alone i, sym at i))
     (may_credit zone p f g n is.past.low is.past.high legal (subst (λ k. holds_lock k (state_of zone p.seen).hold ≡ false) at is.away)
     (subst (λ (y : ℕ × Stock). SawLast (stock_in ((state_of zone p.seen).parts y.0)) y.1) (λ i. (at i, last i)) is.last) (subst HasWord last is.has_word))
 
 -- the CPU's seat after the exchange
-pub exchanged_page : (t : KnownTable) (c : KnownCpu) (action : Action) (answer : Answer) (stock : Stock) (c' : KnownCpu) → IsCpu t c → c'.number ≡ c.number → c'.last ≡ stock
+pub exchanged_page : (t : KnownTable) (c : KnownCpuSeat) (action : Action) (answer : Answer) (stock : Stock) (c' : KnownCpuSeat) → IsAwayCpu t c → c'.number ≡ c.number → c'.last ≡ stock
     → c'.seat.table ≡ c.seat.table → Knows (zone_of_boot t) (own_past c.seat) action answer stock c'.seat.pasts → Exchanges t c action answer stock c'
 exchanged_page t c action answer stock c' is number last table k =
     let zone = zone_of_boot t in

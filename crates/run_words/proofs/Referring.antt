@@ -27,7 +27,7 @@ use Rattle.boot_words.proofs.Following.{stands_in}
 use Rattle.boot_words.proofs.Parts.{frame_reads, words_set}
 use Rattle.boot_words.proofs.Putting.{less_one, put_changes}
 use Rattle.run_words.specs.declared.word.Word.TheVariants.{OfFrame}
-use Rattle.run_words.specs.Seats.{MayStep}
+use Rattle.run_words.specs.Seats.{MayChange}
 use Rattle.run_words.proofs.Fast.{Leaves, Made, legal_still, makes, stays}
 
 -- a seat that may put a frame has a reference in its word
@@ -48,7 +48,7 @@ pub record Puts (zone : Zone) (p : Past) (f found : ℕ) (later : List Past) : T
   pub made : Made zone p (Put f) (put_answer_at found) later
 
 pub may_put : (zone : Zone) (p : Past) (f : ℕ) → p.number ≢ 0 → is_legal (state_of zone p.seen) p.number (Put f) ≡ true
-    → MayStep zone (p ∷ []) (OfFrame f) (λ n. (n + (2 ^ 64 - 1)) % 2 ^ 64) (Puts zone p f)
+    → MayChange zone (p ∷ []) (OfFrame f) (λ n. (n + (2 ^ 64 - 1)) % 2 ^ 64) (Puts zone p f)
 may_put zone p f ne legal id s k homes at small =
     let j = frame_base zone + f in
     let n = slice_index s.words j in
@@ -103,7 +103,7 @@ pub full_not_held : Full ≡ Held → ⊥
 full_not_held e = cc
 
 pub may_see : (zone : Zone) (p : Past) (f : ℕ) → p.number ≢ 0 → is_legal (state_of zone p.seen) p.number (Get f) ≡ true
-    → MayStep zone (p ∷ []) (OfFrame f) (λ n. n) (Sees zone p f)
+    → MayChange zone (p ∷ []) (OfFrame f) (λ n. n) (Sees zone p f)
 may_see zone p f ne legal id s k homes at small =
     let j = frame_base zone + f in
     let n = slice_index s.words j in
@@ -134,7 +134,7 @@ may_see zone p f ne legal id s k homes at small =
     ]
 
 pub may_add : (zone : Zone) (p : Past) (f seen : ℕ) → p.number ≢ 0 → 1 ≤ seen → seen < most_references → is_legal (state_of zone p.seen) p.number (Get f) ≡ true
-    → MayStep zone (p ∷ []) (OfFrame f) (λ n. either (n == seen) (seen + 1) n) (Adds zone p f seen)
+    → MayChange zone (p ∷ []) (OfFrame f) (λ n. either (n == seen) (seen + 1) n) (Adds zone p f seen)
 may_add zone p f seen ne low high legal id s k homes at small =
     let j = frame_base zone + f in
     let n = slice_index s.words j in

@@ -6,7 +6,7 @@ use Rattle.frame_word.specs.Totals.{sum_over, total_over}
 use Rattle.frame_word.proofs.Totals.{total_member, total_set}
 use Rattle.boot_words.specs.declared.view.Past.{Past}
 use Rattle.boot_words.specs.Rule.{AllOf}
-use Rattle.run_words.specs.Rule.{AllPasts, past_of}
+use Rattle.run_words.specs.Rule.{AllPasts, of_number}
 
 -- one seat has all pasts of some weight: it changes, and each other past keeps its fact
 module _ (P Q : Past → Type 0) (weight : Past → ℕ) (each : (u : Past) → weight u ≡ 0 → P u → Q u) where
@@ -30,8 +30,7 @@ module _ (P Q : Past → Type 0) (weight : Past → ℕ) (each : (u : Past) → 
 
 -- the counts stay if the new pasts have the old ones' numbers
 pub counts_same : (seats : List (List Past)) (id : ℕ) (old new : List Past) → get_elem? seats id ≡ some old
-    → ((q : ℕ) → sum_over (past_of q) new ≡ sum_over (past_of q) old) → (q : ℕ)
-    → total_over (past_of q) seats ≤ 1 → total_over (past_of q) (set seats id new) ≤ 1
-counts_same seats id old new at same q one =
-    let t = total_set (past_of q) seats id old new at in
-    let e = same q in omega arith
+    → ((q : ℕ) → sum_over (of_number q) new ≡ sum_over (of_number q) old) → (q : ℕ) → total_over (of_number q) (set seats id new) ≡ total_over (of_number q) seats
+counts_same seats id old new at same q =
+    let t = total_set (of_number q) seats id old new at in
+    let e = same q in omega (arith, t, e)

@@ -30,11 +30,10 @@ use Rattle.boot_words.proofs.Parts.{frame_reads, words_set}
 use Rattle.boot_words.proofs.StockSteps.{stock_low, stock_words_set}
 use Rattle.run_words.specs.declared.word.Word.{Word}
 use Rattle.run_words.specs.declared.word.Word.TheVariants.{OfFrame, StockOf}
-use Rattle.run_words.specs.Seats.{MayStep}
+use Rattle.run_words.specs.Seats.{MayChange}
 use Rattle.step_rules.proofs.CoverParts.{part_seen}
-use Rattle.boot_words.proofs.UnderLock.{shows_now}
 use Rattle.run_words.proofs.Booking.{small_fill}
-use Rattle.run_words.proofs.UnderLock.{MadeHeld, both_fit, held_makes, held_makes_small}
+use Rattle.run_words.proofs.UnderLock.{MadeHeld, held_makes, held_makes_small, of_held, shows_end, stands_at}
 
 freeze_changes : (zone : Zone) (words : Words) (seat f count n : ℕ) → frame_word_at words f ≡ n
     → ChangesWords zone words seat (Freeze f count) (freeze_answer count n) (with_frame_word words f (either (eqb n count) 0 n))
@@ -46,16 +45,11 @@ freeze_changes zone words seat f count n is =
     (λ miss. subst (λ a. ChangesWords zone words seat (Freeze f count) a (with_frame_word words f n)) (sym (cond-false (n == count) Done Missed (ne_eqb n count miss)))
     ((λ e. miss (sym is ∙ e)), (λ i. record words { frames = (ap (λ m. set words.frames f m) (sym is) ∙ set-get_or words.frames f 0) i })))
 
--- a seat that has both pasts, by what contracts see of it
-abbrev of_held : (t : KnownTable) (s : KnownPasts) (word : Word) (change : ℕ → ℕ) (told : ℕ → List Past → Type 0) → IsHeld t s
-    → MayStep (zone_of_boot t) (own_past s ∷ cpu_past s ∷ []) word change told → MayStep (zone_of_boot t) s.pasts word change told
-of_held t s word change told is may = subst (λ (l : List Past). MayStep (zone_of_boot t) l word change told) (sym is.both) may
-
 abbrev pub freezes_told : Zone → Past → Past → ℕ → ℕ → ℕ → List Past → Type 0
 freezes_told zone z c f count found = MadeHeld zone z c (record { seat = 0; action = Freeze f count }) (freeze_answer count found)
 
 pub freezes : (t : KnownTable) (s : KnownPasts) (f count : ℕ) → IsHeld t s → MayMake t s 0 (Freeze f count)
-    → MayStep (zone_of_boot t) s.pasts (OfFrame f) (λ n. either (n == count) 0 n) (freezes_told (zone_of_boot t) (own_past s) (cpu_past s) f count)
+    → MayChange (zone_of_boot t) s.pasts (OfFrame f) (λ n. either (n == count) 0 n) (freezes_told (zone_of_boot t) (own_past s) (cpu_past s) f count)
 freezes t s f count is legal =
     let zone = zone_of_boot t in
     let j = frame_base zone + f in
@@ -70,7 +64,7 @@ abbrev pub unfreezes_told : Zone → Past → Past → ℕ → ℕ → ℕ → L
 unfreezes_told zone z c f count found = MadeHeld zone z c (record { seat = 0; action = Unfreeze f count }) Done
 
 pub unfreezes : (t : KnownTable) (s : KnownPasts) (f count : ℕ) → IsHeld t s → MayMake t s 0 (Unfreeze f count)
-    → MayStep (zone_of_boot t) s.pasts (OfFrame f) (λ n. count) (λ found. unfreezes_told (zone_of_boot t) (own_past s) (cpu_past s) f count count)
+    → MayChange (zone_of_boot t) s.pasts (OfFrame f) (λ n. count) (λ found. unfreezes_told (zone_of_boot t) (own_past s) (cpu_past s) f count count)
 unfreezes t s f count is legal =
     let zone = zone_of_boot t in
     of_held t s (OfFrame f) (λ n. count) (λ found. unfreezes_told zone (own_past s) (cpu_past s) f count count) is
@@ -82,14 +76,13 @@ abbrev pub fills_told : Zone → Past → Past → ℕ → ℕ → ℕ → List 
 fills_told zone z c cpu g n = MadeHeld zone z c (record { seat = 0; action = Fill cpu g n }) Done
 
 pub fills : (t : KnownTable) (s : KnownPasts) (cpu g n : ℕ) → IsHeld t s → cpu ≤ t.cpus → HasWord (HeldBy g n) → ((local_by_pasts t s).parts cpu).book ≡ 0 → MayMake t s 0 (Fill cpu g n)
-    → MayStep (zone_of_boot t) s.pasts (StockOf cpu) (λ x. word_of (HeldBy g n)) (λ found. fills_told (zone_of_boot t) (own_past s) (cpu_past s) cpu g n)
+    → MayChange (zone_of_boot t) s.pasts (StockOf cpu) (λ x. word_of (HeldBy g n)) (λ found. fills_told (zone_of_boot t) (own_past s) (cpu_past s) cpu g n)
 fills t s cpu g n is high fits none legal =
     let zone = zone_of_boot t in
     let x = word_of (HeldBy g n) in
     of_held t s (StockOf cpu) (λ x. word_of (HeldBy g n)) (λ found. fills_told zone (own_past s) (cpu_past s) cpu g n) is
     (λ id b k homes at small.
-    let fit = both_fit zone b k id (own_past s) (cpu_past s) at in
-    let shows = shows_now zone (own_past s) (cpu_past s) (local_by_pasts t s) k.run is.holds fit.0 fit.1 k.is.legal in
+    let shows = shows_end zone b.words b.views id (own_past s) (cpu_past s) (stands_at zone b k id (own_past s) (cpu_past s) at is.holds) in
     let empty : ((state_of zone k.run).parts cpu).book ≡ 0 =
     sym (part_seen (λ (p : Part). p.book) (λ p. refl) (cpu_past s).number (state_of zone k.run).parts cpu) ∙ sym (ap (λ (l : State). (l.parts cpu).book) shows.sees) ∙ none in
     held_makes_small zone b k id (stock_index cpu) x (own_past s) (cpu_past s) (record { seat = 0; action = Fill cpu g n }) Done at is.holds (inl refl) refl legal

@@ -11,13 +11,13 @@ use Rattle.step_rules.specs.declared.step.Answer.TheVariants.{Zero}
 use Rattle.boot_words.specs.Pasts.{KnownPasts, IsCpuPast, own_past}
 use Rattle.boot_words.specs.Seats.{zone_of_boot}
 use Rattle.boot_words.specs.Runs.{OthersFollow}
-use Rattle.run_words.specs.Calls.{Makes}
+use Rattle.run_words.specs.Calls.{CpuMakes}
 use Rattle.boot_words.specs.Words.{Words, IsRunOf, stock_in}
 
 -- each frame's word counts the references of all seats, or it is the mark of a CPU that it passes to or from, and no
 -- seat has a reference
-abbrev pub WordsCountReferences : Type 0
-WordsCountReferences = (zone : Zone) (words : Words) (run : Run) → IsRunOf zone words run → (f : ℕ) → f < zone.frames
+abbrev pub FrameWordsCount : Type 0
+FrameWordsCount = (zone : Zone) (words : Words) (run : Run) → IsRunOf zone words run → (f : ℕ) → f < zone.frames
     → (slice_index words.frames f ≡ sum_to (zone.cpus + 1) (λ seat. (state_of zone run).references seat f))
     ⊎ ((cpu : ℕ) × (is_cpu zone cpu ≡ true) × (slice_index words.frames f ≡ mark cpu) × ((seat : ℕ) → (state_of zone run).references seat f ≡ 0))
 
@@ -28,12 +28,12 @@ ReferencesAreOwn = (zone : Zone) (seen run : Run) (seat : ℕ) → IsLegalRun zo
 
 -- a CPU that has a reference on the frame never gets Zero
 abbrev pub NeverZero : Type 0
-NeverZero = (t : KnownTable) (s : KnownPasts) (f : ℕ) (s' : KnownPasts) → IsCpuPast t s → Makes t s (Get f) Zero s'
+NeverZero = (t : KnownTable) (s : KnownPasts) (f : ℕ) (s' : KnownPasts) → IsCpuPast t s → CpuMakes t s (Get f) Zero s'
     → (state_of (zone_of_boot t) (own_past s).seen).references (own_past s).number f ≡ 0
 
 -- each CPU's stock word is its stock, and the CPU's book is the pages of its stock, its fresh frames and what it passed
 -- back and isn't absorbed
-pub record IsStock (words : Words) (s : State) (cpu : ℕ) : Type 0 where
+pub record IsStockShown (words : Words) (s : State) (cpu : ℕ) : Type 0 where
   pub has_word : HasWord (stock_in (s.parts cpu))
   pub word : slice_index words.stocks (stock_index cpu) ≡ word_of (stock_in (s.parts cpu))
   pub report : slice_index words.stocks (report_index cpu) ≡ (s.parts cpu).reported
@@ -41,4 +41,4 @@ pub record IsStock (words : Words) (s : State) (cpu : ℕ) : Type 0 where
 
 abbrev pub WordsAreStocks : Type 0
 WordsAreStocks = (zone : Zone) (words : Words) (run : Run) → IsRunOf zone words run → (cpu : ℕ) → 1 ≤ cpu → cpu ≤ zone.cpus
-    → IsStock words (state_of zone run) cpu
+    → IsStockShown words (state_of zone run) cpu

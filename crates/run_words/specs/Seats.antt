@@ -12,29 +12,29 @@ use Rattle.run_words.specs.declared.word.Word.TheVariants.{Quiet, StockOf, OfFra
 use Rattle.run_words.specs.Rule.{run_rule}
 
 -- the place of a word in the table
-abbrev pub index_of : Zone → Word → ℕ
-index_of zone Quiet = 0
-index_of zone (StockOf cpu) = stock_index cpu
-index_of zone (OfFrame f) = frame_base zone + f
-index_of zone (VisitOf cpu) = frame_base zone + visit_index zone.frames cpu
+abbrev pub word_place : Zone → Word → ℕ
+word_place zone Quiet = 0
+word_place zone (StockOf cpu) = stock_index cpu
+word_place zone (OfFrame f) = frame_base zone + f
+word_place zone (VisitOf cpu) = frame_base zone + visit_index zone.frames cpu
 
 -- the zone has the frame or the CPU of this word
-abbrev pub HasPlace : Zone → Word → Type 0
-HasPlace zone Quiet = Unit {0}
-HasPlace zone (StockOf cpu) = cpu ≤ zone.cpus
-HasPlace zone (OfFrame f) = f < zone.frames
-HasPlace zone (VisitOf cpu) = (1 ≤ cpu) × (cpu ≤ zone.cpus)
+abbrev pub IsInTable : Zone → Word → Type 0
+IsInTable zone Quiet = Unit {0}
+IsInTable zone (StockOf cpu) = cpu ≤ zone.cpus
+IsInTable zone (OfFrame f) = f < zone.frames
+IsInTable zone (VisitOf cpu) = (1 ≤ cpu) × (cpu ≤ zone.cpus)
 
 -- the frame of the word
-abbrev pub frame_at : Word → ℕ
-frame_at (OfFrame f) = f
-frame_at word = 0
+abbrev pub frame_of_word : Word → ℕ
+frame_of_word (OfFrame f) = f
+frame_of_word word = 0
 
 -- the CPU of the word
-abbrev pub cpu_at : Word → ℕ
-cpu_at (StockOf cpu) = cpu
-cpu_at (VisitOf cpu) = cpu
-cpu_at word = 0
+abbrev pub cpu_of_word : Word → ℕ
+cpu_of_word (StockOf cpu) = cpu
+cpu_of_word (VisitOf cpu) = cpu
+cpu_of_word word = 0
 
 -- the pasts of n CPUs at first, from this number on
 abbrev pub cpus_pasts : ℕ → ℕ → List Past
@@ -57,7 +57,7 @@ rest_of (p ∷ pasts) = pasts
 
 -- Whatever the table is, a seat with these pasts may change the word like this. Then this holds of the word that it
 -- found and of its pasts.
-abbrev pub MayStep : Zone → List Past → Word → (ℕ → ℕ) → (ℕ → List Past → Type 0) → Type 0
-MayStep zone pasts word change told = (id : ℕ)
-    → Allows {S = Unit {0}} (run_rule zone) 0 id (pasts, []) (index_of zone word) change
+abbrev pub MayChange : Zone → List Past → Word → (ℕ → ℕ) → (ℕ → List Past → Type 0) → Type 0
+MayChange zone pasts word change told = (id : ℕ)
+    → Allows {S = Unit {0}} (run_rule zone) 0 id (pasts, []) (word_place zone word) change
     (λ found later. (later.1 ≡ []) × told found later.0)

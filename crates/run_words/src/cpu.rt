@@ -7,9 +7,9 @@ ghost use Rattle.step_rules.specs.declared.step.Action.TheVariants as step;
 ghost use Rattle.boot_words.specs.Pasts.{put_said, MayDo};
 ghost use Rattle.boot_words.specs.Seats.{zone_of_boot};
 ghost use Rattle.run_words.specs.declared.word.Word.TheVariants.{StockOf};
-ghost use Rattle.run_words.specs.Calls.{Gets, Makes};
-ghost use Rattle.run_words.specs.Cpus.{ConsumesPage, CreditsPage, IsCpu};
-ghost use Rattle.run_words.specs.Seats.{MayStep};
+ghost use Rattle.run_words.specs.Calls.{GetsReference, CpuMakes};
+ghost use Rattle.run_words.specs.Cpus.{ConsumesPage, CreditsPage, IsAwayCpu};
+ghost use Rattle.run_words.specs.Seats.{MayChange};
 
 use crate::raw::{RunWords, PastSeat, Telling};
 use crate::word::Word;
@@ -27,9 +27,9 @@ pub struct CpuSeat {
 }
 
 impl Model for CpuSeat {
-    ghost use Rattle.run_words.specs.Cpus.{KnownCpu};
+    ghost use Rattle.run_words.specs.Cpus.{KnownCpuSeat};
 
-    ghost Value = { KnownCpu };
+    ghost Value = { KnownCpuSeat };
 
     ghost view = { λ c. record { seat = c.past; number = c.number; last = c.last } };
 }
@@ -48,7 +48,7 @@ impl RunWords {
     ) -> u64
         requires table { seat.old.table ≡ self.now.table }
         requires cpu { cpu ≤ self.now.cpus }
-        requires may { MayStep (zone_of_boot self.now) seat.old.pasts (StockOf cpu)
+        requires may { MayChange (zone_of_boot self.now) seat.old.pasts (StockOf cpu)
             (λ x. either (x == word_of (HeldBy group before)) (word_of (HeldBy group after)) x) M.told }
         ensures table { seat.new.table ≡ seat.old.table }
         ensures told { M.told result seat.new.pasts }
@@ -68,7 +68,7 @@ impl RunWords {
     /// that the CPU saw last, without a step. Apart from its CPU only a drain changes a stock, so an exchange that fails
     /// is `Drained`.
     pub fn consume(&self, cpu: &mut CpuSeat, group: u32) -> Consume
-        requires cpu { IsCpu self.now cpu.old }
+        requires cpu { IsAwayCpu self.now cpu.old }
         requires legal { MayDo self.now cpu.old.seat (step.Consume group) }
         ensures { ConsumesPage self.now cpu.old group result cpu.new }
     {
@@ -104,7 +104,7 @@ impl RunWords {
     /// Puts a fresh page of the CPU back into its stock, with its frame, by one exchange, or without a step if it saw
     /// before that the stock is drained.
     pub fn credit(&self, cpu: &mut CpuSeat, frame: Frame) -> Credit
-        requires cpu { IsCpu self.now cpu.old }
+        requires cpu { IsAwayCpu self.now cpu.old }
         requires legal { MayDo self.now cpu.old.seat (step.Credit frame) }
         ensures { CreditsPage self.now cpu.old frame result cpu.new }
     {
@@ -138,10 +138,10 @@ impl RunWords {
 impl RunWords {
     /// A get by the CPU, which still knows its stock.
     pub fn get_by(&self, cpu: &mut CpuSeat, frame: Frame) -> Get
-        requires cpu { IsCpu self.now cpu.old }
+        requires cpu { IsAwayCpu self.now cpu.old }
         requires legal { MayDo self.now cpu.old.seat (step.Get frame) }
-        ensures run { Gets self.now cpu.old.seat frame result cpu.new.seat }
-        ensures cpu { IsCpu self.now cpu.new }
+        ensures run { GetsReference self.now cpu.old.seat frame result cpu.new.seat }
+        ensures cpu { IsAwayCpu self.now cpu.new }
         ensures same { (cpu.new.number ≡ cpu.old.number) × (cpu.new.last ≡ cpu.old.last) }
     {
         self.get(&mut cpu.past, frame)
@@ -149,10 +149,10 @@ impl RunWords {
 
     /// A put by the CPU, which still knows its stock.
     pub fn put_by(&self, cpu: &mut CpuSeat, frame: Frame) -> Put
-        requires cpu { IsCpu self.now cpu.old }
+        requires cpu { IsAwayCpu self.now cpu.old }
         requires legal { MayDo self.now cpu.old.seat (step.Put frame) }
-        ensures run { Makes self.now cpu.old.seat (step.Put frame) (put_said result) cpu.new.seat }
-        ensures cpu { IsCpu self.now cpu.new }
+        ensures run { CpuMakes self.now cpu.old.seat (step.Put frame) (put_said result) cpu.new.seat }
+        ensures cpu { IsAwayCpu self.now cpu.new }
         ensures same { (cpu.new.number ≡ cpu.old.number) × (cpu.new.last ≡ cpu.old.last) }
     {
         self.put(&mut cpu.past, frame)

@@ -1,9 +1,9 @@
 //! The reference rule and the stock rule: laws of a legal run and its words.
-ghost use Rattle.run_words.specs.Laws.{NeverZero, ReferencesAreOwn, WordsAreStocks, WordsCountReferences};
+ghost use Rattle.run_words.specs.Laws.{NeverZero, ReferencesAreOwn, WordsAreStocks, FrameWordsCount};
 
 /// Law: each frame's word counts the references of all seats.
 pub fn words_count_references()
-    ensures { WordsCountReferences }
+    ensures { FrameWordsCount }
 {}
 
 /// Law: a seat's references are those that its own past leaves.

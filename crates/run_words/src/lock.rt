@@ -4,7 +4,7 @@ ghost use Rattle.step_rules.specs.declared.step.Action.TheVariants as step;
 ghost use Rattle.boot_words.specs.Locks.{LeavesFree};
 ghost use Rattle.boot_words.specs.Seats.{zone_of_boot};
 ghost use Rattle.boot_words.specs.Pasts.{own_past, IsCpuPast, IsHeld, IsHolder, IsZonePast, Locks, MayMake, Unlocks};
-ghost use Rattle.run_words.specs.Cpus.{IsCpu};
+ghost use Rattle.run_words.specs.Cpus.{IsAwayCpu};
 
 use crate::cpu::CpuSeat;
 use crate::raw::{RunWords, PastSeat};
@@ -33,7 +33,7 @@ impl RunWords {
         requires holder { IsHolder zone.old cpu.old.number }
         requires legal { MayMake self.now zone.old cpu.old.number step.Unlock }
         ensures run { Unlocks self.now zone.old zone.new cpu.new.seat }
-        ensures cpu { IsCpu self.now cpu.new }
+        ensures cpu { IsAwayCpu self.now cpu.new }
     {
         let found = self.load::<Brand>(zone, Word::StockOf(cpu.number));
         self.part(zone, &mut cpu.past);

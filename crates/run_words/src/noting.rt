@@ -5,7 +5,7 @@ ghost use Rattle.boot_words.specs.Pasts.{cpu_past, local_by_pasts, IsHeld, Makes
 ghost use Rattle.boot_words.specs.Seats.{zone_of_boot};
 ghost use Rattle.boot_words.specs.Steps.{IsPlain};
 ghost use Rattle.run_words.specs.declared.word.Word.TheVariants.{Quiet};
-ghost use Rattle.run_words.specs.Seats.{MayStep};
+ghost use Rattle.run_words.specs.Seats.{MayChange};
 
 use crate::raw::{RunWords, PastSeat, Telling};
 use crate::word::Word;
@@ -23,7 +23,7 @@ impl RunWords {
         _answer: &Answer,
     ) -> u64
         requires table { held.old.table ≡ self.now.table }
-        requires may { MayStep (zone_of_boot self.now) held.old.pasts Quiet (λ n. n) M.told }
+        requires may { MayChange (zone_of_boot self.now) held.old.pasts Quiet (λ n. n) M.told }
         ensures table { held.new.table ≡ held.old.table }
         ensures told { M.told result held.new.pasts }
     {

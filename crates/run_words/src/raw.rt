@@ -1,10 +1,10 @@
 //! The table and its seats. All atomic steps are made here, and each tells what its caller asks by `Telling`. What a
-//! caller can ask is what the rule allows of the step (`MayStep`).
+//! caller can ask is what the rule allows of the step (`MayChange`).
 ghost use Rattle.std.specs.Prelude.{◌≡◌, ◌≤◌, ◌+◌, ◌-◌, ◌%◌, ◌^◌, ◌<◌, ◌==◌, ◌++◌, []};
 ghost use prog.Atomic.{either};
 ghost use Rattle.boot_words.specs.Seats.{zone_of_boot};
 ghost use Rattle.run_words.specs.Rule.{run_rule};
-ghost use Rattle.run_words.specs.Seats.{all_pasts, first_alone, index_of, rest_of, HasPlace, MayStep};
+ghost use Rattle.run_words.specs.Seats.{all_pasts, first_alone, word_place, rest_of, IsInTable, MayChange};
 
 use crate::word::Word;
 use atomic_table::{Join, Play, Seat, Split, Table, TableRule};
@@ -123,8 +123,8 @@ impl RunWords {
     // The place of a word in the table. A CPU's row has sixteen words, so that no two CPUs' share a cache line.
     #[inline(always)]
     fn index(&self, word: Word) -> usize
-        requires { HasPlace (zone_of_boot self.now) word }
-        ensures { result ≡ index_of (zone_of_boot self.now) word }
+        requires { IsInTable (zone_of_boot self.now) word }
+        ensures { result ≡ word_place (zone_of_boot self.now) word }
     {
         let base = 16 * (self.cpus as usize + 1);
         match word {
@@ -139,8 +139,8 @@ impl RunWords {
     #[inline(always)]
     pub(crate) fn load<M: Telling>(&self, seat: &mut PastSeat, word: Word) -> u64
         requires table { seat.old.table ≡ self.now.table }
-        requires place { HasPlace (zone_of_boot self.now) word }
-        requires may { MayStep (zone_of_boot self.now) seat.old.pasts word (λ n. n) M.told }
+        requires place { IsInTable (zone_of_boot self.now) word }
+        requires may { MayChange (zone_of_boot self.now) seat.old.pasts word (λ n. n) M.told }
         ensures table { seat.new.table ≡ seat.old.table }
         ensures told { M.told result seat.new.pasts }
     {
@@ -152,8 +152,8 @@ impl RunWords {
     #[inline(always)]
     pub(crate) fn store<M: Telling>(&self, seat: &mut PastSeat, word: Word, new: u64)
         requires table { seat.old.table ≡ self.now.table }
-        requires place { HasPlace (zone_of_boot self.now) word }
-        requires may { MayStep (zone_of_boot self.now) seat.old.pasts word (λ n. new) (λ found. M.told new) }
+        requires place { IsInTable (zone_of_boot self.now) word }
+        requires may { MayChange (zone_of_boot self.now) seat.old.pasts word (λ n. new) (λ found. M.told new) }
         ensures table { seat.new.table ≡ seat.old.table }
         ensures told { M.told new seat.new.pasts }
     {
@@ -165,8 +165,8 @@ impl RunWords {
     #[inline(always)]
     pub(crate) fn swap<M: Telling>(&self, seat: &mut PastSeat, word: Word, new: u64) -> u64
         requires table { seat.old.table ≡ self.now.table }
-        requires place { HasPlace (zone_of_boot self.now) word }
-        requires may { MayStep (zone_of_boot self.now) seat.old.pasts word (λ n. new) M.told }
+        requires place { IsInTable (zone_of_boot self.now) word }
+        requires may { MayChange (zone_of_boot self.now) seat.old.pasts word (λ n. new) M.told }
         ensures table { seat.new.table ≡ seat.old.table }
         ensures told { M.told result seat.new.pasts }
     {
@@ -184,8 +184,8 @@ impl RunWords {
         new: u64,
     ) -> u64
         requires table { seat.old.table ≡ self.now.table }
-        requires place { HasPlace (zone_of_boot self.now) word }
-        requires may { MayStep (zone_of_boot self.now) seat.old.pasts word (λ n. either (n == old) new n) M.told }
+        requires place { IsInTable (zone_of_boot self.now) word }
+        requires may { MayChange (zone_of_boot self.now) seat.old.pasts word (λ n. either (n == old) new n) M.told }
         ensures table { seat.new.table ≡ seat.old.table }
         ensures told { M.told result seat.new.pasts }
     {
@@ -199,8 +199,8 @@ impl RunWords {
     #[inline(always)]
     pub(crate) fn take_one<M: Telling>(&self, seat: &mut PastSeat, word: Word) -> u64
         requires table { seat.old.table ≡ self.now.table }
-        requires place { HasPlace (zone_of_boot self.now) word }
-        requires may { MayStep (zone_of_boot self.now) seat.old.pasts word (λ n. (n + (2 ^ 64 - 1)) % 2 ^ 64) M.told }
+        requires place { IsInTable (zone_of_boot self.now) word }
+        requires may { MayChange (zone_of_boot self.now) seat.old.pasts word (λ n. (n + (2 ^ 64 - 1)) % 2 ^ 64) M.told }
         ensures table { seat.new.table ≡ seat.old.table }
         ensures told { M.told result seat.new.pasts }
     {

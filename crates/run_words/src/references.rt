@@ -1,7 +1,7 @@
 //! References of a CPU, without the lock: `get` is a load and at most one exchange, `put` one subtraction.
 ghost use Rattle.step_rules.specs.declared.step.Action.TheVariants as step;
 ghost use Rattle.boot_words.specs.Pasts.{put_said, IsCpuPast, MayDo};
-ghost use Rattle.run_words.specs.Calls.{Gets, Makes};
+ghost use Rattle.run_words.specs.Calls.{GetsReference, CpuMakes};
 
 use crate::raw::{RunWords, PastSeat};
 use crate::word::Word;
@@ -14,7 +14,7 @@ impl RunWords {
     pub fn get(&self, cpu: &mut PastSeat, frame: Frame) -> Get
         requires past { IsCpuPast self.now cpu.old }
         requires legal { MayDo self.now cpu.old (step.Get frame) }
-        ensures { Gets self.now cpu.old frame result cpu.new }
+        ensures { GetsReference self.now cpu.old frame result cpu.new }
     {
         let seen = self.load::<Brand>(cpu, Word::OfFrame(frame));
         if seen == 0 || seen > MAX_REFERENCES {
@@ -35,7 +35,7 @@ impl RunWords {
     pub fn put(&self, cpu: &mut PastSeat, frame: Frame) -> Put
         requires past { IsCpuPast self.now cpu.old }
         requires legal { MayDo self.now cpu.old (step.Put frame) }
-        ensures { Makes self.now cpu.old (step.Put frame) (put_said result) cpu.new }
+        ensures { CpuMakes self.now cpu.old (step.Put frame) (put_said result) cpu.new }
     {
         let found = self.take_one::<Brand>(cpu, Word::OfFrame(frame));
         if found == 1 {

@@ -6,9 +6,10 @@ ghost use Rattle.step_rules.specs.declared.step.Action.TheVariants as step;
 ghost use Rattle.step_rules.specs.declared.step.Answer.TheVariants.{Done, Pages};
 ghost use Rattle.boot_words.specs.Pasts.{freeze_said, local_by_pasts, put_said, IsHeld, IsHolder, MakesStep, MayMake};
 ghost use Rattle.boot_words.specs.Composed.{lend_run, AreLegal, MakesInTurn};
+ghost use Rattle.boot_words.specs.TakenBack.{take_back_run};
 ghost use Rattle.boot_words.specs.Seats.{zone_of_boot};
 ghost use Rattle.run_words.specs.declared.word.Word.TheVariants.{OfFrame, Quiet, StockOf};
-ghost use Rattle.run_words.specs.Seats.{MayStep};
+ghost use Rattle.run_words.specs.Seats.{MayChange};
 
 use crate::raw::{RunWords, PastSeat, Telling};
 use crate::word::Word;
@@ -40,7 +41,7 @@ impl RunWords {
     fn fill_with<M: Telling>(&self, seat: &mut PastSeat, cpu: u32, group: u32, pages: u32)
         requires table { seat.old.table ≡ self.now.table }
         requires cpu { cpu ≤ self.now.cpus }
-        requires may { MayStep (zone_of_boot self.now) seat.old.pasts (StockOf cpu) (λ n. word_of (HeldBy group pages))
+        requires may { MayChange (zone_of_boot self.now) seat.old.pasts (StockOf cpu) (λ n. word_of (HeldBy group pages))
             (λ found. M.told (word_of (HeldBy group pages))) }
         ensures table { seat.new.table ≡ seat.old.table }
         ensures told { M.told (word_of (HeldBy group pages)) seat.new.pasts }
@@ -67,7 +68,7 @@ impl RunWords {
     fn take_one_by<M: Telling>(&self, held: &mut PastSeat, _seat: u32, frame: Frame) -> u64
         requires table { held.old.table ≡ self.now.table }
         requires frame { frame < self.now.frames }
-        requires may { MayStep (zone_of_boot self.now) held.old.pasts (OfFrame frame) (λ n. (n + (2 ^ 64 - 1)) % 2 ^ 64)
+        requires may { MayChange (zone_of_boot self.now) held.old.pasts (OfFrame frame) (λ n. (n + (2 ^ 64 - 1)) % 2 ^ 64)
             M.told }
         ensures table { held.new.table ≡ held.old.table }
         ensures told { M.told result held.new.pasts }
@@ -94,7 +95,7 @@ impl RunWords {
     fn drain_of<M: Telling>(&self, held: &mut PastSeat, cpu: u32, group: u32) -> u64
         requires table { held.old.table ≡ self.now.table }
         requires cpu { cpu ≤ self.now.cpus }
-        requires may { MayStep (zone_of_boot self.now) held.old.pasts (StockOf cpu) (λ n. word_of (DrainedOf group))
+        requires may { MayChange (zone_of_boot self.now) held.old.pasts (StockOf cpu) (λ n. word_of (DrainedOf group))
             M.told }
         ensures table { held.new.table ≡ held.old.table }
         ensures told { M.told result held.new.pasts }
@@ -119,7 +120,7 @@ impl RunWords {
     // The load that makes steps on a frame which together leave all words as they were.
     fn load_for<M: Telling>(&self, held: &mut PastSeat, _cpu: u32, _frame: Frame) -> u64
         requires table { held.old.table ≡ self.now.table }
-        requires may { MayStep (zone_of_boot self.now) held.old.pasts Quiet (λ n. n) M.told }
+        requires may { MayChange (zone_of_boot self.now) held.old.pasts Quiet (λ n. n) M.told }
         ensures table { held.new.table ≡ held.old.table }
         ensures told { M.told result held.new.pasts }
     {
@@ -133,6 +134,19 @@ impl RunWords {
         requires holder { IsHolder held.old cpu }
         requires legal { AreLegal (local_by_pasts self.now held.old) (lend_run cpu frame) }
         ensures { MakesInTurn self.now held.old (lend_run cpu frame) held.new }
+    {
+        self.load_for::<Brand>(held, cpu, frame);
+    }
+
+    /// Takes a fresh frame and its page back from the CPU that holds the lock: the CPU passes back the frame and reports
+    /// the page, and the zone collects the one and absorbs the other. The four steps are made by one load: the frame's
+    /// word and the report word are 0 before the first and after the last.
+    pub fn take_back(&self, held: &mut PastSeat, cpu: u32, frame: Frame)
+        requires held { IsHeld self.now held.old }
+        requires holder { IsHolder held.old cpu }
+        requires absorbed { ((local_by_pasts self.now held.old).parts cpu).reported ≡ 0 }
+        requires legal { AreLegal (local_by_pasts self.now held.old) (take_back_run cpu frame) }
+        ensures { MakesInTurn self.now held.old (take_back_run cpu frame) held.new }
     {
         self.load_for::<Brand>(held, cpu, frame);
     }

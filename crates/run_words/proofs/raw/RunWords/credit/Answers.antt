@@ -1,7 +1,7 @@
 use Rattle.std.proofs.Common.{◌≡◌, ◌+◌, refl, sym, ap, subst}
 use Rattle.step_rules.specs.declared.step.Action.TheVariants.{Credit}
 use Rattle.boot_words.specs.Pasts.{KnownPasts, MayDo}
-use Rattle.run_words.specs.Cpus.{IsCpu, KnownCpu}
+use Rattle.run_words.specs.Cpus.{IsAwayCpu, KnownCpuSeat}
 use Rattle.std.proofs.Common.{◌∙◌, List}
 use Rattle.stock_word.specs.declared.view.Stock.{Stock}
 use Rattle.stock_word.specs.declared.view.Stock.TheVariants.{DrainedOf, HeldBy}
@@ -18,7 +18,7 @@ exchange_stock-found-requires-clause-may c =
     let legal : MayDo t c.cpu.inside.past (Credit c.args.frame) =
     subst (λ (s : KnownPasts). MayDo t s (Credit c.args.frame)) (sym (ap (λ k. k.seat) c.cpu.view_is)) c.requires.legal in
     credits t (record { seat = c.cpu.inside.past; number = c.cpu.inside.number; last = c.cpu.inside.last }) c.args.frame c.in-HeldBy.group c.in-HeldBy.pages
-    (subst (IsCpu t) (sym c.cpu.view_is) c.requires.cpu) legal c.in-HeldBy.is
+    (subst (IsAwayCpu t) (sym c.cpu.view_is) c.requires.cpu) legal c.in-HeldBy.is
 
 pub returns-then-found-word : goal.returns-then-found-word
 returns-then-found-word c =

@@ -4,7 +4,7 @@ use Rattle.stock_word.specs.Stock.{word_of}
 use Rattle.boot_words.specs.Pasts.{KnownPasts, cpu_past, own_past}
 use Rattle.boot_words.specs.Seats.{zone_of_boot}
 use Rattle.run_words.specs.declared.word.Word.TheVariants.{StockOf}
-use Rattle.run_words.specs.Seats.{MayStep}
+use Rattle.run_words.specs.Seats.{MayChange}
 use Rattle.run_words.proofs.Lending.{Drains, cpu_of_drain, drained_none, drained_some, drains, looked_on, looks_to_drain}
 use Rattle.run_words.proofs.raw.RunWords.drain.Goals as goal
 
@@ -23,7 +23,7 @@ drain_of-requires-clause-may c =
     let g = c.in-Some.group in
     let on = looked_on t c.args.held.now c.args.cpu c.load-looked.result c.load-looked.new.seat c.of_word.result g c.requires.held c.load-looked.ensures.table c.load-looked.ensures.told
     c.of_word.ensures (sym c.group.ensures ∙ c.in-Some.is) in
-    subst (λ (s : KnownPasts). MayStep (zone_of_boot t) s.pasts (StockOf c.args.cpu) (λ n. word_of (DrainedOf g)) (Drains (zone_of_boot t) (own_past s) (cpu_past s) c.args.cpu)) (sym on.0)
+    subst (λ (s : KnownPasts). MayChange (zone_of_boot t) s.pasts (StockOf c.args.cpu) (λ n. word_of (DrainedOf g)) (Drains (zone_of_boot t) (own_past s) (cpu_past s) c.args.cpu)) (sym on.0)
     (drains t c.args.held.now c.args.cpu g c.requires.held c.requires.legal on.1 on.2)
 
 pub returns-in-None : goal.returns-in-None

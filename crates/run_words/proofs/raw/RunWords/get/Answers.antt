@@ -5,7 +5,7 @@ use Rattle.step_rules.specs.declared.step.Answer.TheVariants.{Held}
 use Rattle.boot_words.specs.Pasts.{KnownPasts, own_past}
 use Rattle.boot_words.specs.Seats.{zone_of_boot}
 use Rattle.run_words.specs.declared.word.Word.TheVariants.{OfFrame}
-use Rattle.run_words.specs.Seats.{MayStep}
+use Rattle.run_words.specs.Seats.{MayChange}
 use Rattle.run_words.proofs.Referring.{Adds}
 use Rattle.run_words.proofs.Calling.{adds, answers_full, answers_zero, frame_of_get, goes_on, made, same, sees}
 use Rattle.run_words.proofs.raw.RunWords.get.Goals as goal
@@ -35,7 +35,7 @@ exchange-found-requires-clause-may c =
     let some = c.if-seen-eq0.false in
     let high = c.if-seen-gt-MAX_REFERENCES.false in
     let room = c.if-seen-eq-MAX_REFERENCES.false in
-    subst (λ (s : KnownPasts). MayStep (zone_of_boot c.args.self.now) s.pasts (OfFrame c.args.frame) (λ n. either (n == seen) (seen + 1) n) (Adds (zone_of_boot c.args.self.now) (own_past s) c.args.frame seen))
+    subst (λ (s : KnownPasts). MayChange (zone_of_boot c.args.self.now) s.pasts (OfFrame c.args.frame) (λ n. either (n == seen) (seen + 1) n) (Adds (zone_of_boot c.args.self.now) (own_past s) c.args.frame seen))
     (sym (goes_on c.args.self.now c.args.cpu.now c.args.frame seen c.load-seen.new.seat c.requires.past c.load-seen.ensures.table some high room c.load-seen.ensures.told))
     (adds c.args.self.now c.args.cpu.now c.args.frame seen c.requires.past c.requires.legal (omega (arith, some)) (omega (arith, high, room)))
 

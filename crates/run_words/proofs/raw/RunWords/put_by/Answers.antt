@@ -1,10 +1,10 @@
 use Rattle.std.proofs.Common.{ap, sym, subst}
 use Rattle.boot_words.specs.Pasts.{put_said}
-use Rattle.run_words.specs.Cpus.{IsCpu, KnownCpu}
+use Rattle.run_words.specs.Cpus.{IsAwayCpu, KnownCpuSeat}
 use Rattle.run_words.proofs.Keeping.{keeps_put}
 use Rattle.run_words.proofs.raw.RunWords.put_by.Goals as goal
 
 pub returns-clause-cpu : goal.returns-clause-cpu
 returns-clause-cpu c =
     keeps_put c.args.self.now (record { seat = c.cpu.inside.past; number = c.cpu.inside.number; last = c.cpu.inside.last }) c.args.frame (put_said c.put.result) c.put.new.cpu
-    (subst (IsCpu c.args.self.now) (sym c.cpu.view_is) c.requires.cpu) c.put.ensures
+    (subst (IsAwayCpu c.args.self.now) (sym c.cpu.view_is) c.requires.cpu) c.put.ensures
