@@ -12,6 +12,7 @@ use Rattle.boot_words.specs.Seating.{no_past, word_count}
 use Rattle.boot_words.proofs.Booting.{a_boot_has_words}
 use Rattle.run_words.specs.Rule.{IsBeginning, RunRule, of_number}
 use Rattle.run_words.specs.Seats.{all_pasts, cpus_pasts}
+use Rattle.run_words.proofs.Counting.{case_le, is_high, is_low, is_none, is_own}
 
 zeros : (n k : ℕ) → slice_index (replicate n 0) k ≡ 0
 zeros zero k = refl
@@ -25,42 +26,24 @@ frame_zeros zone = drop-replicate (frame_base zone) (word_count zone) 0
 stock_zeros : (zone : Zone) → take {A = ℕ} (frame_base zone) (replicate (word_count zone) 0) ≡ replicate (frame_base zone) 0
 stock_zeros zone = take-replicate (frame_base zone) (word_count zone) 0 (omega arith)
 
-is_past : (q p : ℕ) → p ≡ q → of_number q (no_past p) ≡ 1
-is_past q p e = ap one_if (eq-eqb p q e)
-
-no_such_past : (q p : ℕ) → p ≢ q → of_number q (no_past p) ≡ 0
-no_such_past q p ne = ap one_if (ne_eqb p q ne)
-
 none_else : (q p n : ℕ) → ((k : ℕ) → p ≤ k → k < p + n → k ≢ q) → sum_over (of_number q) (cpus_pasts p n) ≡ 0
 none_else q p zero else = refl
 none_else q p (suc n) else =
-    let a = no_such_past q p (else p (omega arith) (omega arith)) in
+    let a = is_none (no_past p) q (else p (omega arith) (omega arith)) in
     let b = none_else q (p + 1) n (λ k low high. else k (omega (arith, low)) (omega (arith, high))) in omega (arith, a, b)
 
 one_among : (q p n : ℕ) → p ≤ q → q < p + n → sum_over (of_number q) (cpus_pasts p n) ≡ 1
 one_among q p zero low high = absurd (omega (arith, low, high))
 one_among q p (suc n) low high = dite (ℕ_discrete p q)
-    (λ e. let a = is_past q p e in let b = none_else q (p + 1) n (λ k above below same. absurd (omega (arith, e, above, same))) in omega (arith, a, b))
-    (λ ne. let a = no_such_past q p ne in let b = one_among q (p + 1) n (omega (arith, low, ne)) (omega (arith, high)) in omega (arith, a, b))
-
-case_le : (n m : ℕ) → (n ≤ m) ⊎ (m < n)
-case_le n m = elim (cases_Bool (nat_le n m)) [
-  | inl e ↦ inl (leb-true n m e)
-  | inr e ↦ inr (leb-false n m e)
-]
-
-is_low : (n m : ℕ) → n ≤ m → one_if (nat_le n m) ≡ 1
-is_low n m low = ap one_if (le-leb n m low)
-
-is_high : (n m : ℕ) → m < n → one_if (nat_le n m) ≡ 0
-is_high n m high = ap one_if (lt-leb n m high)
+    (λ e. let a = is_own (no_past p) q e in let b = none_else q (p + 1) n (λ k above below same. absurd (omega (arith, e, above, same))) in omega (arith, a, b))
+    (λ ne. let a = is_none (no_past p) q ne in let b = one_among q (p + 1) n (omega (arith, low, ne)) (omega (arith, high)) in omega (arith, a, b))
 
 one_each : (cpus q : ℕ) → sum_over (of_number q) (all_pasts cpus) + 0 ≡ one_if (nat_le q cpus)
 one_each cpus q = dite (ℕ_discrete 0 q)
-    (λ e. let a = is_past q 0 e in
+    (λ e. let a = is_own (no_past 0) q e in
     let b = none_else q 1 cpus (λ k low high same. absurd (omega (arith, low, same, e))) in
     let c = is_low q cpus (omega (arith, e)) in omega (arith, a, b, c))
-    (λ ne. let a = no_such_past q 0 ne in
+    (λ ne. let a = is_none (no_past 0) q ne in
     elim (case_le q cpus) [
       | inl low ↦ let b = one_among q 1 cpus (omega (arith, ne)) (omega (arith, low)) in let c = is_low q cpus low in omega (arith, a, b, c)
       | inr high ↦ let b = none_else q 1 cpus (λ k above below same. absurd (omega (arith, below, same, high))) in let c = is_high q cpus high in omega (arith, a, b, c)

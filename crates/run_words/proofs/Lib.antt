@@ -2,7 +2,10 @@ pub mod Booking
 pub mod Seats
 pub mod Growing
 pub mod Sharing
+pub mod Counting
 pub mod Beginning
+pub mod Dealing
+pub mod Closing
 pub mod Fast
 pub mod Referring
 pub mod Calling

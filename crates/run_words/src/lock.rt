@@ -36,7 +36,7 @@ impl RunWords {
         ensures cpu { IsAwayCpu self.now cpu.new }
     {
         let found = self.load::<Brand>(zone, Word::StockOf(cpu.number));
-        self.part(zone, &mut cpu.past);
+        cpu.past = self.split_others(zone);
         cpu.last = Stock::of_word(found);
     }
 

@@ -1,15 +1,19 @@
 //! The table and its seats. All atomic steps are made here, and each tells what its caller asks by `Telling`. What a
 //! caller can ask is what the rule allows of the step (`MayChange`).
-ghost use Rattle.std.specs.Prelude.{◌≡◌, ◌≤◌, ◌+◌, ◌-◌, ◌%◌, ◌^◌, ◌<◌, ◌==◌, ◌++◌, []};
+ghost use Rattle.std.specs.Prelude.{◌≡◌, ◌≤◌, ◌+◌, ◌-◌, ◌%◌, ◌^◌, ◌<◌, ◌==◌, ◌++◌, [], IfOk, MatchOption};
+ghost use Rattle.std.specs.Mem.Slots.{slots_items, slots_len, IsFull};
 ghost use prog.Atomic.{either};
+ghost use Rattle.boot_words.specs.Seating.{word_count};
 ghost use Rattle.boot_words.specs.Seats.{zone_of_boot};
+ghost use Rattle.run_words.specs.Closed.{IsEndOfRun};
 ghost use Rattle.run_words.specs.Rule.{run_rule};
 ghost use Rattle.run_words.specs.Seats.{all_pasts, first_alone, word_place, rest_of, IsInTable, MayChange};
 
 use crate::word::Word;
-use atomic_table::{Join, Play, Seat, Split, Table, TableRule};
+use atomic_table::{Closed, Join, Play, Seat, Split, Table, TableRule};
 use boot_words::Past;
-use std::alloc::Global;
+use frame_word::Frame;
+use std::alloc::{AllocError, Global};
 use std::collections::LinkedList;
 use std::marker::{Brand, Model, PhantomData};
 use std::mem;
@@ -120,6 +124,32 @@ impl Model for PastSeat {
 }
 
 impl RunWords {
+    /// How many frames the zone has: at least one.
+    pub fn frames(&self) -> u32
+        ensures { (result ≡ self.now.frames) × (1 ≤ self.now.frames) }
+    {
+        self.frames
+    }
+
+    /// The number of CPUs, 1 to 64.
+    pub fn cpus(&self) -> u32
+        ensures cpus { result ≡ self.now.cpus }
+        ensures few { (1 ≤ result) × (result ≤ 64) }
+    {
+        self.cpus
+    }
+
+    /// The frame of this number, or `None` if the zone has none.
+    pub fn frame(&self, number: u32) -> Option<Frame>
+        ensures { MatchOption result (self.now.frames ≤ number) (λ f. (f ≡ number) × (f < self.now.frames)) }
+    {
+        if number < self.frames {
+            Some(Frame::new(number))
+        } else {
+            None
+        }
+    }
+
     // The place of a word in the table. A CPU's row has sixteen words, so that no two CPUs' share a cache line.
     #[inline(always)]
     fn index(&self, word: Word) -> usize
@@ -224,15 +254,54 @@ impl RunWords {
         self.table.shared.join_seat::<Both>(&mut seat.seat, taken);
     }
 
-    /// The seat's first past stays, and the others go to the other seat, whose own pasts end here.
+    /// The seat's first past stays, and the others are in a seat of their own.
     #[inline(always)]
-    pub(crate) fn part(&self, seat: &mut PastSeat, other: &mut PastSeat)
+    pub(crate) fn split_others(&self, seat: &mut PastSeat) -> PastSeat
         requires table { seat.old.table ≡ self.now.table }
         ensures seat { seat.new ≡ record { table = self.now.table; pasts = first_alone seat.old.pasts } }
-        ensures other { other.new ≡ record { table = self.now.table; pasts = rest_of seat.old.pasts } }
+        ensures others { result ≡ record { table = self.now.table; pasts = rest_of seat.old.pasts } }
     {
-        *other = PastSeat {
+        PastSeat {
             seat: self.table.shared.split_seat::<Others>(&mut seat.seat),
+        }
+    }
+
+    /// A table of zeros, and one seat that has all pasts.
+    pub(crate) fn start(
+        alloc: Global,
+        frames: u32,
+        cpus: u32,
+    ) -> Result<(RunWords, PastSeat), AllocError>
+        requires frames { 1 ≤ frames }
+        requires cpus { (1 ≤ cpus) × (cpus ≤ 64) }
+        ensures sizes { IfOk result (λ r. (r.0.frames ≡ frames) × (r.0.cpus ≡ cpus)) }
+        ensures all { IfOk result (λ r. r.1 ≡ record { table = r.0.table; pasts = all_pasts cpus }) }
+    {
+        let rows = 16 * (cpus as usize + 1);
+        let words = vec![in alloc; 0u64; rows + (frames as usize + cpus as usize)]?;
+        let sizes = Sizes { frames, cpus };
+        let (table, seat) = Table::of_words(alloc, words.as_slice(), &sizes)?;
+        let words = RunWords {
+            table,
+            frames,
+            cpus,
         };
+        Ok((words, PastSeat { seat }))
+    }
+
+    /// Ends the table, of which `seat` is one seat.
+    pub(crate) fn end(self, seat: PastSeat) -> Closed<(), Global>
+        requires { seat.table ≡ self.table }
+        ensures counts { (slots_len result.words ≡ word_count (zone_of_boot self)) × (slots_len result.slots ≡ 0) }
+        ensures full { IsFull result.words }
+        ensures end { IsEndOfRun (zone_of_boot self) (slots_items result.words) seat.pasts }
+    {
+        let RunWords {
+            table,
+            frames: _,
+            cpus: _,
+        } = self;
+        let PastSeat { seat } = seat;
+        table.close_with(seat)
     }
 }

@@ -1,7 +1,7 @@
 use Rattle.std.proofs.Common.{◌∙◌, ap, sym}
 use Rattle.boot_words.proofs.Parting.{some_word}
 use Rattle.run_words.proofs.Sharing.{others_allowed}
-use Rattle.run_words.proofs.raw.RunWords.part.Goals as goal
+use Rattle.run_words.proofs.raw.RunWords.split_others.Goals as goal
 
 pub split_seat-requires : goal.split_seat-requires
 split_seat-requires c = (
