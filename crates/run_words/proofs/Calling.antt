@@ -14,6 +14,7 @@ use Rattle.step_rules.specs.declared.step.Answer.TheVariants.{Full, Held, Zero}
 use Rattle.step_rules.specs.State.{Zone, is_frame}
 use Rattle.step_rules.specs.Legal.{get_answer, is_legal}
 use Rattle.step_rules.specs.After.{state_of, IsLegalRun}
+use Rattle.step_rules.specs.Views.{holds_lock}
 use Rattle.step_rules.proofs.Freeing.{zone_of_run}
 use Rattle.step_rules.proofs.LegalTests.{get_tests, put_tests}
 use Rattle.step_rules.proofs.SoundSteps.{below_frames}
@@ -26,7 +27,7 @@ use Rattle.run_words.specs.declared.word.Word.TheVariants.{OfFrame}
 use Rattle.run_words.specs.Calls.{CpuMakes}
 use Rattle.run_words.specs.Seats.{MayChange}
 use Rattle.run_words.proofs.Fast.{Made}
-use Rattle.run_words.proofs.Referring.{Adds, Puts, Sees, full_not_held, may_add, may_put, may_see, zero_not_held}
+use Rattle.run_words.proofs.Referring.{Adds, Puts, SawWord, Sees, full_not_held, may_add, may_put, may_see, zero_not_held}
 
 pub not_zone : (t : KnownTable) (s : KnownPasts) → IsCpuPast t s → (own_past s).number ≢ 0
 not_zone t s is none = let low = is.low in absurd (omega (arith, low, none))
@@ -46,14 +47,14 @@ pub sees : (t : KnownTable) (s : KnownPasts) (f : ℕ) → IsCpuPast t s → May
     → MayChange (zone_of_boot t) s.pasts (OfFrame f) (λ n. n) (Sees (zone_of_boot t) (own_past s) f)
 sees t s f is legal =
     let zone = zone_of_boot t in
-    subst (λ (l : List Past). MayChange zone l (OfFrame f) (λ n. n) (Sees zone (own_past s) f)) (sym is.alone) (may_see zone (own_past s) f (not_zone t s is) legal)
+    subst (λ (l : List Past). MayChange zone l (OfFrame f) (λ n. n) (Sees zone (own_past s) f)) (sym is.alone)
+    (may_see zone (own_past s) f (not_zone t s is) (frame_of_get t s f legal) legal)
 
-pub adds : (t : KnownTable) (s : KnownPasts) (f seen : ℕ) → IsCpuPast t s → MayDo t s (Get f) → 1 ≤ seen → seen < most_references
-    → MayChange (zone_of_boot t) s.pasts (OfFrame f) (λ n. either (n == seen) (seen + 1) n) (Adds (zone_of_boot t) (own_past s) f seen)
-adds t s f seen is legal low high =
-    let zone = zone_of_boot t in
-    subst (λ (l : List Past). MayChange zone l (OfFrame f) (λ n. either (n == seen) (seen + 1) n) (Adds zone (own_past s) f seen)) (sym is.alone)
-    (may_add zone (own_past s) f seen (not_zone t s is) low high legal)
+pub adds : (t : KnownTable) (s : KnownPasts) (f seen : ℕ) (saw : List Past) → IsCpuPast t s → holds_lock (own_past s).number (state_of (zone_of_boot t) (own_past s).seen).hold ≡ false
+    → MayDo t s (Get f) → 1 ≤ seen → seen < most_references → SawWord (zone_of_boot t) (own_past s) f seen saw
+    → MayChange (zone_of_boot t) saw (OfFrame f) (λ n. either (n == seen) (seen + 1) n) (Adds (zone_of_boot t) (own_past s) f seen)
+adds t s f seen saw is away legal low high w =
+    may_add (zone_of_boot t) (own_past s) f seen saw (not_zone t s is) away (frame_of_get t s f legal) low high legal w
 
 pub puts : (t : KnownTable) (s : KnownPasts) (f : ℕ) → IsCpuPast t s → MayDo t s (Put f)
     → MayChange (zone_of_boot t) s.pasts (OfFrame f) (λ n. (n + (2 ^ 64 - 1)) % 2 ^ 64) (Puts (zone_of_boot t) (own_past s) f)
@@ -119,8 +120,7 @@ pub answers_full : (t : KnownTable) (s : KnownPasts) (f found : ℕ) (s' : Known
     → found ≡ 255 → Sees (zone_of_boot t) (own_past s) f found s'.pasts → CpuMakes t s (Get f) Full s'
 answers_full t s f found s' is table e told = refuses t s f found Full s' is table (ap get_answer e) full_not_held told
 
--- behind the load of a get that goes on, the seat knows what it knew
-pub goes_on : (t : KnownTable) (s : KnownPasts) (f found : ℕ) (s' : KnownPasts) → IsCpuPast t s → s'.table ≡ s.table
-    → ((found ≡ 0) → ⊥) → found ≤ 255 → ((found ≡ 255) → ⊥) → Sees (zone_of_boot t) (own_past s) f found s'.pasts → s' ≡ s
-goes_on t s f found s' is table some high room told =
-    same t s s' is table (told.goes_on (held_answer found (omega (arith, some)) (omega (arith, high, room))))
+-- after the load of a get that goes on, the seat saw the word
+pub goes_on : (t : KnownTable) (s : KnownPasts) (f found : ℕ) (later : List Past) → ((found ≡ 0) → ⊥) → found ≤ 255 → ((found ≡ 255) → ⊥)
+    → Sees (zone_of_boot t) (own_past s) f found later → SawWord (zone_of_boot t) (own_past s) f found later
+goes_on t s f found later some high room told = told.goes_on (held_answer found (omega (arith, some)) (omega (arith, high, room)))

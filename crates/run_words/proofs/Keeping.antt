@@ -77,4 +77,4 @@ pub keeps_gets : (t : KnownTable) (c : KnownCpuSeat) (f : ℕ) (answer : gets.Ge
 keeps_gets t c f said.Held s' is m = keeps_get t c f Held s' is m
 keeps_gets t c f said.Zero s' is m = keeps_get t c f Zero s' is m
 keeps_gets t c f said.Full s' is m = keeps_get t c f Full s' is m
-keeps_gets t c f (said.Raced n) s' is m = subst (λ (s : KnownPasts). IsAwayCpu t (record { seat = s; number = c.number; last = c.last })) (sym m) is
+keeps_gets t c f (said.Raced n) s' is m = subst (λ (s : KnownPasts). IsAwayCpu t (record { seat = s; number = c.number; last = c.last })) (sym m.0) is

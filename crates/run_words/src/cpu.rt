@@ -4,16 +4,15 @@ ghost use prog.Atomic.{either};
 ghost use Rattle.stock_word.specs.declared.view.Stock.TheVariants.{HeldBy};
 ghost use Rattle.stock_word.specs.Stock.{word_of, HasWord};
 ghost use Rattle.step_rules.specs.declared.step.Action.TheVariants as step;
-ghost use Rattle.boot_words.specs.Pasts.{put_said, MayDo};
+ghost use Rattle.boot_words.specs.Pasts.{MayDo};
 ghost use Rattle.boot_words.specs.Seats.{zone_of_boot};
 ghost use Rattle.run_words.specs.declared.word.Word.TheVariants.{StockOf};
-ghost use Rattle.run_words.specs.Calls.{GetsReference, CpuMakes};
 ghost use Rattle.run_words.specs.Cpus.{ConsumesPage, CreditsPage, IsAwayCpu};
 ghost use Rattle.run_words.specs.Seats.{MayChange};
 
 use crate::raw::{RunWords, PastSeat, Telling};
 use crate::word::Word;
-use frame_word::{Frame, Get, Put};
+use frame_word::Frame;
 use std::marker::{Brand, Model};
 use stock_word::{Consume, Credit, Stock};
 
@@ -132,29 +131,5 @@ impl RunWords {
             Stock::DrainedOf { group: _ } => Credit::Drained,
             Stock::NoGroup => Credit::Drained,
         }
-    }
-}
-
-impl RunWords {
-    /// A get by the CPU, which still knows its stock.
-    pub fn get_by(&self, cpu: &mut CpuSeat, frame: Frame) -> Get
-        requires cpu { IsAwayCpu self.now cpu.old }
-        requires legal { MayDo self.now cpu.old.seat (step.Get frame) }
-        ensures run { GetsReference self.now cpu.old.seat frame result cpu.new.seat }
-        ensures cpu { IsAwayCpu self.now cpu.new }
-        ensures same { (cpu.new.number ≡ cpu.old.number) × (cpu.new.last ≡ cpu.old.last) }
-    {
-        self.get(&mut cpu.past, frame)
-    }
-
-    /// A put by the CPU, which still knows its stock.
-    pub fn put_by(&self, cpu: &mut CpuSeat, frame: Frame) -> Put
-        requires cpu { IsAwayCpu self.now cpu.old }
-        requires legal { MayDo self.now cpu.old.seat (step.Put frame) }
-        ensures run { CpuMakes self.now cpu.old.seat (step.Put frame) (put_said result) cpu.new.seat }
-        ensures cpu { IsAwayCpu self.now cpu.new }
-        ensures same { (cpu.new.number ≡ cpu.old.number) × (cpu.new.last ≡ cpu.old.last) }
-    {
-        self.put(&mut cpu.past, frame)
     }
 }

@@ -1,11 +1,5 @@
-use Rattle.boot_words.specs.Seats.{zone_of_boot}
 use Rattle.boot_words.specs.Pasts.{own_past}
-use Rattle.run_words.specs.Seats.{frame_of_word}
-use Rattle.run_words.proofs.Referring.{Adds, Sees}
 use Rattle.run_words.proofs.raw.RunWords.get.Given as goal
 
-abbrev pub ghosts-load : goal.ghosts-load
-ghosts-load a = record { told = Sees (zone_of_boot a.self.now) (own_past a.seat.now) (frame_of_word a.word) }
-
-abbrev pub ghosts-exchange : goal.ghosts-exchange
-ghosts-exchange a = record { told = Adds (zone_of_boot a.self.now) (own_past a.seat.now) (frame_of_word a.word) a.old }
+abbrev pub ghost-get_since : goal.ghost-get_since
+ghost-get_since a = own_past a.seat.now
