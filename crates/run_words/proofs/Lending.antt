@@ -110,7 +110,7 @@ pub record StockFound (zone : Zone) (c : Past) (cpu found : ℕ) : Type 0 where
   pub word : found ≡ word_of stock
   pub group : group_of stock ≡ ((local_seen zone c).parts cpu).stock.group
 
-stock_found : (zone : Zone) (b : Board (Unit {0}) (List Past)) (k : run_rule zone b) (id : ℕ) (z c : Past) (cpu : ℕ) → get_elem? b.views id ≡ some (z ∷ c ∷ [])
+pub stock_found : (zone : Zone) (b : Board (Unit {0}) (List Past)) (k : run_rule zone b) (id : ℕ) (z c : Past) (cpu : ℕ) → get_elem? b.views id ≡ some (z ∷ c ∷ [])
     → HoldsLock zone z c (local_seen zone c) → 1 ≤ cpu → cpu ≤ zone.cpus → StockFound zone c cpu (slice_index b.words (stock_index cpu))
 stock_found zone b k id z c cpu at holds low high =
     let s = state_of zone k.run in
@@ -180,7 +180,7 @@ drains t s cpu g is legal group few =
     (r.0, r.1, r.2, r.3, (r.4.0, record { stock = there.stock; fits = there.fits; word = there.word; made = r.4.1 })))
 
 -- ---- the answers of a drain
-group_few : (s : Stock) (g : ℕ) → HasWord s → group_of s ≡ Some g → g < 64
+pub group_few : (s : Stock) (g : ℕ) → HasWord s → group_of s ≡ Some g → g < 64
 group_few NoGroup g h e = absurd (let a : None ≡ Some g = e in cc)
 group_few (HeldBy k n) g h e = let a : Some k ≡ Some g = e in let b : k ≡ g = cc in subst (λ x. x < 64) b h.0
 group_few (DrainedOf k) g h e = let a : Some k ≡ Some g = e in let b : k ≡ g = cc in subst (λ x. x < 64) b h

@@ -17,4 +17,6 @@ pub mod Prepaying
 pub mod Counts
 pub mod Lending
 pub mod InTurn
+pub mod HandOver
+pub mod Looking
 pub mod Keeping

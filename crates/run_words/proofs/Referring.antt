@@ -128,7 +128,7 @@ pub full_not_held : Full ≡ Held → ⊥
 full_not_held e = cc
 
 -- the word of a frame of the zone is the one that the run's state says
-word_now : (zone : Zone) (words : Words) (run : Run) (f : ℕ) → IsRunOf zone words run → f < zone.frames → frame_word (state_of zone run) f ≡ frame_word_at words f
+pub word_now : (zone : Zone) (words : Words) (run : Run) (f : ℕ) → IsRunOf zone words run → f < zone.frames → frame_word (state_of zone run) f ≡ frame_word_at words f
 word_now zone words run f is inside = sym (is.frames.frame f (subst (λ (z : Zone). f < z.frames) (sym (zone_of_run zone run)) inside))
 
 pub may_see : (zone : Zone) (p : Past) (f : ℕ) → p.number ≢ 0 → f < zone.frames → is_legal (state_of zone p.seen) p.number (Get f) ≡ true

@@ -90,7 +90,7 @@ fills t s cpu g n is high fits none legal =
     (small_fill (state_of zone k.run) 0 cpu g n empty fits.1 k.small))
 
 -- ---- the frame of a step is one of the table
-zone_seen : (t : KnownTable) (s : KnownPasts) → (local_seen (zone_of_boot t) (cpu_past s)).zone ≡ zone_of_boot t
+pub zone_seen : (t : KnownTable) (s : KnownPasts) → (local_seen (zone_of_boot t) (cpu_past s)).zone ≡ zone_of_boot t
 zone_seen t s = zone_of_run (zone_of_boot t) (cpu_past s).seen
 
 pub frame_of_freeze : (t : KnownTable) (s : KnownPasts) (f count : ℕ) → MayMake t s 0 (Freeze f count) → f < t.frames

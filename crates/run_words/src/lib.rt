@@ -4,14 +4,17 @@
 
 mod closed;
 mod cpu;
+mod in_turn;
 pub mod laws;
 mod lock;
+mod looks;
 mod noting;
 mod opening;
 mod raw;
 mod references;
 mod word;
-mod zone;
+mod zone_frames;
+mod zone_stocks;
 
 pub use closed::ClosedWords;
 pub use cpu::CpuSeat;
