@@ -19,4 +19,5 @@ pub mod Lending
 pub mod InTurn
 pub mod HandOver
 pub mod Looking
+pub mod Meeting
 pub mod Keeping

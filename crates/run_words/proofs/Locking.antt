@@ -59,10 +59,10 @@ pub record Takes (zone : Zone) (z c : Past) (found : ℕ) (later : List Past) : 
   pub found_state : hide (state_of zone zone_past.seen) ≡ record (hide (state_of zone z.seen)) { hold = HeldBy c.number }
   pub own : HasSameLists c.number (state_of zone c.seen) (state_of zone cpu_past.seen)
 
-not_none : (zone : Zone) (cpu : ℕ) → is_cpu zone cpu ≡ true → cpu ≢ 0
+pub not_none : (zone : Zone) (cpu : ℕ) → is_cpu zone cpu ≡ true → cpu ≢ 0
 not_none zone cpu is none = let range = cpu_range zone cpu is in let low = range.0 in absurd (omega (arith, low, none))
 
-in_range : (zone : Zone) (cpu : ℕ) → 1 ≤ cpu → cpu ≤ zone.cpus → is_cpu zone cpu ≡ true
+pub in_range : (zone : Zone) (cpu : ℕ) → 1 ≤ cpu → cpu ≤ zone.cpus → is_cpu zone cpu ≡ true
 in_range zone cpu low high = grind arith
 
 may_lock : (zone : Zone) (z c : Past) → z.number ≡ 0 → is_cpu zone c.number ≡ true → LeavesFree zone z → MayChange zone (z ∷ c ∷ []) Quiet (λ n. n) (Takes zone z c)

@@ -2,12 +2,13 @@
 ghost use Rattle.std.specs.Prelude.{◌≡◌, []};
 ghost use Rattle.step_rules.specs.declared.step.Action.TheVariants as step;
 ghost use Rattle.boot_words.specs.Locks.{LeavesFree};
+ghost use Rattle.boot_words.specs.Pasts.{local_by_pasts, own_past, IsHeld, IsHolder, IsZonePast, Locks, MayMake, Meets, Unlocks};
 ghost use Rattle.boot_words.specs.Seats.{zone_of_boot};
-ghost use Rattle.boot_words.specs.Pasts.{own_past, IsCpuPast, IsHeld, IsHolder, IsZonePast, Locks, MayMake, Unlocks};
-ghost use Rattle.run_words.specs.Cpus.{IsAwayCpu};
+ghost use Rattle.boot_words.specs.Words.{stock_in};
+ghost use Rattle.run_words.specs.Cpus.{IsAwayCpu, SawLast};
 
 use crate::cpu::CpuSeat;
-use crate::raw::{RunWords, PastSeat};
+use crate::raw::{PastSeat, RunWords};
 use crate::word::Word;
 use std::marker::Brand;
 use stock_word::Stock;
@@ -15,14 +16,15 @@ use stock_word::Stock;
 impl RunWords {
     /// A CPU takes the lock, which is free by the zone's past. The zone's seat has the CPU's past too from then on, and
     /// the CPU's seat has none.
-    pub fn lock(&self, zone: &mut PastSeat, cpu: &mut PastSeat)
+    pub fn lock(&self, zone: &mut PastSeat, cpu: &mut CpuSeat)
         requires zone { IsZonePast self.now zone.old }
-        requires cpu { IsCpuPast self.now cpu.old }
+        requires cpu { IsAwayCpu self.now cpu.old }
         requires free { LeavesFree (zone_of_boot self.now) (own_past zone.old) }
-        ensures run { Locks self.now zone.old cpu.old zone.new }
-        ensures cpu { cpu.new ≡ record { table = self.now.table; pasts = [] } }
+        ensures run { Locks self.now zone.old cpu.old.seat zone.new }
+        ensures last { SawLast (stock_in ((local_by_pasts self.now zone.new).parts cpu.old.number)) cpu.old.last }
+        ensures cpu { cpu.new ≡ record cpu.old { seat = record { table = self.now.table; pasts = [] } } }
     {
-        self.join(zone, cpu);
+        self.join(zone, &mut cpu.past);
         self.load::<Brand>(zone, Word::Quiet);
     }
 
@@ -40,14 +42,19 @@ impl RunWords {
         cpu.last = Stock::of_word(found);
     }
 
-    /// A CPU takes the lock with its seat, which has no past then.
-    pub fn lock_by(&self, zone: &mut PastSeat, cpu: &mut CpuSeat)
+    /// A CPU, which doesn't hold the lock, and the zone now see the same run: all steps that either saw, and all that
+    /// others have made. No step is made. It is for a caller that has to know in which order several CPUs made their
+    /// steps: the CPU's next step comes after all steps that the zone saw.
+    pub fn meet(&self, zone: &mut PastSeat, cpu: &mut CpuSeat)
         requires zone { IsZonePast self.now zone.old }
-        requires cpu { IsCpuPast self.now cpu.old.seat }
+        requires cpu { IsAwayCpu self.now cpu.old }
         requires free { LeavesFree (zone_of_boot self.now) (own_past zone.old) }
-        ensures run { Locks self.now zone.old cpu.old.seat zone.new }
-        ensures cpu { cpu.new ≡ record cpu.old { seat = record { table = self.now.table; pasts = [] } } }
+        ensures run { Meets self.now zone.old cpu.old.seat zone.new cpu.new.seat }
+        ensures cpu { IsAwayCpu self.now cpu.new }
+        ensures same { (cpu.new.number ≡ cpu.old.number) × (cpu.new.last ≡ cpu.old.last) }
     {
-        self.lock(zone, &mut cpu.past);
+        self.join(zone, &mut cpu.past);
+        self.load::<Brand>(zone, Word::Quiet);
+        cpu.past = self.split_others(zone);
     }
 }

@@ -1,6 +1,8 @@
 //! A new table.
 ghost use Rattle.std.specs.Prelude.{◌≡◌, ◌≤◌, IfOk};
 ghost use Rattle.stock_word.specs.declared.view.Stock.TheVariants.{NoGroup};
+ghost use Rattle.boot_words.specs.Rule.{AllOf};
+ghost use Rattle.run_words.specs.Cpus.{IsAwayCpu};
 ghost use Rattle.run_words.specs.Opening.{cpus_at_first, seat_at_first};
 ghost use Rattle.run_words.specs.Seats.{cpus_pasts, first_alone, rest_of};
 
@@ -24,6 +26,7 @@ impl RunWords {
         ensures sizes { IfOk result (λ r. (r.0.frames ≡ frames) × (r.0.cpus ≡ cpus)) }
         ensures zone { IfOk result (λ r. r.1 ≡ seat_at_first r.0.table 0) }
         ensures cpus { IfOk result (λ r. r.2.items ≡ cpus_at_first r.0.table 1 cpus) }
+        ensures away { IfOk result (λ r. AllOf (IsAwayCpu r.0) r.2.items) }
     {
         let (words, mut zone) = RunWords::start(alloc, frames, cpus)?;
         let mut rest = words.split_others(&mut zone);
