@@ -10,7 +10,7 @@ use Rattle.step_rules.specs.State.{Zone, one_if}
 use Rattle.boot_words.specs.Rule.{AllOf, frame_base, words_in}
 use Rattle.boot_words.specs.Seating.{no_past, word_count}
 use Rattle.boot_words.proofs.Booting.{a_boot_has_words}
-use Rattle.run_words.specs.Rule.{IsBeginning, RunRule, of_number}
+use Rattle.run_words.specs.Rule.{BeginsRun, RunRule, of_number}
 use Rattle.run_words.specs.Seats.{all_pasts, cpus_pasts}
 use Rattle.run_words.proofs.Counting.{case_le, is_high, is_low, is_none, is_own}
 
@@ -49,10 +49,10 @@ one_each cpus q = dite (ℕ_discrete 0 q)
       | inr high ↦ let b = none_else q 1 cpus (λ k above below same. absurd (omega (arith, below, same, high))) in let c = is_high q cpus high in omega (arith, a, b, c)
     ])
 
-first_begins : (zone : Zone) (number : ℕ) → IsBeginning zone [] (no_past number)
+first_begins : (zone : Zone) (number : ℕ) → BeginsRun zone [] (no_past number)
 first_begins zone number = record { goes = record { rest = []; is = refl; others = tt }; fast = λ lock. tt }
 
-cpus_begin : (zone : Zone) (p n : ℕ) → AllOf (IsBeginning zone []) (cpus_pasts p n)
+cpus_begin : (zone : Zone) (p n : ℕ) → AllOf (BeginsRun zone []) (cpus_pasts p n)
 cpus_begin zone p zero = tt
 cpus_begin zone p (suc n) = (first_begins zone p, cpus_begin zone (p + 1) n)
 

@@ -14,7 +14,7 @@ use Rattle.boot_words.specs.Rule.{AllOf}
 use Rattle.boot_words.proofs.Seats.{all_at}
 use Rattle.run_words.specs.Closed.{HasCpuPast, IsClosedRun, IsEndOfRun, pasts_of_cpus}
 use Rattle.run_words.specs.Cpus.{KnownCpuSeat}
-use Rattle.run_words.specs.Rule.{IsBeginning, RunRule, of_number, run_rule}
+use Rattle.run_words.specs.Rule.{BeginsRun, RunRule, of_number, run_rule}
 use Rattle.run_words.proofs.Counting.{all_low, case_le, count_all, each_one, is_high, is_low}
 
 pub end_of_run : (zone : Zone) (id : ℕ) (pasts : List Past) (words : List ℕ) (slots : List (Unit {0})) → Final (Seen (run_rule zone) id pasts) words slots
@@ -26,7 +26,7 @@ end_of_run zone id pasts words slots final =
       run = k.run;
       is = k.is;
       small = k.small;
-      begin = all_at (AllOf (IsBeginning zone k.run)) s.views id pasts at k.fits;
+      begin = all_at (AllOf (BeginsRun zone k.run)) s.views id pasts at k.fits;
       few = λ number. let a = total_member (of_number number) s.views id pasts at in let b = k.one_past number in omega (arith, a, b);
     }
 

@@ -23,7 +23,7 @@ use Rattle.boot_words.proofs.Growing.{grown, grown_legal}
 use Rattle.boot_words.proofs.Lasting.{fast_legality_lasts}
 use Rattle.boot_words.proofs.Seats.{all_at}
 use Rattle.boot_words.proofs.Stepping.{words_follow}
-use Rattle.run_words.specs.Rule.{IsBeginning, RunRule, of_number, run_rule}
+use Rattle.run_words.specs.Rule.{BeginsRun, RunRule, of_number, run_rule}
 use Rattle.run_words.proofs.Booking.{IsNoFill, small_step}
 use Rattle.run_words.proofs.Growing.{notes_alone, notes_nothing}
 
@@ -47,8 +47,8 @@ fast_no_fill (Credit f) fast = tt
 fast_no_fill action fast = absurd fast
 
 -- what the rule knows of a seat that has one past
-pub past_begins : (zone : Zone) (s : Board (Unit {0}) (List Past)) (k : run_rule zone s) (id : ℕ) (p : Past) → get_elem? s.views id ≡ some (p ∷ []) → IsBeginning zone k.run p
-past_begins zone s k id p at = (all_at (AllOf (IsBeginning zone k.run)) s.views id (p ∷ []) at k.fits).0
+pub past_begins : (zone : Zone) (s : Board (Unit {0}) (List Past)) (k : run_rule zone s) (id : ℕ) (p : Past) → get_elem? s.views id ≡ some (p ∷ []) → BeginsRun zone k.run p
+past_begins zone s k id p at = (all_at (AllOf (BeginsRun zone k.run)) s.views id (p ∷ []) at k.fits).0
 
 pub legal_still : (zone : Zone) (s : Board (Unit {0}) (List Past)) (k : run_rule zone s) (id : ℕ) (p : Past) (action : Action) → get_elem? s.views id ≡ some (p ∷ [])
     → p.number ≢ 0 → IsFast action → is_legal (state_of zone p.seen) p.number action ≡ true → is_legal (state_of zone k.run) p.number action ≡ true
@@ -100,7 +100,7 @@ makes zone s k id j x p action answer at ne fast legal changes =
 
 -- no step is made, and the seat's pasts become these
 pub sees_run : (zone : Zone) (s : Board (Unit {0}) (List Past)) (k : run_rule zone s) (id j x : ℕ) (old new : List Past) (told : List Past → Type 0) → get_elem? s.views id ≡ some old
-    → x ≡ slice_index s.words j → ((q : ℕ) → sum_over (of_number q) new ≡ sum_over (of_number q) old) → AllOf (IsBeginning zone k.run) new → told new
+    → x ≡ slice_index s.words j → ((q : ℕ) → sum_over (of_number q) new ≡ sum_over (of_number q) old) → AllOf (BeginsRun zone k.run) new → told new
     → Leaves zone s id j x told
 sees_run zone s k id j x old new told at same counts fits tells =
     (new, keeps, tt, notes_nothing zone s.words s.views k id j x old new at same counts fits, (refl, tells))
@@ -108,4 +108,4 @@ sees_run zone s k id j x old new told at same counts fits tells =
 pub stays : (zone : Zone) (s : Board (Unit {0}) (List Past)) (k : run_rule zone s) (id j x : ℕ) (old : List Past) → get_elem? s.views id ≡ some old → x ≡ slice_index s.words j
     → Leaves zone s id j x (λ later. later ≡ old)
 stays zone s k id j x old at same =
-    sees_run zone s k id j x old old (λ later. later ≡ old) at same (λ q. refl) (all_at (AllOf (IsBeginning zone k.run)) s.views id old at k.fits) refl
+    sees_run zone s k id j x old old (λ later. later ≡ old) at same (λ q. refl) (all_at (AllOf (BeginsRun zone k.run)) s.views id old at k.fits) refl

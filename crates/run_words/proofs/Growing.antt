@@ -29,7 +29,7 @@ use Rattle.boot_words.proofs.Growing.{grown}
 use Rattle.boot_words.proofs.Holding.{append_none}
 use Rattle.boot_words.proofs.Owning.{fold_on}
 use Rattle.boot_words.proofs.Seats.{all_set}
-use Rattle.run_words.specs.Rule.{AllPasts, AreFast, HasLock, IsBeginning, RunRule, of_number}
+use Rattle.run_words.specs.Rule.{AllPasts, AreFast, HasLock, BeginsRun, RunRule, of_number}
 use Rattle.run_words.proofs.Booking.{AreSmall, small_more}
 use Rattle.run_words.proofs.Seats.{counts_same, seats_set}
 
@@ -75,7 +75,7 @@ fast_leaves [] fast = tt
 fast_leaves (e ∷ run) fast = (fast_unlocked e.0.action fast.0, fast_leaves run fast.1)
 
 -- the rule of boot_words asks less of a past
-pub past_of_run : (zone : Zone) (run : Run) (p : Past) → IsBeginning zone run p → IsPastOf run p
+pub past_of_run : (zone : Zone) (run : Run) (p : Past) → BeginsRun zone run p → IsPastOf run p
 past_of_run zone run p fits = record { goes = fits.goes; leaves_lock = λ zeroth. fast_leaves fits.goes.rest (fits.fast (inl zeroth)) }
 
 -- ---- who holds the lock
@@ -112,8 +112,8 @@ others_go p run e ne goes = record {
   others = none_more p.number goes.rest e goes.others ne;
 }
 
-other_after_fast : (zone : Zone) (run : Run) (e : Step × Answer) (p : Past) → IsFast e.0.action → of_number e.0.seat p ≡ 0 → IsBeginning zone run p
-    → IsBeginning zone (run ++ e ∷ []) p
+other_after_fast : (zone : Zone) (run : Run) (e : Step × Answer) (p : Past) → IsFast e.0.action → of_number e.0.seat p ≡ 0 → BeginsRun zone run p
+    → BeginsRun zone (run ++ e ∷ []) p
 other_after_fast zone run e p fast none fits = record {
   goes = others_go p run e (not_of e.0.seat p none) fits.goes;
   fast = λ lock. fast_more fits.goes.rest e (fits.fast lock) fast;
@@ -134,7 +134,7 @@ abbrev pub IsOnlyHolder : Zone → Run → ℕ → Type 0
 IsOnlyHolder zone run cpu = (q : ℕ) → holds_lock q (state_of zone run).hold ≡ true → q ≡ cpu
 
 other_after_locked : (zone : Zone) (run : Run) (e : Step × Answer) (cpu : ℕ) (p : Past) → (e.0.seat ≡ 0) ⊎ (e.0.seat ≡ cpu) → IsOnlyHolder zone run cpu
-    → of_both cpu p ≡ 0 → IsBeginning zone run p → IsBeginning zone (run ++ e ∷ []) p
+    → of_both cpu p ≡ 0 → BeginsRun zone run p → BeginsRun zone (run ++ e ∷ []) p
 other_after_locked zone run e cpu p own holder none fits =
     let not_zone = not_of 0 p (left_none (of_number 0 p) (of_number cpu p) none) in
     let not_cpu = not_of cpu p (right_none (of_number 0 p) (of_number cpu p) none) in
@@ -153,7 +153,7 @@ other_after_locked zone run e cpu p own holder none fits =
     }
 
 -- ---- the pasts of the seat that notes the step
-pub grown_begins : (zone : Zone) (run : Run) (p : Past) (e : Step × Answer) (goes : OthersFollow p.number p.seen run) → IsBeginning zone (run ++ e ∷ []) (grown p goes.rest e)
+pub grown_begins : (zone : Zone) (run : Run) (p : Past) (e : Step × Answer) (goes : OthersFollow p.number p.seen run) → BeginsRun zone (run ++ e ∷ []) (grown p goes.rest e)
 grown_begins zone run p e goes = record {
   goes = record { rest = []; is = ap (λ l. l ++ e ∷ []) goes.is ∙ sym (append_none ((p.seen ++ goes.rest) ++ e ∷ [])); others = tt };
   fast = λ lock. tt;
@@ -170,8 +170,8 @@ at_most_one zone words seats k q = let one = k.one_past q in let few = at_most (
 -- the words and pasts that a step leaves keep the rule, if each past of another seat is a beginning still
 noted : (zone : Zone) (words : List ℕ) (seats : List (List Past)) (k : RunRule zone words seats) (id j x : ℕ) (old new : List Past) (e : Step × Answer) (weight : Past → ℕ)
     → get_elem? seats id ≡ some old → ((q : ℕ) → sum_over (of_number q) new ≡ sum_over (of_number q) old)
-    → ((p : Past) → weight p ≡ 0 → IsBeginning zone k.run p → IsBeginning zone (k.run ++ e ∷ []) p) → total_over weight seats ≤ sum_over weight old
-    → AllOf (IsBeginning zone (k.run ++ e ∷ [])) new → AreSmall (after (state_of zone k.run) e.0.seat e.0.action e.1) → IsRunOf zone (words_in zone (set words j x)) (k.run ++ e ∷ [])
+    → ((p : Past) → weight p ≡ 0 → BeginsRun zone k.run p → BeginsRun zone (k.run ++ e ∷ []) p) → total_over weight seats ≤ sum_over weight old
+    → AllOf (BeginsRun zone (k.run ++ e ∷ [])) new → AreSmall (after (state_of zone k.run) e.0.seat e.0.action e.1) → IsRunOf zone (words_in zone (set words j x)) (k.run ++ e ∷ [])
     → RunRule zone (set words j x) (set seats id new)
 noted zone words seats k id j x old new e weight at same others whole fits small now = record {
   run = k.run ++ e ∷ [];
@@ -179,7 +179,7 @@ noted zone words seats k id j x old new e weight at same others whole fits small
   wide = length-set words j x ∙ k.wide;
   small = small_more zone k.run e.0 e.1 small;
   one_past = λ number. counts_same seats id old new at same number ∙ k.one_past number;
-  fits = seats_set (IsBeginning zone k.run) (IsBeginning zone (k.run ++ e ∷ [])) weight others seats id old new at whole k.fits fits;
+  fits = seats_set (BeginsRun zone k.run) (BeginsRun zone (k.run ++ e ∷ [])) weight others seats id old new at whole k.fits fits;
 }
 
 has_own : (p : Past) → 1 ≤ sum_over (of_number p.number) (p ∷ [])
@@ -221,7 +221,7 @@ notes_both zone words seats k id j x z c step answer zone_goes goes at zeroth ow
 
 -- No step is made: the word stays, and the seat's pasts have seen more or less of the run.
 pub notes_nothing : (zone : Zone) (words : List ℕ) (seats : List (List Past)) (k : RunRule zone words seats) (id j x : ℕ) (old new : List Past) → get_elem? seats id ≡ some old
-    → x ≡ slice_index words j → ((q : ℕ) → sum_over (of_number q) new ≡ sum_over (of_number q) old) → AllOf (IsBeginning zone k.run) new
+    → x ≡ slice_index words j → ((q : ℕ) → sum_over (of_number q) new ≡ sum_over (of_number q) old) → AllOf (BeginsRun zone k.run) new
     → RunRule zone (set words j x) (set seats id new)
 notes_nothing zone words seats k id j x old new at stays same fits = record {
   run = k.run;
@@ -229,5 +229,5 @@ notes_nothing zone words seats k id j x old new at stays same fits = record {
   wide = length-set words j x ∙ k.wide;
   small = k.small;
   one_past = λ number. counts_same seats id old new at same number ∙ k.one_past number;
-  fits = all_set (AllOf (IsBeginning zone k.run)) seats id new fits k.fits;
+  fits = all_set (AllOf (BeginsRun zone k.run)) seats id new fits k.fits;
 }

@@ -44,7 +44,7 @@ use Rattle.boot_words.proofs.UnderLock.{same_seen}
 use Rattle.run_words.specs.declared.word.Word.TheVariants.{Quiet, StockOf}
 use Rattle.run_words.specs.Cpus.{IsAwayCpu, KnownCpuSeat}
 use Rattle.run_words.specs.Seats.{MayChange, first_alone, rest_of}
-use Rattle.run_words.specs.Rule.{IsBeginning}
+use Rattle.run_words.specs.Rule.{BeginsRun}
 use Rattle.run_words.proofs.Growing.{free_holder, past_of_run}
 use Rattle.run_words.proofs.UnderLock.{fits_both, only_holder, plain_step, shows_end, stands_at}
 
@@ -68,7 +68,7 @@ in_range zone cpu low high = grind arith
 may_lock : (zone : Zone) (z c : Past) → z.number ≡ 0 → is_cpu zone c.number ≡ true → LeavesFree zone z → MayChange zone (z ∷ c ∷ []) Quiet (λ n. n) (Takes zone z c)
 may_lock zone z c zone_is cpu free id s k homes at small =
     let q = c.number in
-    let all = all_at (AllOf (IsBeginning zone k.run)) s.views id (z ∷ c ∷ []) at k.fits in
+    let all = all_at (AllOf (BeginsRun zone k.run)) s.views id (z ∷ c ∷ []) at k.fits in
     let zone_fits : OthersFollow z.number z.seen k.run = all.0.goes in
     let fits : OthersFollow q c.seen k.run = all.1.0.goes in
     let made_step : Step = record { seat = q; action = Lock } in

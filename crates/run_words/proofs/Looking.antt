@@ -26,7 +26,7 @@ use Rattle.boot_words.proofs.Counting.{live_word}
 use Rattle.boot_words.proofs.Following.{stands_in}
 use Rattle.boot_words.proofs.Parts.{frame_reads}
 use Rattle.run_words.specs.declared.word.Word.TheVariants.{OfFrame, StockOf}
-use Rattle.run_words.specs.Looking.{CountsReferences}
+use Rattle.run_words.specs.Looking.{LoadsReferences}
 use Rattle.run_words.specs.Seats.{MayChange}
 use Rattle.run_words.proofs.Fast.{stays}
 use Rattle.run_words.proofs.HandOver.{StockHeld, cpu_of_held, stock_held}
@@ -99,7 +99,7 @@ group_fits t s cpu found later stock told decodes =
 
 -- ---- references
 pub record SeesReferences (t : KnownTable) (s : KnownPasts) (f found : ℕ) (later : List Past) : Type 0 where
-  pub counted : CountsReferences t s f found
+  pub counted : LoadsReferences t s f found
   pub own : (local_by_pasts t s).references 0 f ≤ found
   pub most : found ≤ most_references
   pub later_is : later ≡ own_past s ∷ cpu_past s ∷ []

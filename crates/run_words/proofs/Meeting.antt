@@ -30,7 +30,7 @@ use Rattle.boot_words.proofs.Seats.{all_at}
 use Rattle.run_words.specs.declared.word.Word.TheVariants.{Quiet}
 use Rattle.run_words.specs.Cpus.{IsAwayCpu, KnownCpuSeat, SawLast}
 use Rattle.run_words.specs.Opening.{cpu_at_first, cpus_at_first}
-use Rattle.run_words.specs.Rule.{IsBeginning}
+use Rattle.run_words.specs.Rule.{BeginsRun}
 use Rattle.run_words.specs.Seats.{MayChange, first_alone, rest_of}
 use Rattle.run_words.proofs.Fast.{Leaves, sees_run}
 use Rattle.run_words.proofs.Growing.{past_of_run}
@@ -53,7 +53,7 @@ pub record SeeSame (zone : Zone) (z c : Past) (found : ℕ) (later : List Past) 
 
 may_meet : (zone : Zone) (z c : Past) → z.number ≡ 0 → is_cpu zone c.number ≡ true → LeavesFree zone z → MayChange zone (z ∷ c ∷ []) Quiet (λ n. n) (SeeSame zone z c)
 may_meet zone z c zone_is cpu free id s k homes at small =
-    let all = all_at (AllOf (IsBeginning zone k.run)) s.views id (z ∷ c ∷ []) at k.fits in
+    let all = all_at (AllOf (BeginsRun zone k.run)) s.views id (z ∷ c ∷ []) at k.fits in
     let zone_goes = all.0.goes in
     let goes = all.1.0.goes in
     let rests : hide (state_of zone k.run) ≡ hide (state_of zone z.seen) = zone_rests zone k.run z k.is.legal (past_of_run zone k.run z all.0) zone_is free in

@@ -37,7 +37,7 @@ use Rattle.boot_words.proofs.Putting.{less_one, put_changes}
 use Rattle.run_words.specs.declared.word.Word.TheVariants.{OfFrame}
 use Rattle.run_words.specs.Seats.{MayChange}
 use Rattle.run_words.specs.Calls.{RacesAt}
-use Rattle.run_words.specs.Rule.{HasLock, IsBeginning}
+use Rattle.run_words.specs.Rule.{HasLock, BeginsRun}
 use Rattle.run_words.proofs.Fast.{Leaves, Made, legal_still, makes, past_begins, sees_run}
 use Rattle.run_words.proofs.Growing.{none_both}
 
@@ -83,7 +83,7 @@ says_left n e = cond-false (n == 1) Last (Left (n - 1)) (ne_eqb n 1 e)
 abbrev pub all_seen : Past → Run → Past
 all_seen p run = record { number = p.number; seen = run }
 
-pub all_begin : (zone : Zone) (run : Run) (p : Past) → IsBeginning zone run (all_seen p run)
+pub all_begin : (zone : Zone) (run : Run) (p : Past) → BeginsRun zone run (all_seen p run)
 all_begin zone run p = record { goes = record { rest = []; is = sym (append_none run); others = tt }; fast = λ lock. tt }
 
 -- the CPU's past has seen more of the run, after which the frame has this word
@@ -187,7 +187,7 @@ since zone p q action answer later more m = record {
 }
 
 -- the earlier past still is a beginning of the run
-begins_since : (zone : Zone) (p q : Past) (run : Run) → SeesMore p q → (HasLock zone p → ⊥) → OthersFollow q.number q.seen run → IsBeginning zone run p
+begins_since : (zone : Zone) (p q : Past) (run : Run) → SeesMore p q → (HasLock zone p → ⊥) → OthersFollow q.number q.seen run → BeginsRun zone run p
 begins_since zone p q run more away goes = record {
   goes = record {
     rest = more.between ++ goes.rest;

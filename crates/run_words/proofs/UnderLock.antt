@@ -29,7 +29,7 @@ use Rattle.boot_words.proofs.Seats.{all_at}
 use Rattle.boot_words.proofs.Stepping.{words_follow}
 use Rattle.boot_words.proofs.UnderLock.{legal_now, next_holds, shows_now}
 use Rattle.run_words.specs.declared.word.Word.{Word}
-use Rattle.run_words.specs.Rule.{IsBeginning, RunRule, run_rule}
+use Rattle.run_words.specs.Rule.{BeginsRun, RunRule, run_rule}
 use Rattle.run_words.specs.Seats.{MayChange}
 use Rattle.run_words.proofs.Booking.{AreSmall, IsNoFill, small_step}
 use Rattle.run_words.proofs.Fast.{Leaves}
@@ -38,7 +38,7 @@ use Rattle.run_words.proofs.Growing.{IsOnlyHolder, notes_both, one_holder}
 -- what the rule knows of a seat that has both pasts
 pub both_begin : (zone : Zone) (words : List ℕ) (seats : List (List Past)) (k : RunRule zone words seats) (id : ℕ) (z c : Past) → get_elem? seats id ≡ some (z ∷ c ∷ [])
     → OthersFollow z.number z.seen k.run × OthersFollow c.number c.seen k.run
-both_begin zone words seats k id z c at = let all = all_at (AllOf (IsBeginning zone k.run)) seats id (z ∷ c ∷ []) at k.fits in (all.0.goes, all.1.0.goes)
+both_begin zone words seats k id z c at = let all = all_at (AllOf (BeginsRun zone k.run)) seats id (z ∷ c ∷ []) at k.fits in (all.0.goes, all.1.0.goes)
 
 -- The rule holds, and a seat has the zone's past and that of the CPU which holds the lock.
 pub record Stands (zone : Zone) (words : List ℕ) (seats : List (List Past)) (id : ℕ) (z c : Past) : Type 0 where

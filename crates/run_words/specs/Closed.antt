@@ -9,7 +9,7 @@ use Rattle.boot_words.specs.Words.{IsRunOf}
 use Rattle.boot_words.specs.declared.view.Past.{Past}
 use Rattle.boot_words.specs.Rule.{AllOf, words_in}
 use Rattle.run_words.specs.Cpus.{KnownCpuSeat}
-use Rattle.run_words.specs.Rule.{IsBeginning, of_number}
+use Rattle.run_words.specs.Rule.{BeginsRun, of_number}
 
 -- the seat has the past of one of the CPUs
 abbrev pub HasCpuPast : KnownTable → KnownCpuSeat → Type 0
@@ -26,7 +26,7 @@ pub record IsEndOfRun (zone : Zone) (words : List ℕ) (pasts : List Past) : Typ
   pub run : Run
   pub is : IsRunOf zone (words_in zone words) run
   pub small : (cpu : ℕ) → ((state_of zone run).parts cpu).book < 65536
-  pub begin : AllOf (IsBeginning zone run) pasts
+  pub begin : AllOf (BeginsRun zone run) pasts
   pub few : (number : ℕ) → sum_over (of_number number) pasts ≤ one_if (nat_le number zone.cpus)
 
 -- The same of a table whose seats all were given back: the zone and each CPU have one past, and there is no other.

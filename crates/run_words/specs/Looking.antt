@@ -8,7 +8,7 @@ use Rattle.boot_words.specs.Runs.{OthersFollow}
 use Rattle.boot_words.specs.Seats.{zone_of_boot}
 
 -- the frame has this many references after a legal run that begins with the seat's pasts, after which the two seats made no step
-pub record CountsReferences (t : KnownTable) (s : KnownPasts) (f n : ℕ) : Type 0 where
+pub record LoadsReferences (t : KnownTable) (s : KnownPasts) (f n : ℕ) : Type 0 where
   pub run : Run
   pub zone_begins : OthersFollow (own_past s).number (own_past s).seen run
   pub cpu_begins : OthersFollow (cpu_past s).number (cpu_past s).seen run

@@ -22,7 +22,7 @@ HasLock zone p = (p.number ≡ 0) ⊎ (holds_lock p.number (state_of zone p.seen
 
 -- The past is a beginning of the run, after which its seat made no step. After the zone's past, and after that of the
 -- CPU which holds the lock, no step needs the lock.
-pub record IsBeginning (zone : Zone) (run : Run) (p : Past) : Type 0 where
+pub record BeginsRun (zone : Zone) (run : Run) (p : Past) : Type 0 where
   pub goes : OthersFollow p.number p.seen run
   pub fast : HasLock zone p → AreFast goes.rest
 
@@ -42,7 +42,7 @@ pub record RunRule (zone : Zone) (words : List ℕ) (seats : List (List Past)) :
   pub wide : length words ≡ word_count zone
   pub small : (cpu : ℕ) → ((state_of zone run).parts cpu).book < 65536
   pub one_past : (number : ℕ) → total_over (of_number number) seats ≡ one_if (nat_le number zone.cpus)
-  pub fits : AllPasts (IsBeginning zone run) seats
+  pub fits : AllPasts (BeginsRun zone run) seats
 
 -- the rule of a table's state
 abbrev pub run_rule : {S : Type 0} → Zone → Board S (List Past) → Type 0

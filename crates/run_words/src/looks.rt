@@ -4,7 +4,7 @@ ghost use Rattle.frame_word.specs.ReferenceRule.{most_references};
 ghost use Rattle.stock_word.specs.Stock.{HasWord};
 ghost use Rattle.boot_words.specs.Pasts.{local_by_pasts, IsHeld, IsHolder};
 ghost use Rattle.boot_words.specs.Words.{stock_in};
-ghost use Rattle.run_words.specs.Looking.{CountsReferences};
+ghost use Rattle.run_words.specs.Looking.{LoadsReferences};
 
 use crate::raw::{PastSeat, RunWords};
 use crate::word::Word;
@@ -42,7 +42,7 @@ impl RunWords {
         requires held { IsHeld self.now held.old }
         requires frame { frame < self.now.frames }
         requires reference { 1 ≤ (local_by_pasts self.now held.old).references 0 frame }
-        ensures counted { CountsReferences self.now held.old frame result }
+        ensures counted { LoadsReferences self.now held.old frame result }
         ensures own { (local_by_pasts self.now held.old).references 0 frame ≤ result }
         ensures most { result ≤ most_references }
         ensures same { held.new ≡ held.old }
