@@ -2,7 +2,7 @@
 use Rattle.std.proofs.Common.{◌≡◌, ◌≢◌, ℕ, ◌+◌, ◌<◌, ◌≤◌, zero, suc, List, [], ◌∷◌, ◌++◌, Option, Some, None, All, flat_map, get_or, length, refl, sym, ap, subst, ◌∙◌}
 use Rattle.std.proofs.Common.{append_assoc, append-nil, arith, inl, inr, length-append}
 use Rattle.std.specs.List.{AllByRecursion, AllZip}
-use Rattle.std.specs.Prelude.{◌⊎◌, Bool, is_some, true, false, drop, take}
+use Rattle.std.specs.Prelude.{◌⊎◌, Bool, is_some, true, false, drop, if◌then◌else◌, take}
 use Rattle.std.proofs.lemmas.List.{nil_from_length, take_more, take-append-drop}
 use Rattle.std.proofs.lemmas.Bool.{false≢true}
 use Rattle.std.proofs.lemmas.Grind.{flat_map-append}
@@ -24,9 +24,10 @@ use Rattle.log_check.specs.declared.progress.Progress.{Progress}
 use Rattle.log_check.specs.declared.progress.Taken.{Taken}
 use Rattle.log_check.specs.declared.progress.Taken.TheVariants.{GoesOn, NotLegal, Bad}
 use Rattle.log_check.specs.declared.line_fault.LineFault.{LineFault}
-use Rattle.log_check.specs.declared.line_fault.LineFault.TheVariants.{NoLine, NoLineFeed, NoSizes, SizesAgain, StepFirst, TooLong}
+use Rattle.log_check.specs.declared.line_fault.LineFault.TheVariants.{NoLineFeed, NoSizes, SizesAgain, StepFirst, TooLong}
+use Rattle.log_check.specs.declared.line_fault.LineFault.TheVariants.{ByteOrderMark, WideText, CarriageReturn, NoLine}
 use Rattle.log_check.specs.declared.verdict.IllegalStep.{IllegalStep}
-use Rattle.log_check.specs.Verdicts.{BreaksRules, IsBadLine, IsLogVerdict, IsMisplaced, IsWhy, IsPromisedLog, NamesLeftOut, zone_in}
+use Rattle.log_check.specs.Verdicts.{BeginsWith, BreaksRules, IsBadLine, IsLogVerdict, IsMisplaced, IsWhy, IsPromisedLog, NamesLeftOut, fault_of, is_marked, is_returned, is_wide, zone_in}
 use Rattle.log_check.specs.declared.verdict.LogEnd.{LogEnd}
 use Rattle.log_check.specs.Ends.{IsEnd, free_count}
 use Rattle.log_check.specs.Taking.{AreLeftOut, AreWholeLines, Checked, Concludes, EndsIllegally, HasChecked, HasRead, HasTakenLines, LeadsTo, ReadsOrJudges, TakesAfter}
@@ -171,7 +172,26 @@ why_misplaced StepFirst lines l t rest no_feed is misplaced = (t, l, record { mo
 why_misplaced NoSizes lines l t rest no_feed is misplaced = absurd misplaced
 why_misplaced NoLineFeed lines l t rest no_feed is misplaced = absurd misplaced
 why_misplaced TooLong lines l t rest no_feed is misplaced = absurd misplaced
+why_misplaced ByteOrderMark lines l t rest no_feed is misplaced = absurd misplaced
+why_misplaced WideText lines l t rest no_feed is misplaced = absurd misplaced
+why_misplaced CarriageReturn lines l t rest no_feed is misplaced = absurd misplaced
 why_misplaced NoLine lines l t rest no_feed is misplaced = absurd misplaced
+
+-- a line whose text is that of no line
+why_no_line : (lines : List LogLine) (t rest : List ℕ) → NoFeed t → ((l : LogLine) → ¬ IsLogLineText t l) → IsWhy (fault_of t) lines (t ++ 10 ∷ rest)
+why_no_line lines t rest no_feed none = by (is_marked t) (is_wide t) (is_returned t) refl
+  where
+    begins : BeginsWith t (t ++ 10 ∷ rest)
+    begins = record { more = rest; no_feed = no_feed; parts = refl }
+
+    fault_by : (a b c : Bool) → LineFault
+    fault_by a b c = if a then ByteOrderMark else if b then WideText else if c then CarriageReturn else NoLine
+
+    by : (a b c : Bool) → fault_by a b c ≡ fault_of t → IsWhy (fault_by a b c) lines (t ++ 10 ∷ rest)
+    by true b c is = (t, begins, none, is)
+    by false true c is = (t, begins, none, is)
+    by false false true is = (t, begins, none, is)
+    by false false false is = (t, begins, none, is)
 
 -- the line has a text of its own, and may not come here
 line_misplaced : (before rest : List ℕ) (r : LogReader) (line : ℕ) (fault : LineFault) (l : LogLine) (h : HasRead before r) → IsLogLineText r.line.items l
@@ -308,7 +328,7 @@ ends_left_out before r s h empty some more = (
 -- the line that ended was taken so, or there is no line that has its text
 abbrev pub Judged : LogReader → Progress → Taken → Type 0
 Judged r now taken = ((l : LogLine) × IsLogLineText r.line.items l × TakesAfter r.progress l now taken)
-    ⊎ ((taken ≡ Bad NoLine) × ((l : LogLine) → ¬ IsLogLineText r.line.items l))
+    ⊎ ((taken ≡ Bad (fault_of r.line.items)) × ((l : LogLine) → ¬ IsLogLineText r.line.items l))
 
 -- it stays known if the reader is another by name
 read_as : (text : List ℕ) (m s : LogReader) (known known_now : Option LogVerdict) → known ≡ known_now → s ≡ m → ReadsOrJudges text m known_now → ReadsOrJudges text s known
@@ -351,11 +371,12 @@ line_ended before r m s (Bad fault) known h (inl j) empty one all out line concl
     read_as (before ++ 10 ∷ []) m s known (Some (kinds.BadLine m.lines fault)) concluded.0 concluded.1
     (λ rest. line_misplaced before rest r m.lines fault j.0 h j.1 takes one)
 line_ended before r m s (Bad fault) known h (inr none) empty one all out line concluded =
-    let same : fault ≡ NoLine = let e = none.0 in cc in
+    let t = r.line.items in
+    let same : fault ≡ fault_of t = let e = none.0 in cc in
     read_as (before ++ 10 ∷ []) m s known (Some (kinds.BadLine m.lines fault)) concluded.0 concluded.1
     (λ rest. subst (λ (f : LineFault). IsBadLine ((before ++ 10 ∷ []) ++ rest) m.lines f) (sym same)
-    (line_bad before rest r m.lines NoLine h (λ l has. absurd (none.1 l has))
-    (r.line.items, record { more = rest; no_feed = h.no_feed; parts = refl }, none.1) one))
+    (line_bad before rest r m.lines (fault_of t) h (λ l has. absurd (none.1 l has))
+    (why_no_line h.taken.lines t rest h.no_feed none.1) one))
 
 -- it is known before the bytes end
 pub stops : (before bytes : List ℕ) (i d : ℕ) (r : LogReader) (end : Option LogVerdict) → i < length bytes → is_some end ≡ true

@@ -1,5 +1,8 @@
 -- What a check says of the text of a log.
-use Rattle.std.specs.Prelude.{◌≡◌, ◌≢◌, ◌⊎◌, ℕ, ◌+◌, ◌-◌, ◌<◌, Bool, true, false, List, [], ◌∷◌, ◌++◌, All, filter, length, take}
+use Rattle.std.specs.Prelude.{◌≡◌, ◌≢◌, ◌⊎◌, ℕ, ◌+◌, ◌-◌, ◌<◌, ◌==◌, Bool, true, false, List, [], ◌∷◌, ◌++◌, All, filter, length, take}
+use Rattle.std.specs.Prelude.{if◌then◌else◌, slice_get}
+use Rattle.std.specs.Option.{option_map_or}
+use Rattle.std.specs.List.{list_any, starts_with}
 use Rattle.step_rules.specs.declared.step.Answer.{Answer}
 use Rattle.step_rules.specs.declared.step.Step.{Step}
 use Rattle.step_rules.specs.State.{State, Zone, at_boot}
@@ -13,7 +16,8 @@ use Rattle.log_lines.specs.declared.line.LogLine.TheVariants as kinds
 use Rattle.log_lines.specs.Line.{IsLogLineText, longest_log_line}
 use Rattle.log_lines.specs.Log.{IsFirstBadLogLine, IsLog, WholeLog, says_something}
 use Rattle.log_check.specs.declared.line_fault.LineFault.{LineFault}
-use Rattle.log_check.specs.declared.line_fault.LineFault.TheVariants.{NoSizes, NoLineFeed, TooLong, NoLine, SizesAgain, StepFirst}
+use Rattle.log_check.specs.declared.line_fault.LineFault.TheVariants.{NoSizes, NoLineFeed, TooLong, SizesAgain, StepFirst}
+use Rattle.log_check.specs.declared.line_fault.LineFault.TheVariants.{ByteOrderMark, WideText, CarriageReturn, NoLine}
 use Rattle.log_check.specs.declared.verdict.IllegalStep.{IllegalStep}
 use Rattle.log_check.specs.declared.verdict.LogEnd.{LogEnd}
 use Rattle.log_check.specs.declared.verdict.LogVerdict.{LogVerdict}
@@ -125,13 +129,41 @@ IsMisplaced SizesAgain lines (kinds.Zone frames cpus) = filter says_something li
 IsMisplaced StepFirst lines (kinds.Step step answer) = filter says_something lines ≡ []
 IsMisplaced fault lines line = ⊥
 
+-- the text begins with the byte order mark of UTF-8 (RFC 3629, section 6)
+abbrev pub is_marked : List ℕ → Bool
+is_marked text = starts_with (λ a b. a == b) text (239 ∷ 187 ∷ 191 ∷ [])
+
+-- the text has a byte 0, as the letters of UTF-16 have
+abbrev pub is_wide : List ℕ → Bool
+is_wide text = list_any (λ b. b == 0) text
+
+-- the text ends with a carriage return
+abbrev pub is_returned : List ℕ → Bool
+is_returned text = option_map_or (λ b. b == 13) (slice_get text (length text - 1)) false
+
+-- why a text that is that of no line is none
+abbrev pub fault_of : List ℕ → LineFault
+fault_of text =
+    if is_marked text then ByteOrderMark
+    else if is_wide text then WideText
+    else if is_returned text then CarriageReturn
+    else NoLine
+
+-- the text of the line that comes next is that of no line, for this reason
+abbrev pub IsNoLine : LineFault → List ℕ → Type 0
+IsNoLine fault rest = (line : List ℕ) × BeginsWith line rest × ((other : LogLine) → ¬ IsLogLineText line other)
+    × (fault ≡ fault_of line)
+
 -- why a log that begins with these lines doesn't go on with the rest of the text
 abbrev pub IsWhy : LineFault → List LogLine → List ℕ → Type 0
 IsWhy NoSizes lines rest = (rest ≡ []) × (filter says_something lines ≡ [])
 IsWhy NoLineFeed lines rest = (rest ≢ []) × All (λ b. b ≢ 10) rest
 IsWhy TooLong lines rest = (line : List ℕ) × (more : List ℕ) × (rest ≡ line ++ more) × All (λ b. b ≢ 10) line
     × (longest_log_line < length line)
-IsWhy NoLine lines rest = (line : List ℕ) × BeginsWith line rest × ((other : LogLine) → ¬ IsLogLineText line other)
+IsWhy ByteOrderMark lines rest = IsNoLine ByteOrderMark rest
+IsWhy WideText lines rest = IsNoLine WideText rest
+IsWhy CarriageReturn lines rest = IsNoLine CarriageReturn rest
+IsWhy NoLine lines rest = IsNoLine NoLine rest
 IsWhy fault lines rest = (line : List ℕ) × (other : LogLine) × BeginsWith line rest × IsLogLineText line other
     × IsMisplaced fault lines other
 

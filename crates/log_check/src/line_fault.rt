@@ -1,5 +1,8 @@
 //! Why no log continues with a line.
 
+ghost use Rattle.std.specs.Prelude.{◌≡◌};
+ghost use Rattle.log_check.specs.Verdicts.{is_marked, is_returned, is_wide};
+
 use thiserror::Error;
 
 /// Why no log continues with a line.
@@ -8,13 +11,22 @@ pub enum LineFault {
     /// The log ends, and no line gave the sizes of the zone.
     #[error("the sizes are missing")]
     NoSizes,
-    /// The log ends behind a line without a line feed.
+    /// The log ends after a line without a line feed.
     #[error("it has no line feed")]
     NoLineFeed,
     /// The line is too long.
     #[error("it has more than 1024 bytes")]
     TooLong,
-    /// The text is that of no line.
+    /// The text is that of no line: it begins with the byte order mark of UTF-8.
+    #[error("it begins with a UTF-8 byte order mark: a log is plain ASCII")]
+    ByteOrderMark,
+    /// The text is that of no line: it has a byte 0, as UTF-16 has.
+    #[error("it looks like UTF-16: a log is plain ASCII")]
+    WideText,
+    /// The text is that of no line: it ends with a carriage return.
+    #[error("it ends with a carriage return: the log has Windows line ends")]
+    CarriageReturn,
+    /// The text is that of no line for another reason.
     #[error("it is neither a step nor sizes")]
     NoLine,
     /// The sizes of the zone were given before.
@@ -28,6 +40,22 @@ pub enum LineFault {
 impl LineFault {
     ghost use Rattle.std.specs.Prelude.{◌≡◌};
     ghost use Rattle.log_check.specs.Texts.{why_text};
+    ghost use Rattle.log_check.specs.Verdicts.{fault_of};
+
+    /// Why a text that is that of no line is none: by its marks of another encoding, if it has one.
+    pub(crate) fn of_text(text: &[u8]) -> LineFault
+        ensures { result ≡ fault_of text.now }
+    {
+        if is_marked(text) {
+            LineFault::ByteOrderMark
+        } else if is_wide(text) {
+            LineFault::WideText
+        } else if is_returned(text) {
+            LineFault::CarriageReturn
+        } else {
+            LineFault::NoLine
+        }
+    }
 
     /// What follows the number of the line: a colon, the reason, and a line feed.
     pub fn ending(&self) -> &'static str
@@ -37,9 +65,37 @@ impl LineFault {
             LineFault::NoSizes => ": the sizes are missing\n",
             LineFault::NoLineFeed => ": it has no line feed\n",
             LineFault::TooLong => ": it has more than 1024 bytes\n",
+            LineFault::ByteOrderMark => {
+                ": it begins with a UTF-8 byte order mark: a log is plain ASCII\n"
+            }
+            LineFault::WideText => ": it looks like UTF-16: a log is plain ASCII\n",
+            LineFault::CarriageReturn => {
+                ": it ends with a carriage return: the log has Windows line ends\n"
+            }
             LineFault::NoLine => ": it is neither a step nor sizes\n",
             LineFault::SizesAgain => ": the sizes were given before\n",
             LineFault::StepFirst => ": the sizes come first\n",
         }
     }
+}
+
+// Whether the text begins with the byte order mark of UTF-8.
+fn is_marked(text: &[u8]) -> bool
+    ensures { result ≡ is_marked text.now }
+{
+    text.starts_with(&[0xEF, 0xBB, 0xBF])
+}
+
+// Whether the text has a byte 0, as the letters of UTF-16 have.
+fn is_wide(text: &[u8]) -> bool
+    ensures { result ≡ is_wide text.now }
+{
+    text.contains(&0)
+}
+
+// Whether the text ends with a carriage return.
+fn is_returned(text: &[u8]) -> bool
+    ensures { result ≡ is_returned text.now }
+{
+    text.last().copied().is_some_and(|byte| byte == b'\r')
 }

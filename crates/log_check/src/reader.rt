@@ -147,7 +147,7 @@ impl LogReader {
         self.lines += 1;
         let taken = match parse_line(&self.line) {
             Some(line) => self.progress.take_line(alloc, &line)?,
-            None => Taken::Bad(LineFault::NoLine),
+            None => Taken::Bad(LineFault::of_text(&self.line)),
         };
         self.line.clear();
         self.conclude(taken)

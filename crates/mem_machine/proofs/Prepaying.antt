@@ -1,15 +1,13 @@
--- Pages are charged and fill the CPU's stock. Serves `fill_stock` and `prepay`.
-use Rattle.std.proofs.Common.{◌≡◌, ℕ, ◌++◌, ◌+◌, ◌-◌, ◌<◌, ◌≤◌, ◌==◌, ◌||◌, Bool, true, false, ◌^◌, Option, Some, None, List, [], ◌∷◌, length}
+-- Pages are charged and fill the CPU's stock. Serves `fill_stock`.
+use Rattle.std.proofs.Common.{◌≡◌, ℕ, ◌+◌, ◌-◌, ◌<◌, ◌≤◌, ◌==◌, ◌||◌, Bool, true, false, Option, Some, None, List, [], ◌∷◌, length}
 use Rattle.std.proofs.Common.{map, refl, sym, ap, ◌∙◌, subst, inl, inr, arith, cond, eq-eqb}
-use Rattle.std.specs.Prelude.{◌⊎◌, is_some, nat_le, not, ◌&&◌, Result, Ok, Err, OnOk, OnErr, IfErr}
-use Rattle.std.proofs.lemmas.Bool.{cases_eq, ne_eqb, and_from, cond-true, cond-false, cond_both, le-leb, false≢true}
+use Rattle.std.specs.Prelude.{◌⊎◌, is_some, nat_le, not, ◌&&◌}
+use Rattle.std.proofs.lemmas.Bool.{cases_eq, ne_eqb, and_from, cond-true, cond-false, cond_both, le-leb}
 use Rattle.std.proofs.lemmas.List.Sums.{sum_by-cons}
 use Rattle.frame_word.specs.Seats.{KnownTable}
 use Rattle.stock_word.specs.declared.view.StockAccount.{StockAccount}
 use Rattle.stock_word.specs.declared.view.StockView.{StockView}
-use Rattle.stock_word.specs.declared.view.Stock.{Stock}
-use Rattle.stock_word.specs.declared.view.Stock.TheVariants.{NoGroup, HeldBy, DrainedOf}
-use Rattle.stock_word.specs.Stock.{KnownStockTable, KnownStockSeat, account_of, stock_pages_of, is_held}
+use Rattle.stock_word.specs.Stock.{KnownStockTable, KnownStockSeat, account_of}
 use Rattle.stock_word.specs.Kinds.{zone_after_fill, after_fill}
 use Rattle.stock_word.specs.Calls.{with_view}
 use Rattle.stock_word.proofs.CallerLemmas.{account_of-with_account, account_of-with_account_other}
@@ -39,17 +37,16 @@ use Rattle.mem_machine.specs.declared.frame_state.FrameState.TheVariants.{Free, 
 use Rattle.mem_machine.specs.FrameStates.{frame_state_at, one_if_is}
 use Rattle.mem_machine.specs.Machines.{KnownMachine, IsConsistent, is_killed, booked, pages_booked}
 use Rattle.mem_machine.specs.Noted.{AreLocal, MayTake}
-use Rattle.mem_machine.specs.Local.{IsSeenByRun, Visits, local_of, phase_of, part_of, part_with, Makes, visit_state, MakesAs}
-use Rattle.mem_machine.specs.Steps.{drain_steps, fill_steps, over_steps, zone_makes}
-use Rattle.mem_machine.specs.Stocks.{uncharged, stock_group, with_look, Drains, Fills, Prepays, IsOver, own_drain_steps, pages_held}
-use Rattle.mem_machine.specs.Paying.{IsOwnStock}
+use Rattle.mem_machine.specs.Local.{IsSeenByRun, Visits, local_of, phase_of, part_of, part_with, visit_state}
+use Rattle.mem_machine.specs.Steps.{fill_steps, over_steps, zone_makes}
+use Rattle.mem_machine.specs.Stocks.{uncharged, stock_group, Drains, Fills}
 use Rattle.mem_machine.proofs.Reaching.{zone_step}
 use Rattle.mem_machine.proofs.Holds.{zone_may_act, visits_open, own_part}
 use Rattle.mem_machine.proofs.Lends.{lent_listed}
-use Rattle.mem_machine.proofs.Draining.{booked_is, counts_own, counts_other, cond-same, stocks_consistent, nothing, pending_back, groups_stay, drained_at, drained_account}
+use Rattle.mem_machine.proofs.Draining.{booked_is, counts_own, counts_other, cond-same, stocks_consistent, nothing, pending_back, groups_stay, drained_at}
 use Rattle.mem_machine.proofs.Usage.{usage_is, balanced_alone}
 use Rattle.mem_machine.proofs.Grants.{is_granted, refused_run}
-use Rattle.mem_machine.proofs.Followed.{makes_both, same_events, LeadsAs}
+use Rattle.mem_machine.proofs.Followed.{same_events, LeadsAs}
 use Rattle.mem_machine.proofs.LedgerMoves.{follows_grant}
 use Rattle.mem_machine.proofs.Reached.{may_first}
 use Rattle.mem_machine.proofs.Watched.{HasOpenVisit}
@@ -295,16 +292,6 @@ nothing_booked t w m now same c at ok none drained =
     }) in
     ap (λ (x : KnownMachine). (account_of x.stock_seat.view p).book) same ∙ ap (λ (x : Part). x.book) (sym part) ∙ book
 
--- what two clauses of an answer say together
-pub on_ok_both : {T E : Type 0} (r : Result T E) {P Q R : Type 0} → (P → Q → R) → OnOk r P → OnOk r Q → OnOk r R
-on_ok_both (Ok x) both p q = both p q
-on_ok_both (Err e) both p q = tt
-
-pub if_err_both : {T E : Type 0} (r : Result T E) {P Q R : E → Type 0} {U : Type 0} → ((e : E) → U → P e → Q e → R e)
-    → OnErr r U → IfErr r P → IfErr r Q → IfErr r R
-if_err_both (Ok x) both u p q = tt
-if_err_both (Err e) both u p q = both e u p q
-
 -- ---- after the CPU's own stock was drained
 
 less_if : (b : Bool) (p n : ℕ) → cond b (p - n) 0 ≤ cond b p 0
@@ -326,11 +313,6 @@ pub current_falls : (l : Ledger) (o : Option ℕ) (n m : ℕ) → current_of (un
 current_falls l None n m = omega arith
 current_falls l (Some g) n m = usage_falls l.groups l.accounts g n m
 
-none_in : (stock : Stock) → is_held stock ≡ false → stock_pages_of stock ≡ 0
-none_in NoGroup is = refl
-none_in (HeldBy g n) is = absurd (false≢true (sym is))
-none_in (DrainedOf g) is = refl
-
 module _ (m x : KnownMachine) (q p k : ℕ) (named : q ≡ p) (d : Drains q k m x) where
   pub emptied_has : (g : ℕ) → has_group m.ledger.groups g ≡ true → has_group x.ledger.groups g ≡ true
   emptied_has g there = ap (λ (y : KnownMachine). has_group y.ledger.groups g) d.machine
@@ -339,77 +321,6 @@ module _ (m x : KnownMachine) (q p k : ℕ) (named : q ≡ p) (d : Drains q k m 
   pub emptied_alive : (g : ℕ) → is_killed m.killed g ≡ false → is_killed x.killed g ≡ false
   emptied_alive g alive = ap (λ (y : KnownMachine). is_killed y.killed g) d.machine ∙ alive
 
-  pub emptied_fits : (n : ℕ) → current_of m.ledger 0 + n < 2 ^ 32 → current_of x.ledger 0 + n < 2 ^ 32
-  emptied_fits n fits =
-      let a : current_of x.ledger 0 ≡ current_of (uncharged m.ledger (stock_group m q) k) 0 = ap (λ (y : KnownMachine). current_of y.ledger 0) d.machine in
-      let b = current_falls m.ledger (stock_group m q) k 0 in
-      omega (arith, a, b, fits)
-
   pub emptied_drained : (account_of x.stock_seat.view p).filled ≡ false
   emptied_drained = ap (λ (n : ℕ). (account_of x.stock_seat.view n).filled) (sym named) ∙ ap (λ (y : KnownMachine). (account_of y.stock_seat.view q).filled) d.machine
       ∙ ap (λ (a : StockAccount). a.filled) (drained_at m.stock_seat.view q k)
-
-  -- the drain took all its pages, as a look at the stock shows
-  pub emptied_whole : (c : KnownCpu) (y : KnownMachine) (stock : Stock) → y ≡ x → c.number ≡ p → c.fresh ≡ [] → IsOwnStock (visit_state y c) stock
-      → k ≡ pages_held (visit_state m c)
-  emptied_whole c y stock same mine none looked =
-      let own : IsOwnStock (visit_state x c) stock = subst (λ (z : KnownMachine). IsOwnStock (visit_state z c) stock) same looked in
-      let its : c.number ≡ q = mine ∙ sym named in
-      let account : account_of x.stock_seat.view c.number ≡ drained_account m.stock_seat.view q k =
-      ap (account_of x.stock_seat.view) its ∙ ap (λ (z : KnownMachine). account_of z.stock_seat.view q) d.machine ∙ drained_at m.stock_seat.view q k in
-      let empty : stock_pages_of stock ≡ 0 = none_in stock (own.held ∙ ap (λ (a : StockAccount). a.filled) account) in
-      let left : (account_of x.stock_seat.view c.number).book ≡ (account_of m.stock_seat.view q).book - k = ap (λ (a : StockAccount). a.book) account in
-      let all : stock_pages_of stock ≡ (account_of x.stock_seat.view c.number).book - length c.fresh = own.pages in
-      let fresh : length c.fresh ≡ 0 = ap length none in
-      let booked = d.booked in
-      let book : (account_of m.stock_seat.view c.number).book ≡ (account_of m.stock_seat.view q).book = ap (λ (n : ℕ). (account_of m.stock_seat.view n).book) its in
-      let whole : k ≡ (account_of m.stock_seat.view c.number).book - length c.fresh = omega (arith, empty, left, all, fresh, booked, book) in
-      whole
-
-  -- the steps of the drain, and then those of the fill or of the grant that is refused
-  module _ (t : KnownTable) (c : KnownCpu) (mine : c.number ≡ p) (whole : k ≡ pages_held (visit_state m c))
-      (drained : MakesAs t c.number (visit_state m c) (drain_steps q (stock_group m q) k) (visit_state x c)) where
-    its_number : q ≡ c.number
-    its_number = named ∙ sym mine
-
-    drained_own : MakesAs t c.number (visit_state m c) (own_drain_steps (visit_state m c)) (visit_state x c)
-    drained_own = subst (λ (z : ℕ × ℕ). MakesAs t c.number (visit_state m c) (drain_steps z.0 (stock_group m z.0) z.1) (visit_state x c))
-        (λ i. (its_number i, whole i)) drained
-
-    own_drain : Drains c.number (pages_held (visit_state m c)) m x
-    own_drain = subst (λ (z : ℕ × ℕ). Drains z.0 z.1 m x) (λ i. (its_number i, whole i)) d
-
-    looked_own : MakesAs t c.number (visit_state m c) (own_drain_steps (visit_state m c)) (visit_state (with_look x) c)
-    looked_own = record { leads = drained_own.leads; follows = drained_own.follows; counts = drained_own.counts; noted = drained_own.noted }
-
-    -- what follows begins at the machine and the part after the look
-    module _ (y : KnownMachine) (e : KnownCpu) (same : y ≡ with_look x) (stays : e ≡ c) (g pages : ℕ) (n : KnownMachine) (f : KnownCpu) where
-      pub prepays : Fills g pages (visit_state y e) (visit_state n f) → Prepays g pages (visit_state m c) (visit_state n f)
-      prepays fills = record {
-        emptied = x;
-        drains = own_drain;
-        fills = subst (λ (z : KnownMachine × KnownCpu). Fills g pages (visit_state z.0 z.1) (visit_state n f)) (λ i. (same i, stays i)) fills;
-      }
-
-      pub prepay_runs : Makes t (visit_state y e) (fill_steps e.number g pages) (visit_state n f)
-          → Makes t (visit_state m c) (own_drain_steps (visit_state m c) ++ fill_steps c.number g pages) (visit_state n f)
-      prepay_runs steps = makes_both t c.number (own_drain_steps (visit_state m c)) (fill_steps c.number g pages) (visit_state m c) (visit_state (with_look x) c)
-          (visit_state n f) looked_own
-          (subst (λ (z : KnownMachine × KnownCpu). Makes t (visit_state z.0 z.1) (fill_steps z.1.number g pages) (visit_state n f)) (λ i. (same i, stays i)) steps)
-
-      -- the grant was refused, and since then only the watch saw it
-      module _ (over : ℕ) (kept : n ≡ record y { run = n.run }) (own_kept : f ≡ e) where
-        pub is_refused : room.IsLowestOver y.ledger.groups (current_of y.ledger) g pages over → IsOver g pages over (visit_state m c) (visit_state n f)
-        is_refused low = record {
-          emptied = x;
-          drains = own_drain;
-          machine = kept ∙ (λ i. record (same i) { run = n.run });
-          lowest = subst (λ (z : KnownMachine). room.IsLowestOver z.ledger.groups (current_of z.ledger) g pages over) (sym kept) low;
-          cpu = own_kept ∙ stays;
-        }
-
-        pub refused_runs : Makes t (visit_state y e) (over_steps g pages over) (visit_state n f)
-            → Makes t (visit_state m c) (own_drain_steps (visit_state m c) ++ over_steps g pages over) (visit_state n f)
-        refused_runs steps = makes_both t c.number (own_drain_steps (visit_state m c)) (over_steps g pages over) (visit_state m c) (visit_state (with_look x) c)
-            (visit_state n f) looked_own
-            (subst (λ (z : KnownMachine × KnownCpu). Makes t (visit_state z.0 z.1) (over_steps g pages over) (visit_state n f)) (λ i. (same i, stays i)) steps)

@@ -1,5 +1,5 @@
 -- The usage by the rules of the steps is the ledger's: the caller's fresh frames count for the group of its stock
--- there, and are in its stock's book here. Serves `take_block`, `remove` and `fill_stock`, and so `prepay`.
+-- there, and are in its stock's book here. Serves `take_block`, `remove` and `fill_stock`.
 use Rattle.std.proofs.Common.{◌≡◌, ℕ, ◌+◌, ◌-◌, ◌<◌, ◌≤◌, ◌==◌, ◌&&◌, Bool, true, false, cond, Option, Some, None, List, [], length}
 use Rattle.std.proofs.Common.{refl, sym, ap, ◌∙◌, subst, arith, inl, inr}
 use Rattle.std.specs.Prelude.{◌⊎◌, nat_le}

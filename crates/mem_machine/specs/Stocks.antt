@@ -13,10 +13,9 @@ use Rattle.group_charge.specs.declared.note.Note.TheVariants.{Stock}
 use Rattle.group_charge.specs.Notes.{noted}
 use Rattle.step_rules.specs.Usage.{is_in_subtree}
 use Rattle.step_rules.specs.Legal.{is_of_group}
-use Rattle.step_rules.specs.After.{Run}
-use Rattle.mem_machine.specs.Machines.{KnownMachine, LacksRoom}
-use Rattle.mem_machine.specs.Local.{VisitState, visit_state, Makes, MakesForAny}
-use Rattle.mem_machine.specs.Steps.{Drain, drain_steps, drain_stocks_steps, fill_steps, over_steps, pages_drained}
+use Rattle.mem_machine.specs.Machines.{KnownMachine}
+use Rattle.mem_machine.specs.Local.{VisitState, Makes, MakesForAny}
+use Rattle.mem_machine.specs.Steps.{Drain, drain_stocks_steps, over_steps, pages_drained}
 
 -- the ledger with this many pages less charged to the group, if there is one
 abbrev pub uncharged : Ledger → Option ℕ → ℕ → Ledger
@@ -180,30 +179,3 @@ pub record Fills (group pages : ℕ) (before after : VisitState) : Type 0 where
 -- the charge is refused at the group that the error names
 abbrev pub RefusesGrant : KnownTable → ℕ → ℕ → Over → VisitState → VisitState → Type 0
 RefusesGrant table group pages over before after = Makes table before (over_steps group pages over.group) after
-
--- the steps that drain the CPU's own stock of all its pages
-abbrev pub own_drain_steps : VisitState → Run
-own_drain_steps now = drain_steps now.cpu.number (stock_group now.machine now.cpu.number) (pages_held now)
-
--- what `prepay` leaves: the CPU's own stock is drained of all its pages, looked at, and then filled
-pub record Prepays (group pages : ℕ) (before after : VisitState) : Type 0 where
-  pub emptied : KnownMachine
-  pub drains : Drains before.cpu.number (pages_held before) before.machine emptied
-  pub fills : Fills group pages (visit_state (with_look emptied) before.cpu) after
-
--- What `prepay` leaves if a limit has no room. The CPU's own stock is drained of all its pages and looked at, and
--- nothing is charged. Group `over` is the lowest without room.
-pub record IsOver (group pages over : ℕ) (before after : VisitState) : Type 0 where
-  pub emptied : KnownMachine
-  pub drains : Drains before.cpu.number (pages_held before) before.machine emptied
-  pub machine : after.machine ≡ record (with_look emptied) { run = after.machine.run }
-  pub lowest : LacksRoom after.machine group pages over
-  pub cpu : after.cpu ≡ before.cpu
-
--- the steps of `prepay` if the pages are charged
-abbrev pub prepay_steps : ℕ → ℕ → VisitState → Run
-prepay_steps group pages now = own_drain_steps now ++ fill_steps now.cpu.number group pages
-
--- the steps of `prepay` if the charge is refused at group `over`, after the own stock was drained
-abbrev pub refused_prepay_steps : ℕ → ℕ → ℕ → VisitState → Run
-refused_prepay_steps group pages over now = own_drain_steps now ++ over_steps group pages over

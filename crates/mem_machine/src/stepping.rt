@@ -1,5 +1,6 @@
-//! Making the steps that no word is of. There is a function for each such step that is made often: the watch's call for
-//! it builds the action, which has room for a path, only if the watch is on.
+//! Making the steps that no word is of. There is a function for each such step that is made often. The note in it names
+//! the action and reads nothing of it; the watch's call builds an action of its own, and only if the watch is on. So
+//! an action, which has room for a path, is never filled for a watch that is off.
 
 ghost use Rattle.std.specs.Prelude.{◌∷◌, []};
 ghost use Rattle.boot_words.specs.Pasts.{IsHeld, MakesStep};

@@ -7,8 +7,7 @@ ghost use Rattle.mem_machine.specs.Local.{SomeSeenByRun, StaysVisited, Visits};
 ghost use Rattle.mem_machine.specs.Stocks.{IsDrained, AreDrained, AreOwnDrained, FitsStock, stock_group};
 ghost use Rattle.mem_machine.specs.Stocks.{of_subtree, AreChosen, AreChosenBySome, AreDrainedIf, Drains, DrainsAllIf};
 ghost use Rattle.mem_machine.specs.Stocks.{DrainsBy, DrainsBySteps, DrainsNoted, StockTest};
-ghost use Rattle.mem_machine.specs.Stocks.{DrainsGroup, DrainsSubtree, Fills, Prepays, IsOver, RefusesGrant};
-ghost use Rattle.mem_machine.specs.Stocks.{prepay_steps, refused_prepay_steps};
+ghost use Rattle.mem_machine.specs.Stocks.{DrainsGroup, DrainsSubtree, Fills, RefusesGrant};
 ghost use Rattle.mem_machine.specs.Paying.{MayCharge};
 ghost use Rattle.mem_machine.specs.Local.{Makes, MakesForAny, visit_state};
 ghost use Rattle.mem_machine.specs.Steps.{drain_steps, fill_steps};
@@ -179,37 +178,5 @@ impl<N: BootName> Machine<N> {
             .fill(tables, cpu, &mut self.past, group, pages);
         self.watch.filled(cpu_number, group, pages);
         Ok(())
-    }
-
-    /// Tries once to prepay `pages` pages (1 to 65,535) of a group that isn't killed. The caller's own stock is drained
-    /// of all its pages first, and a look confirms that. Then the pages are charged to the group and fill the stock. If
-    /// a limit has no room, the error names the lowest such group, and nothing is charged. The CPU has no fresh frame.
-    /// At most 2^32 - 1 pages can be charged in all; `prove_room` shows that there is room.
-    pub fn prepay(
-        &mut self,
-        tables: &Tables<N>,
-        cpu: &mut Cpu<N>,
-        group: GroupId,
-        pages: u32,
-    ) -> Result<(), Over>
-        requires visit { Visits N.frames (visit_state self.old cpu.old) }
-        requires charges { MayCharge self.old group pages }
-        requires pages { FitsStock pages }
-        requires none_fresh { cpu.old.fresh ≡ [] }
-        ensures prepays { OnOk result (Prepays group pages (visit_state self.old cpu.old)
-            (visit_state self.new cpu.new)) }
-        ensures over { IfErr result
-            (λ over. IsOver group pages over.group (visit_state self.old cpu.old) (visit_state self.new cpu.new)) }
-        ensures visit { Visits N.frames (visit_state self.new cpu.new) }
-        ensures steps { let before = visit_state self.old cpu.old in
-            OnOk result (Makes N.frames before (prepay_steps group pages before) (visit_state self.new cpu.new)) }
-        ensures refused { let before = visit_state self.old cpu.old in IfErr result (λ over. Makes N.frames before
-            (refused_prepay_steps group pages over.group before) (visit_state self.new cpu.new)) }
-    {
-        let cpu_number = cpu.number();
-        self.drain_stock(tables, cpu_number);
-        // The drain returns how many pages it took; only the look shows that none is left.
-        let _emptied = self.look_at_stock(tables, cpu);
-        self.fill_stock(tables, cpu, group, pages)
     }
 }

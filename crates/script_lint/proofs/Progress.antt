@@ -15,7 +15,7 @@ use Rattle.script_lines.specs.declared.line.Line.{Line}
 use Rattle.script_lines.specs.declared.line.Line.TheVariants.{Go, At}
 use Rattle.script_lines.proofs.Progress.{IsNext, IsOver, is_good, not_far}
 use Rattle.script_lint.specs.Findings.{AreFindings, IsFinding, IsLinted, IsWithin, Names}
-use Rattle.script_lint.specs.Lines.{IsCause, IsGoodHere, IsSpot}
+use Rattle.script_lint.specs.Lines.{IsGoodHere, IsSpot}
 use Rattle.script_lint.specs.Script.{AddsFinding, AddsSpot}
 use Rattle.script_lint.specs.Shapes.{IsGoodText, IsRequest}
 use Rattle.script_lint.specs.declared.finding.Cause.{Cause}
@@ -23,6 +23,7 @@ use Rattle.script_lint.specs.declared.finding.Cause.TheVariants.{InputTooLong, L
 use Rattle.script_lint.specs.declared.finding.Finding.{Finding}
 use Rattle.script_lint.specs.declared.finding.Spot.{Spot}
 use Rattle.script_lint.proofs.LinePlaces.{go_is, go_text}
+use Rattle.script_lint.proofs.Spots.{spot_to}
 
 -- the first lines of the script were linted, with a `go` or none among them
 pub record IsLintedTo (sizes : Config) (script : List ℕ) (count : ℕ) (had_go : Bool) (findings : List Finding) : Type 0 where
@@ -68,29 +69,11 @@ within_before script n None is_within is_over before within = true_of is_within 
 within_before script n (Some first) is_within is_over before within =
     let last = is_over.1 in let near = within is_over.0 in true_of is_within (before.1 (omega arith))
 
-cause_to : (sizes : Config) (had_go : Bool) (A B : Type 0) → (B → A) → (text : List ℕ) (place : ℕ) (cause : Cause)
-    → IsCause sizes had_go A text place cause → IsCause sizes had_go B text place cause
-cause_to sizes had_go A B to text place LineTooLong is = is
-cause_to sizes had_go A B to text place InputTooLong is = (is.0, is.1, λ b. is.2 (to b))
-cause_to sizes had_go A B to text place cause is = is
-
-spot_to : (sizes : Config) (had_go : Bool) (A B : Type 0) → (B → A) → (text : List ℕ) (spot : Spot) → IsSpot sizes had_go A text spot
-    → IsSpot sizes had_go B text spot
-spot_to sizes had_go A B to text spot is = record {
-  inside = is.inside;
-  goes_on = is.goes_on;
-  stuck = is.stuck;
-  bad = λ good. is.bad (record { good = good.good; short = good.short; within = to good.within });
-  cause = cause_to sizes had_go A B to text spot.place spot.cause is.cause;
-}
-
--- what is true within the script is true of the text by itself
-pub good_alone : (sizes : Config) (Within : Type 0) (text : List ℕ) → IsGoodHere sizes false Within text → IsGoodHere sizes false ⊤ text
-good_alone sizes Within text is = record { good = is.good; short = is.short; within = tt }
-
-pub spot_alone : (sizes : Config) (Within : Type 0) (text : List ℕ) (spot : Spot) → Within → IsSpot sizes false Within text spot
-    → IsSpot sizes false ⊤ text spot
-spot_alone sizes Within text spot within is = spot_to sizes false Within ⊤ (λ t. within) text spot is
+within_after : (script : List ℕ) (n : ℕ) (over : Option ℕ) (is_within : Bool) → IsOver script over → IsBefore is_within n over
+    → is_within ≡ true → IsWithin script n
+within_after script n None is_within is_over before is long = absurd (omega arith)
+within_after script n (Some first) is_within is_over before is long =
+    let near = before.0 (true_is is_within is) in let last = is_over.1 in omega arith
 
 -- the next line of the script, and what is known of it
 module _ (sizes : Config) (script : List ℕ) (count index : ℕ) (text : List ℕ) (next : IsNext script count index text)
@@ -146,6 +129,7 @@ module _ (sizes : Config) (script : List ℕ) (count index : ℕ) (text : List �
         bad = λ good. spot.bad (text_of (rw line_is at good));
         spot = rw first (rw text_is (rw (← went_is) (rw line_is
             (spot_to sizes had_go (is_within ≡ true) (IsWithin script (index + 1))
+            (within_after script (index + 1) over is_within is_over before)
             (within_before script (index + 1) over is_within is_over before) text found.spot spot))));
       }
 

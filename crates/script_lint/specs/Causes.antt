@@ -9,6 +9,7 @@ use Rattle.script_lines.specs.declared.verb.Form.{Form}
 use Rattle.script_lines.specs.declared.verb.Form.TheVariants.{Group, PathOrder}
 use Rattle.script_lines.specs.declared.verb.Verb.{Verb}
 use Rattle.script_lint.specs.declared.finding.Cause.{Cause}
+use Rattle.script_lint.specs.declared.finding.Cause.TheVariants.{ByteOrderMark, WideText}
 use Rattle.script_lint.specs.declared.finding.Cause.TheVariants.{LateComment, NoCpu, CpuOutOfRange, UnknownCommand}
 use Rattle.script_lint.specs.declared.finding.Cause.TheVariants.{TooFewWords, TooManyWords, TwoSpaces, SpaceAtEnd, Tab}
 use Rattle.script_lint.specs.declared.finding.Cause.TheVariants.{CarriageReturn, NumberOutOfRange, FrameOutOfZone}
@@ -72,7 +73,19 @@ is_blank b = b == 32 || b == 9
 
 -- ---- the causes
 
--- a comment follows, behind spaces and tabs or none
+-- the text begins with the byte order mark of UTF-8 (RFC 3629, section 6)
+abbrev pub is_byte_order_mark : List ℕ → ℕ → Bool
+is_byte_order_mark text place =
+    (place == 0) && (byte_at text 0 == 239) && (byte_at text 1 == 187) && (byte_at text 2 == 191)
+
+-- the text begins with a byte order mark of UTF-16 (RFC 2781, section 3.2), or there is a byte 0, as in its letters
+abbrev pub is_wide_text : List ℕ → ℕ → Bool
+is_wide_text text place =
+    (byte_at text place == 0)
+    || ((place == 0) && (((byte_at text 0 == 255) && (byte_at text 1 == 254))
+    || ((byte_at text 0 == 254) && (byte_at text 1 == 255))))
+
+-- a comment follows, after spaces and tabs or none
 abbrev pub is_late_comment : List ℕ → ℕ → Bool
 is_late_comment text place = or_feed (find (λ b. not (is_blank b)) (drop place text)) == 35
 
@@ -169,7 +182,9 @@ later_cause_at text place =
 -- the first cause that holds at the place
 abbrev pub cause_at : List ℕ → ℕ → Cause
 cause_at text place =
-    if is_late_comment text place then LateComment
+    if is_byte_order_mark text place then ByteOrderMark
+    else if is_wide_text text place then WideText
+    else if is_late_comment text place then LateComment
     else if is_no_cpu text place then NoCpu
     else if is_cpu_out_of_range text place then CpuOutOfRange
     else if is_unknown_command text place then UnknownCommand

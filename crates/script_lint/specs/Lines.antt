@@ -21,14 +21,14 @@ pub record GoesOnHere (sizes : Config) (had_go : Bool) (front : List ℕ) : Type
   pub short : length front ≤ longest_line
   pub on : GoesOn (IsGoodText sizes had_go) front
 
--- why the text goes wrong at this place. The line is too long only if a good text goes on with the byte that is one too
--- many, and the script only if the text is good.
+-- Why the text goes wrong at this place. If the line isn't within the script, the script is too long: its line may have
+-- been cut off. Else the line is too long only if a good text goes on with the byte that is one too many.
 abbrev pub IsCause : Config → Bool → Type 0 → List ℕ → ℕ → Cause → Type 0
+IsCause sizes had_go Within text place InputTooLong = ¬ Within
 IsCause sizes had_go Within text place LineTooLong =
-    (place ≡ longest_line) × (place < length text) × GoesOn (IsGoodText sizes had_go) (take (place + 1) text)
-IsCause sizes had_go Within text place InputTooLong = (place ≡ length text) × IsGoodText sizes had_go text × ¬ Within
+    Within × (place ≡ longest_line) × (place < length text) × GoesOn (IsGoodText sizes had_go) (take (place + 1) text)
 IsCause sizes had_go Within text place cause =
-    IsStuck (IsGoodText sizes had_go) text place × (cause ≡ cause_at text place)
+    Within × IsStuck (IsGoodText sizes had_go) text place × (cause ≡ cause_at text place)
 
 -- the bytes before the place go on to a good line, and with one byte more they don't, or the line ends wrongly; and the
 -- cause
@@ -45,9 +45,13 @@ stuck_spot text place =
     if nat_lt longest_line place then record { place = longest_line; cause = LineTooLong }
     else record { place = place; cause = cause_at text place }
 
--- where a text goes wrong that is good, however long it may be
-abbrev pub whole_spot : List ℕ → Bool → Option Spot
-whole_spot text is_within =
+-- where a text goes wrong that is good, however long it may be; None if it isn't too long
+abbrev pub whole_spot : List ℕ → Option Spot
+whole_spot text =
     if nat_lt longest_line (length text) then Some (record { place = longest_line; cause = LineTooLong })
-    else if is_within then None
-    else Some (record { place = length text; cause = InputTooLong })
+    else None
+
+-- where a text goes wrong that isn't within the script: where it would by itself, or at its end
+abbrev pub spot_past_limit : List ℕ → Option Spot → Spot
+spot_past_limit text None = record { place = length text; cause = InputTooLong }
+spot_past_limit text (Some spot) = record { place = spot.place; cause = InputTooLong }

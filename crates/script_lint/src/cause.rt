@@ -8,7 +8,7 @@ ghost use Rattle.script_lint.specs.Causes.{is_known, is_printable, later_cause_a
 ghost use Rattle.script_lint.specs.Causes.{is_unknown_command, is_number_out_of_range, is_no_cpu, is_frame_out_of_zone};
 ghost use Rattle.script_lint.specs.Causes.{is_group_out_of_range};
 ghost use Rattle.script_lint.specs.Causes.{is_cpu_out_of_range, spaces_before, until_space, word_at, word_behind};
-ghost use Rattle.script_lint.specs.Causes.{is_blank, is_late_comment};
+ghost use Rattle.script_lint.specs.Causes.{is_blank, is_byte_order_mark, is_late_comment, is_wide_text};
 
 use crate::finding::Cause;
 use script_lines::script::{first_word, is_go};
@@ -19,7 +19,11 @@ pub(crate) fn cause_of(text: &[u8], place: usize) -> Cause
     requires { place ≤ length text.now }
     ensures { result ≡ cause_at text.now place }
 {
-    if is_late_comment(text, place) {
+    if is_byte_order_mark(text, place) {
+        Cause::ByteOrderMark
+    } else if is_wide_text(text, place) {
+        Cause::WideText
+    } else if is_late_comment(text, place) {
         Cause::LateComment
     } else if is_no_cpu(text, place) {
         Cause::NoCpu
@@ -168,7 +172,23 @@ fn first_unblank(text: &[u8]) -> Option<u8>
     text.iter().copied().find(|byte| !is_blank(*byte))
 }
 
-// Whether a comment follows, behind spaces and tabs or none.
+// Whether the text begins with the byte order mark of UTF-8.
+fn is_byte_order_mark(text: &[u8], place: usize) -> bool
+    ensures { result ≡ is_byte_order_mark text.now place }
+{
+    place == 0 && byte_at(text, 0) == 0xEF && byte_at(text, 1) == 0xBB && byte_at(text, 2) == 0xBF
+}
+
+// Whether the text is UTF-16, by its byte order mark or a byte 0.
+fn is_wide_text(text: &[u8], place: usize) -> bool
+    ensures { result ≡ is_wide_text text.now place }
+{
+    let (first, second) = (byte_at(text, 0), byte_at(text, 1));
+    byte_at(text, place) == 0
+        || (place == 0 && ((first == 0xFF && second == 0xFE) || (first == 0xFE && second == 0xFF)))
+}
+
+// Whether a comment follows, after spaces and tabs or none.
 fn is_late_comment(text: &[u8], place: usize) -> bool
     requires { place ≤ length text.now }
     ensures { result ≡ is_late_comment text.now place }

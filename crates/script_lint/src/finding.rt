@@ -5,6 +5,10 @@ use script_lines::verb::Verb;
 /// Why no good line goes on at some byte. The first that holds there is found, in this order.
 #[derive(Clone, Copy, PartialEq, Eq)]
 pub enum Cause {
+    /// The text begins with the byte order mark of UTF-8.
+    ByteOrderMark,
+    /// The text is UTF-16: it begins with the byte order mark of UTF-16, or there is a byte 0.
+    WideText,
     /// A comment doesn't begin the line.
     LateComment,
     /// The line doesn't begin with the number of a CPU, and isn't `go`.
@@ -35,7 +39,7 @@ pub enum Cause {
     UnprintableByte,
     /// The line has more than 1,024 bytes.
     LineTooLong,
-    /// The script has more than 1,048,576 bytes.
+    /// The script has more than 1,048,576 bytes, and this line has the byte after them.
     InputTooLong,
     /// There was a `go` before.
     SecondGo,

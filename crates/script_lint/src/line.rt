@@ -1,10 +1,10 @@
 //! How far the text of a line is good, and why not further.
 
-ghost use Rattle.std.specs.Prelude.{◌≡◌, ◌≤◌, ◌∷◌, List, MatchOption, length, true, ℕ};
+ghost use Rattle.std.specs.Prelude.{◌≡◌, ◌≤◌, ◌∷◌, List, MatchOption, length, true, ℕ, ⊤};
 ghost use Rattle.zone_blocks.specs.declared.config.Config.{Config};
 ghost use Rattle.script_lines.specs.Verb.{IsNames};
 ghost use Rattle.script_lint.specs.Continuation.{IsStuck};
-ghost use Rattle.script_lint.specs.Lines.{IsGoodHere, IsSpot, stuck_spot, whole_spot};
+ghost use Rattle.script_lint.specs.Lines.{IsGoodHere, IsSpot, spot_past_limit, stuck_spot, whole_spot};
 ghost use Rattle.script_lint.specs.Shapes.{HasValidCounts, IsGoodText};
 
 use crate::cause::cause_of;
@@ -29,9 +29,34 @@ pub(crate) fn lint_line(
     ensures { MatchOption result (IsGoodHere sizes.now had_go (is_within ≡ true) text.now)
         (λ spot. IsSpot sizes.now had_go (is_within ≡ true) text.now spot) }
 {
+    let alone = lint_alone(names, text, had_go, sizes);
+    if is_within {
+        alone
+    } else {
+        Some(spot_past_limit(text, alone))
+    }
+}
+
+// The same for a text by itself, wherever it is in a script.
+pub(crate) fn lint_alone(names: &Names, text: &[u8], had_go: bool, sizes: &Config) -> Option<Spot>
+    requires names { IsNames names.now }
+    requires counts { HasValidCounts sizes.now }
+    ensures { MatchOption result (IsGoodHere sizes.now had_go ⊤ text.now)
+        (λ spot. IsSpot sizes.now had_go ⊤ text.now spot) }
+{
     match line_stuck_at(names, text, had_go, sizes) {
         Some(place) => Some(stuck_spot(text, place)),
-        None => whole_spot(text, is_within),
+        None => whole_spot(text),
+    }
+}
+
+// Where a text goes wrong with which the script is too long. By itself it goes wrong at this spot, if at any.
+fn spot_past_limit(text: &[u8], alone: Option<Spot>) -> Spot
+    ensures { result ≡ spot_past_limit text.now alone }
+{
+    Spot {
+        place: alone.map_or(text.len(), |spot| spot.place),
+        cause: Cause::InputTooLong,
     }
 }
 
@@ -53,23 +78,17 @@ fn stuck_spot(text: &[u8], place: usize) -> Spot
     }
 }
 
-// Where a text goes wrong that, however long, is good.
-fn whole_spot(text: &[u8], is_within: bool) -> Option<Spot>
-    ensures { result ≡ whole_spot text.now is_within }
+// Where a text goes wrong that, however long, is good. None if it isn't too long.
+fn whole_spot(text: &[u8]) -> Option<Spot>
+    ensures { result ≡ whole_spot text.now }
 {
-    if MAX_LINE < text.len() {
-        Some(Spot {
-            place: MAX_LINE,
-            cause: Cause::LineTooLong,
-        })
-    } else if is_within {
-        None
-    } else {
-        Some(Spot {
-            place: text.len(),
-            cause: Cause::InputTooLong,
-        })
+    if text.len() <= MAX_LINE {
+        return None;
     }
+    Some(Spot {
+        place: MAX_LINE,
+        cause: Cause::LineTooLong,
+    })
 }
 
 // The place from which on the text, however long, doesn't go on to a good one. None if it is one.

@@ -8,7 +8,7 @@ ghost use Rattle.script_lint.specs.Shapes.{HasValidCounts};
 
 use crate::cause::word_at;
 use crate::finding::{Cause, Finding, Spot};
-use crate::line::lint_line;
+use crate::line::{lint_alone, lint_line};
 use crate::near::near_verb;
 use script_lines::script::{first_line, first_line_past_limit, is_go, is_within};
 use script_lines::verb::{Names, Verb, command_names};
@@ -41,7 +41,7 @@ pub fn lint_text<'a>(
     requires counts { HasValidCounts sizes.now }
     ensures { IfOk result (λ found. IsTextLinted sizes.now text.entry.now found) }
 {
-    let Some(spot) = lint_line(names, text, false, true, sizes) else {
+    let Some(spot) = lint_alone(names, text, false, sizes) else {
         return Ok(None);
     };
     let near = near_of(alloc, text, &spot)?;

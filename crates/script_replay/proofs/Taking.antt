@@ -1,4 +1,4 @@
--- The steps that the watch takes of calls without the lock. Serves `watch_unlocked`, `watch_lock`.
+-- The steps that the watch takes of calls without the lock. Serves `watch_paid`, `watch_unlocked`, `watch_lock`.
 use Rattle.std.proofs.Common.{◌≡◌, false, refl}
 use Rattle.step_rules.specs.After.{Run}
 use Rattle.step_watch.proofs.Watching.{watches_off}

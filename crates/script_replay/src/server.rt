@@ -14,7 +14,7 @@ ghost use Rattle.script_replay.specs.ValueAnswers.{NamesItsGroups, answer_of};
 use crate::answer_value::AnswerValue;
 use crate::commands::frame_path;
 use crate::locked_calls::{serve_frame_under_lock, serve_under_lock};
-use crate::unlocked_calls::{alloc_in_order, try_in_order, watch_unlocked};
+use crate::unlocked_calls::{alloc_in_order, try_in_order, watch_paid, watch_unlocked};
 use cpu_part::{BootName, Fast, Tables};
 use group_tree::fault::Fault;
 use group_tree::group::GroupId;
@@ -102,14 +102,10 @@ pub(crate) fn serve_frame_of<N: BootName>(
     ensures groups { NamesItsGroups locked.new.machine.ledger result }
 {
     let cpu_number = cpu.number();
-    let fast = Command::Fast {
-        group: group.number(),
-    };
     match alloc_in_order(locked, tables, cpu, group) {
         Fast::Got(frame) => {
-            let said = UnlockedAnswer::Fast(Fast::Got(frame));
-            watch_unlocked(locked, cpu_number, &fast, &said);
-            AnswerValue::Unlocked(said)
+            watch_paid(locked, cpu_number, group);
+            AnswerValue::Unlocked(UnlockedAnswer::Fast(Fast::Got(frame)))
         }
         _ => serve_frame_under_lock(locked, tables, cpu, group, is_explained),
     }

@@ -1,11 +1,14 @@
 //! The commands that the CPU carries out without the lock, and their steps, which the machine's watch takes by value.
 
-ghost use Rattle.std.specs.Prelude.{◌≡◌, ◌<◌, ◌^◌, [], IfNone, IfSome, MatchBool, false, if◌then◌else◌, ℕ};
+ghost use Rattle.std.specs.Prelude.{◌≡◌, ◌<◌, ◌^◌, ◌∷◌, [], IfNone, IfSome, MatchBool, false, if◌then◌else◌, ℕ};
 ghost use Rattle.cpu_part.specs.Calls.{FastAnswers};
 ghost use Rattle.frame_word.specs.declared.answers.Put.TheVariants.{Left};
 ghost use Rattle.reply_texts.specs.declared.steps.UnlockedAnswer.TheVariants as unlocked;
 ghost use Rattle.script_lines.specs.declared.line.Command.TheVariants as command;
+ghost use Rattle.step_rules.specs.declared.step.Action.TheVariants as step;
+ghost use Rattle.step_rules.specs.declared.step.Answer.TheVariants as step_answer;
 ghost use Rattle.mem_system.specs.Visits.{locked_state};
+ghost use Rattle.mem_machine.specs.Steps.{cpu_makes};
 ghost use Rattle.script_replay.specs.Answers.{AnswersAlone, CanNotList, Gains, ListsAgain, MakesAlone, NeedsLock};
 ghost use Rattle.script_replay.specs.Answers.{OnlySaw, OnlyWatched, steps_alone, steps_tried};
 ghost use Rattle.script_replay.specs.Commands.{is_tried};
@@ -147,6 +150,17 @@ fn try_relist<N: BootName>(tables: &Tables<N>, cpu: &mut Cpu<N>, frame_number: u
     }
 }
 
+// The watch takes the step by which the CPU paid for the front frame of its list.
+#[inline(always)]
+#[tactic(auto, using(crate::proofs::Taking::unwatched))]
+pub(crate) fn watch_paid<N: BootName>(locked: &mut Locked<N>, cpu: u32, group: GroupId)
+    ensures { OnlyWatched (cpu_makes cpu (step.Consume group) step_answer.Took ∷ []) locked.old locked.new }
+{
+    if locked.watch().is_on() {
+        locked.take_step(cpu, Action::Consume { group }, Answer::Took);
+    }
+}
+
 // The watch takes the step of this answer, if one was made. It is asked first whether it is on, because an action has
 // room for a path, and building one for each line costs.
 #[inline(always)]
@@ -167,8 +181,7 @@ pub(crate) fn watch_unlocked<N: BootName>(
     match *command {
         Command::Fast { group } => match *said {
             UnlockedAnswer::Fast(Fast::Got(_)) => {
-                let group = GroupId::of(group).unwrap();
-                locked.take_step(cpu, Action::Consume { group }, Answer::Took);
+                watch_paid(locked, cpu, GroupId::of(group).unwrap());
             }
             _ => {}
         },

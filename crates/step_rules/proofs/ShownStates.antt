@@ -1,5 +1,5 @@
 -- The shown state that keeps the promise, and those that break it.
-use Rattle.std.proofs.Common.{◌≡◌, ℕ, ◌*◌, ◌^◌, ◌<◌, ◌==◌, Bool, true, false, Option, Some, None, List, [], ◌∷◌, length, refl, sym, ◌∙◌, ap, subst, arith, inl, inr, zero, suc}
+use Rattle.std.proofs.Common.{◌≡◌, ℕ, ◌*◌, ◌^◌, ◌<◌, ◌==◌, Bool, true, false, Option, Some, None, is_some, List, [], ◌∷◌, length, refl, sym, ◌∙◌, ap, subst, arith, inl, inr, zero, suc}
 use Rattle.std.specs.List.{slice_index_or}
 use Rattle.std.proofs.lemmas.Bool.{cases_eq, ne_eqb, true≢false, false≢true}
 use Rattle.std.proofs.lemmas.Nat.{pow_pos}
@@ -21,7 +21,7 @@ use Rattle.step_rules.specs.After.{state_of, IsLegalRun}
 use Rattle.step_rules.specs.Promise.{IsShown, HasOnce, Promise}
 use Rattle.step_rules.specs.Examples.{small_zone, life_of_a_frame}
 use Rattle.step_rules.specs.Breaches.{kept_run, shown_rightly, at_list, IsShownWrongly, seen_nowhere, seen_twice, listed_twice, listed_by_nobody}
-use Rattle.step_rules.specs.Breaches.{kept_in_no_unit, seen_beyond, prepaid_for_nobody, prepaid_left_out, no_group_seen}
+use Rattle.step_rules.specs.Breaches.{kept_in_no_unit, seen_beyond, prepaid_for_nobody, prepaid_left_out, no_group_seen, group_too_many, limit_never_set}
 use Rattle.step_rules.specs.Breaches.{IsWrongAfter, shown_free, parted_areas, prepaid_by_nobody, prepaid_for_no_group, granted_and_lost, lost_in_number}
 use Rattle.step_rules.specs.Units.{units_after_run}
 use Rattle.step_rules.proofs.SmallRuns.{life_is_legal}
@@ -213,6 +213,16 @@ left_out_is_wrong promise = true≢false (ap (λ (n : ℕ). n == 1) (promise.cur
 
 pub no_group_is_wrong : IsShownWrongly no_group_seen
 no_group_is_wrong promise = true≢false (ap (λ (groups : List Group). length groups == 0) promise.groups)
+
+pub too_many_is_wrong : IsShownWrongly group_too_many
+too_many_is_wrong promise = false≢true (ap (λ (groups : List Group). length groups == 1) promise.groups)
+
+pub never_set_is_wrong : IsShownWrongly limit_never_set
+never_set_is_wrong promise = true≢false (ap is_first_limited promise.groups)
+  where
+    is_first_limited : List Group → Bool
+    is_first_limited [] = false
+    is_first_limited (group ∷ groups) = is_some group.limit
 
 -- two free blocks beside one another are one
 pub parted_is_wrong : IsWrongAfter [] parted_areas

@@ -1,7 +1,7 @@
 -- What breaks the promise: small runs and shown states, each there for one thing that is wrong. So each field of the
 -- promise refuses something. One shown state keeps the promise.
 use Rattle.std.specs.Prelude.{ℕ, ◌==◌, false, Some, None, List, [], ◌∷◌, ◌++◌, take, codes, if◌then◌else◌}
-use Rattle.group_tree.specs.Groups.{initial_groups}
+use Rattle.group_tree.specs.Groups.{new_row, the_root, initial_groups}
 use Rattle.step_rules.specs.declared.step.Step.{Step}
 use Rattle.step_rules.specs.declared.step.Action.TheVariants.{Lock, Get, Put, Freeze, Unfreeze, TakeIn, Consume, Credit}
 use Rattle.step_rules.specs.declared.step.Action.TheVariants.{Grant, PlaceBlock, Return, SetMax, Make, Kill}
@@ -202,6 +202,17 @@ prepaid_left_out = record shown_rightly { current = λ g. 1 }
 -- no group is shown
 abbrev pub no_group_seen : Shown
 no_group_seen = record shown_rightly { groups = [] }
+
+-- a group is shown that was never made; nothing is charged to it
+abbrev pub group_too_many : Shown
+group_too_many = record shown_rightly {
+  groups = initial_groups ++ new_row 1 (codes "/a") ∷ [];
+  current = λ g. if g == 1 then 0 else 2;
+}
+
+-- the root is shown with a limit that was never set
+abbrev pub limit_never_set : Shown
+limit_never_set = record shown_rightly { groups = record the_root { limit = Some 5 } ∷ [] }
 
 -- ---- what is shown of free frames alone
 -- what is shown if both frames are free and nothing is charged

@@ -17,8 +17,9 @@ ghost use Rattle.step_rules.specs.Breaches.{MiscountsReferences, referred_twice,
 ghost use Rattle.step_rules.specs.Breaches.{referred_fully, given_in_no_unit};
 ghost use Rattle.step_rules.specs.Breaches.{IsShownWrongly, seen_nowhere, seen_twice, listed_twice, listed_by_nobody};
 ghost use Rattle.step_rules.specs.Breaches.{kept_in_no_unit, seen_beyond, prepaid_for_nobody, prepaid_left_out};
-ghost use Rattle.step_rules.specs.Breaches.{no_group_seen, IsWrongAfter, shown_free, parted_areas, prepaid_by_nobody};
-ghost use Rattle.step_rules.specs.Breaches.{prepaid_for_no_group, granted_and_lost, lost_in_number};
+ghost use Rattle.step_rules.specs.Breaches.{no_group_seen, group_too_many, limit_never_set, IsWrongAfter};
+ghost use Rattle.step_rules.specs.Breaches.{shown_free, parted_areas, prepaid_by_nobody, prepaid_for_no_group};
+ghost use Rattle.step_rules.specs.Breaches.{granted_and_lost, lost_in_number};
 
 /// A grant that passes the limit of an ancestor breaks the promise. A grant to a killed group breaks it too.
 pub fn a_grant_past_a_limit_breaks_the_promise()
@@ -97,7 +98,7 @@ pub fn what_is_shown_rightly_keeps_the_promise()
 
 /// Shown states that are wrong in one thing break the promise. A frame is nowhere, in two places, twice on a list, on
 /// the list of no CPU, kept without a unit, or not of the zone. A page is prepaid for no group, or left out. No group
-/// is shown.
+/// is shown, or a group that was never made, or a limit that was never set.
 pub fn what_is_shown_wrongly_breaks_the_promise()
     ensures nowhere { IsShownWrongly seen_nowhere }
     ensures twice { IsShownWrongly seen_twice }
@@ -108,6 +109,8 @@ pub fn what_is_shown_wrongly_breaks_the_promise()
     ensures for_nobody { IsShownWrongly prepaid_for_nobody }
     ensures left_out { IsShownWrongly prepaid_left_out }
     ensures no_group { IsShownWrongly no_group_seen }
+    ensures too_many { IsShownWrongly group_too_many }
+    ensures never_set { IsShownWrongly limit_never_set }
 {}
 
 /// Shown states with only free frames break the promise if one block is shown as two, or if a page is prepaid by no CPU

@@ -1,10 +1,10 @@
-use Rattle.std.proofs.Common.{◌≡◌, true}
-use Rattle.script_lint.proofs.Spots.{stuck_is, whole_is}
+use Rattle.script_lint.proofs.Spots.{past_is, within_is}
 use Rattle.script_lint.proofs.line.lint_line.Goals as goal
 
-pub returns-in-Some : goal.returns-in-Some
-returns-in-Some c =
-    rw c.stuck_spot.ensures (stuck_is c.args.sizes.now c.args.had_go (c.args.is_within ≡ true) c.args.text.now c.in-Some.place c.in-Some.ensures)
+pub returns-then-is_within : goal.returns-then-is_within
+returns-then-is_within c =
+    within_is c.args.sizes.now c.args.had_go c.args.text.now c.args.is_within c.if-is_within.true c.lint_alone-alone.result c.lint_alone-alone.ensures
 
-pub returns-in-None : goal.returns-in-None
-returns-in-None c = rw c.whole_spot.ensures (whole_is c.args.sizes.now c.args.had_go c.args.is_within c.args.text.now c.in-None.ensures)
+pub returns-else-is_within : goal.returns-else-is_within
+returns-else-is_within c = rw c.spot_past_limit.ensures
+    (past_is c.args.sizes.now c.args.had_go c.args.text.now c.args.is_within c.if-is_within.false c.lint_alone-alone.result c.lint_alone-alone.ensures)

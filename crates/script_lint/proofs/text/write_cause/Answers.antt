@@ -25,7 +25,7 @@ pub returns-in-TooManyWords : goal.returns-in-TooManyWords
 returns-in-TooManyWords c = rw c.in-TooManyWords.is c.write_misfit-in-TooManyWords.ensures
 
 pub returns-in-LateComment : goal.returns-in-LateComment
-returns-in-LateComment c = rw c.in-LateComment.is (told c.push_str.result (string_bytes c.args.text.now) (codes "a comment is a line that begins with #") _ c.push_str.ensures.bytes)
+returns-in-LateComment c = rw c.in-LateComment.is (told c.push_str-in-LateComment.result (string_bytes c.args.text.now) (codes "a comment is a line that begins with #") _ c.push_str-in-LateComment.ensures.bytes)
 
 pub returns-in-SpaceAtEnd : goal.returns-in-SpaceAtEnd
 returns-in-SpaceAtEnd c = rw c.in-SpaceAtEnd.is (told c.push_str-in-SpaceAtEnd.result (string_bytes c.args.text.now) (codes "space at an end of the line") _ c.push_str-in-SpaceAtEnd.ensures.bytes)
@@ -38,3 +38,9 @@ returns-in-InputTooLong c = rw c.in-InputTooLong.is (told c.push_str-in-InputToo
 
 pub returns-in-SecondGo : goal.returns-in-SecondGo
 returns-in-SecondGo c = rw c.in-SecondGo.is (told c.push_str-in-SecondGo.result (string_bytes c.args.text.now) (codes "a second go") _ c.push_str-in-SecondGo.ensures.bytes)
+
+pub returns-in-ByteOrderMark : goal.returns-in-ByteOrderMark
+returns-in-ByteOrderMark c = rw c.in-ByteOrderMark.is (told c.push_str.result (string_bytes c.args.text.now) (codes "a UTF-8 byte order mark: a script is plain ASCII") _ c.push_str.ensures.bytes)
+
+pub returns-in-WideText : goal.returns-in-WideText
+returns-in-WideText c = rw c.in-WideText.is (told c.push_str-in-WideText.result (string_bytes c.args.text.now) (codes "this looks like UTF-16: a script is plain ASCII") _ c.push_str-in-WideText.ensures.bytes)

@@ -1,4 +1,4 @@
-use Rattle.std.proofs.Common.{◌∙◌, ℕ, ap, refl, subst}
+use Rattle.std.proofs.Common.{◌∙◌, ℕ, ap, refl}
 use Rattle.cpu_part.specs.declared.answers.Fast.TheVariants.{Got}
 use Rattle.group_tree.specs.Groups.{number_at}
 use Rattle.mem_system.specs.Locked.{KnownLocked}
@@ -19,12 +19,11 @@ returns-in-Got-clause-answer g c path is =
     let said = unlocked.Fast (Got f) in
     let l = c.args.locked.now in
     let mid = c.alloc_in_order.new.locked in
-    let m = c.watch_unlocked.new.locked in
+    let m = c.watch_paid.new.locked in
     let number = c.args.cpu.now.part.number in
     let before = locked_state l c.args.cpu.now in
     let left = c.alloc_in_order.new.cpu in
-    let watched : OnlyWatched (steps_alone c.number-cpu_number.result (Fast group) said) mid m =
-    subst (λ (h : ℕ). OnlyWatched (steps_alone c.number-cpu_number.result (Fast h) said) mid m) c.number.ensures.value c.watch_unlocked.ensures in record {
+    let watched : OnlyWatched (steps_alone c.number-cpu_number.result (Fast group) said) mid m = c.watch_paid.ensures in record {
       steps = steps_alone number (Fast group) said;
       answered = record {
         gets = record { group = group; found = is; got = c.in-Got.ensures.answer };

@@ -1,9 +1,11 @@
 -- Serves the contract of `end_line`: the log goes on with the line, or it is known what it is.
-use Rattle.std.proofs.Common.{◌≡◌, ◌+◌, ap, inl, inr, subst, sym, List, ℕ}
+use Rattle.std.proofs.Common.{◌≡◌, ◌∙◌, ◌+◌, ap, inl, inr, subst, sym, List, ℕ}
 use Rattle.std.proofs.lemmas.Result.{IfOk-weaker}
 use Rattle.log_lines.specs.Line.{IsLogLineText}
 use Rattle.log_check.specs.declared.reader.LogReader.{LogReader}
 use Rattle.log_check.specs.declared.progress.Taken.{Taken}
+use Rattle.log_check.specs.declared.progress.Taken.TheVariants.{Bad}
+use Rattle.log_check.specs.Verdicts.{fault_of}
 use Rattle.log_check.proofs.Bytes.{Judged, line_ended}
 use Rattle.log_check.proofs.reader.LogReader.end_line.Goals.{in-Some+in_ok-taken-in-Some, in-None}
 use Rattle.log_check.proofs.reader.LogReader.end_line.Goals as goal
@@ -33,7 +35,7 @@ returns-clause-read c =
           (subst (λ (x : LogReader). Judged r x.progress w.in_ok-taken-in-Some.taken) (sym w.self-is)
           (inl (w.in-Some.line, has, w.in_ok-taken-in-Some.ensures.taken)))
       | in-None w ↦
-          inr (w.taken-is, λ l has. w.in-None.ensures l (subst (λ (x : List ℕ). IsLogLineText x l) (sym c.deref.ensures.value) has))
+          inr (w.taken-is ∙ ap Bad (w.of_text.ensures ∙ ap fault_of w.deref-in-None.ensures.value), λ l has. w.in-None.ensures l (subst (λ (x : List ℕ). IsLogLineText x l) (sym c.deref.ensures.value) has))
     ] in
     IfOk-weaker c.conclude.result _ _ (λ known concluded before h.
     line_ended before r m c.conclude.new.self taken known h judged c.clear.ensures.items one all out c.conclude.ensures.line concluded)
