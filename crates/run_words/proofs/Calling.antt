@@ -3,16 +3,14 @@ use Rattle.std.proofs.Common.{◌≡◌, ◌≢◌, ℕ, ◌+◌, ◌-◌, ◌%�
 use Rattle.std.specs.Prelude.{◌⊎◌, nat_le}
 use Rattle.std.proofs.lemmas.Bool.{cases_Bool, cond-false, leb-true, ne_eqb}
 use prog.Atomic.{either}
-use Rattle.atomic_table.specs.Seated.{TableId}
 use Rattle.frame_word.specs.ReferenceRule.{most_references}
 use Rattle.frame_word.specs.Seats.{KnownTable}
-use Rattle.step_rules.specs.declared.step.Step.{Step}
 use Rattle.step_rules.specs.declared.step.Action.{Action}
 use Rattle.step_rules.specs.declared.step.Action.TheVariants.{Get, Put}
 use Rattle.step_rules.specs.declared.step.Answer.{Answer}
 use Rattle.step_rules.specs.declared.step.Answer.TheVariants.{Full, Held, Zero}
-use Rattle.step_rules.specs.State.{Zone, is_frame}
-use Rattle.step_rules.specs.Legal.{get_answer, is_legal}
+use Rattle.step_rules.specs.State.{is_frame}
+use Rattle.step_rules.specs.Legal.{get_answer}
 use Rattle.step_rules.specs.After.{state_of, IsLegalRun}
 use Rattle.step_rules.specs.Views.{holds_lock}
 use Rattle.step_rules.proofs.Freeing.{zone_of_run}

@@ -1,14 +1,10 @@
 -- The table at the end: one seat has all pasts.
-use Rattle.std.proofs.Common.{◌≡◌, ℕ, suc, ◌+◌, ◌<◌, ◌≤◌, Bool, true, false, List, [], ◌∷◌, ◌++◌, length, refl, ap, sym, ◌∙◌, subst, arith, inl, inr}
-use Rattle.std.specs.Prelude.{nat_le}
-use mathlib.Core.Option.{some}
-use lib.ListN.{get_elem?}
+use Rattle.std.proofs.Common.{◌≡◌, ℕ, suc, ◌+◌, ◌<◌, ◌≤◌, List, [], ◌∷◌, ◌++◌, length, refl, ap, sym, ◌∙◌, subst, arith, inl, inr}
 use Rattle.atomic_table.specs.Table.{Final, Seen}
 use Rattle.frame_word.specs.Seats.{KnownTable}
 use Rattle.frame_word.specs.Totals.{sum_over}
 use Rattle.frame_word.proofs.Totals.{total_member}
-use Rattle.step_rules.specs.State.{Zone, one_if}
-use Rattle.boot_words.specs.Pasts.{own_past}
+use Rattle.step_rules.specs.State.{Zone}
 use Rattle.boot_words.specs.declared.view.Past.{Past}
 use Rattle.boot_words.specs.Rule.{AllOf}
 use Rattle.boot_words.proofs.Seats.{all_at}

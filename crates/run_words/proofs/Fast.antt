@@ -23,7 +23,7 @@ use Rattle.boot_words.proofs.Growing.{grown, grown_legal}
 use Rattle.boot_words.proofs.Lasting.{fast_legality_lasts}
 use Rattle.boot_words.proofs.Seats.{all_at}
 use Rattle.boot_words.proofs.Stepping.{words_follow}
-use Rattle.run_words.specs.Rule.{BeginsRun, RunRule, of_number, run_rule}
+use Rattle.run_words.specs.Rule.{BeginsRun, of_number, run_rule}
 use Rattle.run_words.proofs.Booking.{IsNoFill, small_step}
 use Rattle.run_words.proofs.Growing.{notes_alone, notes_nothing}
 

@@ -1,5 +1,5 @@
 -- The pasts of all seats as the run grows.
-use Rattle.std.proofs.Common.{◌≡◌, ◌≢◌, ℕ, ◌+◌, ◌≤◌, ◌==◌, ◌||◌, Bool, true, false, List, [], ◌∷◌, ◌++◌, length, set, refl, ap, sym, ◌∙◌, subst, arith, inl, inr, append_assoc, eq-eqb}
+use Rattle.std.proofs.Common.{◌≡◌, ◌≢◌, ℕ, ◌+◌, ◌≤◌, ◌==◌, ◌||◌, Bool, true, false, List, [], ◌∷◌, ◌++◌, set, refl, ap, sym, ◌∙◌, subst, arith, inl, inr, append_assoc, eq-eqb}
 use Rattle.std.specs.Prelude.{◌⊎◌, nat_le, slice_index}
 use Rattle.std.specs.List.{fold}
 use Rattle.std.proofs.lemmas.Bool.{false≢true}
@@ -7,7 +7,7 @@ use Rattle.std.proofs.lemmas.List.{length-set, set-get_or}
 use mathlib.Core.Option.{some}
 use lib.ListN.{get_elem?}
 use Rattle.frame_word.specs.Totals.{sum_over, total_over}
-use Rattle.frame_word.proofs.Totals.{total_plus, sum_plus, total_set}
+use Rattle.frame_word.proofs.Totals.{total_plus}
 use Rattle.step_rules.specs.declared.phase.Hold.{Hold}
 use Rattle.step_rules.specs.declared.phase.Hold.TheVariants.{HeldBy, Unheld, Visiting}
 use Rattle.step_rules.specs.declared.step.Action.{Action}
@@ -29,7 +29,7 @@ use Rattle.boot_words.proofs.Growing.{grown}
 use Rattle.boot_words.proofs.Holding.{append_none}
 use Rattle.boot_words.proofs.Owning.{fold_on}
 use Rattle.boot_words.proofs.Seats.{all_set}
-use Rattle.run_words.specs.Rule.{AllPasts, AreFast, HasLock, BeginsRun, RunRule, of_number}
+use Rattle.run_words.specs.Rule.{AreFast, HasLock, BeginsRun, RunRule, of_number}
 use Rattle.run_words.proofs.Booking.{AreSmall, small_more}
 use Rattle.run_words.proofs.Seats.{counts_same, seats_set}
 

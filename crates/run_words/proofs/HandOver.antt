@@ -1,26 +1,24 @@
 -- Frames that go between the zone and the lock's holder, its visit, and its pages.
-use Rattle.std.proofs.Common.{◌≡◌, ℕ, ◌+◌, ◌-◌, ◌*◌, ◌%◌, ◌^◌, ◌<◌, ◌≤◌, true, false, Some, None, Option, Bool, List, [], ◌∷◌, set, refl, ap, sym, ◌∙◌, subst, arith, inl, inr}
+use Rattle.std.proofs.Common.{◌≡◌, ℕ, ◌+◌, ◌-◌, ◌%◌, ◌^◌, ◌<◌, ◌≤◌, true, List, set, refl, ap, sym, ◌∙◌, subst, arith, inl, inr}
 use Rattle.std.specs.Prelude.{slice_index}
-use Rattle.atomic_table.specs.Table.{State as Board}
 use Rattle.frame_word.specs.ReferenceRule.{mark, visit_index}
 use Rattle.frame_word.specs.Seats.{KnownTable}
-use Rattle.stock_word.specs.declared.view.Stock.{Stock}
 use Rattle.stock_word.specs.declared.view.Stock.TheVariants.{HeldBy}
 use Rattle.stock_word.specs.Stock.{HasWord, word_of}
 use Rattle.stock_word.specs.StockRule.{stock_index}
 use Rattle.step_rules.specs.declared.step.Action.TheVariants.{Collect, Consume, OpenVisit, PassBack, ShutVisit}
 use Rattle.step_rules.specs.declared.step.Answer.TheVariants.{Done, Took}
 use Rattle.step_rules.specs.State.{State, Zone, is_cpu, is_frame}
-use Rattle.step_rules.specs.Legal.{IsAnswer, is_legal}
+use Rattle.step_rules.specs.Legal.{IsAnswer}
 use Rattle.step_rules.specs.After.{state_of}
 use Rattle.step_rules.proofs.CoverParts.{own_part}
 use Rattle.step_rules.proofs.Freeing.{zone_of_run}
 use Rattle.step_rules.proofs.Keeping.{homed_run}
 use Rattle.step_rules.proofs.LegalTests.{collect_tests, pass_back_tests}
 use Rattle.step_rules.proofs.SoundSteps.{below_frames, cpu_range}
-use Rattle.boot_words.specs.Words.{Words, stock_in, stock_said, with_stock_word}
+use Rattle.boot_words.specs.Words.{stock_in, stock_said, with_stock_word}
 use Rattle.boot_words.specs.Steps.{ChangesWords, stock_word_at}
-use Rattle.boot_words.specs.Held.{HoldsLock, local_seen}
+use Rattle.boot_words.specs.Held.{local_seen}
 use Rattle.boot_words.specs.declared.view.Past.{Past}
 use Rattle.boot_words.specs.Rule.{frame_base, words_in}
 use Rattle.boot_words.specs.Pasts.{KnownPasts, IsHeld, IsHolder, MakesStep, MayMake, cpu_past, local_by_pasts, own_past}
@@ -180,13 +178,15 @@ takes_held t s cpu g is holder pays legal =
     let few : n < 65536 = let b = fits.1 in omega (arith, b) in
     let less : (slice_index b.words j + (2 ^ 64 - 1)) % 2 ^ 64 ≡ word_of (HeldBy g n) = one_less (slice_index b.words j) (word_of (HeldBy g n)) (found ∙ held_more g n) small in
     held_makes zone b k id j ((slice_index b.words j + (2 ^ 64 - 1)) % 2 ^ 64) z c (record { seat = q; action = Consume g }) Took at is.holds (inr refl) refl tt
-    (subst (λ k. MayMake t s k (Consume g)) holder legal)
-    (n, record {
-      before_fits = fits;
-      after_fits = (fits.0, few);
-      found = h.reads ∙ found;
-      later_is = stock_words_set zone j ((slice_index b.words j + (2 ^ 64 - 1)) % 2 ^ 64) low b.words ∙ ap (with_stock_word (words_in zone b.words) q) less;
-    })))
+    (subst (λ k. MayMake t s k (Consume g)) holder legal) (
+      n,
+      record {
+        before_fits = fits;
+        after_fits = (fits.0, few);
+        found = h.reads ∙ found;
+        later_is = stock_words_set zone j ((slice_index b.words j + (2 ^ 64 - 1)) % 2 ^ 64) low b.words ∙ ap (with_stock_word (words_in zone b.words) q) less;
+      },
+    )))
 
 pub took_made : (t : KnownTable) (s : KnownPasts) (cpu g found : ℕ) (s' : KnownPasts) → IsHeld t s → IsHolder s cpu → s'.table ≡ s.table
     → takes_told (zone_of_boot t) (own_past s) (cpu_past s) g found s'.pasts → MakesStep t s cpu (Consume g) Took s'

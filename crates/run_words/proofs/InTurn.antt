@@ -1,7 +1,7 @@
 -- Several steps by one load: their words end as they began.
 use Rattle.std.proofs.Common.{◌≡◌, ℕ, zero, suc, ◌+◌, ◌*◌, ◌<◌, ◌≤◌, ◌==◌, ◌&&◌, true, false, Bool, List, [], ◌∷◌, length, set, get_or-set_same, refl, ap, sym, ◌∙◌, subst, arith, inl, inr}
 use Rattle.std.specs.Prelude.{◌⊎◌, ◌||◌, slice_index}
-use Rattle.std.proofs.lemmas.Bool.{and_parts, false≢true}
+use Rattle.std.proofs.lemmas.Bool.{false≢true}
 use Rattle.std.proofs.lemmas.List.{set-get_or}
 use mathlib.Core.Option.{some}
 use lib.ListN.{get_elem?}
@@ -11,13 +11,13 @@ use Rattle.frame_word.specs.ReferenceRule.{mark}
 use Rattle.frame_word.specs.Seats.{KnownTable}
 use Rattle.stock_word.specs.StockRule.{report_index}
 use Rattle.step_rules.specs.declared.phase.Phase.{Phase}
-use Rattle.step_rules.specs.declared.phase.Phase.TheVariants.{InZone, Lent, Head, Tail}
+use Rattle.step_rules.specs.declared.phase.Phase.TheVariants.{InZone, Lent, Head}
 use Rattle.step_rules.specs.declared.phase.Stage.TheVariants.{BackAt, FreshAt}
 use Rattle.step_rules.specs.declared.phase.Way.TheVariants.{OnList}
 use Rattle.step_rules.specs.declared.step.Step.{Step}
 use Rattle.step_rules.specs.declared.step.Action.TheVariants.{Absorb, Collect, PassBack, PassOut, Report, TakeIn}
 use Rattle.step_rules.specs.declared.step.Answer.{Answer}
-use Rattle.step_rules.specs.declared.step.Answer.TheVariants.{Done, Pages}
+use Rattle.step_rules.specs.declared.step.Answer.TheVariants.{Pages}
 use Rattle.step_rules.specs.Phases.{Kind, ListFrame, FreshFrame, BackFrame, has_as, is_free, is_live_phase}
 use Rattle.step_rules.specs.State.{Part, State, Zone, front_of, is_cpu, live_references}
 use Rattle.step_rules.specs.Legal.{is_legal, is_passable}

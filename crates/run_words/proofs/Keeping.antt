@@ -1,5 +1,5 @@
 -- What a CPU knows of its stock after a get or a put.
-use Rattle.std.proofs.Common.{◌≡◌, ◌≢◌, ℕ, ◌+◌, ◌≤◌, ◌==◌, Bool, true, false, cond, [], ◌∷◌, ◌++◌, length, take, refl, ap, sym, ◌∙◌, subst, arith}
+use Rattle.std.proofs.Common.{◌≡◌, ℕ, ◌==◌, Bool, true, false, cond, [], ◌∷◌, ◌++◌, length, refl, ap, sym, ◌∙◌, subst}
 use Rattle.frame_word.specs.Seats.{KnownTable}
 use Rattle.step_rules.specs.declared.step.Action.{Action}
 use Rattle.step_rules.specs.declared.step.Action.TheVariants.{Get, Put}
@@ -13,7 +13,6 @@ use Rattle.step_rules.proofs.Runs.{legal_from, state_more}
 use Rattle.boot_words.specs.Runs.{HasNoStepOf, IsFast}
 use Rattle.boot_words.proofs.Holding.{take_length}
 use Rattle.boot_words.specs.Words.{stock_in, stock_said}
-use Rattle.boot_words.specs.declared.view.Past.{Past}
 use Rattle.boot_words.specs.Pasts.{KnownPasts, own_past}
 use Rattle.boot_words.specs.Seats.{zone_of_boot}
 use Rattle.boot_words.proofs.Away.{away_stays}

@@ -1,53 +1,41 @@
 -- A put, a drain and a lend under the lock.
-use Rattle.std.proofs.Common.{◌≡◌, ◌≢◌, ℕ, zero, suc, ◌+◌, ◌-◌, ◌*◌, ◌%◌, ◌^◌, ◌<◌, ◌≤◌, ◌==◌, Bool, true, false, Option, Some, None, List, [], ◌∷◌, set, refl, ap, sym, ◌∙◌, subst, arith, inl, inr}
+use Rattle.std.proofs.Common.{◌≡◌, ◌≢◌, ℕ, ◌+◌, ◌-◌, ◌*◌, ◌%◌, ◌^◌, ◌<◌, ◌≤◌, Bool, true, false, Option, Some, None, List, [], ◌∷◌, set, refl, ap, sym, ◌∙◌, subst, arith, inl}
 use Rattle.std.specs.Prelude.{◌⊎◌, slice_index}
 use Rattle.std.proofs.lemmas.List.{set-get_or}
 use mathlib.Core.Logic.{dite}
-use mathlib.Core.Option.{some, some-ne-none}
+use mathlib.Core.Option.{some}
 use native.Mathlib.Decide.{ℕ_discrete}
 use lib.ListN.{get_elem?}
-use Rattle.atomic_table.specs.Table.{State as Board, keeps}
-use Rattle.frame_word.specs.ReferenceRule.{mark}
+use Rattle.atomic_table.specs.Table.{State as Board}
 use Rattle.frame_word.specs.Seats.{KnownTable}
 use Rattle.stock_word.specs.declared.view.Stock.{Stock}
 use Rattle.stock_word.specs.declared.view.Stock.TheVariants.{NoGroup, HeldBy, DrainedOf}
 use Rattle.stock_word.specs.Stock.{HasWord, group_of, stock_pages_of, word_of}
 use Rattle.stock_word.specs.StockRule.{stock_index}
-use Rattle.step_rules.specs.declared.phase.Phase.{Phase}
-use Rattle.step_rules.specs.declared.phase.Phase.TheVariants.{InZone}
 use Rattle.step_rules.specs.declared.step.Step.{Step}
-use Rattle.step_rules.specs.declared.step.Action.TheVariants.{DrainStock, PassOut, Put, TakeIn}
-use Rattle.step_rules.specs.declared.step.Answer.{Answer}
-use Rattle.step_rules.specs.declared.step.Answer.TheVariants.{Done, Pages}
-use Rattle.step_rules.specs.Phases.{is_free, is_live_phase}
-use Rattle.step_rules.specs.State.{Part, State, Zone, is_cpu, is_frame, live_references}
-use Rattle.step_rules.specs.Legal.{is_legal}
-use Rattle.step_rules.specs.After.{after, state_of}
-use Rattle.step_rules.specs.Views.{seen_by}
+use Rattle.step_rules.specs.declared.step.Action.TheVariants.{DrainStock, Put}
+use Rattle.step_rules.specs.declared.step.Answer.TheVariants.{Pages}
+use Rattle.step_rules.specs.State.{Part, State, Zone, is_cpu, is_frame}
+use Rattle.step_rules.specs.After.{state_of}
 use Rattle.step_rules.proofs.CoverParts.{part_seen}
 use Rattle.step_rules.proofs.Freeing.{zone_of_run}
-use Rattle.step_rules.proofs.LegalTests.{drain_stock_tests, pass_out_tests, put_tests}
+use Rattle.step_rules.proofs.LegalTests.{drain_stock_tests, put_tests}
 use Rattle.step_rules.proofs.SoundSteps.{below_frames, cpu_range}
-use Rattle.boot_words.specs.Words.{Words, stock_in, stock_said, with_frame_word, with_stock_word, word_in_phase}
-use Rattle.boot_words.specs.Steps.{ChangesWords, OfGroup, OfNone, frame_word_at, stock_word_at}
+use Rattle.boot_words.specs.Words.{stock_in, stock_said, with_frame_word}
+use Rattle.boot_words.specs.Steps.{ChangesWords, OfGroup, OfNone, frame_word_at}
 use Rattle.boot_words.specs.Allowed.{put_answer_at}
-use Rattle.boot_words.specs.Composed.{AreLegal, GrewInTurn, GrewUnderLock, MakesInTurn, lend_run}
 use Rattle.boot_words.specs.Held.{HoldsLock, local_seen}
 use Rattle.boot_words.specs.declared.view.Past.{Past}
 use Rattle.boot_words.specs.Rule.{frame_base, words_in}
 use Rattle.boot_words.specs.Pasts.{KnownPasts, IsHeld, IsHolder, MakesStep, MayMake, cpu_past, local_by_pasts, own_past}
 use Rattle.boot_words.specs.Seats.{zone_of_boot}
-use Rattle.boot_words.proofs.Counting.{none_live}
-use Rattle.boot_words.proofs.Following.{stands_in}
 use Rattle.boot_words.proofs.Parts.{frame_reads, words_set}
 use Rattle.boot_words.proofs.Putting.{less_one, put_changes}
 use Rattle.boot_words.proofs.StockSteps.{stock_is_at, stock_low, stock_words_set}
-use Rattle.run_words.specs.declared.word.Word.{Word}
-use Rattle.run_words.specs.declared.word.Word.TheVariants.{OfFrame, Quiet, StockOf}
-use Rattle.run_words.specs.Rule.{RunRule, run_rule}
+use Rattle.run_words.specs.declared.word.Word.TheVariants.{OfFrame, StockOf}
+use Rattle.run_words.specs.Rule.{run_rule}
 use Rattle.run_words.specs.Seats.{MayChange}
-use Rattle.run_words.proofs.Fast.{Leaves, stays}
-use Rattle.run_words.proofs.Prepaying.{same_word}
+use Rattle.run_words.proofs.Fast.{stays}
 use Rattle.run_words.proofs.Referring.{word_positive}
 use Rattle.run_words.proofs.UnderLock.{MadeHeld, held_made, held_makes, legal_end, of_held, shows_end, stands_at}
 

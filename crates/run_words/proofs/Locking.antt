@@ -42,7 +42,7 @@ use Rattle.boot_words.proofs.Resting.{zone_rests}
 use Rattle.boot_words.proofs.Seats.{all_at}
 use Rattle.boot_words.proofs.UnderLock.{same_seen}
 use Rattle.run_words.specs.declared.word.Word.TheVariants.{Quiet, StockOf}
-use Rattle.run_words.specs.Cpus.{IsAwayCpu, KnownCpuSeat}
+use Rattle.run_words.specs.Cpus.{IsAwayCpu}
 use Rattle.run_words.specs.Seats.{MayChange, first_alone, rest_of}
 use Rattle.run_words.specs.Rule.{BeginsRun}
 use Rattle.run_words.proofs.Growing.{free_holder, past_of_run}

@@ -1,7 +1,6 @@
 -- Loads under the lock that are no step.
-use Rattle.std.proofs.Common.{◌≡◌, ℕ, ◌+◌, ◌<◌, ◌≤◌, true, Option, Some, None, List, [], ◌∷◌, set, refl, ap, sym, ◌∙◌, subst, arith}
+use Rattle.std.proofs.Common.{◌≡◌, ℕ, ◌+◌, ◌<◌, ◌≤◌, true, List, [], ◌∷◌, refl, ap, sym, ◌∙◌, subst, arith}
 use Rattle.std.specs.Prelude.{slice_index, IfSome}
-use Rattle.std.proofs.lemmas.Bool.{leb-true}
 use Rattle.frame_word.specs.ReferenceRule.{most_references}
 use Rattle.frame_word.specs.Seats.{KnownTable}
 use Rattle.stock_word.specs.declared.view.Stock.{Stock}
@@ -11,12 +10,10 @@ use Rattle.stock_word.specs.StockRule.{stock_index}
 use Rattle.step_rules.specs.Phases.{is_live_phase}
 use Rattle.step_rules.specs.State.{State, Zone, live_references}
 use Rattle.step_rules.specs.After.{state_of}
-use Rattle.step_rules.specs.Views.{references_seen_by}
 use Rattle.step_rules.proofs.Living.{live_are_referenced}
 use Rattle.step_rules.proofs.Referring.{live_from_one}
 use Rattle.step_rules.proofs.Sums.{sum_part}
 use Rattle.boot_words.specs.Words.{stock_in}
-use Rattle.boot_words.specs.Steps.{frame_word_at}
 use Rattle.boot_words.specs.Held.{local_seen}
 use Rattle.boot_words.specs.declared.view.Past.{Past}
 use Rattle.boot_words.specs.Rule.{frame_base, words_in}
@@ -29,8 +26,8 @@ use Rattle.run_words.specs.declared.word.Word.TheVariants.{OfFrame, StockOf}
 use Rattle.run_words.specs.Looking.{LoadsReferences}
 use Rattle.run_words.specs.Seats.{MayChange}
 use Rattle.run_words.proofs.Fast.{stays}
-use Rattle.run_words.proofs.HandOver.{StockHeld, cpu_of_held, stock_held}
-use Rattle.run_words.proofs.Lending.{StockFound, group_few, stock_found}
+use Rattle.run_words.proofs.HandOver.{cpu_of_held, stock_held}
+use Rattle.run_words.proofs.Lending.{StockFound, stock_found}
 use Rattle.run_words.proofs.Referring.{word_now}
 use Rattle.run_words.proofs.UnderLock.{fits_both, of_held, shows_end, stands_at}
 
@@ -124,10 +121,18 @@ sees_references t s f is inside some =
     let found : live_references run f ≡ slice_index b.words j =
     sym (live_word run f live (live_references run f)) ∙ word_now zone (words_in zone b.words) k.run f k.is inside ∙ frame_reads zone f b.words in
     let range = (live_are_referenced zone k.run k.is.legal f).some live in
-    let r = stays zone b k id j (slice_index b.words j) (z ∷ c ∷ []) at refl in
-    (r.0, r.1, r.2, r.3, (r.4.0, record {
-      counted = record { run = k.run; zone_begins = fit.0; cpu_begins = fit.1; legal = k.is.legal; counted = found };
-      own = omega (arith, own, part, found);
-      most = (let a = range.1 in omega (arith, a, found));
-      later_is = r.4.1;
-    })))
+    let r = stays zone b k id j (slice_index b.words j) (z ∷ c ∷ []) at refl in (
+      r.0,
+      r.1,
+      r.2,
+      r.3,
+      (
+        r.4.0,
+        record {
+          counted = record { run = k.run; zone_begins = fit.0; cpu_begins = fit.1; legal = k.is.legal; counted = found };
+          own = omega (arith, own, part, found);
+          most = (let a = range.1 in omega (arith, a, found));
+          later_is = r.4.1;
+        },
+      ),
+    ))

@@ -1,14 +1,13 @@
 -- A CPU and the zone see the same run, and what a CPU knows then.
-use Rattle.std.proofs.Common.{◌≡◌, ℕ, zero, suc, ◌+◌, ◌≤◌, ◌==◌, true, false, List, [], ◌∷◌, ◌++◌, length, take, set, refl, ap, sym, ◌∙◌, subst, arith, inl}
+use Rattle.std.proofs.Common.{◌≡◌, ℕ, zero, suc, ◌+◌, ◌≤◌, true, List, [], ◌∷◌, ◌++◌, length, refl, ap, sym, ◌∙◌, subst, arith, inl}
 use Rattle.std.specs.Prelude.{slice_index}
-use Rattle.std.proofs.lemmas.List.{append-nil}
 use Rattle.frame_word.specs.Seats.{KnownTable}
 use Rattle.step_rules.specs.declared.step.Step.{Step}
 use Rattle.step_rules.specs.declared.step.Action.TheVariants.{Lock}
 use Rattle.step_rules.specs.declared.step.Answer.{Answer}
 use Rattle.step_rules.specs.declared.step.Answer.TheVariants.{Done}
-use Rattle.step_rules.specs.State.{Part, State, Zone, is_cpu, is_unheld}
-use Rattle.step_rules.specs.After.{Run, state_of, IsLegalRun}
+use Rattle.step_rules.specs.State.{State, Zone, is_cpu, is_unheld}
+use Rattle.step_rules.specs.After.{state_of, IsLegalRun}
 use Rattle.step_rules.specs.Views.{holds_lock}
 use Rattle.step_rules.proofs.CoverParts.{own_part}
 use Rattle.step_rules.proofs.Runs.{legal_from, state_more}
@@ -32,7 +31,7 @@ use Rattle.run_words.specs.Cpus.{IsAwayCpu, KnownCpuSeat, SawLast}
 use Rattle.run_words.specs.Opening.{cpu_at_first, cpus_at_first}
 use Rattle.run_words.specs.Rule.{BeginsRun}
 use Rattle.run_words.specs.Seats.{MayChange, first_alone, rest_of}
-use Rattle.run_words.proofs.Fast.{Leaves, sees_run}
+use Rattle.run_words.proofs.Fast.{sees_run}
 use Rattle.run_words.proofs.Growing.{past_of_run}
 use Rattle.run_words.proofs.Locking.{Takes, in_range, locked, not_none}
 use Rattle.run_words.proofs.Prepaying.{saw_still}

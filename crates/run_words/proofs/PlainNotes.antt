@@ -1,13 +1,12 @@
 -- A step that no word is of.
-use Rattle.std.proofs.Common.{◌≡◌, ℕ, List, [], ◌∷◌, ◌++◌, set, refl, sym, subst, rules, inl}
-use Rattle.std.specs.Prelude.{slice_index}
+use Rattle.std.proofs.Common.{List, [], ◌∷◌, refl, sym, subst, rules}
 use Rattle.atomic_table.specs.Table.{keeps}
 use Rattle.frame_word.specs.Seats.{KnownTable}
 use Rattle.step_rules.specs.declared.step.Step.{Step}
 use Rattle.step_rules.specs.declared.step.Action.{Action}
 use Rattle.step_rules.specs.declared.step.Action.TheVariants.{Lock}
 use Rattle.step_rules.specs.declared.step.Answer.{Answer}
-use Rattle.step_rules.specs.State.{State, Zone}
+use Rattle.step_rules.specs.State.{State}
 use Rattle.step_rules.specs.Legal.{Allows, IsAnswer, IsCounted}
 use Rattle.step_rules.specs.After.{state_of}
 use Rattle.step_rules.specs.Laws.{IsLocalStep}
@@ -16,7 +15,7 @@ use Rattle.step_rules.proofs.Own.{own_answer}
 use Rattle.step_rules.proofs.Runs.{legal_more, sound_run}
 use Rattle.boot_words.specs.Steps.{IsPlain}
 use Rattle.boot_words.specs.declared.view.Past.{Past}
-use Rattle.boot_words.specs.Pasts.{KnownPasts, IsHeld, MakesStep, cpu_past, local_by_pasts, own_past}
+use Rattle.boot_words.specs.Pasts.{KnownPasts, IsHeld, cpu_past, local_by_pasts, own_past}
 use Rattle.boot_words.specs.Seats.{zone_of_boot}
 use Rattle.boot_words.proofs.Growing.{grown}
 use Rattle.boot_words.proofs.UnderLock.{legal_now, next_holds}

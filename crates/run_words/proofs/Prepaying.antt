@@ -1,6 +1,6 @@
 -- What the steps of consume and credit tell.
 use Rattle.std.proofs.Common.{◌≡◌, ◌≢◌, ℕ, suc, eqb, ◌+◌, ◌*◌, ◌<◌, ◌≤◌, ◌==◌, Bool, true, false, Some, None, Option, List, [], ◌∷◌, ◌++◌, length, set, get_or-set_same, refl, ap, sym, ◌∙◌, subst, arith, inl, inr}
-use Rattle.std.specs.Prelude.{◌⊎◌, slice_index, is_some}
+use Rattle.std.specs.Prelude.{slice_index, is_some}
 use Rattle.std.proofs.lemmas.List.{set-get_or}
 use mathlib.Core.Option.{some}
 use lib.ListN.{get_elem?}
@@ -13,26 +13,26 @@ use Rattle.stock_word.specs.Stock.{HasWord, drained_of, word_of}
 use Rattle.stock_word.specs.StockRule.{stock_index}
 use Rattle.stock_word.proofs.Stocks.{held_word}
 use Rattle.step_rules.specs.declared.step.Action.{Action}
-use Rattle.step_rules.specs.declared.step.Action.TheVariants.{Consume, Credit, Lock, OpenVisit, ShutVisit, Unlock}
+use Rattle.step_rules.specs.declared.step.Action.TheVariants.{Consume, Credit}
 use Rattle.step_rules.specs.declared.step.Answer.{Answer}
-use Rattle.step_rules.specs.declared.step.Answer.TheVariants.{Drained, Illegal, Stocked, Took}
+use Rattle.step_rules.specs.declared.step.Answer.TheVariants.{Drained, Stocked, Took}
 use Rattle.step_rules.specs.State.{Part, State, Zone, one_if, times}
 use Rattle.step_rules.specs.Legal.{is_legal}
-use Rattle.step_rules.specs.After.{Run, after, state_of, IsLegalRun}
+use Rattle.step_rules.specs.After.{Run, state_of, IsLegalRun}
 use Rattle.step_rules.specs.Views.{holds_lock}
 use Rattle.step_rules.specs.Invariant.{KeepsInvariant}
 use Rattle.step_rules.specs.Phases.{FreshFrame}
 use Rattle.step_rules.proofs.Freeing.{zone_of_run}
 use Rattle.step_rules.proofs.LegalTests.{credit_tests}
-use Rattle.step_rules.proofs.Runs.{after_illegal, sound_run}
+use Rattle.step_rules.proofs.Runs.{sound_run}
 use Rattle.boot_words.specs.Runs.{IsFast}
 use Rattle.boot_words.specs.Sight.{HasSameOrDrained}
 use Rattle.boot_words.specs.Words.{IsRunOf, stock_in, stock_said, with_stock_word}
 use Rattle.boot_words.specs.Steps.{ChangesWords, stock_word_at}
 use Rattle.boot_words.specs.declared.view.Past.{Past}
-use Rattle.boot_words.specs.Rule.{frame_base, words_in}
+use Rattle.boot_words.specs.Rule.{words_in}
 use Rattle.boot_words.proofs.Away.{away_stays}
-use Rattle.boot_words.proofs.StockSteps.{stock_is_at, stock_low, stock_same, stock_words_set}
+use Rattle.boot_words.proofs.StockSteps.{stock_is_at, stock_low, stock_words_set}
 use Rattle.run_words.specs.declared.word.Word.TheVariants.{StockOf}
 use Rattle.frame_word.specs.Seats.{KnownTable}
 use Rattle.boot_words.specs.Pasts.{MayDo, first_past, own_past}
@@ -41,7 +41,7 @@ use Rattle.run_words.specs.Cpus.{Exchanges, IsAwayCpu, KnownCpuSeat, SawLast}
 use Rattle.run_words.proofs.Calling.{made}
 use Rattle.run_words.specs.Rule.{run_rule}
 use Rattle.run_words.specs.Seats.{MayChange}
-use Rattle.run_words.proofs.Fast.{Leaves, Made, MadeOn, legal_still, makes_on, past_begins}
+use Rattle.run_words.proofs.Fast.{Leaves, Made, legal_still, makes_on, past_begins}
 use Rattle.run_words.proofs.Booking.{AreSmall}
 use Rattle.run_words.proofs.Growing.{fast_hold}
 

@@ -12,7 +12,7 @@ use Rattle.step_rules.specs.declared.step.Action.{Action}
 use Rattle.step_rules.specs.declared.step.Action.TheVariants.{Get, Put}
 use Rattle.step_rules.specs.declared.step.Answer.{Answer}
 use Rattle.step_rules.specs.declared.step.Answer.TheVariants.{Held, Zero, Full, Left, Last}
-use Rattle.step_rules.specs.State.{Zone, State, is_frame, live_references, one_if}
+use Rattle.step_rules.specs.State.{Zone, live_references, one_if}
 use Rattle.step_rules.specs.Legal.{get_answer, is_legal}
 use Rattle.step_rules.specs.After.{Run, state_of, IsLegalRun}
 use Rattle.step_rules.specs.Views.{holds_lock}
@@ -230,15 +230,18 @@ may_add zone p f seen saw ne away inside low high legal w id s k homes at small 
     sees_run zone s k id j x (q ∷ []) (p ∷ []) (Adds zone p f seen n) here (sym word) (λ c. ap (λ m. one_if (m == c) + 0) (sym w.more.number))
     (begins_since zone p q k.run w.more no_lock goes, tt) (record {
       held = λ h. absurd (miss h);
-      raced = λ not. (refl, record {
-        loaded = q.seen;
-        exchanged = k.run;
-        before = record { rest = w.more.between; is = w.more.seen; others = w.more.others };
-        meanwhile = record { rest = goes.rest; is = goes.is; others = subst (λ c. HasNoStepOf c goes.rest) w.more.number goes.others };
-        legal = k.is.legal;
-        some = subst (λ m. 1 ≤ m) (sym w.is) low;
-        room = subst (λ m. m < most_references) (sym w.is) high;
-        found_is = word_now zone words k.run f k.is inside ∙ reads;
-        other = λ e. not (e ∙ w.is);
-      });
+      raced = λ not. (
+        refl,
+        record {
+          loaded = q.seen;
+          exchanged = k.run;
+          before = record { rest = w.more.between; is = w.more.seen; others = w.more.others };
+          meanwhile = record { rest = goes.rest; is = goes.is; others = subst (λ c. HasNoStepOf c goes.rest) w.more.number goes.others };
+          legal = k.is.legal;
+          some = subst (λ m. 1 ≤ m) (sym w.is) low;
+          room = subst (λ m. m < most_references) (sym w.is) high;
+          found_is = word_now zone words k.run f k.is inside ∙ reads;
+          other = λ e. not (e ∙ w.is);
+        },
+      );
     })) refl

@@ -1,6 +1,5 @@
 -- The rule as seats are parted and joined.
-use Rattle.std.proofs.Common.{◌≡◌, ℕ, zero, suc, ◌+◌, ◌≤◌, List, [], ◌∷◌, ◌++◌, set, refl, ap, sym, ◌∙◌, subst, arith}
-use mathlib.Core.Option.{some}
+use Rattle.std.proofs.Common.{◌≡◌, ℕ, zero, suc, ◌+◌, List, [], ◌∷◌, ◌++◌, set, refl, ap, sym, ◌∙◌, arith}
 use lib.ListN.{get_elem?}
 use Rattle.atomic_table.specs.Table.{Joins, Splits}
 use Rattle.frame_word.specs.Totals.{join_of, split_of, sum_over, total_over}

@@ -1,34 +1,30 @@
 -- What the steps under the lock ask and tell.
-use Rattle.std.proofs.Common.{◌≡◌, ◌≢◌, ℕ, eqb, ◌+◌, ◌-◌, ◌<◌, ◌≤◌, ◌==◌, true, false, List, [], ◌∷◌, set, refl, ap, sym, ◌∙◌, subst, arith, inl, eq-eqb}
+use Rattle.std.proofs.Common.{◌≡◌, ◌≢◌, ℕ, eqb, ◌+◌, ◌<◌, ◌≤◌, ◌==◌, List, set, refl, ap, sym, ◌∙◌, subst, inl, eq-eqb}
 use Rattle.std.specs.Prelude.{slice_index}
 use Rattle.std.proofs.lemmas.Bool.{cond-false, cond-true, ne_eqb}
 use Rattle.std.proofs.lemmas.List.{set-get_or}
 use prog.Atomic.{either}
 use Rattle.atomic_table.proofs.Lists.{exchanged}
 use Rattle.frame_word.specs.Seats.{KnownTable}
-use Rattle.stock_word.specs.declared.view.Stock.{Stock}
 use Rattle.stock_word.specs.declared.view.Stock.TheVariants.{HeldBy}
 use Rattle.stock_word.specs.Stock.{HasWord, word_of}
 use Rattle.stock_word.specs.StockRule.{stock_index}
-use Rattle.step_rules.specs.declared.step.Step.{Step}
 use Rattle.step_rules.specs.declared.step.Action.TheVariants.{Fill, Freeze, Unfreeze}
 use Rattle.step_rules.specs.declared.step.Answer.TheVariants.{Done, Missed}
 use Rattle.step_rules.specs.State.{Part, State, Zone, is_frame}
-use Rattle.step_rules.specs.Legal.{is_legal}
 use Rattle.step_rules.specs.After.{state_of}
 use Rattle.step_rules.proofs.Freeing.{zone_of_run}
-use Rattle.step_rules.proofs.LegalTests.{fill_tests, freeze_tests, unfreeze_tests}
+use Rattle.step_rules.proofs.LegalTests.{freeze_tests, unfreeze_tests}
 use Rattle.step_rules.proofs.SoundSteps.{below_frames}
 use Rattle.boot_words.specs.Words.{Words, with_frame_word}
 use Rattle.boot_words.specs.Steps.{ChangesWords, frame_word_at}
-use Rattle.boot_words.specs.Held.{HoldsLock, freeze_answer, local_seen}
+use Rattle.boot_words.specs.Held.{freeze_answer, local_seen}
 use Rattle.boot_words.specs.declared.view.Past.{Past}
 use Rattle.boot_words.specs.Rule.{frame_base, words_in}
 use Rattle.boot_words.specs.Pasts.{KnownPasts, IsHeld, MayMake, cpu_past, local_by_pasts, own_past}
 use Rattle.boot_words.specs.Seats.{zone_of_boot}
 use Rattle.boot_words.proofs.Parts.{frame_reads, words_set}
 use Rattle.boot_words.proofs.StockSteps.{stock_low, stock_words_set}
-use Rattle.run_words.specs.declared.word.Word.{Word}
 use Rattle.run_words.specs.declared.word.Word.TheVariants.{OfFrame, StockOf}
 use Rattle.run_words.specs.Seats.{MayChange}
 use Rattle.step_rules.proofs.CoverParts.{part_seen}

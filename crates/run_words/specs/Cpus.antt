@@ -12,7 +12,7 @@ use Rattle.step_rules.specs.declared.step.Action.{Action}
 use Rattle.step_rules.specs.declared.step.Action.TheVariants as step
 use Rattle.step_rules.specs.declared.step.Answer.{Answer}
 use Rattle.step_rules.specs.declared.step.Answer.TheVariants.{Drained, Stocked, Took}
-use Rattle.step_rules.specs.State.{State, Zone}
+use Rattle.step_rules.specs.State.{State}
 use Rattle.step_rules.specs.After.{state_of}
 use Rattle.step_rules.specs.Views.{holds_lock}
 use Rattle.boot_words.specs.Pasts.{KnownPasts, own_past, IsCpuPast}

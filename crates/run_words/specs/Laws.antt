@@ -3,7 +3,7 @@ use Rattle.std.specs.Prelude.{◌≡◌, ◌⊎◌, ℕ, ◌+◌, ◌<◌, ◌�
 use Rattle.frame_word.specs.ReferenceRule.{mark}
 use Rattle.stock_word.specs.Stock.{HasWord, word_of}
 use Rattle.stock_word.specs.StockRule.{report_index, stock_index}
-use Rattle.step_rules.specs.State.{Part, State, Zone, sum_to, is_cpu}
+use Rattle.step_rules.specs.State.{State, Zone, sum_to, is_cpu}
 use Rattle.step_rules.specs.After.{Run, state_of, IsLegalRun}
 use Rattle.frame_word.specs.Seats.{KnownTable}
 use Rattle.step_rules.specs.declared.step.Action.TheVariants.{Get}

@@ -10,7 +10,7 @@ ghost use Rattle.run_words.specs.declared.word.Word.TheVariants.{StockOf};
 ghost use Rattle.run_words.specs.Cpus.{ConsumesPage, CreditsPage, IsAwayCpu};
 ghost use Rattle.run_words.specs.Seats.{MayChange};
 
-use crate::raw::{RunWords, PastSeat, Telling};
+use crate::raw::{PastSeat, RunWords, Telling};
 use crate::word::Word;
 use frame_word::Frame;
 use std::marker::{Brand, Model};
@@ -31,6 +31,24 @@ impl Model for CpuSeat {
     ghost Value = { KnownCpuSeat };
 
     ghost view = { λ c. record { seat = c.past; number = c.number; last = c.last } };
+}
+
+impl CpuSeat {
+    ghost use Rattle.std.specs.Prelude.{◌≡◌};
+
+    /// The CPU's number, from 1 on.
+    pub fn number(&self) -> u32
+        ensures { result ≡ self.now.number }
+    {
+        self.number
+    }
+
+    /// The stock that the CPU saw last.
+    pub fn last(&self) -> Stock
+        ensures { result ≡ self.now.last }
+    {
+        self.last
+    }
 }
 
 impl RunWords {

@@ -7,7 +7,7 @@ ghost use Rattle.boot_words.specs.Steps.{IsPlain};
 ghost use Rattle.run_words.specs.declared.word.Word.TheVariants.{Quiet};
 ghost use Rattle.run_words.specs.Seats.{MayChange};
 
-use crate::raw::{RunWords, PastSeat, Telling};
+use crate::raw::{PastSeat, RunWords, Telling};
 use crate::word::Word;
 use std::marker::Brand;
 use step_rules::step::{Action, Answer};

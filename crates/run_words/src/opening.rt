@@ -47,9 +47,9 @@ impl RunWords {
         requires table { rest.old.table ≡ self.now.table }
         ensures rest { rest.new ≡ record { table = self.now.table; pasts = rest_of rest.old.pasts } }
         ensures seat { result ≡ record {
-            seat = record { table = self.now.table; pasts = first_alone rest.old.pasts };
-            number = cpu;
-            last = NoGroup;
+          seat = record { table = self.now.table; pasts = first_alone rest.old.pasts };
+          number = cpu;
+          last = NoGroup;
         } }
     {
         let others = self.split_others(rest);
@@ -61,7 +61,12 @@ impl RunWords {
     }
 
     // Gives each CPU its seat, from the one that has the pasts of all.
-    fn deal(&self, alloc: Global, rest: &mut PastSeat, cpus: u32) -> Result<Vec<CpuSeat>, AllocError>
+    fn deal(
+        &self,
+        alloc: Global,
+        rest: &mut PastSeat,
+        cpus: u32,
+    ) -> Result<Vec<CpuSeat>, AllocError>
         requires table { (rest.old.table ≡ self.now.table) × (cpus ≤ 64) }
         requires pasts { rest.old.pasts ≡ cpus_pasts 1 cpus }
         ensures { IfOk result (λ seats. seats.items ≡ cpus_at_first self.now.table 1 cpus) }

@@ -1,4 +1,4 @@
-use Rattle.std.proofs.Common.{◌++◌, ◌∙◌, ap, sym, subst}
+use Rattle.std.proofs.Common.{◌++◌, ◌∙◌, ap, subst}
 use Rattle.boot_words.specs.Seats.{zone_of_boot}
 use Rattle.run_words.specs.Closed.{IsClosedRun, pasts_of_cpus}
 use Rattle.run_words.proofs.Closing.{closed_run}

@@ -1,7 +1,7 @@
 use Rattle.std.proofs.Common.{◌≡◌, ◌+◌, ◌-◌, sym, ap, subst, arith}
 use Rattle.step_rules.specs.declared.step.Action.TheVariants.{Consume}
 use Rattle.boot_words.specs.Pasts.{KnownPasts, MayDo}
-use Rattle.run_words.specs.Cpus.{IsAwayCpu, KnownCpuSeat}
+use Rattle.run_words.specs.Cpus.{IsAwayCpu}
 use Rattle.run_words.proofs.Prepaying.{consumes}
 use Rattle.run_words.proofs.raw.RunWords.consume.Goals as goal
 

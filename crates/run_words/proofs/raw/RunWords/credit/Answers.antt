@@ -1,15 +1,14 @@
-use Rattle.std.proofs.Common.{◌≡◌, ◌+◌, refl, sym, ap, subst}
+use Rattle.std.proofs.Common.{◌+◌, refl, sym, ap, subst}
 use Rattle.step_rules.specs.declared.step.Action.TheVariants.{Credit}
 use Rattle.boot_words.specs.Pasts.{KnownPasts, MayDo}
-use Rattle.run_words.specs.Cpus.{IsAwayCpu, KnownCpuSeat}
-use Rattle.std.proofs.Common.{◌∙◌, List}
-use Rattle.stock_word.specs.declared.view.Stock.{Stock}
+use Rattle.run_words.specs.Cpus.{IsAwayCpu}
+use Rattle.std.proofs.Common.{◌∙◌}
 use Rattle.stock_word.specs.declared.view.Stock.TheVariants.{DrainedOf, HeldBy}
 use Rattle.stock_word.specs.Stock.{word_of}
-use Rattle.step_rules.specs.declared.step.Answer.TheVariants.{Drained, Stocked}
+use Rattle.step_rules.specs.declared.step.Answer.TheVariants.{Stocked}
 use Rattle.boot_words.specs.Pasts.{own_past}
 use Rattle.boot_words.specs.Seats.{zone_of_boot}
-use Rattle.run_words.proofs.Prepaying.{Knows, TellsPage, credits, exchanged_page}
+use Rattle.run_words.proofs.Prepaying.{TellsPage, credits, exchanged_page}
 use Rattle.run_words.proofs.raw.RunWords.credit.Goals as goal
 
 pub exchange_stock-found-requires-clause-may : goal.exchange_stock-found-requires-clause-may

@@ -1,4 +1,4 @@
-use Rattle.std.proofs.Common.{List, ℕ, ap, sym, ◌∙◌, subst}
+use Rattle.std.proofs.Common.{sym, ◌∙◌, subst}
 use Rattle.stock_word.specs.declared.view.Stock.TheVariants.{DrainedOf}
 use Rattle.stock_word.specs.Stock.{word_of}
 use Rattle.boot_words.specs.Pasts.{KnownPasts, cpu_past, own_past}

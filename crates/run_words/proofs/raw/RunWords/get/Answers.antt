@@ -4,7 +4,7 @@ use Rattle.step_rules.specs.Views.{holds_lock}
 use Rattle.step_rules.specs.declared.step.Action.TheVariants.{Get}
 use Rattle.boot_words.specs.Pasts.{KnownPasts, MayDo, own_past}
 use Rattle.boot_words.specs.Seats.{zone_of_boot}
-use Rattle.run_words.specs.Cpus.{IsAwayCpu, KnownCpuSeat}
+use Rattle.run_words.specs.Cpus.{IsAwayCpu}
 use Rattle.run_words.proofs.Keeping.{keeps_gets}
 use Rattle.run_words.proofs.raw.RunWords.get.Goals as goal
 

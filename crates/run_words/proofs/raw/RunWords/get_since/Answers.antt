@@ -1,8 +1,7 @@
-use Rattle.std.proofs.Common.{◌≡◌, ℕ, ◌+◌, ◌<◌, ◌≤◌, ◌==◌, sym, ◌∙◌, subst, arith}
+use Rattle.std.proofs.Common.{◌+◌, ◌==◌, sym, ◌∙◌, subst, arith}
 use prog.Atomic.{either}
 use Rattle.step_rules.specs.declared.step.Action.TheVariants.{Get}
 use Rattle.step_rules.specs.declared.step.Answer.TheVariants.{Held}
-use Rattle.boot_words.specs.Pasts.{own_past}
 use Rattle.boot_words.specs.Seats.{zone_of_boot}
 use Rattle.boot_words.specs.declared.view.Past.{Past}
 use Rattle.run_words.specs.declared.word.Word.TheVariants.{OfFrame}

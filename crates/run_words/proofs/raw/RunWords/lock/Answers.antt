@@ -1,4 +1,4 @@
-use Rattle.std.proofs.Common.{◌≡◌, ◌++◌, ap, sym, ◌∙◌, subst}
+use Rattle.std.proofs.Common.{◌++◌, ap, ◌∙◌}
 use Rattle.boot_words.specs.Pasts.{KnownPasts}
 use Rattle.run_words.proofs.Locking.{locks}
 use Rattle.run_words.proofs.Meeting.{lock_last}

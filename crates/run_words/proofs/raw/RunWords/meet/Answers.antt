@@ -1,4 +1,4 @@
-use Rattle.std.proofs.Common.{◌≡◌, ◌++◌, ap, sym, ◌∙◌, subst}
+use Rattle.std.proofs.Common.{◌++◌, ap, sym, ◌∙◌, subst}
 use Rattle.boot_words.specs.Pasts.{KnownPasts}
 use Rattle.run_words.specs.Cpus.{IsAwayCpu}
 use Rattle.run_words.proofs.Meeting.{meet_knows, meets}

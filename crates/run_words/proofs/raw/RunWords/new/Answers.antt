@@ -1,4 +1,4 @@
-use Rattle.std.proofs.Common.{◌≡◌, ◌+◌, ◌≤◌, ap, sym, ◌∙◌, subst, arith}
+use Rattle.std.proofs.Common.{◌+◌, ◌≤◌, sym, subst, arith}
 use Rattle.boot_words.specs.Rule.{AllOf}
 use Rattle.run_words.specs.Cpus.{IsAwayCpu}
 use Rattle.run_words.proofs.Meeting.{firsts_away}

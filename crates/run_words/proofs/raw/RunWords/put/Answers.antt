@@ -1,6 +1,6 @@
-use Rattle.std.proofs.Common.{ap, sym, subst}
+use Rattle.std.proofs.Common.{sym, subst}
 use Rattle.boot_words.specs.Pasts.{put_said}
-use Rattle.run_words.specs.Cpus.{IsAwayCpu, KnownCpuSeat}
+use Rattle.run_words.specs.Cpus.{IsAwayCpu}
 use Rattle.run_words.proofs.Keeping.{keeps_put}
 use Rattle.run_words.proofs.raw.RunWords.put.Goals as goal
 

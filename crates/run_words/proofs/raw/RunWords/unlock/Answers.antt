@@ -1,7 +1,7 @@
-use Rattle.std.proofs.Common.{◌≤◌, ap, sym, ◌∙◌, subst}
+use Rattle.std.proofs.Common.{ap, sym, subst}
 use Rattle.step_rules.specs.declared.step.Action.TheVariants.{Unlock}
 use Rattle.boot_words.specs.Pasts.{IsHolder, MayMake}
-use Rattle.run_words.proofs.Locking.{cpu_of_unlock, released, unlocks, unlocked}
+use Rattle.run_words.proofs.Locking.{cpu_of_unlock, unlocks}
 use Rattle.run_words.proofs.raw.RunWords.unlock.Goals as goal
 
 pub load-found-requires-clause-place : goal.load-found-requires-clause-place
