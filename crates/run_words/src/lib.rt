@@ -17,14 +17,16 @@
 
 mod closed;
 mod cpu;
-mod in_turn;
 pub mod laws;
+mod lending;
 mod lock;
 mod looks;
+mod meeting;
 mod noting;
 mod opening;
 mod raw;
 mod references;
+mod taking_back;
 mod word;
 mod zone_frames;
 mod zone_stocks;

@@ -22,7 +22,8 @@ impl RunWords {
         ensures bounded { ((local_by_pasts self.now held.old).parts cpu).book < 65536 }
         ensures same { held.new ≡ held.old }
     {
-        Stock::of_word(self.load::<Brand>(held, Word::StockOf(cpu)))
+        let found = self.load::<Brand>(held, Word::StockOf(cpu));
+        Stock::of_word(found)
     }
 
     /// The group of the last fill of a CPU's stock, 0 to 63, by one load; `None` if it was never filled.

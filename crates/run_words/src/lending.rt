@@ -1,9 +1,8 @@
-//! Several steps by one load, under the lock: their words end as they began.
+//! Lending a frame to the CPU that holds the lock: two steps of the run that one load makes.
 ghost use Rattle.std.specs.Prelude.{◌≡◌};
 ghost use Rattle.boot_words.specs.Composed.{lend_run, AreLegal, MakesInTurn};
 ghost use Rattle.boot_words.specs.Pasts.{local_by_pasts, IsHeld, IsHolder};
 ghost use Rattle.boot_words.specs.Seats.{zone_of_boot};
-ghost use Rattle.boot_words.specs.TakenBack.{take_back_run};
 ghost use Rattle.run_words.specs.declared.word.Word.TheVariants.{Quiet};
 ghost use Rattle.run_words.specs.Seats.{MayChange};
 
@@ -13,8 +12,8 @@ use frame_word::Frame;
 use std::marker::Brand;
 
 impl RunWords {
-    // The load of steps on a frame, which the word doesn't say.
-    fn load_for<M: Telling>(&self, held: &mut PastSeat, _cpu: u32, _frame: Frame) -> u64
+    // The load of steps on a frame, which the word doesn't say. Their words end as they began.
+    pub(crate) fn load_for<M: Telling>(&self, held: &mut PastSeat, _cpu: u32, _frame: Frame) -> u64
         requires table { held.old.table ≡ self.now.table }
         requires may { MayChange (zone_of_boot self.now) held.old.pasts Quiet (λ n. n) M.told }
         ensures table { held.new.table ≡ held.old.table }
@@ -30,19 +29,6 @@ impl RunWords {
         requires holder { IsHolder held.old cpu }
         requires legal { AreLegal (local_by_pasts self.now held.old) (lend_run cpu frame) }
         ensures { MakesInTurn self.now held.old (lend_run cpu frame) held.new }
-    {
-        self.load_for::<Brand>(held, cpu, frame);
-    }
-
-    /// Takes a fresh frame and its page back from the CPU that holds the lock: the CPU passes back the frame and reports
-    /// the page, and the zone collects the one and absorbs the other. The frame's word and the report word are 0 before the
-    /// first step and after the last.
-    pub fn take_back(&self, held: &mut PastSeat, cpu: u32, frame: Frame)
-        requires held { IsHeld self.now held.old }
-        requires holder { IsHolder held.old cpu }
-        requires absorbed { ((local_by_pasts self.now held.old).parts cpu).reported ≡ 0 }
-        requires legal { AreLegal (local_by_pasts self.now held.old) (take_back_run cpu frame) }
-        ensures { MakesInTurn self.now held.old (take_back_run cpu frame) held.new }
     {
         self.load_for::<Brand>(held, cpu, frame);
     }
