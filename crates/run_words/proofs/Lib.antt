@@ -15,9 +15,9 @@ pub mod Zoning
 pub mod Locking
 pub mod Prepaying
 pub mod Counts
-pub mod Lending
+pub mod Drains
 pub mod InTurn
 pub mod HandOver
 pub mod Looking
-pub mod Meeting
+pub mod SeenSame
 pub mod Keeping

@@ -5,7 +5,7 @@ use Rattle.boot_words.specs.Pasts.{KnownPasts, cpu_past, own_past}
 use Rattle.boot_words.specs.Seats.{zone_of_boot}
 use Rattle.run_words.specs.declared.word.Word.TheVariants.{StockOf}
 use Rattle.run_words.specs.Seats.{MayChange}
-use Rattle.run_words.proofs.Lending.{Drains, cpu_of_drain, drained_none, drained_some, drains, looked_on, looks_to_drain}
+use Rattle.run_words.proofs.Drains.{Drains, cpu_of_drain, drained_none, drained_some, drains, looked_on, looks_to_drain}
 use Rattle.run_words.proofs.raw.RunWords.drain.Goals as goal
 
 pub load-looked-requires-clause-place : goal.load-looked-requires-clause-place

@@ -1,7 +1,7 @@
 use Rattle.boot_words.specs.Seats.{zone_of_boot}
 use Rattle.boot_words.specs.Pasts.{cpu_past, own_past}
 use Rattle.run_words.specs.Seats.{cpu_of_word}
-use Rattle.run_words.proofs.Lending.{Drains, LooksToDrain}
+use Rattle.run_words.proofs.Drains.{Drains, LooksToDrain}
 use Rattle.run_words.proofs.raw.RunWords.drain.Given as goal
 
 abbrev pub ghosts-load : goal.ghosts-load

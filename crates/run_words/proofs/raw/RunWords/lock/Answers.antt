@@ -1,7 +1,7 @@
 use Rattle.std.proofs.Common.{◌++◌, ap, ◌∙◌}
 use Rattle.boot_words.specs.Pasts.{KnownPasts}
 use Rattle.run_words.proofs.Locking.{locks}
-use Rattle.run_words.proofs.Meeting.{lock_last}
+use Rattle.run_words.proofs.SeenSame.{lock_last}
 use Rattle.run_words.proofs.raw.RunWords.lock.Goals as goal
 
 pub load-requires-clause-may : goal.load-requires-clause-may

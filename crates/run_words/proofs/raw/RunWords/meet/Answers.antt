@@ -1,7 +1,7 @@
 use Rattle.std.proofs.Common.{◌++◌, ap, sym, ◌∙◌, subst}
 use Rattle.boot_words.specs.Pasts.{KnownPasts}
 use Rattle.run_words.specs.Cpus.{IsAwayCpu}
-use Rattle.run_words.proofs.Meeting.{meet_knows, meets}
+use Rattle.run_words.proofs.SeenSame.{meet_knows, meets}
 use Rattle.run_words.proofs.raw.RunWords.meet.Goals as goal
 
 pub load-requires-clause-may : goal.load-requires-clause-may

@@ -1,6 +1,6 @@
 use Rattle.boot_words.specs.Seats.{zone_of_boot}
 use Rattle.boot_words.specs.Pasts.{cpu_past, own_past}
-use Rattle.run_words.proofs.Meeting.{SeeSame}
+use Rattle.run_words.proofs.SeenSame.{SeeSame}
 use Rattle.run_words.proofs.raw.RunWords.meet.Given as goal
 
 abbrev pub ghosts-load : goal.ghosts-load

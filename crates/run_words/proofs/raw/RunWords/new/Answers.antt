@@ -1,7 +1,7 @@
 use Rattle.std.proofs.Common.{◌+◌, ◌≤◌, sym, subst, arith}
 use Rattle.boot_words.specs.Rule.{AllOf}
 use Rattle.run_words.specs.Cpus.{IsAwayCpu}
-use Rattle.run_words.proofs.Meeting.{firsts_away}
+use Rattle.run_words.proofs.SeenSame.{firsts_away}
 use Rattle.run_words.proofs.raw.RunWords.new.Goals as goal
 
 pub returns-in-Ok-clause-away : goal.returns-in-Ok-clause-away

@@ -3,7 +3,7 @@ use Rattle.step_rules.specs.declared.step.Action.TheVariants.{Put}
 use Rattle.step_rules.specs.declared.step.Answer.TheVariants.{Last, Left}
 use Rattle.boot_words.specs.Pasts.{cpu_past, own_past}
 use Rattle.boot_words.specs.Seats.{zone_of_boot}
-use Rattle.run_words.proofs.Lending.{frame_of_put_held, puts_held}
+use Rattle.run_words.proofs.Drains.{frame_of_put_held, puts_held}
 use Rattle.run_words.proofs.Referring.{says_last, says_left}
 use Rattle.run_words.proofs.UnderLock.{MadeHeld, held_made}
 use Rattle.run_words.proofs.raw.RunWords.put_held.Goals as goal

@@ -1,6 +1,6 @@
 use Rattle.boot_words.specs.Seats.{zone_of_boot}
 use Rattle.boot_words.specs.Pasts.{cpu_past, own_past}
-use Rattle.run_words.proofs.Lending.{PutsHeld}
+use Rattle.run_words.proofs.Drains.{PutsHeld}
 use Rattle.run_words.proofs.raw.RunWords.put_held.Given as goal
 
 abbrev pub ghosts-take_one_by : goal.ghosts-take_one_by
