@@ -49,7 +49,7 @@ one_each cpus q = dite (ℕ_discrete 0 q)
     ])
 
 first_begins : (zone : Zone) (number : ℕ) → BeginsRun zone [] (no_past number)
-first_begins zone number = record { goes = record { rest = []; is = refl; others = tt }; fast = λ lock. tt }
+first_begins zone number = record { goes = record { rest = []; is = refl; others = tt }; fast = λ lock. tt; few = (let e : 0 < 65536 = omega arith in e) }
 
 cpus_begin : (zone : Zone) (p n : ℕ) → AllOf (BeginsRun zone []) (cpus_pasts p n)
 cpus_begin zone p zero = tt

@@ -1,5 +1,5 @@
 -- The pasts of all seats as the run grows.
-use Rattle.std.proofs.Common.{◌≡◌, ◌≢◌, ℕ, ◌+◌, ◌≤◌, ◌==◌, ◌||◌, Bool, true, false, List, [], ◌∷◌, ◌++◌, set, refl, ap, sym, ◌∙◌, subst, arith, inl, inr, append_assoc, eq-eqb}
+use Rattle.std.proofs.Common.{◌≡◌, ◌≢◌, ℕ, ◌+◌, ◌<◌, ◌≤◌, ◌==◌, ◌||◌, Bool, true, false, List, [], ◌∷◌, ◌++◌, set, refl, ap, sym, ◌∙◌, subst, arith, inl, inr, append_assoc, eq-eqb}
 use Rattle.std.specs.Prelude.{◌⊎◌, nat_le, slice_index}
 use Rattle.std.specs.List.{fold}
 use Rattle.std.proofs.lemmas.Bool.{false≢true}
@@ -117,6 +117,7 @@ other_after_fast : (zone : Zone) (run : Run) (e : Step × Answer) (p : Past) →
 other_after_fast zone run e p fast none fits = record {
   goes = others_go p run e (not_of e.0.seat p none) fits.goes;
   fast = λ lock. fast_more fits.goes.rest e (fits.fast lock) fast;
+  few = fits.few;
 }
 
 left_none : (a b : ℕ) → a + b ≡ 0 → a ≡ 0
@@ -150,13 +151,16 @@ other_after_locked zone run e cpu p own holder none fits =
         | inr is ↦ λ same. not_cpu (sym is ∙ same)
       ]) fits.goes;
       fast = λ lock. absurd (away lock);
+      few = fits.few;
     }
 
 -- ---- the pasts of the seat that notes the step
-pub grown_begins : (zone : Zone) (run : Run) (p : Past) (e : Step × Answer) (goes : OthersFollow p.number p.seen run) → BeginsRun zone (run ++ e ∷ []) (grown p goes.rest e)
-grown_begins zone run p e goes = record {
+pub grown_begins : (zone : Zone) (run : Run) (p : Past) (e : Step × Answer) (goes : OthersFollow p.number p.seen run) → AreSmall (state_of zone (run ++ e ∷ []))
+    → BeginsRun zone (run ++ e ∷ []) (grown p goes.rest e)
+grown_begins zone run p e goes small = record {
   goes = record { rest = []; is = ap (λ l. l ++ e ∷ []) goes.is ∙ sym (append_none ((p.seen ++ goes.rest) ++ e ∷ [])); others = tt };
   fast = λ lock. tt;
+  few = subst (λ r. ((state_of zone (r ++ e ∷ [])).parts p.number).book < 65536) goes.is (small p.number);
 }
 
 at_most : (b : Bool) → one_if b ≤ 1
@@ -195,7 +199,7 @@ notes_alone zone words seats k id j x p action answer goes at fast small now =
     let few = at_most_one zone words seats k p.number in
     let own = has_own p in
     noted zone words seats k id j x (p ∷ []) (grown p goes.rest e ∷ []) e (of_number p.number) at (λ q. refl)
-    (λ u none. other_after_fast zone k.run e u fast none) (omega (arith, few, own)) (grown_begins zone k.run p e goes, tt) small now
+    (λ u none. other_after_fast zone k.run e u fast none) (omega (arith, few, own)) (grown_begins zone k.run p e goes (small_more zone k.run e.0 e.1 small), tt) small now
 
 both_counted : (z c : Past) → z.number ≡ 0 → 2 ≤ sum_over (of_both c.number) (z ∷ c ∷ [])
 both_counted z c zeroth =
@@ -215,9 +219,10 @@ notes_both zone words seats k id j x z c step answer zone_goes goes at zeroth ow
     let a = at_most_one zone words seats k 0 in
     let b = at_most_one zone words seats k c.number in
     let two = both_counted z c zeroth in
+    let later = small_more zone k.run step answer small in
     noted zone words seats k id j x (z ∷ c ∷ []) (grown z zone_goes.rest e ∷ grown c goes.rest e ∷ []) e (of_both c.number) at (λ q. refl)
     (λ u none. other_after_locked zone k.run e c.number u own holder none) (omega (arith, all, a, b, two))
-    (grown_begins zone k.run z e zone_goes, (grown_begins zone k.run c e goes, tt)) small now
+    (grown_begins zone k.run z e zone_goes later, (grown_begins zone k.run c e goes later, tt)) small now
 
 -- No step is made: the word stays, and the seat's pasts have seen more or less of the run.
 pub notes_nothing : (zone : Zone) (words : List ℕ) (seats : List (List Past)) (k : RunRule zone words seats) (id j x : ℕ) (old new : List Past) → get_elem? seats id ≡ some old

@@ -38,6 +38,7 @@ use Rattle.run_words.specs.declared.word.Word.TheVariants.{OfFrame}
 use Rattle.run_words.specs.Seats.{MayChange}
 use Rattle.run_words.specs.Calls.{RacesAt}
 use Rattle.run_words.specs.Rule.{HasLock, BeginsRun}
+use Rattle.run_words.proofs.Booking.{AreSmall}
 use Rattle.run_words.proofs.Fast.{Leaves, Made, legal_still, makes, past_begins, sees_run}
 use Rattle.run_words.proofs.Growing.{none_both}
 
@@ -83,8 +84,8 @@ says_left n e = cond-false (n == 1) Last (Left (n - 1)) (ne_eqb n 1 e)
 abbrev pub all_seen : Past → Run → Past
 all_seen p run = record { number = p.number; seen = run }
 
-pub all_begin : (zone : Zone) (run : Run) (p : Past) → BeginsRun zone run (all_seen p run)
-all_begin zone run p = record { goes = record { rest = []; is = sym (append_none run); others = tt }; fast = λ lock. tt }
+pub all_begin : (zone : Zone) (run : Run) (p : Past) → AreSmall (state_of zone run) → BeginsRun zone run (all_seen p run)
+all_begin zone run p small = record { goes = record { rest = []; is = sym (append_none run); others = tt }; fast = λ lock. tt; few = small p.number }
 
 -- the CPU's past has seen more of the run, after which the frame has this word
 pub record SawWord (zone : Zone) (p : Past) (f found : ℕ) (later : List Past) : Type 0 where
@@ -93,6 +94,7 @@ pub record SawWord (zone : Zone) (p : Past) (f found : ℕ) (later : List Past) 
   pub more : SeesMore p past
   pub legal : IsLegalRun zone past.seen
   pub is : frame_word (state_of zone past.seen) f ≡ found
+  pub few : ((state_of zone p.seen).parts p.number).book < 65536
 
 -- the load of a get: a word that refuses it is that step
 pub record Sees (zone : Zone) (p : Past) (f found : ℕ) (later : List Past) : Type 0 where
@@ -157,7 +159,7 @@ may_see zone p f ne inside legal id s k homes at small =
     ) in
     elim (get_answered n) [
       | Gives held ↦
-          sees_run zone s k id j n (p ∷ []) (all_seen p k.run ∷ []) (Sees zone p f n) at refl (λ q. refl) (all_begin zone k.run p, tt) (record {
+          sees_run zone s k id j n (p ∷ []) (all_seen p k.run ∷ []) (Sees zone p f n) at refl (λ q. refl) (all_begin zone k.run p k.small, tt) (record {
             refused = λ not. absurd (not held);
             goes_on = λ h. record {
               past = all_seen p k.run;
@@ -165,6 +167,7 @@ may_see zone p f ne inside legal id s k homes at small =
               more = record { between = goes.rest; others = goes.others; number = refl; seen = goes.is };
               legal = k.is.legal;
               is = word_now zone words k.run f k.is inside ∙ reads;
+              few = (past_begins zone s k id p at).few;
             };
           })
       | HasNone says ↦ refused Zero says zero_not_held (record { answered = ap get_answer reads ∙ says; later_is = refl })
@@ -187,14 +190,16 @@ since zone p q action answer later more m = record {
 }
 
 -- the earlier past still is a beginning of the run
-begins_since : (zone : Zone) (p q : Past) (run : Run) → SeesMore p q → (HasLock zone p → ⊥) → OthersFollow q.number q.seen run → BeginsRun zone run p
-begins_since zone p q run more away goes = record {
+begins_since : (zone : Zone) (p q : Past) (run : Run) → SeesMore p q → (HasLock zone p → ⊥) → OthersFollow q.number q.seen run
+    → ((state_of zone p.seen).parts p.number).book < 65536 → BeginsRun zone run p
+begins_since zone p q run more away goes few = record {
   goes = record {
     rest = more.between ++ goes.rest;
     is = goes.is ∙ ap (λ l. l ++ goes.rest) more.seen ∙ append_assoc p.seen more.between goes.rest;
     others = none_both p.number more.between goes.rest more.others (subst (λ n. HasNoStepOf n goes.rest) more.number goes.others);
   };
   fast = λ lock. absurd (away lock);
+  few = few;
 }
 
 pub may_add : (zone : Zone) (p : Past) (f seen : ℕ) (saw : List Past) → p.number ≢ 0 → holds_lock p.number (state_of zone p.seen).hold ≡ false → f < zone.frames → 1 ≤ seen
@@ -228,7 +233,7 @@ may_add zone p f seen saw ne away inside low high legal w id s k homes at small 
     (r.0, r.1, r.2, r.3, (r.4.0, record { held = λ h. since zone p q (Get f) Held r.0 w.more r.4.1; raced = λ not. absurd (not hit) })))
     (λ miss word.
     sees_run zone s k id j x (q ∷ []) (p ∷ []) (Adds zone p f seen n) here (sym word) (λ c. ap (λ m. one_if (m == c) + 0) (sym w.more.number))
-    (begins_since zone p q k.run w.more no_lock goes, tt) (record {
+    (begins_since zone p q k.run w.more no_lock goes w.few, tt) (record {
       held = λ h. absurd (miss h);
       raced = λ not. (
         refl,

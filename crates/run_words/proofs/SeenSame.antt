@@ -57,7 +57,7 @@ may_meet zone z c zone_is cpu free id s k homes at small =
     let goes = all.1.0.goes in
     let rests : hide (state_of zone k.run) ≡ hide (state_of zone z.seen) = zone_rests zone k.run z k.is.legal (past_of_run zone k.run z all.0) zone_is free in
     sees_run zone s k id 0 (slice_index s.words 0) (z ∷ c ∷ []) (all_seen z k.run ∷ all_seen c k.run ∷ []) (SeeSame zone z c (slice_index s.words 0)) at refl (λ q. refl)
-    (all_begin zone k.run z, (all_begin zone k.run c, tt)) (record {
+    (all_begin zone k.run z k.small, (all_begin zone k.run c k.small, tt)) (record {
       zone_past = all_seen z k.run;
       cpu_past = all_seen c k.run;
       later_is = refl;

@@ -21,10 +21,11 @@ abbrev pub HasLock : Zone → Past → Type 0
 HasLock zone p = (p.number ≡ 0) ⊎ (holds_lock p.number (state_of zone p.seen).hold ≡ true)
 
 -- The past is a beginning of the run, after which its seat made no step. After the zone's past, and after that of the
--- CPU which holds the lock, no step needs the lock.
+-- CPU which holds the lock, no step needs the lock. The book that a CPU's past left fits a stock word.
 pub record BeginsRun (zone : Zone) (run : Run) (p : Past) : Type 0 where
   pub goes : OthersFollow p.number p.seen run
   pub fast : HasLock zone p → AreFast goes.rest
+  pub few : ((state_of zone p.seen).parts p.number).book < 65536
 
 -- 1 for a past of this number, else 0
 abbrev pub of_number : ℕ → Past → ℕ
