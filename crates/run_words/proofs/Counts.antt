@@ -38,7 +38,7 @@ use Rattle.boot_words.specs.Words.{word_in_phase}
 use Rattle.boot_words.proofs.Draining.{legal_behind}
 use Rattle.boot_words.proofs.Following.{stands_in, visited_cpu}
 use Rattle.boot_words.proofs.Owning.{fold_on, lists_are_own}
-use Rattle.run_words.specs.Laws.{NeverZero, ReferencesAreOwn, WordsAreStocks, FrameWordsCount}
+use Rattle.run_words.specs.Laws.{NeverZero}
 
 -- ---- a seat's references
 no_zone : (s : State) (q : ℕ) → q ≢ 0 → may_zone_act s.hold q ≡ true → ⊥
@@ -69,55 +69,12 @@ zone_own zone seen run legal goes =
     ap (λ r. (state_of zone r).references 0) goes.is ∙ ap (λ (t : State). t.references 0) (fold_on (at_boot zone) seen goes.rest)
     ∙ zone_rest (state_of zone seen) goes.rest (legal_behind (at_boot zone) seen goes.rest (subst (IsLegalRun zone) goes.is legal)) goes.others
 
-pub references_are_own : ReferencesAreOwn
+-- a seat's references are those that its own past left
+pub references_are_own : (zone : Zone) (seen run : Run) (seat : ℕ) → IsLegalRun zone run → OthersFollow seat seen run
+    → (state_of zone run).references seat ≡ (state_of zone seen).references seat
 references_are_own zone seen run seat legal goes = dite (ℕ_discrete seat 0)
     (λ e. subst (λ (k : ℕ). OthersFollow k seen run → (state_of zone run).references k ≡ (state_of zone seen).references k) (sym e) (zone_own zone seen run legal) goes)
     (λ ne. (lists_are_own zone seen run seat ne goes).references)
-
--- ---- words
--- the word of a frame in this phase counts its references, or it is the mark of the CPU whose visit is open
-record Marked (s : State) (x : Phase) (live : ℕ) : Type 0 where
-  pub cpu : ℕ
-  pub visit : visits cpu s.hold ≡ true
-  pub word : word_in_phase x live ≡ mark cpu
-  pub dead : is_live_phase x ≡ false
-
-visiting : (hold : Hold) (q : ℕ) → hold ≡ Visiting q → visits q hold ≡ true
-visiting hold q e = ap (visits q) e ∙ eq-eqb q q refl
-
-by_phase : (s : State) (f live : ℕ) (x : Phase) → s.phases f ≡ x → KeepsInvariant s → (word_in_phase x live ≡ live) ⊎ Marked s x live
-by_phase s f live (Lent q PassingOut) e sound =
-    inr (record { cpu = q; visit = visiting s.hold q ((sound.frames f).out q (ap (passes_out q) e ∙ eq-eqb q q refl)); word = refl; dead = refl })
-by_phase s f live (Lent q PassingBack) e sound =
-    inr (record { cpu = q; visit = visiting s.hold q ((sound.frames f).returning q (ap (passes_back q) e ∙ eq-eqb q q refl)); word = refl; dead = refl })
-by_phase s f live (Head u (FreshPassing q)) e sound =
-    inr (record { cpu = q; visit = visiting s.hold q ((sound.frames f).returning q (ap (passes_back q) e ∙ eq-eqb q q refl)); word = refl; dead = refl })
-by_phase s f live (Head u (BackPassing q)) e sound =
-    inr (record { cpu = q; visit = visiting s.hold q ((sound.frames f).returning q (ap (passes_back q) e ∙ eq-eqb q q refl)); word = refl; dead = refl })
-by_phase s f live (Lent q OnList) e sound = inl refl
-by_phase s f live InZone e sound = inl refl
-by_phase s f live x e sound = inl refl
-
-pub words_count_references : FrameWordsCount
-words_count_references zone words run is f inside =
-    let s = state_of zone run in
-    let stands = stands_in zone words run is in
-    let same = zone_of_run zone run in
-    let found = stands.frames.frame f (subst (λ z. f < z.frames) (sym same) inside) in
-    elim (by_phase s f (live_references s f) (s.phases f) refl stands.sound) [
-      | inl live ↦ inl (found ∙ live ∙ ap (λ z. sum_to (z.cpus + 1) (λ seat. s.references seat f)) same)
-      | inr m ↦ inr (m.cpu, ap (λ z. is_cpu z m.cpu) (sym same) ∙ visited_cpu s words m.cpu stands m.visit, found ∙ m.word, λ seat. (stands.sound.frames f).unreferred m.dead seat)
-    ]
-
-pub words_are_stocks : WordsAreStocks
-words_are_stocks zone words run is cpu low high =
-    let s = state_of zone run in
-    let within : cpu ≤ s.zone.cpus = subst (λ z. cpu ≤ z.cpus) (sym (zone_of_run zone run)) high in record {
-      has_word = is.stocks.has_word cpu low within;
-      word = is.stocks.stock cpu low within;
-      report = is.stocks.report cpu low within;
-      booked = (stands_in zone words run is).sound.booked cpu;
-    }
 
 -- ---- a get answered Zero
 full_word : (n : ℕ) → n ≡ 255 → Zero ≡ get_answer n → ⊥

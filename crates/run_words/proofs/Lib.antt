@@ -14,6 +14,9 @@ pub mod PlainNotes
 pub mod Zoning
 pub mod Locking
 pub mod Prepaying
+pub mod Ones
+pub mod Left
+pub mod HandOvers
 pub mod Counts
 pub mod Drains
 pub mod InTurn
