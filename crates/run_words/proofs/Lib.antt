@@ -17,7 +17,9 @@ pub mod Prepaying
 pub mod Ones
 pub mod Left
 pub mod HandOvers
+pub mod Backs
 pub mod Counts
+pub mod ReferencesShown
 pub mod Drains
 pub mod InTurn
 pub mod HandOver
