@@ -71,3 +71,8 @@ each_one (suc n) f few all q low =
     dite (ℕ_discrete q n)
     (λ e. ap f e ∙ (let one : f n ≡ 1 = omega (arith, all, less, last) in one))
     (λ ne. each_one n f (λ k below. few k (omega (arith, below))) (omega (arith, all, less, last)) q (omega (arith, low, ne)))
+
+pub ones : (n : ℕ) → sum_to n (λ q. 1) ≡ n
+unfolding sum_to
+ones zero = refl
+ones (suc n) = let a = ones n in omega (arith, a)

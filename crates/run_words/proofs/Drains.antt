@@ -76,7 +76,7 @@ pub cpu_of_drain : (t : KnownTable) (s : KnownPasts) (cpu : ℕ) → MayMake t s
 cpu_of_drain t s cpu legal =
     cpu_range (zone_of_boot t) cpu (ap (λ z. is_cpu z cpu) (sym (zone_left t s)) ∙ (drain_stock_tests (local_seen (zone_of_boot t) (cpu_past s)) 0 cpu legal).1)
 
-group_by : (o : Option ℕ) (n : ℕ) (d : Bool) → group_of (stock_said o n d) ≡ o
+pub group_by : (o : Option ℕ) (n : ℕ) (d : Bool) → group_of (stock_said o n d) ≡ o
 group_by None n d = refl
 group_by (Some k) n true = refl
 group_by (Some k) n false = refl

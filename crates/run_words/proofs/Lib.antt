@@ -20,6 +20,7 @@ pub mod HandOvers
 pub mod Backs
 pub mod Counts
 pub mod ReferencesShown
+pub mod StocksShown
 pub mod Drains
 pub mod InTurn
 pub mod HandOver

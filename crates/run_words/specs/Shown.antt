@@ -66,17 +66,17 @@ is_zones (Lent cpu way) = false
 is_zones (Head unit stage) = is_zone_stage stage
 
 -- the CPU that a unit's head is lent to, or 0
-abbrev pub stage_cpu_lent_to : Stage → ℕ
-stage_cpu_lent_to (FreshAt cpu) = cpu
-stage_cpu_lent_to (FreshPassing cpu) = cpu
-stage_cpu_lent_to stage = 0
+abbrev pub stage_lent_to_cpu : Stage → ℕ
+stage_lent_to_cpu (FreshAt cpu) = cpu
+stage_lent_to_cpu (FreshPassing cpu) = cpu
+stage_lent_to_cpu stage = 0
 
 -- the CPU that the frame is lent to, or 0
-abbrev pub cpu_lent_to : Phase → ℕ
-cpu_lent_to (Lent cpu way) = cpu
-cpu_lent_to (Head unit stage) = stage_cpu_lent_to stage
-cpu_lent_to InZone = 0
-cpu_lent_to (Tail g) = 0
+abbrev pub lent_to_cpu : Phase → ℕ
+lent_to_cpu (Lent cpu way) = cpu
+lent_to_cpu (Head unit stage) = stage_lent_to_cpu stage
+lent_to_cpu InZone = 0
+lent_to_cpu (Tail g) = 0
 
 -- how often the seat owns the frame: the zone what is in its hand, a CPU its back frames
 abbrev pub owned : ℕ → Phase → ℕ
@@ -98,7 +98,7 @@ note_shown zone p f = record blank {
   references = (state_of zone p.seen).references p.number f;
   own = owned p.number ((state_of zone p.seen).phases f);
   borrowed = borrowed p.number ((state_of zone p.seen).phases f);
-  lent = cpu_lent_to ((state_of zone p.seen).phases f);
+  lent = lent_to_cpu ((state_of zone p.seen).phases f);
   passed_back = times_made p.number (is_pass_back f) p.seen;
   taken_in = times_made p.number (is_take_in f) p.seen;
   passed_out = times_by_cpu zone.cpus p (is_pass_out f);
