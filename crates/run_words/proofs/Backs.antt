@@ -1,10 +1,9 @@
 -- A back frame is a CPU's.
-use Rattle.std.proofs.Common.{◌≡◌, ◌≢◌, ℕ, ◌+◌, ◌^◌, ◌<◌, ◌≤◌, ◌==◌, Bool, true, false, cond, Option, Some, None, suc, zero, refl, ap, sym, ◌∙◌, subst, arith, inl, inr, eq-eqb}
+use Rattle.std.proofs.Common.{◌≡◌, ℕ, ◌^◌, ◌≤◌, ◌==◌, Bool, true, false, cond, Option, Some, None, refl, ap, sym, ◌∙◌, subst, arith, inl, inr, eq-eqb}
 use Rattle.std.proofs.lemmas.Bool.{leb-true, ne_eqb}
 use mathlib.Core.Logic.{dite}
 use native.Mathlib.Decide.{ℕ_discrete}
 use Rattle.zone_blocks.specs.declared.block.Block.{Block}
-use Rattle.step_rules.specs.declared.phase.ChargedUnit.{ChargedUnit}
 use Rattle.step_rules.specs.declared.phase.Stage.{Stage}
 use Rattle.step_rules.specs.declared.phase.Stage.TheVariants.{AwaitsReturn, BackAt, Bare, Live}
 use Rattle.step_rules.specs.declared.phase.Way.TheVariants.{OnList, PassingOut}
@@ -18,7 +17,7 @@ use Rattle.step_rules.specs.declared.step.Answer.TheVariants.{Done, Illegal, Las
 use Rattle.step_rules.specs.Phases.{at_stage, collected, is_live_phase, passed_back, stage_after_last, stage_collected, stage_passed_back, unit_of}
 use Rattle.step_rules.specs.State.{State, Zone, at_boot, front_of, with_at}
 use Rattle.step_rules.specs.Legal.{Allows, IsMade}
-use Rattle.step_rules.specs.After.{Run, after, consumed, placed_phase, state_of, unit_size, with_block, without_unit, IsLegalRun}
+use Rattle.step_rules.specs.After.{Run, after, consumed, placed_phase, state_of, unit_size, IsLegalRun}
 use Rattle.step_rules.specs.Invariant.{KeepsInvariant}
 use Rattle.step_rules.proofs.Basics.{at_each}
 use Rattle.step_rules.proofs.Freeing.{zone_of_run}
@@ -29,7 +28,6 @@ use Rattle.step_rules.proofs.Placed.{zone_kept}
 use Rattle.step_rules.proofs.Placing.{in_block, in_unit, off_block, off_unit, within_cases}
 use Rattle.step_rules.proofs.Referring.{live_from_one, seat_there}
 use Rattle.step_rules.proofs.Runs.{after_illegal, allowed, kept_along, next, sound_boot}
-use Rattle.step_rules.proofs.SoundSteps.{cpu_range}
 
 -- the CPU whose back frame the unit's head is
 abbrev pub stage_back_of : Stage → Option ℕ

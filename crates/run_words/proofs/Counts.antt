@@ -1,23 +1,16 @@
 -- The reference rule and the stock rule follow from the run.
-use Rattle.std.proofs.Common.{◌≡◌, ◌≢◌, ℕ, zero, suc, ◌+◌, ◌<◌, ◌≤◌, ◌&&◌, true, false, [], ◌∷◌, ◌++◌, length, refl, ap, sym, ◌∙◌, subst, arith, inl, inr, eq-eqb}
-use Rattle.std.specs.Prelude.{◌⊎◌, not}
+use Rattle.std.proofs.Common.{◌≡◌, ◌≢◌, ℕ, zero, suc, ◌≤◌, ◌&&◌, true, false, [], ◌∷◌, ◌++◌, length, refl, ap, sym, ◌∙◌, subst, arith, inl, inr}
+use Rattle.std.specs.Prelude.{not}
 use Rattle.std.specs.List.{fold}
 use Rattle.std.proofs.lemmas.Bool.{cases_Bool, ne_eqb, true≢false}
 use mathlib.Core.Logic.{dite}
 use native.Mathlib.Decide.{ℕ_discrete}
-use Rattle.frame_word.specs.ReferenceRule.{mark}
-use Rattle.step_rules.specs.declared.phase.Way.TheVariants.{OnList, PassingOut, PassingBack}
-use Rattle.step_rules.specs.declared.phase.Stage.TheVariants.{FreshPassing, BackPassing}
-use Rattle.step_rules.specs.declared.phase.Hold.{Hold}
-use Rattle.step_rules.specs.declared.phase.Hold.TheVariants.{Visiting}
-use Rattle.step_rules.specs.declared.phase.Phase.{Phase}
-use Rattle.step_rules.specs.declared.phase.Phase.TheVariants.{InZone, Lent, Head}
 use Rattle.step_rules.specs.declared.step.Action.{Action}
 use Rattle.step_rules.specs.declared.step.Action.TheVariants.{Get, Put, Freeze, Unfreeze, Lock}
 use Rattle.step_rules.specs.declared.step.Answer.{Answer}
 use Rattle.step_rules.specs.declared.step.Answer.TheVariants.{Illegal, Done, Full, Held, Left, Last, Zero}
-use Rattle.step_rules.specs.Phases.{is_live_phase, passes_back, passes_out}
-use Rattle.step_rules.specs.State.{State, Zone, at_boot, is_cpu, is_unheld, live_references, may_zone_act, sum_to, visits}
+use Rattle.step_rules.specs.Phases.{is_live_phase}
+use Rattle.step_rules.specs.State.{State, Zone, at_boot, is_unheld, live_references, may_zone_act}
 use Rattle.step_rules.specs.Legal.{Allows, IsMade, get_answer}
 use Rattle.step_rules.specs.Live.{LiveIsReferenced}
 use Rattle.step_rules.specs.declared.step.Step.{Step}
@@ -27,16 +20,12 @@ use Rattle.boot_words.specs.Seats.{zone_of_boot}
 use Rattle.boot_words.proofs.Counting.{held_answer}
 use Rattle.boot_words.proofs.Holding.{allowed_at, take_length}
 use Rattle.step_rules.specs.After.{Run, after, state_of, IsLegalRun}
-use Rattle.step_rules.specs.Invariant.{KeepsInvariant}
 use Rattle.step_rules.proofs.Basics.{at_other}
-use Rattle.step_rules.proofs.Freeing.{zone_of_run}
 use Rattle.step_rules.proofs.LegalTests.{freeze_tests, unfreeze_tests}
 use Rattle.step_rules.proofs.LocalLaws.{no_illegal}
 use Rattle.step_rules.proofs.Runs.{after_illegal, allowed, legal_from, next, IsLegalFrom}
 use Rattle.boot_words.specs.Runs.{HasNoStepOf, OthersFollow}
-use Rattle.boot_words.specs.Words.{word_in_phase}
 use Rattle.boot_words.proofs.Draining.{legal_behind}
-use Rattle.boot_words.proofs.Following.{stands_in, visited_cpu}
 use Rattle.boot_words.proofs.Owning.{fold_on, lists_are_own}
 use Rattle.run_words.specs.Laws.{NeverZero}
 

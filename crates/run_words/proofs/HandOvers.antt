@@ -1,5 +1,5 @@
 -- Each hand-over that began has ended, but for a frame in transit.
-use Rattle.std.proofs.Common.{◌≡◌, ◌≢◌, ℕ, zero, suc, ◌+◌, ◌^◌, ◌<◌, ◌≤◌, ◌==◌, ◌&&◌, ◌||◌, Bool, true, false, cond, List, [], ◌∷◌, ◌++◌, refl, ap, sym, ◌∙◌, subst, arith, inl, inr, eq-eqb}
+use Rattle.std.proofs.Common.{◌≡◌, ◌≢◌, ℕ, ◌+◌, ◌^◌, ◌<◌, ◌≤◌, ◌==◌, ◌&&◌, ◌||◌, Bool, true, false, cond, [], ◌∷◌, refl, ap, sym, ◌∙◌, subst, arith, inl, inr, eq-eqb}
 use Rattle.std.specs.Prelude.{not}
 use Rattle.std.specs.List.{fold}
 use Rattle.std.proofs.lemmas.Bool.{and_parts, cases_eq, false≢true, leb-true, ne_eqb, or_cases, true≢false}
@@ -8,7 +8,7 @@ use Rattle.zone_blocks.specs.Areas.{IsFreeBlock}
 use Rattle.step_rules.specs.declared.phase.ChargedUnit.{ChargedUnit}
 use Rattle.step_rules.specs.declared.phase.Stage.{Stage}
 use Rattle.step_rules.specs.declared.phase.Stage.TheVariants.{AwaitsReturn, BackAt, Bare, Collected, Live}
-use Rattle.step_rules.specs.declared.phase.Way.TheVariants.{OnList, PassingBack, PassingOut}
+use Rattle.step_rules.specs.declared.phase.Way.TheVariants.{OnList, PassingOut}
 use Rattle.step_rules.specs.declared.phase.Phase.{Phase}
 use Rattle.step_rules.specs.declared.phase.Phase.TheVariants.{InZone, Lent, Head, Tail}
 use Rattle.step_rules.specs.declared.step.Step.{Step}
@@ -26,7 +26,7 @@ use Rattle.step_rules.proofs.Basics.{at_each, at_other, at_same}
 use Rattle.step_rules.proofs.LegalTests.{collect_tests, consume_tests, credit_tests, freeze_tests, pass_back_tests, pass_out_tests, put_tests, return_tests, take_in_tests, unfreeze_tests}
 use Rattle.step_rules.proofs.LocalLaws.{no_illegal}
 use Rattle.step_rules.proofs.Passing.{front_listed}
-use Rattle.step_rules.proofs.PhaseLemmas.{AsEnded, AsKilled, CameBack, FromBack, FromFresh, FromList, InHand, Returns, WasBare, WasCollected, WasEnded, back_is, came_back, equal_test, free_is, fresh_is, in_hand, is_quiet, is_quiet_stage, listed_is, live_is, out_is, returning_is}
+use Rattle.step_rules.proofs.PhaseLemmas.{AsEnded, AsKilled, CameBack, FromBack, FromFresh, FromList, InHand, Returns, WasBare, WasCollected, WasEnded, back_is, came_back, free_is, fresh_is, in_hand, is_quiet, is_quiet_stage, listed_is, live_is, out_is, returning_is}
 use Rattle.step_rules.proofs.Placing.{block_free, in_block, in_unit, off_block, off_unit, within_cases}
 use Rattle.step_rules.proofs.Referring.{live_from_one}
 use Rattle.step_rules.proofs.Runs.{after_illegal, allowed, kept_along, next, sound_boot}

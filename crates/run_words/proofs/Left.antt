@@ -1,16 +1,15 @@
 -- What a seat's past left still stands after the run.
-use Rattle.std.proofs.Common.{◌≡◌, ◌≢◌, ℕ, ◌+◌, ◌<◌, ◌≤◌, ◌==◌, ◌&&◌, Bool, true, false, List, [], ◌∷◌, ◌++◌, length, take, refl, ap, sym, ◌∙◌, subst, arith, inl, inr, append_assoc, eq-eqb}
+use Rattle.std.proofs.Common.{◌≡◌, ℕ, ◌+◌, ◌==◌, ◌&&◌, Bool, false, [], ◌∷◌, ◌++◌, length, refl, ap, sym, ◌∙◌, subst, arith, inl, inr, append_assoc}
 use Rattle.std.proofs.lemmas.Bool.{cases_Bool, ne_eqb}
 use Rattle.step_rules.specs.declared.step.Action.{Action}
 use Rattle.step_rules.specs.declared.step.Action.TheVariants.{Absorb, Fill}
 use Rattle.step_rules.specs.declared.step.Answer.{Answer}
-use Rattle.step_rules.specs.declared.step.Step.{Step}
-use Rattle.step_rules.specs.State.{State, Zone, one_if}
-use Rattle.step_rules.specs.After.{Run, after, state_of, IsLegalRun}
+use Rattle.step_rules.specs.State.{Zone, one_if}
+use Rattle.step_rules.specs.After.{Run, state_of, IsLegalRun}
 use Rattle.step_rules.specs.Views.{holds_lock}
 use Rattle.step_rules.proofs.Runs.{legal_from}
 use Rattle.boot_words.specs.Hidden.{hide}
-use Rattle.boot_words.specs.Runs.{BooksNothingOf, HasNoStepOf, IsFast, OthersFollow, books}
+use Rattle.boot_words.specs.Runs.{BooksNothingOf, HasNoStepOf, IsFast, books}
 use Rattle.boot_words.specs.Sight.{HasSameOrDrained}
 use Rattle.boot_words.specs.declared.view.Past.{Past}
 use Rattle.boot_words.proofs.Away.{away_stays}

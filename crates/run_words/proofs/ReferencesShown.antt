@@ -1,22 +1,19 @@
 -- The reference rule follows: of the views that the pasts of all seats show.
-use Rattle.std.proofs.Common.{◌≡◌, ◌≢◌, ℕ, zero, suc, ◌+◌, ◌-◌, ◌<◌, ◌≤◌, ◌==◌, ◌&&◌, ◌||◌, Bool, true, false, cond, Some, None, Option, List, [], ◌∷◌, length, map, refl, ap, sym, ◌∙◌, subst, arith, inl, inr, eq-eqb}
+use Rattle.std.proofs.Common.{◌≡◌, ◌≢◌, ℕ, ◌+◌, ◌-◌, ◌<◌, ◌≤◌, ◌==◌, ◌||◌, Bool, true, false, cond, Some, List, length, refl, ap, sym, ◌∙◌, subst, arith, inl, inr, eq-eqb}
 use Rattle.std.specs.Prelude.{◌⊎◌, nat_le, slice_index}
-use Rattle.std.specs.List.{range_with_len, slice_index_or}
-use Rattle.std.proofs.lemmas.Bool.{cases_Bool, false≢true, ne_eqb, or_cases, true≢false}
+use Rattle.std.proofs.lemmas.Bool.{cases_Bool, ne_eqb}
 use Rattle.std.proofs.lemmas.List.{length-drop}
 use Rattle.std.proofs.lemmas.List.FromFn.{get_or-map-range_with_len}
 use mathlib.Core.Logic.{dite}
 use native.Mathlib.Decide.{ℕ_discrete}
 use Rattle.frame_word.specs.declared.view.FrameNote.{FrameNote}
 use Rattle.frame_word.specs.declared.view.FrameView.{FrameView}
-use Rattle.frame_word.specs.ReferenceRule.{FrameRule, HandOverRule, IsInOneHand, IsPassing, IsReferenced, ReferenceRule, VisitRule, begun_in, borrowed_in, ended_in, hands_in, lent_in, lent_number, mark, mark_count, most_references, only, opened_in, references_in, visit_index}
+use Rattle.frame_word.specs.ReferenceRule.{FrameRule, HandOverRule, IsInOneHand, IsPassing, IsReferenced, ReferenceRule, VisitRule, begun_in, borrowed_in, ended_in, hands_in, lent_in, lent_number, mark, mark_count, only, opened_in, references_in, visit_index}
 use Rattle.frame_word.specs.Totals.{sum_over, total_over}
 use Rattle.frame_word.specs.Views.{blank, in_hands, lent_count, note_of}
 use Rattle.frame_word.proofs.Swap.{OneCase}
 use Rattle.frame_word.proofs.Totals.{sum_plus}
 use Rattle.step_rules.specs.declared.phase.ChargedUnit.{ChargedUnit}
-use Rattle.step_rules.specs.declared.phase.Hold.{Hold}
-use Rattle.step_rules.specs.declared.phase.Hold.TheVariants.{Visiting}
 use Rattle.step_rules.specs.declared.phase.Stage.{Stage}
 use Rattle.step_rules.specs.declared.phase.Stage.TheVariants.{AwaitsReturn, BackAt, BackPassing, Bare, Collected, FreshAt, FreshPassing, Live}
 use Rattle.step_rules.specs.declared.phase.Way.TheVariants.{OnList, PassingBack, PassingOut}
@@ -25,7 +22,7 @@ use Rattle.step_rules.specs.declared.phase.Phase.TheVariants.{InZone, Lent, Head
 use Rattle.step_rules.specs.declared.step.Action.{Action}
 use Rattle.step_rules.specs.declared.step.Answer.{Answer}
 use Rattle.step_rules.specs.Phases.{BackFrame, FreshFrame, Kind, ListFrame, has_as, is_live_phase, passes_back, passes_out}
-use Rattle.step_rules.specs.State.{Part, State, Zone, frames_of, is_cpu, live_references, one_if, sum_to, times, visits}
+use Rattle.step_rules.specs.State.{State, Zone, frames_of, is_cpu, live_references, one_if, sum_to, times, visits}
 use Rattle.step_rules.specs.After.{Run, state_of, IsLegalRun}
 use Rattle.step_rules.specs.Invariant.{KeepsInvariant, PhasePaid, groups_in}
 use Rattle.step_rules.specs.Lent.{lent_to}
@@ -37,7 +34,7 @@ use Rattle.step_rules.proofs.Living.{live_are_referenced}
 use Rattle.step_rules.proofs.Runs.{sound_run}
 use Rattle.step_rules.proofs.SoundSteps.{cpu_range}
 use Rattle.step_rules.proofs.Sums.{sum_none, sum_only}
-use Rattle.boot_words.specs.Hidden.{hide, hide_phase, hide_stage}
+use Rattle.boot_words.specs.Hidden.{hide_phase, hide_stage}
 use Rattle.boot_words.specs.Words.{frame_word, word_in_phase}
 use Rattle.boot_words.specs.declared.view.Past.{Past}
 use Rattle.boot_words.specs.Rule.{AllOf, frame_base, words_in}
@@ -48,7 +45,7 @@ use Rattle.run_words.specs.Laws.{ReferenceRuleFollows}
 use Rattle.run_words.specs.Rule.{BeginsRun, RunRule, of_number}
 use Rattle.run_words.specs.Shown.{borrowed, lent_to_cpu, frame_view_shown, frame_views_shown, is_collect, is_pass_back, is_pass_out, is_take_in, is_zone_stage, is_zones, note_shown, owned, stage_lent_to_cpu, times_by_cpu, times_made}
 use Rattle.run_words.proofs.Backs.{back_of, backs_are_cpus}
-use Rattle.run_words.proofs.Counting.{AreBelow, all_low, case_le, is_high, is_low, ones}
+use Rattle.run_words.proofs.Counting.{AreBelow, all_low, is_high, is_low, ones}
 use Rattle.run_words.proofs.Counts.{references_are_own}
 use Rattle.run_words.proofs.HandOvers.{begun, ended, run_balances, transit}
 use Rattle.run_words.proofs.Left.{made_left, zone_left}
@@ -301,10 +298,10 @@ module _ (zone : Zone) (words : List ℕ) (seats : List (List Past)) (k : RunRul
       (λ zeroth.
       let z = eq-eqb p.number 0 zeroth in
       (λ i. cond (z i) (one_if (is_zones ((state_of zone p.seen).phases f))) (one_if (has_as BackFrame p.number ((state_of zone p.seen).phases f)))
-          + cond (z i) 0 (one_if (has_as ListFrame p.number ((state_of zone p.seen).phases f)) + one_if (has_as FreshFrame p.number ((state_of zone p.seen).phases f))))
+      + cond (z i) 0 (one_if (has_as ListFrame p.number ((state_of zone p.seen).phases f)) + one_if (has_as FreshFrame p.number ((state_of zone p.seen).phases f))))
       ∙ ap (λ b. one_if b + 0) (zones_left p f has zeroth)
       ∙ sym (λ i. cond (z i) (one_if (is_zones (s.phases f))) (one_if (has_as BackFrame p.number (s.phases f)))
-          + cond (z i) 0 (one_if (has_as ListFrame p.number (s.phases f)) + one_if (has_as FreshFrame p.number (s.phases f)))))
+      + cond (z i) 0 (one_if (has_as ListFrame p.number (s.phases f)) + one_if (has_as FreshFrame p.number (s.phases f)))))
       (λ ne.
       let lists = lists_are_own zone p.seen k.run p.number ne has.goes in
       let a = own_left p BackFrame f has ne lists.back in
@@ -312,10 +309,10 @@ module _ (zone : Zone) (words : List ℕ) (seats : List (List Past)) (k : RunRul
       let c = own_left p FreshFrame f has ne lists.fresh in
       let z = ne_eqb p.number 0 ne in
       (λ i. cond (z i) (one_if (is_zones ((state_of zone p.seen).phases f))) (one_if (has_as BackFrame p.number ((state_of zone p.seen).phases f)))
-          + cond (z i) 0 (one_if (has_as ListFrame p.number ((state_of zone p.seen).phases f)) + one_if (has_as FreshFrame p.number ((state_of zone p.seen).phases f))))
+      + cond (z i) 0 (one_if (has_as ListFrame p.number ((state_of zone p.seen).phases f)) + one_if (has_as FreshFrame p.number ((state_of zone p.seen).phases f))))
       ∙ (λ i. one_if (a i) + (one_if (b i) + one_if (c i)))
       ∙ sym (λ i. cond (z i) (one_if (is_zones (s.phases f))) (one_if (has_as BackFrame p.number (s.phases f)))
-          + cond (z i) 0 (one_if (has_as ListFrame p.number (s.phases f)) + one_if (has_as FreshFrame p.number (s.phases f)))))
+      + cond (z i) 0 (one_if (has_as ListFrame p.number (s.phases f)) + one_if (has_as FreshFrame p.number (s.phases f)))))
 
   -- ---- totals of a frame
   pub references_total : (f : ℕ) → f < zone.frames → total_over (references_in f) (frame_views_shown zone seats) ≡ live_references s f
@@ -374,8 +371,12 @@ module _ (zone : Zone) (words : List ℕ) (seats : List (List Past)) (k : RunRul
   passing_case f c x e word dead range none =
       let low = range.0 in
       let high = range.1 in
-      inr (inr (subst (λ w. mark 1 ≤ w) (sym word) (let a : 256 + 1 ≤ 256 + c = omega (arith, low) in a),
-      subst (λ w. w ≤ mark zone.cpus) (sym word) (let a : 256 + c ≤ 256 + zone.cpus = omega (arith, high) in a), none_of f x e dead, none))
+      inr (inr (
+        subst (λ w. mark 1 ≤ w) (sym word) (let a : 256 + 1 ≤ 256 + c = omega (arith, low) in a),
+        subst (λ w. w ≤ mark zone.cpus) (sym word) (let a : 256 + c ≤ 256 + zone.cpus = omega (arith, high) in a),
+        none_of f x e dead,
+        none,
+      ))
 
   passes_self : (c : ℕ) → (c == c) ≡ true
   passes_self c = eq-eqb c c refl
@@ -440,7 +441,7 @@ module _ (zone : Zone) (words : List ℕ) (seats : List (List Past)) (k : RunRul
       both
       ∙ (λ i. z.only (λ p. slice_index (note_of (frame_view_shown zone p) f).passed_out cpu) i + c.only (λ p. (note_of (frame_view_shown zone p) f).passed_back) i)
       ∙ (λ i. (ap (λ (n : FrameNote). slice_index n.passed_out cpu) (note zone words seats k z.past f inside) ∙ zone_count cpu (is_pass_out f) low z) i
-          + (ap (λ (n : FrameNote). n.passed_back) (note zone words seats k c.past f inside) ∙ cpu_count cpu (is_pass_back f) c) i)
+      + (ap (λ (n : FrameNote). n.passed_back) (note zone words seats k c.past f inside) ∙ cpu_count cpu (is_pass_back f) c) i)
 
   ended_total : (f cpu : ℕ) → f < zone.frames → cpu ≤ zone.cpus → total_over (ended_in f cpu) (frame_views_shown zone seats) ≡ ended f cpu k.run
   ended_total f cpu inside high =
@@ -452,7 +453,7 @@ module _ (zone : Zone) (words : List ℕ) (seats : List (List Past)) (k : RunRul
       both
       ∙ (λ i. z.only (λ p. slice_index (note_of (frame_view_shown zone p) f).collected cpu) i + c.only (λ p. (note_of (frame_view_shown zone p) f).taken_in) i)
       ∙ (λ i. (ap (λ (n : FrameNote). slice_index n.collected cpu) (note zone words seats k z.past f inside) ∙ zone_count cpu (is_collect f) low z) i
-          + (ap (λ (n : FrameNote). n.taken_in) (note zone words seats k c.past f inside) ∙ cpu_count cpu (is_take_in f) c) i)
+      + (ap (λ (n : FrameNote). n.taken_in) (note zone words seats k c.past f inside) ∙ cpu_count cpu (is_take_in f) c) i)
 
   -- ---- lent and borrowed
   lent_total : (f : ℕ) → f < zone.frames → total_over (lent_number f) (frame_views_shown zone seats) ≡ lent_to_cpu ((state_of zone k.run).phases f)
@@ -548,7 +549,7 @@ module _ (zone : Zone) (words : List ℕ) (seats : List (List Past)) (k : RunRul
         shut = λ none f inside e.
             let x = (state_of zone k.run).phases f in
             let marked : transit cpu x ≡ 1 = sym (mark_transit cpu (live_references (state_of zone k.run) f) x (few_live f)) ∙ ap (mark_count cpu) (sym (word_of_frame f inside) ∙ e)
-                ∙ mark_is cpu cpu 0 ∙ ap one_if (eq-eqb cpu cpu refl) in
+            ∙ mark_is cpu cpu 0 ∙ ap one_if (eq-eqb cpu cpu refl) in
             let hold = frames_pass zone k.run k.is.legal f cpu (is_marked cpu x marked) in
             let opened : one_if (visits cpu (state_of zone k.run).hold) ≡ 1 = ap (λ h. one_if (visits cpu h)) hold ∙ ap one_if (eq-eqb cpu cpu refl) in
             absurd (omega (arith, none, word, opened));

@@ -1,25 +1,22 @@
 -- The stock rule follows: of the views that the pasts of all seats show.
-use Rattle.std.proofs.Common.{◌≡◌, ◌≢◌, ℕ, zero, suc, ◌+◌, ◌*◌, ◌-◌, ◌<◌, ◌≤◌, ◌==◌, Bool, true, false, Some, None, Option, List, [], ◌∷◌, length, map, refl, ap, sym, ◌∙◌, subst, arith, inl, inr}
+use Rattle.std.proofs.Common.{◌≡◌, ◌≢◌, ℕ, zero, suc, ◌+◌, ◌<◌, ◌≤◌, Bool, true, false, Some, None, Option, List, [], ◌∷◌, length, refl, ap, sym, ◌∙◌, subst, arith, inl, inr}
 use Rattle.std.specs.Prelude.{◌⊎◌, nat_le, slice_index}
 use Rattle.std.specs.List.{slice_index_or}
 use Rattle.std.proofs.lemmas.List.{length-take-le}
 use Rattle.std.proofs.lemmas.List.FromFn.{get_or-map-range_with_len, length-map-range_with_len}
-use mathlib.Core.Option.{some}
-use Rattle.frame_word.specs.Totals.{sum_over, total_over}
+use Rattle.frame_word.specs.Totals.{sum_over}
 use Rattle.stock_word.specs.declared.view.Stock.{Stock}
 use Rattle.stock_word.specs.declared.view.Stock.TheVariants.{DrainedOf, HeldBy, NoGroup}
 use Rattle.stock_word.specs.declared.view.StockAccount.{StockAccount}
-use Rattle.stock_word.specs.declared.view.StockView.{StockView}
-use Rattle.stock_word.specs.Stock.{HasWord, account_of, drained_of, group_of, is_held, no_account, stock_account_at, stock_pages_of, word_of}
-use Rattle.stock_word.specs.StockRule.{HoldsAt, IsOnly, IsStock, StockRule, at_seat, report_index, stock_index}
-use Rattle.step_rules.specs.State.{Part, State, Zone, one_if, sum_to}
-use Rattle.step_rules.specs.After.{Run, state_of, IsLegalRun}
+use Rattle.stock_word.specs.Stock.{HasWord, account_of, drained_of, is_held, no_account, stock_account_at, stock_pages_of}
+use Rattle.stock_word.specs.StockRule.{IsOnly, IsStock, StockRule, at_seat, report_index, stock_index}
+use Rattle.step_rules.specs.State.{Part, State, Zone, one_if}
+use Rattle.step_rules.specs.After.{state_of}
 use Rattle.step_rules.specs.Views.{other_part_seen}
 use Rattle.step_rules.proofs.Freeing.{zone_of_run}
 use Rattle.step_rules.proofs.Runs.{sound_run}
-use Rattle.step_rules.proofs.Stocked.{FitsStock, stocks_fit}
+use Rattle.step_rules.proofs.Stocked.{stocks_fit}
 use Rattle.boot_words.specs.Hidden.{hide}
-use Rattle.boot_words.specs.Sight.{HasSameOrDrained}
 use Rattle.boot_words.specs.Words.{stock_in, stock_said}
 use Rattle.boot_words.specs.declared.view.Past.{Past}
 use Rattle.boot_words.specs.Rule.{AllOf, frame_base, words_in}

@@ -11,13 +11,12 @@ use Rattle.step_rules.specs.declared.phase.Stage.{Stage}
 use Rattle.step_rules.specs.declared.phase.Stage.TheVariants.{AwaitsReturn, Bare, Collected, FreshAt, FreshPassing}
 use Rattle.step_rules.specs.declared.phase.Phase.{Phase}
 use Rattle.step_rules.specs.declared.phase.Phase.TheVariants.{InZone, Lent, Head, Tail}
-use Rattle.step_rules.specs.declared.step.Step.{Step}
 use Rattle.step_rules.specs.declared.step.Action.{Action}
 use Rattle.step_rules.specs.declared.step.Action.TheVariants.{Collect, PassBack, PassOut, TakeIn}
 use Rattle.step_rules.specs.declared.step.Answer.{Answer}
 use Rattle.step_rules.specs.declared.step.Answer.TheVariants.{Done}
 use Rattle.step_rules.specs.Phases.{BackFrame, FreshFrame, ListFrame, has_as}
-use Rattle.step_rules.specs.State.{Part, State, Zone, one_if, visits}
+use Rattle.step_rules.specs.State.{Part, Zone, one_if, visits}
 use Rattle.step_rules.specs.After.{Run, state_of}
 use Rattle.boot_words.specs.Words.{stock_in}
 use Rattle.boot_words.specs.declared.view.Past.{Past}
