@@ -27,3 +27,4 @@ pub mod HandOver
 pub mod Looking
 pub mod SeenSame
 pub mod Keeping
+pub mod Groupless

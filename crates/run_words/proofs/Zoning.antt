@@ -1,5 +1,5 @@
 -- What the steps under the lock ask and tell.
-use Rattle.std.proofs.Common.{◌≡◌, ◌≢◌, ℕ, eqb, ◌+◌, ◌<◌, ◌≤◌, ◌==◌, List, set, refl, ap, sym, ◌∙◌, subst, inl, eq-eqb}
+use Rattle.std.proofs.Common.{Bool, true, false, cond, ◌≡◌, ◌≢◌, ℕ, eqb, ◌+◌, ◌<◌, ◌≤◌, ◌==◌, List, set, refl, ap, sym, ◌∙◌, subst, inl, eq-eqb}
 use Rattle.std.specs.Prelude.{slice_index}
 use Rattle.std.proofs.lemmas.Bool.{cond-false, cond-true, ne_eqb}
 use Rattle.std.proofs.lemmas.List.{set-get_or}
@@ -21,7 +21,7 @@ use Rattle.boot_words.specs.Steps.{ChangesWords, frame_word_at}
 use Rattle.boot_words.specs.Held.{freeze_answer, local_seen}
 use Rattle.boot_words.specs.declared.view.Past.{Past}
 use Rattle.boot_words.specs.Rule.{frame_base, words_in}
-use Rattle.boot_words.specs.Pasts.{KnownPasts, IsHeld, MayMake, cpu_past, local_by_pasts, own_past}
+use Rattle.boot_words.specs.Pasts.{KnownPasts, IsHeld, MakesStep, MayMake, cpu_past, freeze_said, local_by_pasts, own_past}
 use Rattle.boot_words.specs.Seats.{zone_of_boot}
 use Rattle.boot_words.proofs.Parts.{frame_reads, words_set}
 use Rattle.boot_words.proofs.StockSteps.{stock_low, stock_words_set}
@@ -29,7 +29,7 @@ use Rattle.run_words.specs.declared.word.Word.TheVariants.{OfFrame, StockOf}
 use Rattle.run_words.specs.Seats.{MayChange}
 use Rattle.step_rules.proofs.CoverParts.{part_seen}
 use Rattle.run_words.proofs.Booking.{small_fill}
-use Rattle.run_words.proofs.UnderLock.{MadeHeld, held_makes, held_makes_small, of_held, shows_end, stands_at}
+use Rattle.run_words.proofs.UnderLock.{MadeHeld, held_made, held_makes, held_makes_small, of_held, shows_end, stands_at}
 
 freeze_changes : (zone : Zone) (words : Words) (seat f count n : ℕ) → frame_word_at words f ≡ n
     → ChangesWords zone words seat (Freeze f count) (freeze_answer count n) (with_frame_word words f (either (eqb n count) 0 n))
@@ -97,8 +97,12 @@ pub frame_of_unfreeze : (t : KnownTable) (s : KnownPasts) (f count : ℕ) → Ma
 frame_of_unfreeze t s f count legal =
     below_frames (zone_of_boot t) f (ap (λ z. is_frame z f) (sym (zone_seen t s)) ∙ (unfreeze_tests (local_seen (zone_of_boot t) (cpu_past s)) 0 f count legal).1)
 
-pub says_done : (n count : ℕ) → n ≡ count → freeze_answer count n ≡ Done
-says_done n count e = cond-true (n == count) Done Missed (eq-eqb n count e)
+said_freeze : (hit : Bool) → freeze_said hit ≡ cond hit Done Missed
+said_freeze true = refl
+said_freeze false = refl
 
-pub says_missed : (n count : ℕ) → n ≢ count → freeze_answer count n ≡ Missed
-says_missed n count e = cond-false (n == count) Done Missed (ne_eqb n count e)
+pub froze : (t : KnownTable) (s : KnownPasts) (f count found : ℕ) (s' : KnownPasts) → IsHeld t s → s'.table ≡ s.table
+    → freezes_told (zone_of_boot t) (own_past s) (cpu_past s) f count found s'.pasts → MakesStep t s 0 (Freeze f count) (freeze_said (found == count)) s'
+froze t s f count found s' is table told =
+    subst (λ a. MakesStep t s 0 (Freeze f count) a s') (sym (said_freeze (found == count)))
+    (held_made t s (record { seat = 0; action = Freeze f count }) (freeze_answer count found) s' is table told)

@@ -147,7 +147,8 @@ impl RunWords {
                 }
             }
             Stock::DrainedOf { group: _ } => Credit::Drained,
-            Stock::NoGroup => Credit::Drained,
+            // A CPU with a fresh frame saw the group that paid for it.
+            Stock::NoGroup => unreachable!(),
         }
     }
 }

@@ -1,5 +1,5 @@
 //! The reference rule and the stock rule, as laws of the rule that keeps the run.
-ghost use Rattle.run_words.specs.Laws.{NeverZero, ReferenceRuleFollows, StockRuleFollows};
+ghost use Rattle.run_words.specs.Laws.{NeverZero, NoGroupNothingFresh, ReferenceRuleFollows, StockRuleFollows};
 
 /// The reference rule of `frame_word` holds of the words of frames and visits, and of what the pasts of all seats show:
 /// references, hands, lent frames, hand-overs begun and ended, open visits.
@@ -16,4 +16,9 @@ pub fn the_stock_rule_follows()
 /// A CPU that has a reference on the frame never gets Zero.
 pub fn never_zero()
     ensures { NeverZero }
+{}
+
+/// A CPU that saw a stock of no group last has no fresh frame.
+pub fn no_group_nothing_fresh()
+    ensures { NoGroupNothingFresh }
 {}

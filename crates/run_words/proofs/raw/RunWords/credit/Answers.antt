@@ -8,6 +8,7 @@ use Rattle.stock_word.specs.Stock.{word_of}
 use Rattle.step_rules.specs.declared.step.Answer.TheVariants.{Stocked}
 use Rattle.boot_words.specs.Pasts.{own_past}
 use Rattle.boot_words.specs.Seats.{zone_of_boot}
+use Rattle.run_words.proofs.Groupless.{no_credit}
 use Rattle.run_words.proofs.Prepaying.{TellsPage, credits, exchanged_page}
 use Rattle.run_words.proofs.raw.RunWords.credit.Goals as goal
 
@@ -36,3 +37,7 @@ returns-then-found-word c =
           (ap (λ k. k.number) view) refl (c.exchange_stock-found.ensures.table ∙ ap (λ k. k.seat.table) view)
           (told.took (c.if-found-word.true ∙ c.word.ensures ∙ ap word_of c.in-HeldBy.is)),
     )
+
+pub unreachable-requires : goal.unreachable-requires
+unreachable-requires c =
+    no_credit c.args.self.now c.args.cpu.now c.args.frame c.requires.cpu (sym (ap (λ k. k.last) c.cpu.view_is) ∙ c.in-NoGroup.is) c.requires.legal
