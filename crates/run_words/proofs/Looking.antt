@@ -1,0 +1,138 @@
+-- Loads under the lock that are no step.
+use Rattle.std.proofs.Common.{◌≡◌, ℕ, ◌+◌, ◌<◌, ◌≤◌, true, List, [], ◌∷◌, refl, ap, sym, ◌∙◌, subst, arith}
+use Rattle.std.specs.Prelude.{slice_index, IfSome}
+use Rattle.frame_word.specs.ReferenceRule.{most_references}
+use Rattle.frame_word.specs.Seats.{KnownTable}
+use Rattle.stock_word.specs.declared.view.Stock.{Stock}
+use Rattle.stock_word.specs.declared.view.Stock.TheVariants.{DrainedOf, HeldBy, NoGroup}
+use Rattle.stock_word.specs.Stock.{HasWord, group_of, word_of}
+use Rattle.stock_word.specs.StockRule.{stock_index}
+use Rattle.step_rules.specs.Phases.{is_live_phase}
+use Rattle.step_rules.specs.State.{State, Zone, live_references}
+use Rattle.step_rules.specs.After.{state_of}
+use Rattle.step_rules.proofs.Living.{live_are_referenced}
+use Rattle.step_rules.proofs.Referring.{live_from_one}
+use Rattle.step_rules.proofs.Sums.{sum_part}
+use Rattle.boot_words.specs.Words.{stock_in}
+use Rattle.boot_words.specs.Held.{local_seen}
+use Rattle.boot_words.specs.declared.view.Past.{Past}
+use Rattle.boot_words.specs.Rule.{frame_base, words_in}
+use Rattle.boot_words.specs.Pasts.{KnownPasts, IsHeld, IsHolder, cpu_past, local_by_pasts, own_past}
+use Rattle.boot_words.specs.Seats.{zone_of_boot}
+use Rattle.boot_words.proofs.Counting.{live_word}
+use Rattle.boot_words.proofs.Following.{stands_in}
+use Rattle.boot_words.proofs.Parts.{frame_reads}
+use Rattle.run_words.specs.declared.word.Word.TheVariants.{OfFrame, StockOf}
+use Rattle.run_words.specs.Looking.{LoadsReferences}
+use Rattle.run_words.specs.Seats.{MayChange}
+use Rattle.run_words.proofs.Fast.{stays}
+use Rattle.run_words.proofs.HandOver.{cpu_of_held, stock_held}
+use Rattle.run_words.proofs.Drains.{StockFound, stock_found}
+use Rattle.run_words.proofs.Referring.{word_now}
+use Rattle.run_words.proofs.UnderLock.{fits_both, of_held, shows_end, stands_at}
+
+-- the seat has the pasts that it had
+pub same_seat : (t : KnownTable) (s s' : KnownPasts) → IsHeld t s → s'.table ≡ s.table → s'.pasts ≡ own_past s ∷ cpu_past s ∷ [] → s' ≡ s
+same_seat t s s' is table later i = record { table = table i; pasts = (later ∙ sym is.both) i }
+
+-- ---- the holder's stock
+pub record SeesStock (zone : Zone) (z c : Past) (found : ℕ) (later : List Past) : Type 0 where
+  pub fits : HasWord (stock_in ((local_seen zone c).parts c.number))
+  pub word : found ≡ word_of (stock_in ((local_seen zone c).parts c.number))
+  pub few : ((local_seen zone c).parts c.number).book < 65536
+  pub later_is : later ≡ z ∷ c ∷ []
+
+pub sees_stock : (t : KnownTable) (s : KnownPasts) (cpu : ℕ) → IsHeld t s → IsHolder s cpu
+    → MayChange (zone_of_boot t) s.pasts (StockOf cpu) (λ n. n) (SeesStock (zone_of_boot t) (own_past s) (cpu_past s))
+sees_stock t s cpu is holder =
+    let zone = zone_of_boot t in
+    let z = own_past s in
+    let c = cpu_past s in
+    let range = cpu_of_held t s is in
+    subst (λ q. MayChange zone s.pasts (StockOf q) (λ n. n) (SeesStock zone z c)) (sym holder)
+    (of_held t s (StockOf c.number) (λ n. n) (SeesStock zone z c) is
+    (λ id b k homes at small.
+    let j = stock_index c.number in
+    let h = stock_held zone b.words b.views id z c range.0 range.1 (stands_at zone b k id z c at is.holds) in
+    let r = stays zone b k id j (slice_index b.words j) (z ∷ c ∷ []) at refl in
+    (r.0, r.1, r.2, r.3, (r.4.0, record { fits = h.fits; word = h.word; few = h.few; later_is = r.4.1 }))))
+
+pub stock_is : (t : KnownTable) (s : KnownPasts) (cpu found : ℕ) (later : List Past) (stock : Stock) → IsHolder s cpu → SeesStock (zone_of_boot t) (own_past s) (cpu_past s) found later
+    → ((k : Stock) → HasWord k → found ≡ word_of k → stock ≡ k) → stock ≡ stock_in ((local_by_pasts t s).parts cpu)
+stock_is t s cpu found later stock holder told decodes =
+    decodes (stock_in ((local_by_pasts t s).parts (cpu_past s).number)) told.fits told.word ∙ ap (λ q. stock_in ((local_by_pasts t s).parts q)) (sym holder)
+
+-- ---- the group of any stock
+pub record SeesGroup (zone : Zone) (z c : Past) (cpu found : ℕ) (later : List Past) : Type 0 where
+  pub is : StockFound zone c cpu found
+  pub later_is : later ≡ z ∷ c ∷ []
+
+pub sees_group : (t : KnownTable) (s : KnownPasts) (cpu : ℕ) → IsHeld t s → 1 ≤ cpu → cpu ≤ t.cpus
+    → MayChange (zone_of_boot t) s.pasts (StockOf cpu) (λ n. n) (SeesGroup (zone_of_boot t) (own_past s) (cpu_past s) cpu)
+sees_group t s cpu is low high =
+    let zone = zone_of_boot t in
+    let z = own_past s in
+    let c = cpu_past s in
+    of_held t s (StockOf cpu) (λ n. n) (SeesGroup zone z c cpu) is
+    (λ id b k homes at small.
+    let j = stock_index cpu in
+    let there = stock_found zone b k id z c cpu at is.holds low high in
+    let r = stays zone b k id j (slice_index b.words j) (z ∷ c ∷ []) at refl in
+    (r.0, r.1, r.2, r.3, (r.4.0, record { is = there; later_is = r.4.1 })))
+
+pub group_is : (t : KnownTable) (s : KnownPasts) (cpu found : ℕ) (later : List Past) (stock : Stock) → (told : SeesGroup (zone_of_boot t) (own_past s) (cpu_past s) cpu found later)
+    → ((k : Stock) → HasWord k → found ≡ word_of k → stock ≡ k) → group_of stock ≡ ((local_by_pasts t s).parts cpu).stock.group
+group_is t s cpu found later stock told decodes = ap group_of (decodes told.is.stock told.is.fits told.is.word) ∙ told.is.group
+
+few_group : (stock : Stock) → HasWord stock → IfSome (group_of stock) (λ g. g < 64)
+few_group NoGroup h = tt
+few_group (HeldBy g n) h = h.0
+few_group (DrainedOf g) h = h
+
+pub group_fits : (t : KnownTable) (s : KnownPasts) (cpu found : ℕ) (later : List Past) (stock : Stock) → (told : SeesGroup (zone_of_boot t) (own_past s) (cpu_past s) cpu found later)
+    → ((k : Stock) → HasWord k → found ≡ word_of k → stock ≡ k) → IfSome (group_of stock) (λ g. g < 64)
+group_fits t s cpu found later stock told decodes =
+    subst (λ k. IfSome (group_of k) (λ g. g < 64)) (sym (decodes told.is.stock told.is.fits told.is.word)) (few_group told.is.stock told.is.fits)
+
+-- ---- references
+pub record SeesReferences (t : KnownTable) (s : KnownPasts) (f found : ℕ) (later : List Past) : Type 0 where
+  pub counted : LoadsReferences t s f found
+  pub own : (local_by_pasts t s).references 0 f ≤ found
+  pub most : found ≤ most_references
+  pub later_is : later ≡ own_past s ∷ cpu_past s ∷ []
+
+pub sees_references : (t : KnownTable) (s : KnownPasts) (f : ℕ) → IsHeld t s → f < t.frames → 1 ≤ (local_by_pasts t s).references 0 f
+    → MayChange (zone_of_boot t) s.pasts (OfFrame f) (λ n. n) (SeesReferences t s f)
+sees_references t s f is inside some =
+    let zone = zone_of_boot t in
+    let z = own_past s in
+    let c = cpu_past s in
+    of_held t s (OfFrame f) (λ n. n) (SeesReferences t s f) is
+    (λ id b k homes at small.
+    let st = stands_at zone b k id z c at is.holds in
+    let fit = fits_both zone b.words b.views id z c st in
+    let run = state_of zone k.run in
+    let stands = stands_in zone (words_in zone b.words) k.run k.is in
+    let own : (local_by_pasts t s).references 0 f ≡ run.references 0 f = ap (λ (l : State). l.references 0 f) (shows_end zone b.words b.views id z c st).sees in
+    let one : 1 ≤ run.references 0 f = subst (λ n. 1 ≤ n) own some in
+    let live : is_live_phase (run.phases f) ≡ true = live_from_one run 0 f stands.sound one in
+    let part = sum_part (run.zone.cpus + 1) (λ q. run.references q f) 0 (omega arith) in
+    let j = frame_base zone + f in
+    let found : live_references run f ≡ slice_index b.words j =
+    sym (live_word run f live (live_references run f)) ∙ word_now zone (words_in zone b.words) k.run f k.is inside ∙ frame_reads zone f b.words in
+    let range = (live_are_referenced zone k.run k.is.legal f).some live in
+    let r = stays zone b k id j (slice_index b.words j) (z ∷ c ∷ []) at refl in (
+      r.0,
+      r.1,
+      r.2,
+      r.3,
+      (
+        r.4.0,
+        record {
+          counted = record { run = k.run; zone_begins = fit.0; cpu_begins = fit.1; legal = k.is.legal; counted = found };
+          own = omega (arith, own, part, found);
+          most = (let a = range.1 in omega (arith, a, found));
+          later_is = r.4.1;
+        },
+      ),
+    ))

@@ -1,0 +1,36 @@
+-- Which pasts a fact holds of, as one seat's pasts change.
+use Rattle.std.proofs.Common.{◌≡◌, ℕ, zero, suc, ◌≤◌, List, [], ◌∷◌, set, ap, sym, arith}
+use mathlib.Core.Option.{some, some-injective, some-ne-none}
+use lib.ListN.{get_elem?}
+use Rattle.frame_word.specs.Totals.{sum_over, total_over}
+use Rattle.frame_word.proofs.Totals.{total_member, total_set}
+use Rattle.boot_words.specs.declared.view.Past.{Past}
+use Rattle.boot_words.specs.Rule.{AllOf}
+use Rattle.run_words.specs.Rule.{AllPasts, of_number}
+
+-- one seat has all pasts of some weight: it changes, and each other past keeps its fact
+module _ (P Q : Past → Type 0) (weight : Past → ℕ) (each : (u : Past) → weight u ≡ 0 → P u → Q u) where
+  pasts_else : (ps : List Past) → sum_over weight ps ≡ 0 → AllOf P ps → AllOf Q ps
+  pasts_else [] none all = tt
+  pasts_else (p ∷ ps) none all = (each p (omega arith) all.0, pasts_else ps (omega arith) all.1)
+
+  seats_else : (seats : List (List Past)) → total_over weight seats ≡ 0 → AllPasts P seats → AllPasts Q seats
+  seats_else [] none all = tt
+  seats_else (ps ∷ rest) none all = (pasts_else ps (omega arith) all.0, seats_else rest (omega arith) all.1)
+
+  pub seats_set : (seats : List (List Past)) (id : ℕ) (old new : List Past) → get_elem? seats id ≡ some old
+      → total_over weight seats ≤ sum_over weight old → AllPasts P seats → AllOf Q new → AllPasts Q (set seats id new)
+  seats_set [] id old new at whole all q = absurd (some-ne-none old (sym at))
+  seats_set (ps ∷ rest) zero old new at whole all q =
+      let m : sum_over weight ps ≡ sum_over weight old = ap (sum_over weight) (some-injective ps old at) in
+      (q, seats_else rest (omega arith) all.1)
+  seats_set (ps ∷ rest) (suc id) old new at whole all q =
+      let m : sum_over weight old ≤ total_over weight rest = total_member weight rest id old at in
+      (pasts_else ps (omega arith) all.0, seats_set rest id old new at (omega arith) all.1 q)
+
+-- the counts stay if the new pasts have the old ones' numbers
+pub counts_same : (seats : List (List Past)) (id : ℕ) (old new : List Past) → get_elem? seats id ≡ some old
+    → ((q : ℕ) → sum_over (of_number q) new ≡ sum_over (of_number q) old) → (q : ℕ) → total_over (of_number q) (set seats id new) ≡ total_over (of_number q) seats
+counts_same seats id old new at same q =
+    let t = total_set (of_number q) seats id old new at in
+    let e = same q in omega (arith, t, e)

@@ -1,0 +1,58 @@
+-- The rule as seats are parted and joined.
+use Rattle.std.proofs.Common.{◌≡◌, ℕ, zero, suc, ◌+◌, List, [], ◌∷◌, ◌++◌, set, refl, ap, sym, ◌∙◌, arith}
+use lib.ListN.{get_elem?}
+use Rattle.atomic_table.specs.Table.{Joins, Splits}
+use Rattle.frame_word.specs.Totals.{join_of, split_of, sum_over, total_over}
+use Rattle.frame_word.proofs.Totals.{join_totals, total_more, total_set}
+use Rattle.step_rules.specs.State.{Zone}
+use Rattle.boot_words.specs.declared.view.Past.{Past}
+use Rattle.boot_words.specs.Rule.{AllOf}
+use Rattle.boot_words.proofs.Seats.{all_at, all_set}
+use Rattle.boot_words.proofs.Sharing.{all_append}
+use Rattle.run_words.specs.Rule.{AllPasts, BeginsRun, RunRule, run_rule, of_number}
+use Rattle.run_words.specs.Seats.{first_alone, rest_of}
+
+-- the rule reads counts alone, and whether each past fits
+moved : (zone : Zone) (words : List ℕ) (seats later : List (List Past)) → ((q : ℕ) → total_over (of_number q) later ≡ total_over (of_number q) seats)
+    → (k : RunRule zone words seats) → AllPasts (BeginsRun zone k.run) later → RunRule zone words later
+moved zone words seats later same k fits = record {
+  run = k.run;
+  is = k.is;
+  wide = k.wide;
+  small = k.small;
+  one_past = λ number. same number ∙ k.one_past number;
+  fits = fits;
+}
+
+-- a seat's pasts are dealt out to it and to a new seat
+pub split_allowed : {S : Type 0} (zone : Zone) (id : ℕ) (pasts left right : List Past) → ((f : Past → ℕ) → sum_over f left + sum_over f right ≡ sum_over f pasts)
+    → ((P : Past → Type 0) → AllOf P pasts → AllOf P left × AllOf P right) → Splits {S = S} (run_rule zone) id pasts left right
+split_allowed zone id pasts left right sums parts s k at =
+    let P : List Past → Type 0 = AllOf (BeginsRun zone k.run) in
+    let dealt = parts (BeginsRun zone k.run) (all_at P s.views id pasts at k.fits) in
+    moved zone s.words s.views (split_of s.views id left right)
+    (λ q. omega (arith, total_more (of_number q) (set s.views id left) right, total_set (of_number q) s.views id pasts left at, sums (of_number q))) k
+    (all_append P (set s.views id left) (right ∷ []) (all_set P s.views id left dealt.0 k.fits) (dealt.1, tt))
+
+pub nothing_allowed : {S : Type 0} (zone : Zone) (id : ℕ) (pasts : List Past) → Splits {S = S} (run_rule zone) id pasts pasts []
+nothing_allowed zone id pasts = split_allowed zone id pasts pasts [] (λ f. omega arith) (λ P all. (all, tt))
+
+pub others_allowed : {S : Type 0} (zone : Zone) (id : ℕ) (pasts : List Past) → Splits {S = S} (run_rule zone) id pasts (first_alone pasts) (rest_of pasts)
+others_allowed zone id [] = split_allowed zone id [] [] [] (λ f. refl) (λ P all. (tt, tt))
+others_allowed zone id (p ∷ ps) = split_allowed zone id (p ∷ ps) (p ∷ []) ps (λ f. omega arith) (λ P all. ((all.0, tt), all.1))
+
+at_other : {A : Type 0} (xs : List A) (i j : ℕ) (y : A) → ¬ (j ≡ i) → get_elem? (set xs i y) j ≡ get_elem? xs j
+at_other [] i j y ne = refl
+at_other (x ∷ xs) zero zero y ne = absurd (ne refl)
+at_other (x ∷ xs) zero (suc j) y ne = refl
+at_other (x ∷ xs) (suc i) zero y ne = refl
+at_other (x ∷ xs) (suc i) (suc j) y ne = at_other xs i j y (λ e. ne (ap suc e))
+
+-- a seat takes in another's pasts, and the other has none then
+pub join_allowed : {S : Type 0} (zone : Zone) (id other : ℕ) (pasts taken : List Past) → Joins {S = S} (run_rule zone) id pasts other taken (pasts ++ taken) []
+join_allowed zone id other pasts taken s k at apart there =
+    let P : List Past → Type 0 = AllOf (BeginsRun zone k.run) in
+    let own = all_at P s.views id pasts at k.fits in
+    let others = all_at P s.views other taken (sym (at_other s.views id other (pasts ++ taken) apart) ∙ there) k.fits in
+    moved zone s.words s.views (join_of s.views id pasts other taken) (λ q. join_totals s.views id other pasts taken at there (of_number q)) k
+    (all_set P (set s.views id (pasts ++ taken)) other [] tt (all_set P s.views id (pasts ++ taken) (all_append (BeginsRun zone k.run) pasts taken own others) k.fits))

@@ -1,0 +1,11 @@
+use Rattle.std.proofs.Common.{◌++◌, ◌∙◌, ap, subst}
+use Rattle.boot_words.specs.Seats.{zone_of_boot}
+use Rattle.run_words.specs.Closed.{IsClosedRun, pasts_of_cpus}
+use Rattle.run_words.proofs.Closing.{closed_run}
+use Rattle.run_words.proofs.raw.RunWords.close.Goals as goal
+
+pub returns-clause-end : goal.returns-clause-end
+returns-clause-end c =
+    let pasts = ap (λ s. s.pasts) c.gather.ensures in
+    subst (IsClosedRun (zone_of_boot c.args.self) _) pasts
+    (closed_run _ c.args.self _ _ c.args.cpus.items _ c.end.ensures.end c.requires.cpus.0 (pasts ∙ ap (λ l. l ++ pasts_of_cpus c.args.cpus.items) c.requires.zone.alone) c.requires.cpus.1)

@@ -1,0 +1,11 @@
+use Rattle.boot_words.specs.Seats.{zone_of_boot}
+use Rattle.boot_words.specs.Pasts.{own_past}
+use Rattle.run_words.specs.Seats.{frame_of_word}
+use Rattle.run_words.proofs.Referring.{Adds, Sees}
+use Rattle.run_words.proofs.raw.RunWords.get_since.Given as goal
+
+abbrev pub ghosts-load : goal.ghosts-load
+ghosts-load g a = record { told = Sees (zone_of_boot a.self.now) (own_past a.seat.now) (frame_of_word a.word) }
+
+abbrev pub ghosts-exchange : goal.ghosts-exchange
+ghosts-exchange g a = record { told = Adds (zone_of_boot a.self.now) g.before (frame_of_word a.word) a.old }

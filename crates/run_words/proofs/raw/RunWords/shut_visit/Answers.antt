@@ -1,0 +1,14 @@
+use Rattle.step_rules.specs.declared.step.Action.TheVariants.{ShutVisit}
+use Rattle.step_rules.specs.declared.step.Answer.TheVariants.{Done}
+use Rattle.run_words.proofs.HandOver.{holder_of_held, shuts}
+use Rattle.run_words.proofs.UnderLock.{held_made}
+use Rattle.run_words.proofs.raw.RunWords.shut_visit.Goals as goal
+
+pub store-requires-clause-place : goal.store-requires-clause-place
+store-requires-clause-place c = holder_of_held c.args.self.now c.args.held.now c.args.cpu c.requires.held c.requires.holder
+
+pub store-requires-clause-may : goal.store-requires-clause-may
+store-requires-clause-may c = shuts c.args.self.now c.args.held.now c.args.cpu c.requires.held c.requires.legal
+
+pub returns : goal.returns
+returns c = held_made c.args.self.now c.args.held.now (record { seat = 0; action = ShutVisit c.args.cpu }) Done c.store.new.seat c.requires.held c.store.ensures.table c.store.ensures.told

@@ -1,0 +1,44 @@
+//! Steps that no word is of.
+ghost use Rattle.std.specs.Prelude.{◌≡◌};
+ghost use Rattle.step_rules.specs.Laws.{IsLocalStep};
+ghost use Rattle.boot_words.specs.Pasts.{cpu_past, local_by_pasts, IsHeld, MakesStep};
+ghost use Rattle.boot_words.specs.Seats.{zone_of_boot};
+ghost use Rattle.boot_words.specs.Steps.{IsPlain};
+ghost use Rattle.run_words.specs.declared.word.Word.TheVariants.{Quiet};
+ghost use Rattle.run_words.specs.Seats.{MayChange};
+
+use crate::raw::{PastSeat, RunWords, Telling};
+use crate::word::Word;
+use std::marker::Brand;
+use step_rules::step::{Action, Answer};
+
+impl RunWords {
+    // The load of a plain step, which the word doesn't say.
+    #[inline(always)]
+    fn note_as<M: Telling>(
+        &self,
+        held: &mut PastSeat,
+        _seat: u32,
+        _action: &Action,
+        _answer: &Answer,
+    ) -> u64
+        requires table { held.old.table ≡ self.now.table }
+        requires may { MayChange (zone_of_boot self.now) held.old.pasts Quiet (λ n. n) M.told }
+        ensures table { held.new.table ≡ held.old.table }
+        ensures told { M.told result held.new.pasts }
+    {
+        self.load::<M>(held, Word::Quiet)
+    }
+
+    /// A seat's step that no word is of, legal in what the lock's holder sees, with this answer.
+    #[inline(always)]
+    pub fn note(&self, held: &mut PastSeat, seat: u32, action: &Action, answer: &Answer)
+        requires held { IsHeld self.now held.old }
+        requires plain { IsPlain action.now }
+        requires step { IsLocalStep (local_by_pasts self.now held.old) (cpu_past held.old).number seat action.now
+            answer.now }
+        ensures run { MakesStep self.now held.old seat action.now answer.now held.new }
+    {
+        self.note_as::<Brand>(held, seat, action, answer);
+    }
+}

@@ -1,0 +1,307 @@
+//! The table and its seats. All atomic steps are made here, and each tells what its caller asks by `Telling`. What a
+//! caller can ask is what the rule allows of the step (`MayChange`).
+ghost use Rattle.std.specs.Prelude.{◌≡◌, ◌≤◌, ◌+◌, ◌-◌, ◌%◌, ◌^◌, ◌<◌, ◌==◌, ◌++◌, [], IfOk, MatchOption};
+ghost use Rattle.std.specs.Mem.Slots.{slots_items, slots_len, IsFull};
+ghost use prog.Atomic.{either};
+ghost use Rattle.boot_words.specs.Seating.{word_count};
+ghost use Rattle.boot_words.specs.Seats.{zone_of_boot};
+ghost use Rattle.run_words.specs.Closed.{IsEndOfRun};
+ghost use Rattle.run_words.specs.Rule.{run_rule};
+ghost use Rattle.run_words.specs.Seats.{all_pasts, first_alone, word_place, rest_of, IsInTable, MayChange};
+
+use crate::word::Word;
+use atomic_table::{Closed, Join, Play, Seat, Split, Table, TableRule};
+use boot_words::Past;
+use frame_word::Frame;
+use std::alloc::{AllocError, Global};
+use std::collections::LinkedList;
+use std::marker::{Brand, Model, PhantomData};
+use std::mem;
+
+/// What a seat knows: its own past. The zone's seat has that of the lock's holder too. None if the seat is empty.
+pub(crate) type Pasts = LinkedList<Past>;
+
+/// How many frames and CPUs a table has. It is fixed when the table is made.
+#[derive(Clone, Copy)]
+pub struct Sizes {
+    pub frames: u32,
+    pub cpus: u32,
+}
+
+/// The rule of the table, between any two steps.
+pub struct OneRun;
+
+impl TableRule<(), Pasts, Sizes> for OneRun {
+    ghost holds = { λ key. run_rule (record { frames = key.frames; cpus = key.cpus }) };
+
+    ghost first = { λ key. all_pasts key.cpus };
+}
+
+/// What a step tells its caller of the word found and of the seat's pasts afterwards. Each call picks it.
+pub trait Telling {
+    ghost use Rattle.std.specs.Prelude.{ℕ, List};
+    ghost use Rattle.boot_words.specs.declared.view.Past.{Past};
+
+    ghost told: { ℕ → List Past → Type 0 };
+}
+
+impl Telling for Brand {
+    ghost told = { λ found pasts. Unit {0} };
+}
+
+pub(crate) struct Tells<M: Telling> {
+    of: PhantomData<M>,
+}
+
+impl<M: Telling> Play<(), Pasts> for Tells<M> {
+    ghost then = { λ step before found later. (later.1 ≡ []) × M.told found later.0 };
+}
+
+// The first past stays, the others go to a seat of their own.
+struct Others;
+
+impl Split<Pasts> for Others {
+    ghost left = { first_alone };
+
+    ghost right = { rest_of };
+}
+
+// An empty seat beside a seat that keeps its pasts.
+struct Nothing;
+
+impl Split<Pasts> for Nothing {
+    ghost left = { λ pasts. pasts };
+
+    ghost right = { λ pasts. [] };
+}
+
+// One seat gets both seats' pasts, and the other is empty.
+struct Both;
+
+impl Join<Pasts> for Both {
+    ghost both = { λ pasts taken. pasts ++ taken };
+
+    ghost spent = { [] };
+}
+
+/// All words of a boot: the frames', the visits' and the stocks'. A contract sees which table it is and how many frames
+/// and CPUs it has. Threads share it by `&`; no call waits.
+#[derive(Drop)]
+pub struct RunWords {
+    table: Table<(), Pasts, Sizes, OneRun, Global>,
+    frames: u32,
+    cpus: u32,
+}
+
+impl Model for RunWords {
+    ghost use Rattle.frame_word.specs.Seats.{KnownTable};
+
+    ghost Value = { KnownTable };
+
+    ghost use Rattle.boot_words.specs.Seats.{HasBootLayout};
+
+    ghost view = { λ w. record { table = w.table.shared.table_id; frames = w.frames; cpus = w.cpus } };
+
+    ghost invariant = { λ w. HasBootLayout w.table.shared.table_id w.table.shared.key.frames w.table.shared.key.cpus
+        w.frames w.cpus };
+}
+
+/// What a seat knows of the run: its own past. While a CPU holds the lock, the zone's seat has the CPU's past too.
+#[derive(Drop)]
+pub struct PastSeat {
+    seat: Seat<(), Pasts>,
+}
+
+impl Model for PastSeat {
+    ghost use Rattle.std.specs.Prelude.{◌≡◌, []};
+    ghost use Rattle.boot_words.specs.Pasts.{KnownPasts};
+
+    ghost Value = { KnownPasts };
+
+    ghost view = { λ s. record { table = s.seat.table_id; pasts = s.seat.me.0 } };
+
+    ghost invariant = { λ s. s.seat.me.1 ≡ [] };
+}
+
+impl RunWords {
+    /// How many frames the zone has: at least one.
+    pub fn frames(&self) -> u32
+        ensures { (result ≡ self.now.frames) × (1 ≤ self.now.frames) }
+    {
+        self.frames
+    }
+
+    /// The number of CPUs, 1 to 64.
+    pub fn cpus(&self) -> u32
+        ensures cpus { result ≡ self.now.cpus }
+        ensures few { (1 ≤ result) × (result ≤ 64) }
+    {
+        self.cpus
+    }
+
+    /// The frame of this number, or `None` if the zone has none.
+    pub fn frame(&self, number: u32) -> Option<Frame>
+        ensures { MatchOption result (self.now.frames ≤ number) (λ f. (f ≡ number) × (f < self.now.frames)) }
+    {
+        if number < self.frames {
+            Some(Frame::new(number))
+        } else {
+            None
+        }
+    }
+
+    // The place of a word in the table. A CPU's row has sixteen words, so that no two CPUs' share a cache line.
+    #[inline(always)]
+    fn index(&self, word: Word) -> usize
+        requires { IsInTable (zone_of_boot self.now) word }
+        ensures { result ≡ word_place (zone_of_boot self.now) word }
+    {
+        let base = 16 * (self.cpus as usize + 1);
+        match word {
+            Word::Quiet => 0,
+            Word::StockOf(cpu) => 16 * cpu as usize,
+            Word::OfFrame(frame) => base + frame.number() as usize,
+            Word::VisitOf(cpu) => base + (self.frames as usize + (cpu as usize - 1)),
+        }
+    }
+
+    /// Reads a word.
+    #[inline(always)]
+    pub(crate) fn load<M: Telling>(&self, seat: &mut PastSeat, word: Word) -> u64
+        requires table { seat.old.table ≡ self.now.table }
+        requires place { IsInTable (zone_of_boot self.now) word }
+        requires may { MayChange (zone_of_boot self.now) seat.old.pasts word (λ n. n) M.told }
+        ensures table { seat.new.table ≡ seat.old.table }
+        ensures told { M.told result seat.new.pasts }
+    {
+        let at = self.index(word);
+        self.table.shared.load::<Tells<M>>(&mut seat.seat, at)
+    }
+
+    /// Stores a word.
+    #[inline(always)]
+    pub(crate) fn store<M: Telling>(&self, seat: &mut PastSeat, word: Word, new: u64)
+        requires table { seat.old.table ≡ self.now.table }
+        requires place { IsInTable (zone_of_boot self.now) word }
+        requires may { MayChange (zone_of_boot self.now) seat.old.pasts word (λ n. new) (λ found. M.told new) }
+        ensures table { seat.new.table ≡ seat.old.table }
+        ensures told { M.told new seat.new.pasts }
+    {
+        let at = self.index(word);
+        self.table.shared.store::<Tells<M>>(&mut seat.seat, at, new);
+    }
+
+    /// Stores a word and returns what it was.
+    #[inline(always)]
+    pub(crate) fn swap<M: Telling>(&self, seat: &mut PastSeat, word: Word, new: u64) -> u64
+        requires table { seat.old.table ≡ self.now.table }
+        requires place { IsInTable (zone_of_boot self.now) word }
+        requires may { MayChange (zone_of_boot self.now) seat.old.pasts word (λ n. new) M.told }
+        ensures table { seat.new.table ≡ seat.old.table }
+        ensures told { M.told result seat.new.pasts }
+    {
+        let at = self.index(word);
+        self.table.shared.swap::<Tells<M>>(&mut seat.seat, at, new)
+    }
+
+    /// Stores `new` if the word is `old`, and returns what it was.
+    #[inline(always)]
+    pub(crate) fn exchange<M: Telling>(
+        &self,
+        seat: &mut PastSeat,
+        word: Word,
+        old: u64,
+        new: u64,
+    ) -> u64
+        requires table { seat.old.table ≡ self.now.table }
+        requires place { IsInTable (zone_of_boot self.now) word }
+        requires may { MayChange (zone_of_boot self.now) seat.old.pasts word (λ n. either (n == old) new n) M.told }
+        ensures table { seat.new.table ≡ seat.old.table }
+        ensures told { M.told result seat.new.pasts }
+    {
+        let at = self.index(word);
+        self.table
+            .shared
+            .compare_exchange::<Tells<M>>(&mut seat.seat, at, old, new)
+    }
+
+    /// Takes one off a word and returns what it was.
+    #[inline(always)]
+    pub(crate) fn take_one<M: Telling>(&self, seat: &mut PastSeat, word: Word) -> u64
+        requires table { seat.old.table ≡ self.now.table }
+        requires place { IsInTable (zone_of_boot self.now) word }
+        requires may { MayChange (zone_of_boot self.now) seat.old.pasts word (λ n. (n + (2 ^ 64 - 1)) % 2 ^ 64) M.told }
+        ensures table { seat.new.table ≡ seat.old.table }
+        ensures told { M.told result seat.new.pasts }
+    {
+        let at = self.index(word);
+        self.table
+            .shared
+            .fetch_sub::<Tells<M>>(&mut seat.seat, at, 1)
+    }
+
+    /// The seat takes in all pasts of the other, which is empty then.
+    #[inline(always)]
+    pub(crate) fn join(&self, seat: &mut PastSeat, other: &mut PastSeat)
+        requires tables { (seat.old.table ≡ self.now.table) × (other.old.table ≡ self.now.table) }
+        ensures seat { seat.new ≡ record { table = self.now.table; pasts = seat.old.pasts ++ other.old.pasts } }
+        ensures other { other.new ≡ record { table = self.now.table; pasts = [] } }
+    {
+        let empty = PastSeat {
+            seat: self.table.shared.split_seat::<Nothing>(&mut seat.seat),
+        };
+        let PastSeat { seat: taken } = mem::replace(other, empty);
+        self.table.shared.join_seat::<Both>(&mut seat.seat, taken);
+    }
+
+    /// The seat's first past stays, and the others are in a seat of their own.
+    #[inline(always)]
+    pub(crate) fn split_others(&self, seat: &mut PastSeat) -> PastSeat
+        requires table { seat.old.table ≡ self.now.table }
+        ensures seat { seat.new ≡ record { table = self.now.table; pasts = first_alone seat.old.pasts } }
+        ensures others { result ≡ record { table = self.now.table; pasts = rest_of seat.old.pasts } }
+    {
+        PastSeat {
+            seat: self.table.shared.split_seat::<Others>(&mut seat.seat),
+        }
+    }
+
+    /// A table of zeros, and one seat that has all pasts.
+    pub(crate) fn start(
+        alloc: Global,
+        frames: u32,
+        cpus: u32,
+    ) -> Result<(RunWords, PastSeat), AllocError>
+        requires frames { 1 ≤ frames }
+        requires cpus { (1 ≤ cpus) × (cpus ≤ 64) }
+        ensures sizes { IfOk result (λ r. (r.0.frames ≡ frames) × (r.0.cpus ≡ cpus)) }
+        ensures all { IfOk result (λ r. r.1 ≡ record { table = r.0.table; pasts = all_pasts cpus }) }
+    {
+        let rows = 16 * (cpus as usize + 1);
+        let words = vec![in alloc; 0u64; rows + (frames as usize + cpus as usize)]?;
+        let sizes = Sizes { frames, cpus };
+        let (table, seat) = Table::of_words(alloc, words.as_slice(), &sizes)?;
+        let words = RunWords {
+            table,
+            frames,
+            cpus,
+        };
+        Ok((words, PastSeat { seat }))
+    }
+
+    /// Ends the table, of which `seat` is one seat.
+    pub(crate) fn end(self, seat: PastSeat) -> Closed<(), Global>
+        requires { seat.table ≡ self.table }
+        ensures counts { (slots_len result.words ≡ word_count (zone_of_boot self)) × (slots_len result.slots ≡ 0) }
+        ensures full { IsFull result.words }
+        ensures end { IsEndOfRun (zone_of_boot self) (slots_items result.words) seat.pasts }
+    {
+        let RunWords {
+            table,
+            frames: _,
+            cpus: _,
+        } = self;
+        let PastSeat { seat } = seat;
+        table.close_with(seat)
+    }
+}
