@@ -1,5 +1,5 @@
 -- The condition found is the first of the step's that isn't met.
-use Rattle.std.proofs.Common.{◌≡◌, ◌∙◌, ◌<◌, List, None, Option, Some, ap, arith, get_or, length, subst, sym, true, false}
+use Rattle.std.proofs.Common.{◌≡◌, ◌∙◌, ◌<◌, List, None, Option, Some, arith, get_or, length, subst, sym, true}
 use Rattle.std.proofs.lemmas.Bool.{false≢true}
 use Rattle.std.proofs.lemmas.List.{get_or_default}
 use Rattle.mem_core.specs.Rows.{state_in}
