@@ -136,5 +136,6 @@ stock_view_shown zone p = record {
 abbrev pub frame_views_shown : Zone → List (List Past) → List (List FrameView)
 frame_views_shown zone seats = map (λ pasts. map (frame_view_shown zone) pasts) seats
 
+-- the same of the stocks
 abbrev pub stock_views_shown : Zone → List (List Past) → List (List StockView)
 stock_views_shown zone seats = map (λ pasts. map (stock_view_shown zone) pasts) seats
