@@ -128,7 +128,7 @@ lives_are_legal_runs sizes count report life =
     let has : HasRun steps ended.live.state = subst (λ (b : LiveBoot). HasRun steps b.live.state) same (g.goes_on [] life.boots.first.so_far) in
     let last = whole_run ended.frames ended.stocks steps ended.live.state (ended_of report) has life.ends.ends in
     subst (λ (t : KnownTable). IsRunOf (zone_of_boot t) (last_words life.ends.ends.closes) whole × AlwaysKeepsPromise (zone_of_boot t) whole)
-    (ap (λ (b : LiveBoot). b.frames) (sym same) ∙ g.frames) (last, always_keeps (zone_of_boot ended.frames) whole last.legal)
+    (ap (λ (b : LiveBoot). b.frames) (sym same) ∙ g.frames) (last.leads, last.promise)
 
 pub typed_calls_are_calls : TypedCallsAreCalls
 typed_calls_are_calls cpu asked before after status out old new calls =
