@@ -1,4 +1,4 @@
--- The rule holds at the start of the table.
+-- A table of zeros, with the pasts of all in one seat, keeps the rule by the empty run.
 use Rattle.std.proofs.Common.{◌≡◌, ◌≢◌, ℕ, zero, suc, ◌+◌, ◌*◌, ◌-◌, ◌<◌, ◌≤◌, List, [], ◌∷◌, drop, length, replicate, take, refl, ap, sym, ◌∙◌, subst, arith, inl, inr}
 use Rattle.std.specs.Prelude.{nat_le, slice_index}
 use Rattle.std.proofs.lemmas.List.{drop-replicate, length-replicate, take-replicate}

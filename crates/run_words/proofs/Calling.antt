@@ -1,4 +1,4 @@
--- What the calls of a CPU ask and tell, by what contracts see of its seat.
+-- From the steps of get and put to the contracts of the calls.
 use Rattle.std.proofs.Common.{◌≡◌, ◌≢◌, ℕ, ◌+◌, ◌-◌, ◌%◌, ◌^◌, ◌<◌, ◌≤◌, ◌==◌, ◌&&◌, Bool, true, false, cond, List, [], ◌∷◌, refl, ap, sym, ◌∙◌, subst, arith, inl, inr}
 use Rattle.std.specs.Prelude.{◌⊎◌, nat_le}
 use Rattle.std.proofs.lemmas.Bool.{cases_Bool, cond-false, leb-true, ne_eqb}
@@ -30,7 +30,7 @@ use Rattle.run_words.proofs.Referring.{Adds, Puts, SawWord, Sees, full_not_held,
 pub not_zone : (t : KnownTable) (s : KnownPasts) → IsCpuPast t s → (own_past s).number ≢ 0
 not_zone t s is none = let low = is.low in absurd (omega (arith, low, none))
 
--- the frame is one of the table
+-- a legal step is of a frame of the table
 pub frame_of_get : (t : KnownTable) (s : KnownPasts) (f : ℕ) → MayDo t s (Get f) → f < t.frames
 frame_of_get t s f legal =
     let zone = zone_of_boot t in
@@ -61,7 +61,7 @@ puts t s f is legal =
     subst (λ (l : List Past). MayChange zone l (OfFrame f) (λ n. (n + (2 ^ 64 - 1)) % 2 ^ 64) (Puts zone (own_past s) f)) (sym is.alone)
     (may_put zone (own_past s) f (not_zone t s is) legal)
 
--- the CPU's seat after a step
+-- the call was a step
 pub made : (t : KnownTable) (s : KnownPasts) (action : Action) (answer : Answer) (s' : KnownPasts) → IsCpuPast t s → s'.table ≡ s.table
     → Made (zone_of_boot t) (own_past s) action answer s'.pasts → CpuMakes t s action answer s'
 made t s action answer s' is table m =
@@ -78,7 +78,7 @@ made t s action answer s' is table m =
       grew = subst (λ (q : Past). GrewBy p (record { seat = p.number; action = action }) answer q) (sym past) m.grew;
     }
 
--- the CPU's seat after no step
+-- the call was none, and the seat is what it was
 pub same : (t : KnownTable) (s s' : KnownPasts) → IsCpuPast t s → s'.table ≡ s.table → s'.pasts ≡ own_past s ∷ [] → s' ≡ s
 same t s s' is table later i = record { table = table i; pasts = (later ∙ sym is.alone) i }
 
@@ -118,7 +118,7 @@ pub answers_full : (t : KnownTable) (s : KnownPasts) (f found : ℕ) (s' : Known
     → found ≡ 255 → Sees (zone_of_boot t) (own_past s) f found s'.pasts → CpuMakes t s (Get f) Full s'
 answers_full t s f found s' is table e told = refuses t s f found Full s' is table (ap get_answer e) full_not_held told
 
--- after the load of a get that goes on, the seat saw the word
+-- a load that finds 1 to 254 decides nothing: the seat has seen the word
 pub goes_on : (t : KnownTable) (s : KnownPasts) (f found : ℕ) (later : List Past) → ((found ≡ 0) → ⊥) → found ≤ 255 → ((found ≡ 255) → ⊥)
     → Sees (zone_of_boot t) (own_past s) f found later → SawWord (zone_of_boot t) (own_past s) f found later
 goes_on t s f found later some high room told = told.goes_on (held_answer found (omega (arith, some)) (omega (arith, high, room)))

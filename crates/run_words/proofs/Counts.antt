@@ -1,4 +1,4 @@
--- The reference rule and the stock rule follow from the run.
+-- A seat's references are its own, and a get of a frame that the seat has is never answered Zero.
 use Rattle.std.proofs.Common.{◌≡◌, ◌≢◌, ℕ, zero, suc, ◌≤◌, ◌&&◌, true, false, [], ◌∷◌, ◌++◌, length, refl, ap, sym, ◌∙◌, subst, arith, inl, inr}
 use Rattle.std.specs.Prelude.{not}
 use Rattle.std.specs.List.{fold}
@@ -58,14 +58,14 @@ zone_own zone seen run legal goes =
     ap (λ r. (state_of zone r).references 0) goes.is ∙ ap (λ (t : State). t.references 0) (fold_on (at_boot zone) seen goes.rest)
     ∙ zone_rest (state_of zone seen) goes.rest (legal_behind (at_boot zone) seen goes.rest (subst (IsLegalRun zone) goes.is legal)) goes.others
 
--- a seat's references are those that its own past left
+-- others' steps leave the references that a seat's past left it
 pub references_are_own : (zone : Zone) (seen run : Run) (seat : ℕ) → IsLegalRun zone run → OthersFollow seat seen run
     → (state_of zone run).references seat ≡ (state_of zone seen).references seat
 references_are_own zone seen run seat legal goes = dite (ℕ_discrete seat 0)
     (λ e. subst (λ (k : ℕ). OthersFollow k seen run → (state_of zone run).references k ≡ (state_of zone seen).references k) (sym e) (zone_own zone seen run legal) goes)
     (λ ne. (lists_are_own zone seen run seat ne goes).references)
 
--- ---- a get answered Zero
+-- ---- a get that is answered Zero
 full_word : (n : ℕ) → n ≡ 255 → Zero ≡ get_answer n → ⊥
 full_word n e z = let a : Zero ≡ Full = z ∙ ap get_answer e in cc
 

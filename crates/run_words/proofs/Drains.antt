@@ -1,4 +1,4 @@
--- A put, a drain and a lend under the lock.
+-- A put and a drain under the lock: their words say who has what.
 use Rattle.std.proofs.Common.{◌≡◌, ◌≢◌, ℕ, ◌+◌, ◌-◌, ◌*◌, ◌%◌, ◌^◌, ◌<◌, ◌≤◌, Bool, true, false, Option, Some, None, List, [], ◌∷◌, set, refl, ap, sym, ◌∙◌, subst, arith, inl}
 use Rattle.std.specs.Prelude.{◌⊎◌, slice_index}
 use Rattle.std.proofs.lemmas.List.{set-get_or}
@@ -91,7 +91,7 @@ some_word NoGroup g e none = absurd (let a : None ≡ Some g = e in cc)
 some_word (HeldBy k n) g e none = let a : (k + 1) * 65536 + n ≡ 0 = none in absurd (omega arith)
 some_word (DrainedOf k) g e none = let a : 4294967296 + (k + 1) * 65536 ≡ 0 = none in absurd (omega arith)
 
--- the CPU's stock word is that of a stock of the group that the holder sees
+-- the stock that the word says, of the group that the holder sees
 pub record StockFound (zone : Zone) (c : Past) (cpu found : ℕ) : Type 0 where
   pub stock : Stock
   pub fits : HasWord stock
@@ -112,13 +112,13 @@ stock_found zone b k id z c cpu at holds low high =
           ∙ sym (ap (λ (l : State). (l.parts cpu).stock.group) shows.sees);
     }
 
--- the load of a drain: a stock of no group is drained by it
+-- the load drains a stock of no group
 pub record LooksToDrain (zone : Zone) (z c : Past) (cpu found : ℕ) (later : List Past) : Type 0 where
   pub is : StockFound zone c cpu found
   pub none : found ≡ 0 → MadeHeld zone z c (record { seat = 0; action = DrainStock cpu }) (Pages 0) later
   pub looked : found ≢ 0 → later ≡ z ∷ c ∷ []
 
--- the swap of a drain
+-- the swap drains a stock of a group
 pub record Drains (zone : Zone) (z c : Past) (cpu found : ℕ) (later : List Past) : Type 0 where
   pub stock : Stock
   pub fits : HasWord stock
@@ -173,7 +173,7 @@ group_few NoGroup g h e = absurd (let a : None ≡ Some g = e in cc)
 group_few (HeldBy k n) g h e = let a : Some k ≡ Some g = e in let b : k ≡ g = cc in subst (λ x. x < 64) b h.0
 group_few (DrainedOf k) g h e = let a : Some k ≡ Some g = e in let b : k ≡ g = cc in subst (λ x. x < 64) b h
 
--- the seat knows what it knew before the load, if the stock has a group
+-- a load that found a group is no step, and the seat is what it was
 pub looked_on : (t : KnownTable) (s : KnownPasts) (cpu found : ℕ) (s' : KnownPasts) (read : Stock) (g : ℕ) → IsHeld t s → s'.table ≡ s.table
     → (told : LooksToDrain (zone_of_boot t) (own_past s) (cpu_past s) cpu found s'.pasts) → ((stock : Stock) → HasWord stock → found ≡ word_of stock → read ≡ stock) → group_of read ≡ Some g
     → (s' ≡ s) × (((local_by_pasts t s).parts cpu).stock.group ≡ Some g) × (g < 64)

@@ -27,7 +27,7 @@ use Rattle.run_words.specs.Rule.{BeginsRun, of_number, run_rule}
 use Rattle.run_words.proofs.Booking.{IsNoFill, small_step}
 use Rattle.run_words.proofs.Growing.{notes_alone, notes_nothing}
 
--- the CPU's past after its step
+-- the seat's only past has grown by the step
 pub record Made (zone : Zone) (p : Past) (action : Action) (answer : Answer) (later : List Past) : Type 0 where
   pub past : Past
   pub later_is : later ≡ past ∷ []
@@ -46,7 +46,7 @@ fast_no_fill (Consume g) fast = tt
 fast_no_fill (Credit f) fast = tt
 fast_no_fill action fast = absurd fast
 
--- what the rule knows of a seat that has one past
+-- by the rule the seat's only past is a beginning of the run
 pub past_begins : (zone : Zone) (s : Board (Unit {0}) (List Past)) (k : run_rule zone s) (id : ℕ) (p : Past) → get_elem? s.views id ≡ some (p ∷ []) → BeginsRun zone k.run p
 past_begins zone s k id p at = (all_at (AllOf (BeginsRun zone k.run)) s.views id (p ∷ []) at k.fits).0
 
@@ -55,7 +55,7 @@ pub legal_still : (zone : Zone) (s : Board (Unit {0}) (List Past)) (k : run_rule
 legal_still zone s k id p action at ne fast legal =
     fast_legality_lasts zone p.seen k.run p.number action ne k.is.legal (past_begins zone s k id p at).goes fast ∙ legal
 
--- the CPU's past after its step is the run, whose words are these
+-- now the past is the whole run, and the table's words are its words
 pub record MadeOn (zone : Zone) (words : List ℕ) (run : Run) (p : Past) (action : Action) (answer : Answer) (later : List Past) : Type 0 where
   pub made : Made zone p action answer later
   pub now : IsRunOf zone (words_in zone words) made.past.seen

@@ -1,19 +1,15 @@
 -- A CPU that saw no group last has no fresh frame.
-use Rattle.std.proofs.Common.{◌≡◌, ℕ, ◌+◌, ◌≤◌, ◌==◌, Bool, true, false, Some, None, List, [], ◌∷◌, refl, ap, sym, ◌∙◌, subst, arith, inl, inr, eq-eqb}
+use Rattle.std.proofs.Common.{◌≡◌, ℕ, ◌≤◌, Bool, true, false, None, List, [], ◌∷◌, refl, ap, sym, ◌∙◌, subst, arith, inl, inr, eq-eqb}
 use Rattle.frame_word.specs.Seats.{KnownTable}
 use Rattle.stock_word.specs.declared.view.Stock.TheVariants.{NoGroup}
 use Rattle.stock_word.specs.Stock.{drained_of, group_of}
-use Rattle.step_rules.specs.declared.phase.Stage.TheVariants.{FreshAt}
-use Rattle.step_rules.specs.declared.phase.Phase.TheVariants.{Head}
 use Rattle.step_rules.specs.declared.step.Action.TheVariants.{Credit}
 use Rattle.step_rules.specs.Invariant.{PhasePaid, groups_in}
 use Rattle.step_rules.specs.Phases.{FreshFrame, has_as}
 use Rattle.step_rules.specs.State.{State, one_if, times}
-use Rattle.step_rules.specs.After.{state_of}
 use Rattle.step_rules.proofs.LegalTests.{credit_tests}
 use Rattle.step_rules.proofs.PhaseLemmas.{fresh_is, none_some}
 use Rattle.step_rules.proofs.Runs.{sound_run}
-use Rattle.boot_words.specs.Words.{stock_in}
 use Rattle.boot_words.specs.Pasts.{MayDo, own_past}
 use Rattle.boot_words.specs.Seats.{zone_of_boot}
 use Rattle.run_words.specs.Cpus.{IsAwayCpu, KnownCpuSeat, state_left}

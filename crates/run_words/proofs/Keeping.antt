@@ -1,4 +1,4 @@
--- What a CPU knows of its stock after a get or a put.
+-- Gets and puts leave a CPU's stock alone, and what the CPU knows of it.
 use Rattle.std.proofs.Common.{◌≡◌, ℕ, ◌==◌, Bool, true, false, cond, [], ◌∷◌, ◌++◌, length, refl, ap, sym, ◌∙◌, subst}
 use Rattle.frame_word.specs.Seats.{KnownTable}
 use Rattle.step_rules.specs.declared.step.Action.{Action}
@@ -36,7 +36,7 @@ same_put s q f Last = by_seat (q == 0)
     by_seat false = ap (λ x. x.stock) (at_same s.parts q (with_back (s.parts q) f))
 same_put s q f answer = refl
 
--- a step that leaves the CPU's stock and its hold of the lock leaves what the CPU knows of them
+-- a step that changes neither the CPU's stock nor who holds the lock
 pub keeps_cpu : (t : KnownTable) (c : KnownCpuSeat) (action : Action) (answer : Answer) (s' : KnownPasts) → IsAwayCpu t c → IsFast action
     → ((s : State) (q : ℕ) → ((after s q action answer).parts q).stock ≡ (s.parts q).stock)
     → CpuMakes t c.seat action answer s' → IsAwayCpu t (record { seat = s'; number = c.number; last = c.last })
@@ -70,7 +70,7 @@ pub keeps_put : (t : KnownTable) (c : KnownCpuSeat) (f : ℕ) (answer : Answer) 
     → IsAwayCpu t (record { seat = s'; number = c.number; last = c.last })
 keeps_put t c f answer s' is m = keeps_cpu t c (Put f) answer s' is tt (λ s q. same_put s q f answer) m
 
--- after a get, whatever its answer
+-- each answer of a get
 pub keeps_gets : (t : KnownTable) (c : KnownCpuSeat) (f : ℕ) (answer : gets.Get) (s' : KnownPasts) → IsAwayCpu t c → GetsReference t c.seat f answer s'
     → IsAwayCpu t (record { seat = s'; number = c.number; last = c.last })
 keeps_gets t c f said.Held s' is m = keeps_get t c f Held s' is m

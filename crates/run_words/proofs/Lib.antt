@@ -23,7 +23,7 @@ pub mod ReferencesShown
 pub mod StocksShown
 pub mod Drains
 pub mod InTurn
-pub mod HandOver
+pub mod Visiting
 pub mod Looking
 pub mod SeenSame
 pub mod Keeping

@@ -1,4 +1,4 @@
--- Lock and Unlock are allowed, by a load of a word that nobody writes.
+-- A load makes the step of Lock, or that of Unlock.
 use Rattle.std.proofs.Common.{◌≡◌, ◌≢◌, ℕ, ◌+◌, ◌≤◌, ◌==◌, ◌&&◌, ◌||◌, Bool, true, false, List, [], ◌∷◌, ◌++◌, length, cond, refl, ap, sym, ◌∙◌, subst, arith, inl, inr, eq-eqb}
 use Rattle.std.specs.Prelude.{slice_index}
 use Rattle.std.specs.Prelude.{not}
@@ -48,7 +48,7 @@ use Rattle.run_words.specs.Rule.{BeginsRun}
 use Rattle.run_words.proofs.Growing.{free_holder, past_of_run}
 use Rattle.run_words.proofs.UnderLock.{fits_both, only_holder, plain_step, shows_end, stands_at}
 
--- a CPU has taken the lock
+-- after the step of Lock
 pub record Takes (zone : Zone) (z c : Past) (found : ℕ) (later : List Past) : Type 0 where
   pub zone_past : Past
   pub cpu_past : Past
@@ -116,7 +116,7 @@ may_lock zone z c zone_is cpu free id s k homes at small =
       ),
     )
 
--- the lock's holder has released it
+-- after the step of Unlock
 pub record Releases (zone : Zone) (z c : Past) (found : ℕ) (later : List Past) : Type 0 where
   pub zone_past : Past
   pub cpu_past : Past
@@ -132,7 +132,7 @@ pub record Releases (zone : Zone) (z c : Past) (found : ℕ) (later : List Past)
   pub away : holds_lock c.number (state_of zone cpu_past.seen).hold ≡ false
   pub left : hide (state_of zone zone_past.seen) ≡ hide (record (local_seen zone c) { hold = Unheld })
 
--- ---- what is hidden of what a CPU sees is what is hidden of all
+-- ---- hiding what a CPU sees from the others hides what is hidden of the whole state
 twice_seen : (part : Part) → other_part_seen (other_part_seen part) ≡ other_part_seen part
 twice_seen part =
     let e : part.stock.pages + length part.fresh + 0 ≡ part.stock.pages + length part.fresh = omega arith in
@@ -205,7 +205,7 @@ may_unlock zone z c holds legal id s k homes at small =
       ),
     )
 
--- ---- by what contracts see of the seats
+-- ---- to the contracts of lock and unlock
 pub locks : (t : KnownTable) (z c s : KnownPasts) → IsZonePast t z → IsCpuPast t c → LeavesFree (zone_of_boot t) (own_past z) → s.pasts ≡ z.pasts ++ c.pasts
     → MayChange (zone_of_boot t) s.pasts Quiet (λ n. n) (Takes (zone_of_boot t) (own_past s) (cpu_past s))
 locks t z c s zone cpu free is =
@@ -256,7 +256,7 @@ unlocked t s z c pasts found is m zone cpu =
       left = m.left;
     }))
 
--- the CPU's seat after it released the lock
+-- the CPU has its past back, and saw its stock
 pub released : (t : KnownTable) (s c : KnownPasts) (pasts : List Past) (found cpu : ℕ) (last : Stock) → IsHeld t s → IsHolder s cpu → Releases (zone_of_boot t) (own_past s) (cpu_past s) found pasts
     → c ≡ record { table = t.table; pasts = rest_of pasts } → ((stock : Stock) → HasWord stock → found ≡ word_of stock → last ≡ stock)
     → IsAwayCpu t (record { seat = c; number = cpu; last = last })

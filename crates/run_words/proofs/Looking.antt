@@ -26,7 +26,7 @@ use Rattle.run_words.specs.declared.word.Word.TheVariants.{OfFrame, StockOf}
 use Rattle.run_words.specs.Looking.{LoadsReferences}
 use Rattle.run_words.specs.Seats.{MayChange}
 use Rattle.run_words.proofs.Fast.{stays}
-use Rattle.run_words.proofs.HandOver.{cpu_of_held, stock_held}
+use Rattle.run_words.proofs.Visiting.{cpu_of_held, stock_held}
 use Rattle.run_words.proofs.Drains.{StockFound, stock_found}
 use Rattle.run_words.proofs.Referring.{word_now}
 use Rattle.run_words.proofs.UnderLock.{fits_both, of_held, shows_end, stands_at}

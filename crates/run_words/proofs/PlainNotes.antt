@@ -1,4 +1,4 @@
--- A step that no word is of.
+-- A load makes any step that changes no word.
 use Rattle.std.proofs.Common.{List, [], ◌∷◌, refl, sym, subst, rules}
 use Rattle.atomic_table.specs.Table.{keeps}
 use Rattle.frame_word.specs.Seats.{KnownTable}

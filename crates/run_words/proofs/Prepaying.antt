@@ -1,4 +1,4 @@
--- What the steps of consume and credit tell.
+-- A CPU's exchange of its stock word is a consume or a credit, or finds it drained.
 use Rattle.std.proofs.Common.{◌≡◌, ◌≢◌, ℕ, suc, eqb, ◌+◌, ◌*◌, ◌<◌, ◌≤◌, ◌==◌, Bool, true, false, Some, None, Option, List, [], ◌∷◌, ◌++◌, length, set, get_or-set_same, refl, ap, sym, ◌∙◌, subst, arith, inl, inr}
 use Rattle.std.specs.Prelude.{slice_index, is_some}
 use Rattle.std.proofs.lemmas.List.{set-get_or}
@@ -61,7 +61,7 @@ same_word s NoGroup h k e = no_word s e
 same_word s (HeldBy g n) h k e = held_word s g n h k.0 k.1 e
 same_word s (DrainedOf g) h k e = drained_word s g h k e
 
--- ---- a drain of a stock that was seen
+-- ---- drains of a stock that the CPU saw
 said_drained : (o : Option ℕ) (n : ℕ) (d : Bool) → stock_said o 0 (is_some o) ≡ drained_of (stock_said o n d)
 said_drained None n d = refl
 said_drained (Some g) n true = refl
@@ -83,14 +83,14 @@ saw_still a b last same saw = elim same.stock [
       ]
 ]
 
--- what the CPU knows behind its step: its stock, and that it doesn't hold the lock
+-- after the step the CPU knows its stock, and is still without the lock
 pub record Knows (zone : Zone) (p : Past) (action : Action) (answer : Answer) (stock : Stock) (later : List Past) : Type 0 where
   pub made : Made zone p action answer later
   pub away : holds_lock p.number (state_of zone made.past.seen).hold ≡ false
   pub stock_is : stock_in ((state_of zone made.past.seen).parts p.number) ≡ stock
   pub fits : HasWord stock
 
--- what the table's state says of the CPU's stock
+-- the CPU's stock in the run's state, by its word
 pub record StockNow (zone : Zone) (words : List ℕ) (run : Run) (cpu : ℕ) (last : Stock) : Type 0 where
   pub away : holds_lock cpu (state_of zone run).hold ≡ false
   pub saw : SawLast (stock_in ((state_of zone run).parts cpu)) last
@@ -114,14 +114,14 @@ stock_now zone s k id p last at low high away saw =
       reads = reads;
     }
 
--- the stock that the step leaves, by its word
+-- the stock after the step, by its word
 stock_left : (zone : Zone) (words : List ℕ) (run : Run) (cpu : ℕ) (stock : Stock) → IsRunOf zone (words_in zone words) run → 1 ≤ cpu → cpu ≤ zone.cpus → HasWord stock
     → stock_word_at (words_in zone words) cpu ≡ word_of stock → stock_in ((state_of zone run).parts cpu) ≡ stock
 stock_left zone words run cpu stock is low high fits found =
     let within : cpu ≤ (state_of zone run).zone.cpus = subst (λ z. cpu ≤ z.cpus) (sym (zone_of_run zone run)) high in
     same_word (stock_in ((state_of zone run).parts cpu)) stock (is.stocks.has_word cpu low within) fits (sym (is.stocks.stock cpu low within) ∙ found)
 
--- ---- the exchange of a stock word: from what was seen last, or it was drained
+-- ---- the exchange finds the stock that was seen last, or a drained one
 pub record TellsPage (zone : Zone) (p : Past) (action : Action) (answer : Answer) (before left drained : Stock) (found : ℕ) (later : List Past) : Type 0 where
   pub took : found ≡ word_of before → Knows zone p action answer left later
   pub gone : found ≢ word_of before → Knows zone p action Drained drained later
@@ -227,7 +227,7 @@ pages_held None n d g m e = absurd (let a : NoGroup ≡ HeldBy g m = e in cc)
 pages_held (Some k) n true g m e = absurd (let a : DrainedOf k ≡ HeldBy g m = e in cc)
 pages_held (Some k) n false g m e = let a : HeldBy k n ≡ HeldBy g m = e in cc
 
--- the page of a fresh frame fits into the stock
+-- a stock of which a page is out has room for it
 page_fits : (s : State) (q f g n : ℕ) → KeepsInvariant s → AreSmall s → is_legal s q (Credit f) ≡ true → stock_in (s.parts q) ≡ HeldBy g n → n + 1 < 65536
 page_fits s q f g n sound small legal is =
     let part = s.parts q in
@@ -247,7 +247,7 @@ may_credit zone p f g n low high legal away saw fits =
     (λ words room found. (g, n, record { before_fits = fits; after_fits = (fits.0, room); found = found; later_is = refl }))
     (λ words found. (g, record { fits = fits.0; found = found; later_is = refl }))
 
--- ---- by what contracts see of the seat
+-- ---- to the contracts of consume and credit
 pub consumes : (t : KnownTable) (c : KnownCpuSeat) (g n m : ℕ) → IsAwayCpu t c → MayDo t c.seat (Consume g) → c.last ≡ HeldBy g n → n ≡ m + 1
     → MayChange (zone_of_boot t) c.seat.pasts (StockOf c.number) (λ x. either (x == word_of (HeldBy g n)) (word_of (HeldBy g m)) x)
     (TellsPage (zone_of_boot t) (own_past c.seat) (Consume g) Took (HeldBy g n) (HeldBy g m) (DrainedOf g))
@@ -274,7 +274,7 @@ credits t c f g n is legal last =
     (may_credit zone p f g n is.past.low is.past.high legal (subst (λ k. holds_lock k (state_of zone p.seen).hold ≡ false) at is.away)
     (subst (λ (y : ℕ × Stock). SawLast (stock_in ((state_of zone p.seen).parts y.0)) y.1) (λ i. (at i, last i)) is.last) (subst HasWord last is.has_word))
 
--- the CPU's seat after the exchange
+-- the exchange was a step of the CPU
 pub exchanged_page : (t : KnownTable) (c : KnownCpuSeat) (action : Action) (answer : Answer) (stock : Stock) (c' : KnownCpuSeat) → IsAwayCpu t c → c'.number ≡ c.number → c'.last ≡ stock
     → c'.seat.table ≡ c.seat.table → Knows (zone_of_boot t) (own_past c.seat) action answer stock c'.seat.pasts → Exchanges t c action answer stock c'
 exchanged_page t c action answer stock c' is number last table k =

@@ -1,4 +1,4 @@
--- What the steps of get and put tell.
+-- The accesses of get and put, and the steps that they make.
 use Rattle.std.proofs.Common.{◌≡◌, ◌≢◌, ℕ, eqb, ◌+◌, ◌-◌, ◌%◌, ◌^◌, ◌<◌, ◌≤◌, ◌==◌, ◌&&◌, Bool, true, false, cond, List, [], ◌∷◌, ◌++◌, append_assoc, set, refl, ap, sym, ◌∙◌, subst, arith, eq-eqb, inl, inr}
 use Rattle.std.specs.Prelude.{slice_index, nat_le}
 use Rattle.std.proofs.lemmas.Bool.{cond-false, cond-true, false≢true, leb-true, ne_eqb}
@@ -42,7 +42,7 @@ use Rattle.run_words.proofs.Booking.{AreSmall}
 use Rattle.run_words.proofs.Fast.{Leaves, Made, legal_still, makes, past_begins, sees_run}
 use Rattle.run_words.proofs.Growing.{none_both}
 
--- a seat that may put a frame has a reference in its word
+-- a legal put finds a word of at least 1
 pub word_positive : (zone : Zone) (words : Words) (run : Run) (seat f : ℕ) → IsRunOf zone words run → is_legal (state_of zone run) seat (Put f) ≡ true → 1 ≤ frame_word_at words f
 word_positive zone words run seat f is legal =
     let s = state_of zone run in
@@ -54,7 +54,7 @@ word_positive zone words run seat f is legal =
     let found = stands.frames.frame f below ∙ live_word s f (live_from_one s seat f stands.sound one) (live_references s f) in
     omega (arith, one, part, found)
 
--- a put that finds this word, at least 1
+-- what a put's subtraction tells
 pub record Puts (zone : Zone) (p : Past) (f found : ℕ) (later : List Past) : Type 0 where
   pub some : 1 ≤ found
   pub made : Made zone p (Put f) (put_answer_at found) later
@@ -96,7 +96,7 @@ pub record SawWord (zone : Zone) (p : Past) (f found : ℕ) (later : List Past) 
   pub is : frame_word (state_of zone past.seen) f ≡ found
   pub few : ((state_of zone p.seen).parts p.number).book < 65536
 
--- the load of a get: a word that refuses it is that step
+-- what a get's load tells: it is the step itself if the word refuses a reference
 pub record Sees (zone : Zone) (p : Past) (f found : ℕ) (later : List Past) : Type 0 where
   pub refused : get_answer found ≢ Held → Made zone p (Get f) (get_answer found) later
   pub goes_on : get_answer found ≡ Held → SawWord zone p f found later
@@ -106,7 +106,7 @@ pub record Adds (zone : Zone) (p : Past) (f seen found : ℕ) (later : List Past
   pub held : found ≡ seen → Made zone p (Get f) Held later
   pub raced : found ≢ seen → (later ≡ p ∷ []) × RacesAt zone p f found
 
--- the answer that a word decides is Held, or Zero or Full
+-- a word either gives a reference or refuses it
 data GetAnswered (n : ℕ) : Type 0 where
   Gives : get_answer n ≡ Held → GetAnswered n
   HasNone : get_answer n ≡ Zero → GetAnswered n

@@ -1,4 +1,4 @@
--- Which pasts a fact holds of, as one seat's pasts change.
+-- One seat's pasts change: the facts of the others' pasts stay.
 use Rattle.std.proofs.Common.{◌≡◌, ℕ, zero, suc, ◌≤◌, List, [], ◌∷◌, set, ap, sym, arith}
 use mathlib.Core.Option.{some, some-injective, some-ne-none}
 use lib.ListN.{get_elem?}
@@ -8,7 +8,7 @@ use Rattle.boot_words.specs.declared.view.Past.{Past}
 use Rattle.boot_words.specs.Rule.{AllOf}
 use Rattle.run_words.specs.Rule.{AllPasts, of_number}
 
--- one seat has all pasts of some weight: it changes, and each other past keeps its fact
+-- the changed seat has all pasts that count, so a fact of the pasts that don't is kept
 module _ (P Q : Past → Type 0) (weight : Past → ℕ) (each : (u : Past) → weight u ≡ 0 → P u → Q u) where
   pasts_else : (ps : List Past) → sum_over weight ps ≡ 0 → AllOf P ps → AllOf Q ps
   pasts_else [] none all = tt
@@ -28,7 +28,7 @@ module _ (P Q : Past → Type 0) (weight : Past → ℕ) (each : (u : Past) → 
       let m : sum_over weight old ≤ total_over weight rest = total_member weight rest id old at in
       (pasts_else ps (omega arith) all.0, seats_set rest id old new at (omega arith) all.1 q)
 
--- the counts stay if the new pasts have the old ones' numbers
+-- new pasts of the same numbers leave the count of each number
 pub counts_same : (seats : List (List Past)) (id : ℕ) (old new : List Past) → get_elem? seats id ≡ some old
     → ((q : ℕ) → sum_over (of_number q) new ≡ sum_over (of_number q) old) → (q : ℕ) → total_over (of_number q) (set seats id new) ≡ total_over (of_number q) seats
 counts_same seats id old new at same q =

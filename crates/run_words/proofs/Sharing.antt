@@ -1,4 +1,4 @@
--- The rule as seats are parted and joined.
+-- Joining or parting seats keeps the rule.
 use Rattle.std.proofs.Common.{◌≡◌, ℕ, zero, suc, ◌+◌, List, [], ◌∷◌, ◌++◌, set, refl, ap, sym, ◌∙◌, arith}
 use lib.ListN.{get_elem?}
 use Rattle.atomic_table.specs.Table.{Joins, Splits}
@@ -12,7 +12,7 @@ use Rattle.boot_words.proofs.Sharing.{all_append}
 use Rattle.run_words.specs.Rule.{AllPasts, BeginsRun, RunRule, run_rule, of_number}
 use Rattle.run_words.specs.Seats.{first_alone, rest_of}
 
--- the rule reads counts alone, and whether each past fits
+-- in which seat a past is doesn't matter to the rule
 moved : (zone : Zone) (words : List ℕ) (seats later : List (List Past)) → ((q : ℕ) → total_over (of_number q) later ≡ total_over (of_number q) seats)
     → (k : RunRule zone words seats) → AllPasts (BeginsRun zone k.run) later → RunRule zone words later
 moved zone words seats later same k fits = record {
@@ -24,7 +24,7 @@ moved zone words seats later same k fits = record {
   fits = fits;
 }
 
--- a seat's pasts are dealt out to it and to a new seat
+-- a new seat gets some of a seat's pasts
 pub split_allowed : {S : Type 0} (zone : Zone) (id : ℕ) (pasts left right : List Past) → ((f : Past → ℕ) → sum_over f left + sum_over f right ≡ sum_over f pasts)
     → ((P : Past → Type 0) → AllOf P pasts → AllOf P left × AllOf P right) → Splits {S = S} (run_rule zone) id pasts left right
 split_allowed zone id pasts left right sums parts s k at =
@@ -48,7 +48,7 @@ at_other (x ∷ xs) zero (suc j) y ne = refl
 at_other (x ∷ xs) (suc i) zero y ne = refl
 at_other (x ∷ xs) (suc i) (suc j) y ne = at_other xs i j y (λ e. ne (ap suc e))
 
--- a seat takes in another's pasts, and the other has none then
+-- a seat gets all of another's pasts
 pub join_allowed : {S : Type 0} (zone : Zone) (id other : ℕ) (pasts taken : List Past) → Joins {S = S} (run_rule zone) id pasts other taken (pasts ++ taken) []
 join_allowed zone id other pasts taken s k at apart there =
     let P : List Past → Type 0 = AllOf (BeginsRun zone k.run) in

@@ -35,7 +35,7 @@ use Rattle.run_words.proofs.Booking.{AreSmall, IsNoFill, small_step}
 use Rattle.run_words.proofs.Fast.{Leaves}
 use Rattle.run_words.proofs.Growing.{IsOnlyHolder, notes_both, one_holder}
 
--- what the rule knows of a seat that has both pasts
+-- by the rule both pasts of a seat are beginnings of the run
 pub both_begin : (zone : Zone) (words : List ℕ) (seats : List (List Past)) (k : RunRule zone words seats) (id : ℕ) (z c : Past) → get_elem? seats id ≡ some (z ∷ c ∷ [])
     → OthersFollow z.number z.seen k.run × OthersFollow c.number c.seen k.run
 both_begin zone words seats k id z c at = let all = all_at (AllOf (BeginsRun zone k.run)) seats id (z ∷ c ∷ []) at k.fits in (all.0.goes, all.1.0.goes)
@@ -101,7 +101,7 @@ steps_small zone words seats id z c st j x step answer own unlocked legal change
       };
     }
 
--- the same of a step that fills no stock
+-- for any step but a fill
 pub steps_on : (zone : Zone) (words : List ℕ) (seats : List (List Past)) (id : ℕ) (z c : Past) (st : Stands zone words seats id z c) (j x : ℕ) (step : Step) (answer : Answer)
     → (step.seat ≡ 0) ⊎ (step.seat ≡ c.number) → is_of_lock step.action ≡ false → IsNoFill step.action → is_legal (local_seen zone c) step.seat step.action ≡ true
     → ChangesWords zone (words_in zone words) step.seat step.action answer (words_in zone (set words j x))
@@ -110,7 +110,7 @@ steps_on zone words seats id z c st j x step answer own unlocked none legal chan
     steps_small zone words seats id z c st j x step answer own unlocked legal changes (small_step (state_of zone st.rule.run) step.seat step.action answer none st.rule.small)
 
 -- ---- one step by one access
--- the zone's past and that of the lock's holder after a step
+-- the seat's two pasts have grown by the step
 pub record MadeHeld (zone : Zone) (z c : Past) (step : Step) (answer : Answer) (later : List Past) : Type 0 where
   pub zone_past : Past
   pub cpu_past : Past
@@ -160,7 +160,7 @@ held_made t s step answer s' is table m =
       local_is = m.grew.local_is;
     })
 
--- a seat that has both pasts, by what contracts see of it
+-- the holder's seat in contracts, as the rule sees it
 pub of_held : (t : KnownTable) (s : KnownPasts) (word : Word) (change : ℕ → ℕ) (told : ℕ → List Past → Type 0) → IsHeld t s
     → MayChange (zone_of_boot t) (own_past s ∷ cpu_past s ∷ []) word change told → MayChange (zone_of_boot t) s.pasts word change told
 of_held t s word change told is may = subst (λ (l : List Past). MayChange (zone_of_boot t) l word change told) (sym is.both) may

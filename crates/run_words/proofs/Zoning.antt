@@ -1,5 +1,5 @@
--- What the steps under the lock ask and tell.
-use Rattle.std.proofs.Common.{Bool, true, false, cond, ◌≡◌, ◌≢◌, ℕ, eqb, ◌+◌, ◌<◌, ◌≤◌, ◌==◌, List, set, refl, ap, sym, ◌∙◌, subst, inl, eq-eqb}
+-- From freeze, unfreeze and fill by one access to their contracts.
+use Rattle.std.proofs.Common.{Bool, true, false, cond, ◌≡◌, ℕ, eqb, ◌+◌, ◌<◌, ◌≤◌, ◌==◌, List, set, refl, ap, sym, ◌∙◌, subst, inl, eq-eqb}
 use Rattle.std.specs.Prelude.{slice_index}
 use Rattle.std.proofs.lemmas.Bool.{cond-false, cond-true, ne_eqb}
 use Rattle.std.proofs.lemmas.List.{set-get_or}
@@ -85,7 +85,7 @@ fills t s cpu g n is high fits none legal =
     (fits, stock_words_set zone (stock_index cpu) x (stock_low zone cpu high) b.words)
     (small_fill (state_of zone k.run) 0 cpu g n empty fits.1 k.small))
 
--- ---- the frame of a step is one of the table
+-- ---- a legal step is of a frame of the table
 pub zone_seen : (t : KnownTable) (s : KnownPasts) → (local_seen (zone_of_boot t) (cpu_past s)).zone ≡ zone_of_boot t
 zone_seen t s = zone_of_run (zone_of_boot t) (cpu_past s).seen
 

@@ -1,4 +1,4 @@
--- What contracts see of a CPU's seat.
+-- The seat of a CPU in contracts, and its calls on its own stock.
 use Rattle.std.specs.Prelude.{◌≡◌, ◌≢◌, ◌⊎◌, ℕ, ◌+◌, false, Some, MatchBool}
 use Rattle.frame_word.specs.Seats.{KnownTable}
 use Rattle.stock_word.specs.declared.view.Stock.{Stock}
@@ -20,7 +20,7 @@ use Rattle.boot_words.specs.Seats.{zone_of_boot}
 use Rattle.boot_words.specs.Words.{stock_in}
 use Rattle.run_words.specs.Calls.{CpuMakes}
 
--- a CPU's seat: its past, its number, and the stock that it saw last
+-- what a contract sees of the seat: its pasts, the CPU's number, and the last stock that the CPU saw
 pub record KnownCpuSeat : Type 0 where
   pub seat : KnownPasts
   pub number : ℕ
@@ -30,11 +30,11 @@ pub record KnownCpuSeat : Type 0 where
 abbrev pub state_left : KnownTable → KnownCpuSeat → State
 state_left t c = state_of (zone_of_boot t) (own_past c.seat).seen
 
--- the stock is what was seen last, or was drained since
+-- since the CPU saw its stock, nobody changed it, or a drain did
 abbrev pub SawLast : Stock → Stock → Type 0
 SawLast stock last = (stock ≡ last) ⊎ (stock ≡ drained_of last)
 
--- the seat of one of this table's CPUs, which doesn't hold the lock by its past
+-- a CPU of the table that is without the lock, and knows its stock but for a drain
 pub record IsAwayCpu (t : KnownTable) (c : KnownCpuSeat) : Type 0 where
   pub past : IsCpuPast t c.seat
   pub number : c.number ≡ (own_past c.seat).number
@@ -42,14 +42,14 @@ pub record IsAwayCpu (t : KnownTable) (c : KnownCpuSeat) : Type 0 where
   pub last : SawLast (stock_in ((state_left t c).parts c.number)) c.last
   pub has_word : HasWord c.last
 
--- the CPU has made the step by an exchange of its stock word, and saw this stock last
+-- the CPU has made the step, and now this is the stock that it saw last
 pub record Exchanges (t : KnownTable) (c : KnownCpuSeat) (action : Action) (answer : Answer) (last : Stock) (c' : KnownCpuSeat) : Type 0 where
   pub is : IsAwayCpu t c'
   pub number : c'.number ≡ c.number
   pub last_is : c'.last ≡ last
   pub makes : CpuMakes t c.seat action answer c'.seat
 
--- after a consume for g: the step, if the CPU saw a page of g last or saw its stock held
+-- a consume for g answers from the last stock seen; it is a step if that stock is held by g and has a page
 abbrev pub ConsumesPage : KnownTable → KnownCpuSeat → ℕ → Consume → KnownCpuSeat → Type 0
 ConsumesPage t c g consumes.Took c' = (n : ℕ) × (c.last ≡ HeldBy g (n + 1)) × Exchanges t c (step.Consume g) Took (HeldBy g n) c'
 ConsumesPage t c g consumes.Empty c' = (c.last ≡ HeldBy g 0) × (c' ≡ c)
@@ -57,7 +57,7 @@ ConsumesPage t c g consumes.OtherGroup c' = (group_of c.last ≢ Some g) × (c' 
 ConsumesPage t c g consumes.Drained c' = (group_of c.last ≡ Some g)
     × MatchBool (is_held c.last) (Exchanges t c (step.Consume g) Drained (drained_of c.last) c') (c' ≡ c)
 
--- after a credit of frame f
+-- a credit of frame f is a step if the last stock seen is held
 abbrev pub CreditsPage : KnownTable → KnownCpuSeat → ℕ → Credit → KnownCpuSeat → Type 0
 CreditsPage t c f credits.Stocked c' = (g : ℕ) × (n : ℕ) × (c.last ≡ HeldBy g n) × Exchanges t c (step.Credit f) Stocked (HeldBy g (n + 1)) c'
 CreditsPage t c f credits.Drained c' = MatchBool (is_held c.last) (Exchanges t c (step.Credit f) Drained (drained_of c.last) c') (c' ≡ c)

@@ -27,11 +27,11 @@ pub record BeginsRun (zone : Zone) (run : Run) (p : Past) : Type 0 where
   pub fast : HasLock zone p → AreFast goes.rest
   pub few : ((state_of zone p.seen).parts p.number).book < 65536
 
--- 1 for a past of this number, else 0
+-- how often the past counts among those of the number: once or not at all
 abbrev pub of_number : ℕ → Past → ℕ
 of_number number p = one_if (p.number == number)
 
--- P holds of each past of each seat
+-- every past in every seat has P
 abbrev pub AllPasts : (Past → Type 0) → List (List Past) → Type 0
 AllPasts P seats = AllOf (λ (pasts : List Past). AllOf P pasts) seats
 

@@ -1,4 +1,4 @@
--- What contracts see of the table and of its seats.
+-- The words of the table, the pasts of its seats, and what a seat may do to a word.
 use Rattle.std.specs.Prelude.{◌≡◌, ℕ, zero, suc, ◌+◌, ◌<◌, ◌≤◌, List, [], ◌∷◌}
 use Rattle.atomic_table.specs.Table.{Allows}
 use Rattle.step_rules.specs.State.{Zone}
@@ -11,14 +11,14 @@ use Rattle.run_words.specs.declared.word.Word.{Word}
 use Rattle.run_words.specs.declared.word.Word.TheVariants.{Quiet, StockOf, OfFrame, VisitOf}
 use Rattle.run_words.specs.Rule.{run_rule}
 
--- the place of a word in the table
+-- where the word is
 abbrev pub word_place : Zone → Word → ℕ
 word_place zone Quiet = 0
 word_place zone (StockOf cpu) = stock_index cpu
 word_place zone (OfFrame f) = frame_base zone + f
 word_place zone (VisitOf cpu) = frame_base zone + visit_index zone.frames cpu
 
--- the zone has the frame or the CPU of this word
+-- there is such a word: its frame or its CPU is the zone's
 abbrev pub IsInTable : Zone → Word → Type 0
 IsInTable zone Quiet = Unit {0}
 IsInTable zone (StockOf cpu) = cpu ≤ zone.cpus
@@ -36,12 +36,12 @@ cpu_of_word (StockOf cpu) = cpu
 cpu_of_word (VisitOf cpu) = cpu
 cpu_of_word word = 0
 
--- the pasts of n CPUs at first, from this number on
+-- n CPUs from this number on have made no step
 abbrev pub cpus_pasts : ℕ → ℕ → List Past
 cpus_pasts cpu zero = []
 cpus_pasts cpu (suc n) = no_past cpu ∷ cpus_pasts (cpu + 1) n
 
--- all pasts at first, which one seat has: the zone's and those of the CPUs
+-- the pasts of a new table, all with one seat
 abbrev pub all_pasts : ℕ → List Past
 all_pasts cpus = no_past 0 ∷ cpus_pasts 1 cpus
 
@@ -55,8 +55,8 @@ abbrev pub rest_of : List Past → List Past
 rest_of [] = []
 rest_of (p ∷ pasts) = pasts
 
--- Whatever the table is, a seat with these pasts may change the word like this. Then this holds of the word that it
--- found and of its pasts.
+-- A seat with these pasts may make this change of the word, in any state that keeps the rule. The fact told holds then of
+-- the word that was there and of the seat's new pasts.
 abbrev pub MayChange : Zone → List Past → Word → (ℕ → ℕ) → (ℕ → List Past → Type 0) → Type 0
 MayChange zone pasts word change told = (id : ℕ)
     → Allows {S = Unit {0}} (run_rule zone) 0 id (pasts, []) (word_place zone word) change

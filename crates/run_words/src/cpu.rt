@@ -1,4 +1,4 @@
-//! A CPU's seat, and its stock without the lock: `consume` and `credit` are one exchange at most.
+//! The seats of CPUs. Without the lock a CPU changes its stock by one exchange.
 ghost use Rattle.std.specs.Prelude.{◌≡◌, ◌+◌, ◌<◌, ◌≤◌, ◌==◌};
 ghost use prog.Atomic.{either};
 ghost use Rattle.stock_word.specs.declared.view.Stock.TheVariants.{HeldBy};
@@ -16,12 +16,11 @@ use frame_word::Frame;
 use std::marker::{Brand, Model};
 use stock_word::{Consume, Credit, Stock};
 
-/// A CPU's seat.
+/// The seat of a CPU: its past, and the stock that it saw last.
 #[derive(Drop)]
 pub struct CpuSeat {
     pub(crate) past: PastSeat,
     pub(crate) number: u32,
-    // The stock that the CPU saw last.
     pub(crate) last: Stock,
 }
 
@@ -52,8 +51,8 @@ impl CpuSeat {
 }
 
 impl RunWords {
-    // Exchanges the stock word of the CPU: its stock is held by the group with `before` pages, and has `after` then. It
-    // returns the word that it found. The word doesn't say the frame of a credit.
+    // If the stock is held by `group` with `before` pages, it has `after` then. The word that was there is returned. The
+    // frame of a credit is in no word: it is there for the proof.
     fn exchange_stock<M: Telling>(
         &self,
         seat: &mut PastSeat,
@@ -81,9 +80,9 @@ impl RunWords {
         self.exchange::<M>(seat, Word::StockOf(cpu), old.word(), new.word())
     }
 
-    /// Takes a page of `group` from the CPU's stock, by one exchange. `Empty` and `OtherGroup` are said of the stock
-    /// that the CPU saw last, without a step. Apart from its CPU only a drain changes a stock, so an exchange that fails
-    /// is `Drained`.
+    /// A page for `group` from the CPU's own stock, by one exchange. If the stock that the CPU saw last has none for the
+    /// group, the answer takes no access and is no step. While the CPU makes no step, nothing but a drain changes its
+    /// stock: so a failed exchange means `Drained`.
     pub fn consume(&self, cpu: &mut CpuSeat, group: u32) -> Consume
         requires cpu { IsAwayCpu self.now cpu.old }
         requires legal { MayDo self.now cpu.old.seat (step.Consume group) }
@@ -118,8 +117,8 @@ impl RunWords {
         }
     }
 
-    /// Puts a fresh page of the CPU back into its stock, with its frame, by one exchange, or without a step if it saw
-    /// before that the stock is drained.
+    /// The CPU gives a fresh frame up, and its page goes back to the stock, by one exchange. If the CPU saw last that its
+    /// stock is drained, there is no access and no step.
     pub fn credit(&self, cpu: &mut CpuSeat, frame: Frame) -> Credit
         requires cpu { IsAwayCpu self.now cpu.old }
         requires legal { MayDo self.now cpu.old.seat (step.Credit frame) }

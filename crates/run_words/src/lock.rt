@@ -1,4 +1,4 @@
-//! The lock in the run. While a CPU holds it, the zone's seat has the CPU's past too.
+//! The lock's steps. Each moves a past: to the zone's seat by `lock`, and back by `unlock`.
 ghost use Rattle.std.specs.Prelude.{◌≡◌, []};
 ghost use Rattle.step_rules.specs.declared.step.Action.TheVariants as step;
 ghost use Rattle.boot_words.specs.Locks.{LeavesFree};
@@ -14,8 +14,8 @@ use std::marker::Brand;
 use stock_word::Stock;
 
 impl RunWords {
-    /// A CPU takes the lock, which is free by the zone's past. The zone's seat has the CPU's past too from then on, and
-    /// the CPU's seat has none.
+    /// A CPU takes the lock, which is free by the zone's past. Its past goes to the zone's seat, and its own seat is
+    /// empty.
     pub fn lock(&self, zone: &mut PastSeat, cpu: &mut CpuSeat)
         requires zone { IsZonePast self.now zone.old }
         requires cpu { IsAwayCpu self.now cpu.old }
@@ -28,8 +28,8 @@ impl RunWords {
         self.load::<Brand>(zone, Word::Quiet);
     }
 
-    /// The CPU that holds the lock releases it, and has its own past again: by a load of its stock word, which it saw last
-    /// then.
+    /// The lock's holder releases it, and its past goes back to its seat. The access is a load of its stock, so it knows
+    /// the stock afterwards.
     pub fn unlock(&self, zone: &mut PastSeat, cpu: &mut CpuSeat)
         requires held { IsHeld self.now zone.old }
         requires holder { IsHolder zone.old cpu.old.number }

@@ -1,4 +1,4 @@
-//! Steps that no word is of.
+//! Steps that change no word.
 ghost use Rattle.std.specs.Prelude.{◌≡◌};
 ghost use Rattle.step_rules.specs.Laws.{IsLocalStep};
 ghost use Rattle.boot_words.specs.Pasts.{cpu_past, local_by_pasts, IsHeld, MakesStep};
@@ -13,7 +13,7 @@ use std::marker::Brand;
 use step_rules::step::{Action, Answer};
 
 impl RunWords {
-    // The load of a plain step, which the word doesn't say.
+    // One load. Which step it stands for is in no word: it is there for the proof.
     #[inline(always)]
     fn note_as<M: Telling>(
         &self,
@@ -30,7 +30,7 @@ impl RunWords {
         self.load::<M>(held, Word::Quiet)
     }
 
-    /// A seat's step that no word is of, legal in what the lock's holder sees, with this answer.
+    /// Notes a step that changes no word, which is legal with this answer in the state that the lock's holder sees.
     #[inline(always)]
     pub fn note(&self, held: &mut PastSeat, seat: u32, action: &Action, answer: &Answer)
         requires held { IsHeld self.now held.old }

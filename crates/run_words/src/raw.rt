@@ -1,5 +1,5 @@
-//! The table and its seats. All atomic steps are made here, and each tells what its caller asks by `Telling`. What a
-//! caller can ask is what the rule allows of the step (`MayChange`).
+//! The atomic table, its words and the pasts of its seats. Each access to a word is here. A caller names by `Telling` a
+//! fact that it wants to know afterwards, and proves by `MayChange` that the rule lets the access bring it about.
 ghost use Rattle.std.specs.Prelude.{◌≡◌, ◌≤◌, ◌+◌, ◌-◌, ◌%◌, ◌^◌, ◌<◌, ◌==◌, ◌++◌, [], IfOk, MatchOption};
 ghost use Rattle.std.specs.Mem.Slots.{slots_items, slots_len, IsFull};
 ghost use prog.Atomic.{either};
@@ -18,17 +18,17 @@ use std::collections::LinkedList;
 use std::marker::{Brand, Model, PhantomData};
 use std::mem;
 
-/// What a seat knows: its own past. The zone's seat has that of the lock's holder too. None if the seat is empty.
+/// The pasts of a seat: its own, or none while that is with the zone's seat.
 pub(crate) type Pasts = LinkedList<Past>;
 
-/// How many frames and CPUs a table has. It is fixed when the table is made.
+/// The numbers of frames and CPUs, for the table's whole life.
 #[derive(Clone, Copy)]
 pub struct Sizes {
     pub frames: u32,
     pub cpus: u32,
 }
 
-/// The rule of the table, between any two steps.
+/// What holds of the table before and after each access.
 pub struct OneRun;
 
 impl TableRule<(), Pasts, Sizes> for OneRun {
@@ -37,7 +37,7 @@ impl TableRule<(), Pasts, Sizes> for OneRun {
     ghost first = { λ key. all_pasts key.cpus };
 }
 
-/// What a step tells its caller of the word found and of the seat's pasts afterwards. Each call picks it.
+/// A fact that an access tells its caller, about the word that it found and the pasts that the seat has then.
 pub trait Telling {
     ghost use Rattle.std.specs.Prelude.{ℕ, List};
     ghost use Rattle.boot_words.specs.declared.view.Past.{Past};
@@ -57,7 +57,7 @@ impl<M: Telling> Play<(), Pasts> for Tells<M> {
     ghost then = { λ step before found later. (later.1 ≡ []) × M.told found later.0 };
 }
 
-// The first past stays, the others go to a seat of their own.
+// Parts the first past from the rest.
 struct Others;
 
 impl Split<Pasts> for Others {
@@ -66,7 +66,7 @@ impl Split<Pasts> for Others {
     ghost right = { rest_of };
 }
 
-// An empty seat beside a seat that keeps its pasts.
+// Parts nothing off: the new seat is empty.
 struct Nothing;
 
 impl Split<Pasts> for Nothing {
@@ -75,7 +75,7 @@ impl Split<Pasts> for Nothing {
     ghost right = { λ pasts. [] };
 }
 
-// One seat gets both seats' pasts, and the other is empty.
+// All pasts go to the first seat.
 struct Both;
 
 impl Join<Pasts> for Both {
@@ -84,8 +84,8 @@ impl Join<Pasts> for Both {
     ghost spent = { [] };
 }
 
-/// All words of a boot: the frames', the visits' and the stocks'. A contract sees which table it is and how many frames
-/// and CPUs it has. Threads share it by `&`; no call waits.
+/// The atomic words of a boot: one of each frame, and two of each CPU, for its stock and its visit. CPUs share it by
+/// `&`, and none waits in a call. A contract sees the table's identity and its numbers of frames and CPUs.
 #[derive(Drop)]
 pub struct RunWords {
     table: Table<(), Pasts, Sizes, OneRun, Global>,
@@ -106,7 +106,8 @@ impl Model for RunWords {
         w.frames w.cpus };
 }
 
-/// What a seat knows of the run: its own past. While a CPU holds the lock, the zone's seat has the CPU's past too.
+/// A seat of the table, which a contract sees as its pasts. The zone's seat has two while a CPU holds the lock: its own
+/// and the CPU's.
 #[derive(Drop)]
 pub struct PastSeat {
     seat: Seat<(), Pasts>,
@@ -150,7 +151,7 @@ impl RunWords {
         }
     }
 
-    // The place of a word in the table. A CPU's row has sixteen words, so that no two CPUs' share a cache line.
+    // Where the word is. Stock words are sixteen words apart, so each has a cache line to itself.
     #[inline(always)]
     fn index(&self, word: Word) -> usize
         requires { IsInTable (zone_of_boot self.now) word }
@@ -191,7 +192,7 @@ impl RunWords {
         self.table.shared.store::<Tells<M>>(&mut seat.seat, at, new);
     }
 
-    /// Stores a word and returns what it was.
+    /// Stores a word, and returns the one that was there.
     #[inline(always)]
     pub(crate) fn swap<M: Telling>(&self, seat: &mut PastSeat, word: Word, new: u64) -> u64
         requires table { seat.old.table ≡ self.now.table }
@@ -204,7 +205,7 @@ impl RunWords {
         self.table.shared.swap::<Tells<M>>(&mut seat.seat, at, new)
     }
 
-    /// Stores `new` if the word is `old`, and returns what it was.
+    /// Stores `new` if `old` is there. Either way it returns the word that was there.
     #[inline(always)]
     pub(crate) fn exchange<M: Telling>(
         &self,
@@ -225,7 +226,7 @@ impl RunWords {
             .compare_exchange::<Tells<M>>(&mut seat.seat, at, old, new)
     }
 
-    /// Takes one off a word and returns what it was.
+    /// Subtracts one, and returns the word that was there.
     #[inline(always)]
     pub(crate) fn take_one<M: Telling>(&self, seat: &mut PastSeat, word: Word) -> u64
         requires table { seat.old.table ≡ self.now.table }
@@ -240,7 +241,7 @@ impl RunWords {
             .fetch_sub::<Tells<M>>(&mut seat.seat, at, 1)
     }
 
-    /// The seat takes in all pasts of the other, which is empty then.
+    /// Moves all pasts of `other` to `seat`.
     #[inline(always)]
     pub(crate) fn join(&self, seat: &mut PastSeat, other: &mut PastSeat)
         requires tables { (seat.old.table ≡ self.now.table) × (other.old.table ≡ self.now.table) }
@@ -254,7 +255,7 @@ impl RunWords {
         self.table.shared.join_seat::<Both>(&mut seat.seat, taken);
     }
 
-    /// The seat's first past stays, and the others are in a seat of their own.
+    /// Moves all pasts of `seat` but the first to a new seat.
     #[inline(always)]
     pub(crate) fn split_others(&self, seat: &mut PastSeat) -> PastSeat
         requires table { seat.old.table ≡ self.now.table }

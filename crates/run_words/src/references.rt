@@ -1,4 +1,4 @@
-//! References of a CPU, without the lock: `get` is a load and at most one exchange, `put` one subtraction.
+//! What a CPU does with references without the lock: `get` loads and may exchange once, `put` subtracts.
 ghost use Rattle.std.specs.Prelude.{◌≡◌, false};
 ghost use Rattle.step_rules.specs.After.{state_of};
 ghost use Rattle.step_rules.specs.Views.{holds_lock};

@@ -14,8 +14,8 @@ use frame_word::{Frame, MARK_BASE, Put};
 use std::marker::Brand;
 
 impl RunWords {
-    /// Takes the frame out of use if its references are exactly these `count`, all of the zone. The answer is true
-    /// exactly if the word is `count`.
+    /// Takes a frame of which the zone has `count` references out of use, and says true, if there are no others. If
+    /// there are, it says false, and the frame stays in use.
     pub fn freeze(&self, held: &mut PastSeat, frame: Frame, count: u64) -> bool
         requires held { IsHeld self.now held.old }
         requires legal { MayMake self.now held.old 0 (step.Freeze frame count) }
@@ -24,7 +24,7 @@ impl RunWords {
         self.exchange::<Brand>(held, Word::OfFrame(frame), count, 0) == count
     }
 
-    /// Puts a frame of the zone's hand into use, with `count` references, all of the zone.
+    /// Brings a frame in the zone's hand into use. The zone has all its `count` references.
     pub fn unfreeze(&self, held: &mut PastSeat, frame: Frame, count: u64)
         requires held { IsHeld self.now held.old }
         requires legal { MayMake self.now held.old 0 (step.Unfreeze frame count) }
@@ -33,7 +33,7 @@ impl RunWords {
         self.store::<Brand>(held, Word::OfFrame(frame), count);
     }
 
-    // Takes one off the word of a frame, for a put by this seat, which the word doesn't say.
+    // A put's subtraction. Whose reference it is, is in no word: the seat is there for the proof.
     fn take_one_by<M: Telling>(&self, held: &mut PastSeat, _seat: u32, frame: Frame) -> u64
         requires table { held.old.table ≡ self.now.table }
         requires frame { frame < self.now.frames }
@@ -45,7 +45,7 @@ impl RunWords {
         self.take_one::<M>(held, Word::OfFrame(frame))
     }
 
-    /// Drops a reference, under the lock: one of the zone or of the CPU that holds the lock.
+    /// The zone or the lock's holder drops one of its references.
     pub fn put_held(&self, held: &mut PastSeat, seat: u32, frame: Frame) -> Put
         requires held { IsHeld self.now held.old }
         requires seat { (seat ≡ 0) ⊎ IsHolder held.old seat }

@@ -16,7 +16,7 @@ use std::marker::Brand;
 use stock_word::Stock;
 
 impl RunWords {
-    // Stores the word of a stock that is held by the group with these pages.
+    // From now on the stock is the group's, with these pages.
     fn fill_with<M: Telling>(&self, seat: &mut PastSeat, cpu: u32, group: u32, pages: u32)
         requires table { seat.old.table ≡ self.now.table }
         requires cpu { cpu ≤ self.now.cpus }
@@ -41,7 +41,7 @@ impl RunWords {
         self.fill_with::<Brand>(held, cpu, group, pages);
     }
 
-    // Stores the word of the drained stock of this group, and returns the word that it found.
+    // From now on the stock is a drained one of this group. The word that was there is returned.
     fn drain_of<M: Telling>(&self, held: &mut PastSeat, cpu: u32, group: u32) -> u64
         requires table { held.old.table ≡ self.now.table }
         requires cpu { cpu ≤ self.now.cpus }

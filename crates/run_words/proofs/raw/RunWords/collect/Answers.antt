@@ -1,4 +1,4 @@
-use Rattle.run_words.proofs.HandOver.{collected_made, collects_held, frame_of_collect}
+use Rattle.run_words.proofs.Visiting.{collected_made, collects_held, frame_of_collect}
 use Rattle.run_words.proofs.raw.RunWords.collect.Goals as goal
 
 pub store-requires-clause-place : goal.store-requires-clause-place

@@ -1,4 +1,4 @@
-use Rattle.run_words.proofs.HandOver.{holder_of_held, takes_held, took_made}
+use Rattle.run_words.proofs.Visiting.{holder_of_held, takes_held, took_made}
 use Rattle.run_words.proofs.raw.RunWords.consume_held.Goals as goal
 
 pub take_page_of-requires-clause-cpu : goal.take_page_of-requires-clause-cpu

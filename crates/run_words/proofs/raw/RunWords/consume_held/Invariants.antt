@@ -1,6 +1,6 @@
 use Rattle.boot_words.specs.Seats.{zone_of_boot}
 use Rattle.boot_words.specs.Pasts.{cpu_past, own_past}
-use Rattle.run_words.proofs.HandOver.{takes_told}
+use Rattle.run_words.proofs.Visiting.{takes_told}
 use Rattle.run_words.proofs.raw.RunWords.consume_held.Given as goal
 
 abbrev pub ghosts-take_page_of : goal.ghosts-take_page_of

@@ -1,7 +1,7 @@
 use Rattle.std.proofs.Common.{◌<◌, sym, subst}
 use Rattle.stock_word.specs.Stock.{HasWord}
 use Rattle.boot_words.specs.Pasts.{local_by_pasts}
-use Rattle.run_words.proofs.HandOver.{holder_of_held}
+use Rattle.run_words.proofs.Visiting.{holder_of_held}
 use Rattle.run_words.proofs.Looking.{same_seat, sees_stock, stock_is}
 use Rattle.run_words.proofs.raw.RunWords.look.Goals as goal
 

@@ -1,6 +1,6 @@
 use Rattle.step_rules.specs.declared.step.Action.TheVariants.{OpenVisit}
 use Rattle.step_rules.specs.declared.step.Answer.TheVariants.{Done}
-use Rattle.run_words.proofs.HandOver.{holder_of_held, opens}
+use Rattle.run_words.proofs.Visiting.{holder_of_held, opens}
 use Rattle.run_words.proofs.UnderLock.{held_made}
 use Rattle.run_words.proofs.raw.RunWords.open_visit.Goals as goal
 

@@ -4,7 +4,7 @@ use Rattle.boot_words.specs.Pasts.{cpu_past, own_past}
 use Rattle.boot_words.specs.Seats.{zone_of_boot}
 use Rattle.run_words.specs.declared.word.Word.TheVariants.{OfFrame}
 use Rattle.run_words.specs.Seats.{MayChange}
-use Rattle.run_words.proofs.HandOver.{frame_of_pass_back, passed_back_made, passes_back_held, passes_told}
+use Rattle.run_words.proofs.Visiting.{frame_of_pass_back, passed_back_made, passes_back_held, passes_told}
 use Rattle.run_words.proofs.raw.RunWords.pass_back.Goals as goal
 
 pub store-requires-clause-place : goal.store-requires-clause-place

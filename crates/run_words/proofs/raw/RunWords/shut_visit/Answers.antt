@@ -1,6 +1,6 @@
 use Rattle.step_rules.specs.declared.step.Action.TheVariants.{ShutVisit}
 use Rattle.step_rules.specs.declared.step.Answer.TheVariants.{Done}
-use Rattle.run_words.proofs.HandOver.{holder_of_held, shuts}
+use Rattle.run_words.proofs.Visiting.{holder_of_held, shuts}
 use Rattle.run_words.proofs.UnderLock.{held_made}
 use Rattle.run_words.proofs.raw.RunWords.shut_visit.Goals as goal
 

@@ -1,7 +1,7 @@
 use Rattle.boot_words.specs.Seats.{zone_of_boot}
 use Rattle.boot_words.specs.Pasts.{cpu_past, own_past}
 use Rattle.run_words.specs.Seats.{cpu_of_word}
-use Rattle.run_words.proofs.HandOver.{shuts_told}
+use Rattle.run_words.proofs.Visiting.{shuts_told}
 use Rattle.run_words.proofs.raw.RunWords.shut_visit.Given as goal
 
 abbrev pub ghosts-store : goal.ghosts-store

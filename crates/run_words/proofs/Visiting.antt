@@ -1,4 +1,4 @@
--- Frames that go between the zone and the lock's holder, its visit, and its pages.
+-- The visit of the lock's holder, the frames that it hands over, and the pages that its stock pays.
 use Rattle.std.proofs.Common.{◌≡◌, ℕ, ◌+◌, ◌-◌, ◌%◌, ◌^◌, ◌<◌, ◌≤◌, true, List, set, refl, ap, sym, ◌∙◌, subst, arith, inl, inr}
 use Rattle.std.specs.Prelude.{slice_index}
 use Rattle.frame_word.specs.ReferenceRule.{mark, visit_index}
