@@ -20,14 +20,13 @@ def split_kind(word):
 
 
 def usage_lines(usage):
-    """The lines of a usage, with times from the first one on."""
-    begin = usage.samples[0].seconds
+    """The lines of a usage."""
     yield ",".join(HEADER)
     for seconds, amounts, limits in usage.samples:
         found = {**amounts, **({"/": amounts.get("/", (0, 0))} if usage.host else {})}
         for group, (anon, file) in sorted(found.items()):
             limit = usage.host if group == "/" else limits.get(group)
-            yield f"{seconds - begin:.3f},{group},{anon},{file},{'max' if limit is None else limit}"
+            yield f"{seconds:.3f},{group},{anon},{file},{'max' if limit is None else limit}"
 
 
 def import_usage(options):
@@ -42,10 +41,12 @@ def import_usage(options):
             raise Fault(str(fault) if str(fault).startswith(path) else f"{path}: {fault}") from None
     series = [one._replace(labels={**one.labels, "path": rename(one.labels["path"])}) if "path" in one.labels else one
               for one in series]
-    usage = filled(usage_of(series), None)
+    usage = usage_of(series)
+    begin = usage.samples[0].seconds
+    usage = filled(usage._replace(samples=[one._replace(seconds=one.seconds - begin) for one in usage.samples]), None)
     usage = not_cumulative(usage) if is_cumulative else usage
     usage = usage._replace(host=read_amount(options.host) if options.host else usage.host)
-    begin = datetime.datetime.fromtimestamp(usage.samples[0].seconds, datetime.timezone.utc)
+    begin = datetime.datetime.fromtimestamp(begin, datetime.timezone.utc)
     note(f"{len(usage.groups) - 1} groups, {len(usage.samples)} samples; 0 s is {begin:%Y-%m-%dT%H:%M:%SZ}"
          f"{'' if usage.host else '; the host has no memory: give --host SIZE here or to run'}")
     sys.stdout.write("".join(f"{line}\n" for line in usage_lines(usage)))

@@ -8,21 +8,22 @@ from .paths import MOST_GROUPS, path_up
 from .usage import Sample, Usage
 
 
-def filled(usage, longest):
+def filled(usage, longest, remark=""):
     """The same with the last values of each group that lacks a row for at most so many seconds (None: for any time)."""
-    last, seen, samples, gaps = {}, {}, [], []
+    last, seen, known, samples, gaps = {}, {}, {}, [], []
     for sample in usage.samples:
         for group in sample.amounts:
             last[group] = sample.seconds
     for seconds, amounts, limits in usage.samples:
         seen.update((group, (seconds, amount)) for group, amount in amounts.items())
+        known.update(limits)
         lacking = {group: amount for group, (at, amount) in seen.items() if group not in amounts
                    and last[group] > seconds and (longest is None or seconds - at <= longest)}
         gaps += [(group, seconds) for group in sorted(lacking)]
-        samples.append(Sample(seconds, {**amounts, **lacking}, limits))
+        samples.append(Sample(seconds, {**amounts, **lacking}, {**{group: known.get(group) for group in lacking}, **limits}))
     if gaps:
         note(f"{len(gaps)} rows are lacking, the first one of {gaps[0][0]} at {seconds_text(gaps[0][1])}: "
-             "the group keeps its last value; with --gap 0 it has nothing then")
+             f"the group keeps its last value{remark}")
     return usage._replace(samples=samples)
 
 
