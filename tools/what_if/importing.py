@@ -1,6 +1,5 @@
 """Makes a usage of what other tools recorded."""
 import datetime
-import sys
 
 from . import cgroupfs, grafana, prometheus, rows
 from .amounts import Fault, note, read_amount
@@ -29,8 +28,8 @@ def usage_lines(usage):
             yield f"{seconds:.3f},{group},{anon},{file},{'max' if limit is None else limit}"
 
 
-def import_usage(options):
-    """Writes the usage of some files."""
+def import_lines(options):
+    """The lines of the usage of some files."""
     read, is_cumulative = FORMATS[options.format]
     rename = renamed(read_names(options.names)) if options.names else str
     series = []
@@ -49,7 +48,7 @@ def import_usage(options):
     begin = datetime.datetime.fromtimestamp(begin, datetime.timezone.utc)
     note(f"{len(usage.groups) - 1} groups, {len(usage.samples)} samples; 0 s is {begin:%Y-%m-%dT%H:%M:%SZ}"
          f"{'' if usage.host else '; the host has no memory: give --host SIZE here or to run'}")
-    sys.stdout.write("".join(f"{line}\n" for line in usage_lines(usage)))
+    return usage_lines(usage)
 
 
 def add_options(parser):
@@ -59,4 +58,3 @@ def add_options(parser):
                         help="files, each with its kind if the series in it have no name of a metric")
     parser.add_argument("--host", metavar="SIZE", help="the host's memory")
     parser.add_argument("--names", metavar="FILE", help="lines ID NAME, or the JSON of pods: names for long ids")
-    parser.set_defaults(act=import_usage)
