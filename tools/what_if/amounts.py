@@ -20,7 +20,7 @@ def note(line):
 
 def read_amount(word):
     """The bytes that a word such as 300M or 300Mi means."""
-    found = re.fullmatch(r"([0-9]+)(?:([KMGTPE])(?:IB?|B)?)?", word.upper())
+    found = re.fullmatch(r"([0-9]+)(?:([KMGTPE])(?:IB?)?)?", word.upper())
     if not found:
         raise Fault(f"'{word}' isn't an amount: a whole number of bytes, perhaps with K, M, G, T, P or E; "
                     "Mi means the same as M")

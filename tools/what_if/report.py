@@ -81,8 +81,8 @@ def away_lines(replay):
     for group in replay.groups.values():
         if group.times_away:
             yield ""
-            yield (f"{group.path} was killed and stayed away for {group.times_away} samples, in which groups below it lived: "
-                   "what it had of its own then isn't played")
+            yield (f"{group.path} was killed and stayed away for {group.times_away} samples, in which groups below it "
+                   "lived: what it had of its own then isn't played")
 
 
 def last_line(replay, size):

@@ -16,7 +16,8 @@ KINDS = {"container_memory_rss": "rss", "container_memory_cache": "cache", "cont
          "container_memory_total_inactive_file_bytes": "inactive_file",
          "machine_memory_bytes": "host", "node_memory_MemTotal_bytes": "host"}
 KIND_NAMES = ["rss", "cache", "usage", "working_set", "limit", "active_file", "inactive_file", "shmem", "host"]
-UNITS = {"": 1, "B": 1, **{f"{unit}{end}": 1024 ** power for power, unit in enumerate("KMGTP", 1) for end in ("", "i", "iB")},
+UNITS = {"": 1, "B": 1,
+         **{f"{unit}{end}": 1024 ** power for power, unit in enumerate("KMGTP", 1) for end in ("", "i", "iB")},
          **{f"{unit}B": 1000 ** power for power, unit in enumerate("kMGTP", 1)}}
 
 
