@@ -182,9 +182,6 @@ is_other g f ne = ne_eqb g f (λ e. ne (sym e))
 zone_seat : (s : State) (seat : ℕ) → (seat == 0 && not (is_unheld s.hold)) ≡ true → (seat == 0) ≡ true
 zone_seat s seat acts = (and_parts (seat == 0) (not (is_unheld s.hold)) acts).0
 
-sum_left : (a b c t u : ℕ) → a ≡ c → b ≡ 0 → c + t ≡ u → a + b + t ≡ u
-sum_left a b c t u e f h = omega arith
-
 passes_out_balances : (f cpu : ℕ) (s : State) (seat g to : ℕ) → IsMade s seat (PassOut g to) Done → Balances f cpu s seat (PassOut g to) Done
 passes_out_balances f cpu s seat g to made =
     let tests = pass_out_tests s seat g to made.legal in
