@@ -440,8 +440,8 @@ impl Pin<'_> {
 
 impl Drop for Pin<'_> {
     fn drop(&mut self) {
-        let put = self.cpu.put(self.frame);
-        debug_assert!(put.is_ok(), "a pin was put by another way");
+        // (refused if the CPU lacks the pin, which no call of this crate leaves so; it is never busy)
+        unsafe { raw::tempolemon_cpu_put(self.cpu.part.get(), self.frame.0, &mut TypedResult::default()) };
     }
 }
 

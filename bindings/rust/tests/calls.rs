@@ -140,4 +140,7 @@ fn threads_wait_for_the_lock() {
 #[test]
 fn the_library_says_what_is_known_of_its_proof() {
     assert!(PROOF.ends_with("proved") || PROOF.starts_with("unproved: "), "{}", *PROOF);
+    if let Ok(noted) = std::env::var("NOTED_PROOF") {
+        assert_eq!(*PROOF, noted); // tests/gate/bindings says what was noted
+    }
 }
