@@ -270,15 +270,16 @@ class Pin:
     end of `with`. One that is never put stays with its CPU until the zone ends."""
 
     def __init__(self, cpu: Cpu, frame: int) -> None:
-        self._cpu, self._is_held, self.frame = cpu, True, frame
+        self._cpu, self._is_held, self._lock, self.frame = cpu, True, threading.Lock(), frame
 
     def put(self) -> Result:
         """Puts the pin: LEFT with the references, or LAST. Raises NotPinned if it was put."""
-        if not self._is_held:
-            raise NotPinned()
-        put = self._cpu._result_of(raw.library.tempolemon_cpu_put, _word(self.frame))
-        self._is_held = False
-        return put
+        with self._lock:
+            if not self._is_held:
+                raise NotPinned()
+            put = self._cpu._result_of(raw.library.tempolemon_cpu_put, self.frame)
+            self._is_held = False
+            return put
 
     def __enter__(self) -> "Pin":
         return self

@@ -35,7 +35,7 @@ def _path() -> str:
     raise ImportError("no libtempolemon.so: run ./memcg lib in the clone, or set TEMPOLEMON_PREFIX to an installation")
 
 
-# No call waits, so each is made under the interpreter's lock, if there is one.
+# No call waits, so each is made under the interpreter's lock, if there is one: that is faster than to release it.
 library = ctypes.PyDLL(_path())
 _TEXT, _ROOM, _OUT = (c_char_p, c_size_t), (c_void_p, c_size_t), (POINTER(TypedResult),)
 _FORMS = {
