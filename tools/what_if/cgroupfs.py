@@ -33,7 +33,7 @@ def snapshots(path):
             if found is not None and seconds is None:
                 raise Fault(f"{path}: line {number}: no time is above: date +%s before each snapshot")
             if found is not None:
-                stat, files = groups.setdefault(re.sub(r"^/sys/fs/cgroup(/memory(?=/))?", "", found[1]) or "/", ({}, {}))
+                stat, files = groups.setdefault(re.sub(r"^/sys/fs/cgroup(/memory(?=/|$))?", "", found[1]) or "/", ({}, {}))
                 (stat if found[3] else files)[found[3] or found[2]] = found[4]
     if seconds is not None:
         yield seconds, groups
