@@ -46,7 +46,7 @@ def read(path, _):
         for group, (stat, files) in groups.items():
             current = files.get("memory.current", files.get("memory.usage_in_bytes"))
             kinds = values_of({key: int(word) for key, word in stat.items() if word.isdigit()},
-                              int(current) if current else None)
+                              int(current) if current and current.isdigit() else None)
             limit = files.get("memory.max", files.get("memory.limit_in_bytes", "max"))
             lacking |= {group} if "usage" in kinds else set()
             for kind, value in [*kinds.items(), *([("limit", int(limit))] if limit.isdigit() and kinds else [])]:
