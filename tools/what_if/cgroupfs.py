@@ -33,7 +33,7 @@ def snapshots(path):
             if found is not None and seconds is None:
                 raise Fault(f"{path}: line {number}: no time is above: date +%s before each snapshot")
             if found is not None:
-                stat, files = groups.setdefault(re.sub(r"^/sys/fs/cgroup(/memory(?=/))?", "", found[1]) or "/", ({}, {}))
+                stat, files = groups.setdefault(re.sub(r"^/sys/fs/cgroup(/memory(?=/|$))?", "", found[1]) or "/", ({}, {}))
                 (stat if found[3] else files)[found[3] or found[2]] = found[4]
     if seconds is not None:
         yield seconds, groups
@@ -46,7 +46,7 @@ def read(path, _):
         for group, (stat, files) in groups.items():
             current = files.get("memory.current", files.get("memory.usage_in_bytes"))
             kinds = values_of({key: int(word) for key, word in stat.items() if word.isdigit()},
-                              int(current) if current else None)
+                              int(current) if current and current.isdigit() else None)
             limit = files.get("memory.max", files.get("memory.limit_in_bytes", "max"))
             lacking |= {group} if "usage" in kinds else set()
             for kind, value in [*kinds.items(), *([("limit", int(limit))] if limit.isdigit() and kinds else [])]:

@@ -48,7 +48,10 @@ def read(path, given):
         separator = first[4] if first.startswith("sep=") else None
         titles_line = lines.readline() if separator else first
         separator = separator or (";" if titles_line.count(";") > titles_line.count(",") else ",")
-        titles, *rows = csv.reader([titles_line, *lines], delimiter=separator)
+        try:
+            titles, *rows = csv.reader([titles_line, *lines], delimiter=separator)
+        except (csv.Error, TypeError) as fault:
+            raise Fault(f"{path}: {fault}") from None
     names = [title.lower() for title in titles]
     if not any(name in TIMES for name in names):
         raise Fault(f"{path}: no column is called Time")

@@ -43,31 +43,42 @@ def pod_limit(spec):
     return max([sum(limits), *init]) + quantity(spec.get("overhead", {}).get("memory", "0"))
 
 
+def limits_of(pod):
+    """The lines of limits.txt for the groups of a pod. What the program lacks is a comment."""
+    name, lacks = pod["metadata"]["name"], []
+    whole = pod_limit(pod["spec"])
+    if whole is not None:
+        yield f"/{name} {whole}"
+    for container in pod["spec"]["containers"]:
+        limit, request = (memory_of(container, kind) for kind in ("limits", "requests"))
+        yield f"/{name}/{container['name']} {'max' if limit is None else limit}"
+        lacks += [] if request is None else [f"{container['name']} {request}"]
+    if lacks:
+        yield f"# left out, since memcg has no memory.min and no memory.high: requests of /{name}: {', '.join(lacks)}"
+
+
 def limit_lines(path):
-    """The lines of limits.txt for groups /POD/CONTAINER. What the program lacks is a comment."""
-    for pod in pods_of(path, read_json(path)):
-        name, lacks = pod["metadata"]["name"], []
-        whole = pod_limit(pod["spec"])
-        if whole is not None:
-            yield f"/{name} {whole}"
-        for container in pod["spec"]["containers"]:
-            limit, request = (memory_of(container, kind) for kind in ("limits", "requests"))
-            yield f"/{name}/{container['name']} {'max' if limit is None else limit}"
-            lacks += [] if request is None else [f"{container['name']} {request}"]
-        if lacks:
-            yield f"# left out, since memcg has no memory.min and no memory.high: requests of /{name}: {', '.join(lacks)}"
+    """The lines of limits.txt for all pods, whose groups are /POD/CONTAINER."""
+    pods = pods_of(path, read_json(path))
+    try:
+        return [line for pod in pods for line in limits_of(pod)]
+    except (KeyError, TypeError, AttributeError) as fault:
+        raise Fault(f"{path}: a pod isn't as kubectl writes it: {fault}") from None
 
 
 def names_of(path, whole):
     """The name of each pod by its uid, as it is and as systemd writes it, and of each container by its id."""
     names = {}
-    for pod in pods_of(path, whole):
-        uid = pod["metadata"].get("uid")
-        if uid:
-            names[uid] = names[uid.replace("-", "_")] = pod["metadata"]["name"]
-        for status in pod.get("status", {}).get("containerStatuses", []):
-            if status.get("containerID"):
-                names[status["containerID"].rpartition("/")[2]] = status["name"]
+    try:
+        for pod in pods_of(path, whole):
+            uid = pod["metadata"].get("uid")
+            if uid:
+                names[uid] = names[uid.replace("-", "_")] = pod["metadata"]["name"]
+            for status in pod.get("status", {}).get("containerStatuses", []):
+                if status.get("containerID"):
+                    names[status["containerID"].rpartition("/")[2]] = status["name"]
+    except (KeyError, TypeError, AttributeError) as fault:
+        raise Fault(f"{path}: a pod isn't as kubectl writes it: {fault}") from None
     return names
 
 

@@ -9,7 +9,7 @@ from .paths import path_up
 from .replay import Replay, start
 from .report import table
 from .systemd import drop_in_lines
-from .usage import greatest_wanted, only_below, with_limits, without_limits
+from .usage import greatest_wanted, only_below, with_limits
 
 COLUMNS = ["group", "wanted", "survives", "keeps file"]
 
@@ -70,7 +70,7 @@ class Search:
 
     def __init__(self, memcg, usage, sought):
         self.memcg, self.sought = memcg, sought
-        self.usage = without_limits(usage)
+        self.usage = usage  # without any limit but that of the host
         self.wanted, self.needed = greatest_wanted(self.usage), needed(self.usage)
         self.base = played(memcg, self.usage, survives)
         if self.base.deaths:

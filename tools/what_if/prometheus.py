@@ -3,7 +3,7 @@ import math
 
 from .amounts import Fault
 from .files import read_json
-from .series import Series, kind_of
+from .series import Series, kind_of, read_time
 
 
 def read(path, given):
@@ -14,7 +14,11 @@ def read(path, given):
         raise Fault(f"{path}: Prometheus answered: {whole.get('error')}")
     if not isinstance(data, dict) or data.get("resultType") != "matrix":
         raise Fault(f"{path}: this is no answer of a range query: /api/v1/query_range gives one, with resultType matrix")
-    for one in data["result"]:
-        values = [(float(seconds), float(value)) for seconds, value in one["values"]]
-        yield Series(kind_of(one["metric"].get("__name__"), given), one["metric"],
+    for one in data.get("result", []):
+        try:
+            labels = {name: str(word) for name, word in one["metric"].items()}
+            values = [(read_time(seconds), float(value)) for seconds, value in one["values"]]
+        except (KeyError, TypeError, ValueError, AttributeError):
+            raise Fault(f"{path}: a series lacks its labels or its pairs of a time and a value: {str(one)[:60]}") from None
+        yield Series(kind_of(labels.get("__name__"), given), labels,
                      [(seconds, math.ceil(value)) for seconds, value in values if math.isfinite(value)])

@@ -103,7 +103,9 @@ class Replay:
         self.lose([frame for frame in self.places if frame not in there], limit)
 
     def bury(self, group, limit, asker, answer):
-        """A group died, and what it had was freed."""
+        """A group died, and what it had was freed. One that died for lack of its first page may be killed later too."""
+        if group.death:
+            return
         lines = [line for line in answer[1:] if not line.startswith("# refused ")]
         group.death = Death(self.seconds, group, limit, asker, lines)
         group.kills += 1
@@ -173,8 +175,8 @@ class Replay:
             self.grow_with_room(growths)
             return
         for group, anon, file in wanted:
-            self.grow_anon(group, anon - len(group.anon))
             self.forget_reclaimed(group)
+            self.grow_anon(group, anon - len(group.anon))
             self.grow_file(group, file - len(group.file))
 
     def grow_with_room(self, growths):

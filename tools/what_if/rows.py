@@ -14,14 +14,14 @@ def alternatives(words):
     return " or ".join(filter(None, [", ".join(words[:-1]), words[-1]]))
 
 
-def places_of(titles, path):
+def places_of(titles):
     """Of each column where it is."""
     names = [title.strip().lower() for title in titles]
     places = {column: next((names.index(name) for name in known if name in names), None)
               for column, known in COLUMNS.items()}
     for column in ("seconds", "group", "rss"):
         if places[column] is None:
-            raise Fault(f"{path}: line 1: no column is called {alternatives(COLUMNS[column])}")
+            raise Fault(f"no column is called {alternatives(COLUMNS[column])}")
     return {column: at for column, at in places.items() if at is not None}
 
 
@@ -43,12 +43,12 @@ def read(path, _):
     """The series of a file."""
     with open_text(path) as lines:
         rows = csv.reader(lines)
-        titles = next(rows, [])
-        places = places_of(titles, path)
-        for row in rows:
-            try:
+        try:
+            titles = next(rows, [])
+            places = places_of(titles)
+            for row in rows:
                 if len(row) != len(titles):
                     raise Fault(f"{len(row)} values, and there are {len(titles)} columns")
                 yield from row_series(row, places)
-            except Fault as fault:
-                raise Fault(f"{path}: line {rows.line_num}: {fault}") from None
+        except (Fault, csv.Error) as fault:
+            raise Fault(f"{path}: line {max(1, rows.line_num)}: {fault}") from None

@@ -26,7 +26,7 @@ def read_number(word):
     found = re.fullmatch(r"\s*([0-9.]+(?:[eE][+-]?[0-9]+)?)\s*([A-Za-z]*)\s*", str(word))
     try:
         return math.ceil(float(found[1]) * UNITS[found[2]]) if found else None
-    except (KeyError, ValueError):
+    except (KeyError, ValueError, OverflowError):
         return None
 
 
@@ -34,13 +34,20 @@ def read_time(word):
     """The seconds of a time: of a number, in milliseconds if it is a date in these, or of ISO 8601, in UTC if unsaid."""
     try:
         seconds = float(word)
-        return seconds / 1000 if seconds >= 1e11 else seconds
+        seconds = seconds / 1000 if seconds >= 1e11 else seconds
     except ValueError:
-        pass
+        seconds = iso_seconds(str(word).strip())
+    if not 0 <= seconds < 1e11:
+        raise Fault(f"'{word}' is no time: seconds, or as 2026-01-31T12:00:00Z")
+    return seconds
+
+
+def iso_seconds(word):
+    """The seconds of a time of ISO 8601; -1 if it is none."""
     try:
-        time = datetime.datetime.fromisoformat(re.sub(r"Z$", "+00:00", str(word).strip()))
+        time = datetime.datetime.fromisoformat(re.sub(r"Z$", "+00:00", word))
     except ValueError:
-        raise Fault(f"'{word}' is no time: seconds, or as 2026-01-31T12:00:00Z") from None
+        return -1
     return (time if time.tzinfo else time.replace(tzinfo=datetime.timezone.utc)).timestamp()
 
 
@@ -65,7 +72,7 @@ def path_of(labels, twice):
     pod = labels.get("pod") or labels.get("pod_name")
     if not pod:
         return None
-    pod = f"{labels['namespace']}_{pod}" if pod in twice else pod
+    pod = f"{labels.get('namespace')}_{pod}" if pod in twice else pod
     container = labels.get("container") or labels.get("container_name")
     return "/" + "/".join(plain(name) for name in [pod, container] if name)
 
