@@ -11,11 +11,13 @@ function savedBy({ path, victim, max, usage, need, its, dirty, pinned, full }, n
   const others = full.length ? `; ${listed(full)} ${full.length === 1 ? "has" : "have"} no room for it either` : "";
   return `It would have lived there with ${ways.join(", or with ")}${others}.`;
 }
-/** What became of a killed group, in a sentence, and what would have saved it. */
+/** What became of a killed group, in a sentence, and what would have saved it; of one that died with a victim, which it was. */
 function killVerdict(run, event) {
   const { life, choice, note } = event, [, freed] = /^# killed \S+ returned \d+ bytes (\d+) /.exec(note ? run.textAt(note) : "") ?? [];
-  const words = [life ? nameOf(run, life) : "a group", choice && `, for the limit of ${choice.path} (${memoryText(choice.max)}${choice.need ? `, no room for ${memoryText(choice.need)} more` : `, usage ${memoryText(choice.usage)}`})`, freed && `: ${memoryText(inPages(freed))} freed`];
-  return `${words.filter(Boolean).join("")}. ${choice ? savedBy(choice, life?.path) : ""}`.trim();
+  const name = life ? nameOf(run, life) : "a group", amount = freed ? `: ${memoryText(inPages(freed))} freed` : "";
+  if (life && choice?.victim && choice.victim !== life.path) return `${name} with ${choice.victim}, by memory.oom.group${amount}.`;
+  const cause = choice ? `, for the limit of ${choice.path} (${memoryText(choice.max)}${choice.need ? `, no room for ${memoryText(choice.need)} more` : `, usage ${memoryText(choice.usage)}`})` : "";
+  return `${name}${cause}${amount}. ${choice ? savedBy(choice, life?.path) : ""}`.trim();
 }
 /** The verdict of a log without kills: the moment at which a limit had least room; without limits, at which least frames were free. */
 function tightVerdict(run) {
