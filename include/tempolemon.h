@@ -232,6 +232,11 @@ uint8_t tempolemon_owner(tempolemon_handle *handle, uint32_t cpu, uint32_t frame
 /* Settles the CPU: SETTLED. */
 uint8_t tempolemon_settle(tempolemon_handle *handle, uint32_t cpu, tempolemon_result *out);
 
+/* What ./memcg lib noted in this library of its proof, as `memcg --version` says it of the program: a line with the kit and
+ * its logic, a line with the hash of the sources, and `proved`; or one line that begins with `unproved: `. The text is a
+ * constant, and ends with a null byte. */
+const char *tempolemon_proof(void);
+
 #ifdef __cplusplus
 }
 #endif

@@ -2,23 +2,34 @@
 import re
 
 SUFFIXES = " KMGTPE"
+NO_LIMIT = ("max", "unlimited", "-1")
+# What a table has of a path at most: its beginning, two points and its end.
+WIDEST = 60
+# What goes to standard error after all went well.
+NOTES = []
 
 
 class Fault(Exception):
     """A bad input; its text is the line that says so."""
 
 
+def note(line):
+    """A line for standard error of what is no fault but worth a look. A fault's line comes alone."""
+    NOTES.append(line)
+
+
 def read_amount(word):
-    """The bytes that a word such as 300M means."""
-    found = re.fullmatch(r"([0-9]+)([KMGTPE]?)", word.upper())
+    """The bytes that a word such as 300M or 300Mi means."""
+    found = re.fullmatch(r"([0-9]+)(?:([KMGTPE])(?:IB?)?)?", word.upper())
     if not found:
-        raise Fault(f"'{word}' isn't an amount: a whole number of bytes, perhaps with K, M, G, T, P or E")
+        raise Fault(f"'{word}' isn't an amount: a whole number of bytes, perhaps with K, M, G, T, P or E; "
+                    "Mi means the same as M")
     return int(found[1]) << 10 * (SUFFIXES.index(found[2]) if found[2] else 0)
 
 
 def read_limit(word):
-    """The bytes of a limit, or None if the word is max."""
-    return None if word == "max" else read_amount(word)
+    """The bytes of a limit, or None if there is none."""
+    return None if word in NO_LIMIT else read_amount(word)
 
 
 def amount_text(count):
@@ -36,3 +47,8 @@ def limit_text(count):
 def seconds_text(seconds):
     """A time of a sample as text."""
     return f"{seconds:.3f}".rstrip("0").rstrip(".") + " s"
+
+
+def path_text(path):
+    """A path as a table shows it."""
+    return path if len(path) <= WIDEST else f"{path[:18]}..{path[20 - WIDEST:]}"

@@ -17,7 +17,8 @@ def check_path(path):
     if len(path) > MOST_BYTES:
         raise Fault(f"the path has {len(path)} bytes, and at most {MOST_BYTES} are possible")
     if len(names) > MOST_NAMES:
-        raise Fault(f"the path has {len(names)} names, and at most {MOST_NAMES} are possible")
+        raise Fault(f"the path has {len(names)} names, and at most {MOST_NAMES} are possible: leave out names at its "
+                    "beginning, which all groups have")
 
 
 def path_up(path):

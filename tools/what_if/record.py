@@ -4,10 +4,9 @@ import io
 import os
 import re
 import signal
-import sys
 import time
 
-from .amounts import Fault, amount_text
+from .amounts import Fault, amount_text, note
 from .usage import HEADER
 
 MOUNT = "/sys/fs/cgroup"
@@ -33,16 +32,27 @@ def name_of(word):
     return "".join(byte if "!" <= byte <= "~" and byte not in "/," else "_" for byte in word) or "_"
 
 
+def check_folder(folder):
+    """Refuses what is no group of cgroup v2."""
+    stat = numbers_of(f"{folder}/memory.stat")
+    if not os.path.isdir(folder):
+        raise Fault(f"{folder}: there is no such folder: ls {MOUNT} shows the groups")
+    if stat is None:
+        raise Fault(f"{folder}: no memory.stat can be read, so it is no group of cgroup v2 with memory control")
+    if "anon" not in stat:
+        raise Fault(f"{folder}: this is cgroup v1, and record takes version 2: record processes by --pid, or take snapshots "
+                    "for 'whatif import cgroupfs'")
+
+
 class Groups:
     """The groups of cgroup v2 at some folders and below them."""
 
     def __init__(self, folders):
+        for folder in folders:
+            check_folder(folder)
         self.folders = [os.path.realpath(folder) for folder in folders]
         self.events = {}  # of each group what memory.events had when it was seen first, and what it has now
         self.most_other = 0
-        for folder in self.folders:
-            if text_of(f"{folder}/memory.stat") is None:
-                raise Fault(f"{folder}: no memory.stat can be read, so it is no group of cgroup v2 with memory control")
 
     def path_of(self, place, folder):
         """The path of a group: from the mount on, or from the name of the folder that was asked for."""
@@ -122,7 +132,9 @@ class Processes:
 
     @staticmethod
     def remarks():
-        return ()
+        """What the samples don't show."""
+        yield ("file is what the processes map of files: what they read or write by calls, such as read(2), is not in this "
+               "record, and is in one of their group, by --cgroup")
 
 
 def rows_text(seconds, rows):
@@ -171,9 +183,8 @@ def record(options):
             count, groups = sample_until(source, file, options.every / 1000, options.seconds)
     except OSError as fault:
         raise Fault(f"{options.out}: {fault.strerror}") from None
-    print(f"whatif: {len(groups)} groups, {count} samples in {options.out}", file=sys.stderr)
-    for remark in source.remarks():
-        print(f"whatif: {remark}", file=sys.stderr)
+    for remark in (f"{len(groups)} groups, {count} samples in {options.out}", *source.remarks()):
+        note(remark)
 
 
 def add_options(parser):

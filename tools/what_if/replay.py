@@ -2,7 +2,7 @@
 from collections import namedtuple
 
 from .amounts import Fault, seconds_text
-from .paths import from_node, path_up, to_node
+from .paths import from_node, is_below, path_up, to_node
 from .session import Session
 
 # The zone has more frames than the limit of /node, so that a CPU's list never leaves it empty: that would kill nobody.
@@ -19,93 +19,129 @@ class Group:
         self.path, self.node = path, to_node(path)
         self.anon, self.file = [], []
         self.limit, self.death = None, None
-        self.times_without_room = 0
+        self.times_without_room, self.first_without_room = 0, None
+        self.kills = self.times_away = 0
+        # Which file pages were touched last, and how often without a reclaim since.
+        self.touched, self.touches = [], 0
         # With all groups below: what is used, at most was used, was reclaimed, and was read of files.
         self.usage = self.peak = self.reclaimed = self.read = 0
 
 
 class Replay:
-    """The groups while samples are played. All amounts are in frames."""
+    """The groups while samples are played. All amounts are in frames. A killed group comes back at the first sample
+    that is at least so many seconds later, as `restart` says, and never if that is None."""
 
-    def __init__(self, session, usage, flags=(), is_reread=False):
-        self.session, self.is_reread = session, is_reread
+    def __init__(self, session, usage, flags=(), is_reread=False, restart=None):
+        self.session, self.is_reread, self.restart, self.flags = session, is_reread, restart, flags
         self.groups = {path: Group(path) for path in usage.groups}
         self.ups = {path: [self.groups[above] for above in path_up(path)] for path in usage.groups}
         self.places = {}  # of each frame of a file's page: its group, and which of its pages it is
         self.deaths, self.seconds = [], 0.0
-        made = [f"1 mkdir {group.node}" for group in self.groups.values()]
-        flagged = [f"1 write {to_node(path)} memory.oom.group 1" for path in sorted(flags)]
-        for answer in session.ask(made + flagged):
+        self.reclaims = {}  # of the paths of a limit and of a group: the first and last second, and the frames
+        for answer in session.ask(self.lines_of_new(self.groups.values())):
             if not (answer[0].startswith("group ") or answer[0] == "ok"):
-                raise Fault(f"memcg answered '{answer[0]}' to a new group")
+                raise Fault(f"{session.memcg} answered '{answer[0]}' to a new group: is that Tempolemon's memcg? "
+                            "--memcg PATH names it")
         self.set_limit(self.groups["/"], usage.host)
 
     def play(self, sample):
         """A sample: limits that changed, then what became less, then what became more, then what is used."""
         self.seconds = sample.seconds
-        if self.session.script is not None:
-            self.session.script.append(f"# {seconds_text(sample.seconds)}")
+        self.session.comment(f"# {seconds_text(sample.seconds)}")
+        if self.restart is not None:
+            self.revive()
         for path, limit in sorted(sample.limits.items()):
             self.set_limit(self.groups[path], limit)
         wanted = [(group, *sample.amounts.get(group.path, (0, 0))) for group in self.groups.values()]
         for group, anon, file in wanted:
-            self.fall(group, group.anon, anon)
-            self.fall(group, group.file, file)
-        for group, anon, file in wanted:
-            if self.is_reread:
-                self.forget_reclaimed(group)
-            self.grow_anon(group, anon - len(group.anon))
-            self.grow_file(group, file - len(group.file))
+            if anon < len(group.anon):
+                self.fall(group, group.anon, anon)
+            if file < len(group.file):
+                self.fall(group, group.file, file)
+        self.grow([each for each in wanted if not each[0].death])
         self.touch()
 
     # What the program answers
 
     def note(self, answer, asker):
         """Takes over what the explanation of a line says."""
-        limit = None
+        limit = self.groups["/"]
         for words in (line.split(" ") for line in answer[1:]):
             if words[1] == "limit":
-                self.groups[from_node(words[2])].times_without_room += 1
+                limit = self.groups[from_node(words[2])]
+                limit.times_without_room += 1
+                if limit.first_without_room is None:
+                    limit.first_without_room = self.seconds
+            elif words[1] == "round":
+                for group in self.groups.values():
+                    group.touches = 0
             elif words[1] == "reclaimed" and words[-1] == "frames":
-                self.look_for_units()
+                self.look_for_units(limit)
             elif words[1] == "reclaimed":
                 first, _, last = words[3].partition("-")
-                self.lose(range(int(first), int(last or first) + 1))
+                self.lose(range(int(first), int(last or first) + 1), limit)
             elif words[1] == "oom":
                 limit = self.groups[from_node(words[2])]
             elif words[1] == "killed":
                 self.bury(self.groups[from_node(words[2])], limit, asker, answer)
 
-    def lose(self, frames):
-        """Frames of files' pages were reclaimed."""
+    def lose(self, frames, limit):
+        """Frames of files' pages were reclaimed for a limit."""
         for frame in frames:
             group, at = self.places.pop(frame)
             group.file[at] = None
             self.count(group, -1)
             for above in self.ups[group.path]:
                 above.reclaimed += 1
+            first, _, before = self.reclaims.get((limit.path, group.path), (self.seconds, None, 0))
+            self.reclaims[limit.path, group.path] = (first, self.seconds, before + 1)
 
-    def look_for_units(self):
+    def look_for_units(self, limit):
         """An explanation didn't name all frames that were reclaimed: the groups are asked for those that they have."""
         answers = self.session.ask([f"1 units {group.node}" for group in self.groups.values()])
         there = {int(line.split(" ")[0]) for answer in answers for line in answer if line != "none"}
-        self.lose([frame for frame in self.places if frame not in there])
+        self.lose([frame for frame in self.places if frame not in there], limit)
 
     def bury(self, group, limit, asker, answer):
-        """A group died, and what it had was freed."""
+        """A group died, and what it had was freed. One that died for lack of its first page may be killed later too."""
+        if group.death:
+            return
         lines = [line for line in answer[1:] if not line.startswith("# refused ")]
         group.death = Death(self.seconds, group, limit, asker, lines)
+        group.kills += 1
         self.deaths.append(group.death)
         for frame in filter(None.__ne__, group.file):
             del self.places[frame]
         self.count(group, -sum(frame is not None for frame in group.anon + group.file))
-        group.anon, group.file = [], []
+        group.anon, group.file, group.touched = [], [], []
 
     def count(self, group, frames):
         """A group and all above it use so many frames more."""
         for above in self.ups[group.path]:
             above.usage += frames
             above.peak = max(above.peak, above.usage)
+
+    # Groups that come, and come back
+
+    def lines_of_new(self, groups):
+        """The lines that make groups, and write what they have of settings."""
+        return [*(f"1 mkdir {group.node}" for group in groups),
+                *(f"1 write {group.node} memory.oom.group 1" for group in groups if group.path in self.flags),
+                *(f"1 write {group.node} memory.max {4096 * group.limit}" for group in groups if group.limit is not None)]
+
+    def revive(self):
+        """Killed groups whose time has come are made anew, each with all below it if nothing there lives."""
+        for group in self.groups.values():
+            if group.death and group.death.seconds + self.restart <= self.seconds:
+                if group.usage:
+                    group.times_away += 1
+                    continue
+                anew = [each for each in self.groups.values() if is_below(each.path, group.path)]
+                self.session.tell([f"1 rmdir {each.node}" for each in reversed(anew)])
+                for answer in self.session.ask(self.lines_of_new(anew)):
+                    if not (answer[0].startswith("group ") or answer[0] == "ok"):
+                        raise Fault(f"memcg answered '{answer[0]}' to {group.path}, which came back")
+                group.death = None
 
     # What a sample asks for
 
@@ -122,8 +158,44 @@ class Replay:
         del pages[wanted:]
         for frame in gone:
             self.places.pop(frame, None)
-        self.session.ask([f"1 release {frame}" for frame in reversed(gone)])
+        self.session.tell([f"1 release {frame}" for frame in reversed(gone)])
         self.count(group, -len(gone))
+
+    def grow(self, wanted):
+        """Groups grow to so many pages of each kind: together if no limit can lack room, and else one after the other."""
+        growths, more = [], dict.fromkeys(self.groups, 0)
+        for group, anon, file in wanted:
+            self.forget_reclaimed(group)
+            growth = (group, max(0, anon - len(group.anon)), max(0, file - len(group.file)))
+            if growth[1] or growth[2]:
+                growths.append(growth)
+                for above in self.ups[group.path]:
+                    more[above.path] += growth[1] + growth[2]
+        if all(group.limit is None or group.usage + more[path] <= group.limit for path, group in self.groups.items()):
+            self.grow_with_room(growths)
+            return
+        for group, anon, file in wanted:
+            self.forget_reclaimed(group)
+            self.grow_anon(group, anon - len(group.anon))
+            self.grow_file(group, file - len(group.file))
+
+    def grow_with_room(self, growths):
+        """Pages for which there is room, in the order in which single growths ask for them."""
+        answers = self.session.ask([f"1 alloc {group.node} 0" for group, anon, file in growths for _ in range(anon + file)])
+        frames = iter([self.frame_of(answer) for answer in answers])
+        for group, anon, file in growths:
+            dirty = [next(frames) for _ in range(anon)]
+            group.anon += dirty
+            self.session.tell([f"1 dirty {frame}" for frame in dirty])
+            self.add_file(group, [next(frames) for _ in range(file)])
+            self.count(group, anon + file)
+
+    @staticmethod
+    def frame_of(answer):
+        """The frame of an allocation for which there was room."""
+        if not answer[0].startswith("frame ") or len(answer) > 1:
+            raise Fault(f"memcg answered '{answer[0]}' to an alloc with room")
+        return int(answer[0][6:])
 
     def placed(self, group, answer):
         """The frame that an allocation was given; None if the group died."""
@@ -150,11 +222,13 @@ class Replay:
             answers = self.session.ask([f"1 alloc {group.node} 0"] * part)
             frames = [self.placed(group, answer) for answer in answers]
             group.anon += [frame for frame in frames if frame is not None]
-            self.session.ask([f"1 dirty {frame}" for frame in frames if frame is not None])
+            self.session.tell([f"1 dirty {frame}" for frame in frames if frame is not None])
             count -= part
 
     def forget_reclaimed(self, group):
         """Reclaimed pages are read again: they are the newest then, so until then they aren't among the pages."""
+        if not self.is_reread or None not in group.file:
+            return
         group.file = [frame for frame in group.file if frame is not None]
         self.places.update((frame, (group, at)) for at, frame in enumerate(group.file))
 
@@ -165,16 +239,26 @@ class Replay:
         for answer in self.session.ask([f"1 alloc {group.node} 0"] * max(0, count)):
             frame = self.placed(group, answer)
             if frame is not None:
-                self.places[frame] = (group, len(group.file))
-                group.file.append(frame)
-                for above in self.ups[group.path]:
-                    above.read += 1
+                self.add_file(group, [frame])
+
+    def add_file(self, group, frames):
+        """Pages of files that were read."""
+        for frame in frames:
+            self.places[frame] = (group, len(group.file))
+            group.file.append(frame)
+        for above in self.ups[group.path]:
+            above.read += len(frames)
 
     def touch(self):
-        """The newest half of each group's file pages is used."""
+        """The newest half of each group's file pages is used. The third use of the same pages, with no reclaim since the
+        first, is left out: after the second they are the newest active pages in this order already."""
         for group in self.groups.values():
             there = [frame for frame in group.file if frame is not None]
-            self.session.ask([f"1 touch {frame}" for frame in there[len(there) // 2:]])
+            used = there[len(there) // 2:]
+            group.touches = group.touches + 1 if used == group.touched else 1
+            group.touched = used
+            if group.touches <= 2:
+                self.session.tell([f"1 touch {frame}" for frame in used])
 
 
 def start(memcg, usage, **more):

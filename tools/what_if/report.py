@@ -1,5 +1,7 @@
 """The report of a replay: a table with a row a group, what killed, and in the last line what came of it."""
-from .amounts import amount_text, limit_text, seconds_text
+import json
+
+from .amounts import amount_text, limit_text, path_text, seconds_text
 from .paths import NODE
 from .usage import greatest_wanted
 
@@ -18,14 +20,20 @@ def table(rows):
 
 def death_text(death):
     """When a group died, and by which limit."""
-    return f"{seconds_text(death.seconds)} by {death.limit.path}" if death else "-"
+    return f"{seconds_text(death.seconds)} by {path_text(death.limit.path)}" if death else "-"
 
 
-def group_row(group, wanted, size):
+def first_deaths(replay):
+    """The first death of each group that died."""
+    return {death.group.path: death for death in reversed(replay.deaths)}
+
+
+def group_row(group, wanted, size, death, is_restarted):
     """A group's row."""
-    return [group.path, amount_text(wanted * size), amount_text(group.peak * size),
+    kills = [str(group.kills)] if is_restarted else []
+    return [path_text(group.path), amount_text(wanted * size), amount_text(group.peak * size),
             limit_text(None if group.limit is None else group.limit * size), str(group.times_without_room),
-            amount_text(group.reclaimed * size), death_text(group.death)]
+            amount_text(group.reclaimed * size), *kills, death_text(death)]
 
 
 def explanation(line, size):
@@ -41,16 +49,40 @@ def explanation(line, size):
 
 
 def death_lines(deaths, size):
-    """Each line that killed, with its explanation."""
-    told = []
+    """Each line that killed first for a limit and an asking group, with its explanation."""
+    told, same = [], {}
     for death in deaths:
-        if death.lines in told:
+        key = death.limit, death.group
+        same[key] = same.get(key, 0) + 1
+        if death.lines in told or same[key] > 1:
             continue
         told.append(death.lines)
         asked = f"{death.asker.path} asked for a frame" if death.asker else f"the limit of {death.limit.path} fell"
         yield ""
         yield f"{seconds_text(death.seconds)}: {asked}"
         yield from (f"    {explanation(line, size)}" for line in death.lines)
+
+
+def room_lines(replay, size):
+    """When each limit had no room first, and what was reclaimed of whom for it."""
+    for limit in sorted((group for group in replay.groups.values() if group.times_without_room),
+                        key=lambda group: (group.first_without_room, group.path)):
+        yield ""
+        yield (f"{seconds_text(limit.first_without_room)}: the limit of {limit.path} first had no room, "
+               f"{limit.times_without_room} times in all")
+        for (path, group), (first, last, frames) in sorted(replay.reclaims.items()):
+            if path == limit.path:
+                yield (f"    {amount_text(frames * size)} of file pages of {group} were reclaimed for it, "
+                       f"from {seconds_text(first)} to {seconds_text(last)}")
+
+
+def away_lines(replay):
+    """The groups that couldn't come back."""
+    for group in replay.groups.values():
+        if group.times_away:
+            yield ""
+            yield (f"{group.path} was killed and stayed away for {group.times_away} samples, in which groups below it "
+                   "lived: what it had of its own then isn't played")
 
 
 def last_line(replay, size):
@@ -61,8 +93,10 @@ def last_line(replay, size):
     first = replay.deaths[0]
     limit, asker = first.limit, first.asker
     why = f"{asker.path} asked for a frame" if asker else "it was written below the usage"
+    after = ("; the dead stayed dead: --restart brings them back" if replay.restart is None else
+             f"; {len(replay.deaths)} kills in all")
     return (f"died first: {first.group.path} at {seconds_text(first.seconds)}, by the limit of {limit.path}: "
-            f"{why}, and no file page below {limit.path} was left to reclaim")
+            f"{why}, and no file page below {limit.path} was left to reclaim{after}")
 
 
 def head_line(name, usage, size):
@@ -75,10 +109,37 @@ def head_line(name, usage, size):
 
 def report(name, usage, size, replay):
     """The whole report, line by line."""
-    wanted = greatest_wanted(usage)
+    wanted, deaths, is_restarted = greatest_wanted(usage), first_deaths(replay), replay.restart is not None
+    columns = [*COLUMNS[:-1], *(["kills"] if is_restarted else []), COLUMNS[-1]]
     yield head_line(name, usage, size)
     yield ""
-    yield from table([COLUMNS, *(group_row(group, wanted[path], size) for path, group in replay.groups.items())])
+    yield from table([columns, *(group_row(group, wanted[path], size, deaths.get(path), is_restarted)
+                                 for path, group in replay.groups.items())])
+    yield from room_lines(replay, size)
     yield from death_lines(replay.deaths, size)
+    yield from away_lines(replay)
     yield ""
     yield last_line(replay, size)
+
+
+def group_object(group, wanted, size, death):
+    """A group as JSON has it."""
+    return {"group": group.path, "wanted_bytes": wanted * size, "usage_bytes": group.peak * size,
+            "limit_bytes": None if group.limit is None else group.limit * size,
+            "times_without_room": group.times_without_room, "first_without_room_seconds": group.first_without_room,
+            "reclaimed_bytes": group.reclaimed * size, "kills": group.kills, "samples_away": group.times_away,
+            "died_first_seconds": death and death.seconds, "died_first_by": death and death.limit.path}
+
+
+def json_lines(name, usage, size, replay):
+    """The same as one object on one line."""
+    wanted, deaths = greatest_wanted(usage), first_deaths(replay)
+    yield json.dumps({
+        "usage": name, "samples": len(usage.samples), "seconds": usage.samples[-1].seconds - usage.samples[0].seconds,
+        "host_bytes": usage.host * size, "frame_bytes": size, "restart_seconds": replay.restart,
+        "survived": not replay.deaths, "reclaimed_bytes": replay.groups["/"].reclaimed * size,
+        "groups": [group_object(group, wanted[path], size, deaths.get(path)) for path, group in replay.groups.items()],
+        "kills": [{"seconds": death.seconds, "group": death.group.path, "limit": death.limit.path,
+                   "asker": death.asker and death.asker.path} for death in replay.deaths],
+        "reclaims": [{"limit": limit, "group": group, "first_seconds": first, "last_seconds": last, "bytes": frames * size}
+                     for (limit, group), (first, last, frames) in sorted(replay.reclaims.items())]})

@@ -3,9 +3,12 @@ import csv
 from collections import namedtuple
 
 from .amounts import Fault, seconds_text
+from .files import open_text
 from .paths import MOST_GROUPS, check_path, is_below, path_up
 
 HEADER = ["seconds", "group", "anon", "file", "max"]
+# What to do about times and numbers in other forms.
+REMEDY = "'whatif import rows' also takes ISO times, units and exponents"
 # A zone has at most 1,048,576 frames, some of which are on the CPU's list.
 USUAL_FRAMES, MOST_FRAMES = 65_536, 1_048_000
 
@@ -20,8 +23,15 @@ def whole_number(word, name):
     if word.startswith("-"):
         raise Fault(f"{name} is negative: {word}")
     if not (word.isascii() and word.isdigit()):
-        raise Fault(f"{name} is no whole number of bytes: '{word}'")
+        raise Fault(f"{name} is no whole number of bytes: '{word}'; {REMEDY}")
     return int(word)
+
+
+def read_max(word):
+    """A limit of a row, or None."""
+    if word in ("", "-1", "unlimited"):
+        raise Fault(f"max is a whole number of bytes, or the word max if there is no limit, and not '{word}'")
+    return None if word == "max" else whole_number(word, "max")
 
 
 def read_seconds(word, before):
@@ -29,76 +39,58 @@ def read_seconds(word, before):
     try:
         seconds = float(word)
     except ValueError:
-        raise Fault(f"'{word}' is no time in seconds") from None
+        seconds = -1.0
     if not 0 <= seconds < float("inf"):
-        raise Fault(f"'{word}' is no time in seconds")
+        raise Fault(f"'{word}' is no time in seconds; {REMEDY}")
     if seconds < before:
-        raise Fault(f"the time goes back, from {seconds_text(before)} to {seconds_text(seconds)}")
+        raise Fault(f"the time goes back, from {seconds_text(before)} to {seconds_text(seconds)}: sort the rows by time, "
+                    "as 'whatif import rows' does")
     return seconds
 
 
-def add_row(row, samples):
+def add_row(row, samples, rename):
     """A row goes to the sample of its time."""
     if len(row) != len(HEADER):
         raise Fault(f"{len(row)} values, and a row has {len(HEADER)}: {','.join(HEADER)}")
     seconds = read_seconds(row[0], samples[-1].seconds if samples else 0.0)
-    group, anon, file = row[1], whole_number(row[2], "anon"), whole_number(row[3], "file")
+    group, anon, file = rename(row[1]), whole_number(row[2], "anon"), whole_number(row[3], "file")
     check_path(group)
     if not samples or seconds > samples[-1].seconds:
         samples.append(Sample(seconds, {}, {}))
     if group in samples[-1].amounts:
         raise Fault(f"{group} has a second row at this time")
     samples[-1].amounts[group] = (anon, file)
-    samples[-1].limits[group] = None if row[4] == "max" else whole_number(row[4], "max")
+    samples[-1].limits[group] = read_max(row[4])
 
 
-def read_rows(lines, name):
+def read_rows(lines, name, rename):
     """The samples of a file's lines."""
     samples, rows = [], csv.reader(lines)
     try:
         if next(rows, None) != HEADER:
-            raise Fault(f"the header {','.join(HEADER)} is due")
+            raise Fault(f"the header {','.join(HEADER)} is due; 'whatif import' makes such a file of other formats")
         for row in rows:
-            add_row(row, samples)
+            add_row(row, samples, rename)
     except csv.Error as fault:
         raise Fault(f"{name}: line {rows.line_num}: {fault}") from None
     except Fault as fault:
         raise Fault(f"{name}: line {max(1, rows.line_num)}: {fault}") from None
     if not samples:
-        raise Fault(f"{name}: line {rows.line_num}: no sample")
+        raise Fault(f"{name}: line {rows.line_num}: no sample: no row follows the header, so record for longer")
     return samples
 
 
-def read_usage(path):
-    """What a CSV file has."""
-    try:
-        with open(path, encoding="utf-8", errors="surrogateescape", newline="") as lines:
-            samples = read_rows(lines, path)
-    except OSError as fault:
-        raise Fault(f"{path}: {fault.strerror}") from None
-    groups = {above for sample in samples for group in sample.amounts for above in path_up(group)}
+def groups_of(samples):
+    """The groups of samples with all above them, in the order of their paths."""
+    return sorted({above for sample in samples for group in sample.amounts for above in path_up(group)} | {"/"})
+
+
+def read_usage(path, rename=str):
+    """What a CSV file has, with the names of groups that `rename` gives them."""
+    with open_text(path) as lines:
+        samples = read_rows(lines, path, rename)
     host = next((sample.limits["/"] for sample in samples if "/" in sample.limits), None)
-    return Usage([Sample(s, a, {g: l for g, l in m.items() if g != "/"}) for s, a, m in samples],
-                 sorted(groups | {"/"}), host)
-
-
-def keep_greatest(usage, count):
-    """So many groups with the greatest peaks are kept, with all above them. What the others have is counted in the
-    nearest kept group above."""
-    peaks = {group: max(sum(sample.amounts.get(group, (0, 0))) for sample in usage.samples) for group in usage.groups}
-    kept = {"/"}
-    for group in sorted(usage.groups, key=lambda group: (-peaks[group], group)):
-        more = kept | set(path_up(group))
-        kept = more if len(more) - 1 <= count else kept
-    samples = []
-    for seconds, amounts, limits in usage.samples:
-        sums = {}
-        for group, (anon, file) in amounts.items():
-            into = next(above for above in path_up(group) if above in kept)
-            before = sums.get(into, (0, 0))
-            sums[into] = (before[0] + anon, before[1] + file)
-        samples.append(Sample(seconds, sums, {group: limit for group, limit in limits.items() if group in kept}))
-    return Usage(samples, sorted(kept), usage.host)
+    return Usage([Sample(s, a, {g: l for g, l in m.items() if g != "/"}) for s, a, m in samples], groups_of(samples), host)
 
 
 def check_count(usage, name):
@@ -106,7 +98,7 @@ def check_count(usage, name):
     count = len(usage.groups) - 1
     if count > MOST_GROUPS:
         raise Fault(f"{name}: {count} groups with their ancestors, and at most {MOST_GROUPS} are possible: "
-                    f"--top {MOST_GROUPS} keeps the greatest")
+                    f"--top {MOST_GROUPS} keeps the greatest, and each with a limit")
 
 
 def frame_size(host):

@@ -8,7 +8,7 @@ ghost use Rattle.mem_system.specs.Ending.{HasEnded};
 
 use anyhow::{Context, Result, anyhow};
 use cpu_part::BootName;
-use mem_system::{Boot, Cmd, Cpu, Reply, System, SystemEnd, boot};
+use mem_system::{Boot, Cmd, Cpu, Outcome, Reply, System, SystemEnd, boot};
 use reply_texts::{write_fast, write_get, write_put, write_reply};
 use std::alloc::Global;
 use std::marker::Brand;
@@ -50,7 +50,7 @@ fn run_system<N: BootName, R: Wait>(
     Ok(ended)
 }
 
-// CPU 1 makes a group with a limit and allocates two frames for it, the second without the lock. CPU 2 takes a
+// CPU 1 makes a group with a limit and allocates two frames for it: a dirty one, and one without the lock. CPU 2 takes a
 // reference on the first, so that frame outlives its release. Then an allocation reaches the limit, once even the
 // second frame was reclaimed, and a file is read.
 fn run_demo<N: BootName, R: Wait>(
@@ -67,7 +67,7 @@ fn run_demo<N: BootName, R: Wait>(
         return Err(anyhow!("no group"));
     };
     ask(rt, system, first, &Cmd::Write { path, file, value }, text)?;
-    let Reply::Frame(number) = system.visit(rt, first, &Cmd::Alloc { path, order: 0 }) else {
+    let Outcome::Frame(number) = system.alloc_dirty(rt, first, path, 0) else {
         return Err(anyhow!("no frame"));
     };
     let shared = tables.words.frame(number).context("no such frame")?;

@@ -1,0 +1,308 @@
+"""Tempolemon: the memory controller of Linux cgroup v2 over a zone of page frames.
+
+Boot a Zone, take a Cpu of it for each thread, and use both in `with`. Each call is answered as the command of its name is
+in a script (docs/MANUAL.md). A refusal is an exception, below Error.
+"""
+import ctypes
+import enum
+import threading
+import time
+from types import TracebackType
+from typing import Any, Callable, NamedTuple, Optional, Type
+
+from . import raw
+from .errors import *  # noqa: F401,F403
+from .errors import Full, InUse, NotPinned, Raced, SmallBuffer, Zero, error_of
+
+PROOF: str = raw.library.tempolemon_proof().decode()
+"""What `./memcg lib` noted in the library of its proof: a line with the kit and its logic, a line with the hash of the
+sources, and `proved`; or one line that begins with `unproved: `. `memcg --version` says the same of the program."""
+
+
+class Kind(enum.IntEnum):
+    """What a call gives."""
+    FREE = 5
+    """The frame is free."""
+    CPU = 6
+    """The frame is lent to the CPU of this number."""
+    CHARGED = 7
+    """The frame is charged to the group of this number."""
+    MARKED = 8
+    """The unit is marked now."""
+    ACTIVE = 9
+    """The unit is the newest active one."""
+    LEFT = 10
+    """So many references are left."""
+    RETURNED = 11
+    """The unit was freed."""
+    LISTED = 13
+    """A fresh frame is on the CPU's list again."""
+    LAST = 18
+    """The last reference was put."""
+
+
+_HELD, _UNPINNED = 14, {15: Zero, 16: Raced, 17: Full}
+
+
+class Result(NamedTuple):
+    """A kind, and the number that goes with it, or 0."""
+    kind: Kind
+    number: int
+
+
+class Report(NamedTuple):
+    """What a zone reports at its end, in the words of docs/MANUAL.md, "The end, and --audit"."""
+    held: int
+    last_puts: int
+    freezes: int
+    drops: int
+    returns: int
+    frames: int
+    free: int
+    charged: int
+
+
+class Zone:
+    """A zone of page frames, which all threads share. It is ended at the end of `with`, and then `report` is there.
+
+    It takes all memory that it ever needs, except for small blocks and texts. Raises BadConfig, NoMemory.
+
+    frames: 1 to 1,048,576, numbered from 0. cpus: 1 to 64, numbered from 1. batch: frames by which a CPU's list is refilled
+    or cut, 1 to 64. high: frames at which it is cut, batch to 256. stock: pages that a CPU prepays at once, 1 to 64.
+    """
+
+    report: Optional[Report] = None
+
+    def __init__(self, frames: int, cpus: int, batch: int = 4, high: int = 8, stock: int = 4) -> None:
+        self._handle, self._lock = raw.Handle(), threading.Lock()
+        sizes = raw.Sizes(*map(_word, (frames, cpus, batch, high, stock)))
+        _need(raw.library.tempolemon_zone_boot(sizes, self._handle))
+
+    def take(self, number: int) -> "Cpu":
+        """The CPU of this number, from 1, with the list, stock and pins that it was returned with.
+
+        Raises BadCpu, CpuOut if it is taken, NoMemory.
+        """
+        return Cpu(self, number)
+
+    def end(self) -> Report:
+        """Ends the zone and frees its memory. Pins that are still held are put first.
+
+        Raises CpusOut if a CPU isn't returned: nothing was done then. Raises NotLive, NoMemory, Lost.
+        """
+        report = raw.Report()
+        with self._lock:
+            _need(raw.library.tempolemon_zone_end(self._handle, report))
+        self.report = Report(*(getattr(report, name) for name in Report._fields))
+        return self.report
+
+    def __enter__(self) -> "Zone":
+        return self
+
+    def __exit__(self, kind: Optional[Type[BaseException]], error: Optional[BaseException],
+                 trace: Optional[TracebackType]) -> None:
+        if self._handle.is_live:
+            self.end()
+
+
+class Cpu:
+    """A CPU of a zone, by Zone.take. It is returned at the end of `with`, with its list, stock and pins.
+
+    It may go from thread to thread. A call while another thread is inside one on it raises InUse. One after it was returned
+    raises NotLive.
+    """
+
+    def __init__(self, zone: Zone, number: int) -> None:
+        self._part, self._result, self._lock = raw.Handle(), raw.TypedResult(), threading.Lock()
+        self._at, self._out = ctypes.byref(self._part), ctypes.byref(self._result)
+        with zone._lock:
+            self._need(raw.library.tempolemon_try_take, ctypes.byref(zone._handle), _word(number), self._at)
+
+    def give_back(self) -> None:
+        """Returns the CPU. Who takes it next goes on with its list, stock and pins."""
+        self._need(raw.library.tempolemon_try_return, self._at)
+
+    def mkdir(self, path: str) -> int:
+        """Makes the group of this path: its number, the least free one.
+
+        Raises NoParent, Exists, BadName, TreeFull, TooDeep.
+        """
+        return self._call(raw.library.tempolemon_try_mkdir, *_text(path))[1]
+
+    def rmdir(self, path: str) -> None:
+        """Removes the group of this path. A group that is made later may get its number.
+
+        Raises BadName, NoGroup, HasChildren, Busy.
+        """
+        self._call(raw.library.tempolemon_try_rmdir, *_text(path))
+
+    def write(self, path: str, file: str, value: str) -> None:
+        """Writes a value to a file of the group of this path.
+
+        Raises NoGroup, NoFile, ReadOnly, BadLimit, BadNumber, Again.
+        """
+        self._call(raw.library.tempolemon_try_write, *_text(path), *_text(file), *_text(value))
+
+    def read(self, path: str, file: str) -> str:
+        """Reads a file of the group of this path.
+
+        Raises NoGroup, NoFile, WriteOnly.
+        """
+        text = ctypes.create_string_buffer(160)
+        length = self._call(raw.library.tempolemon_try_read, *_text(path), *_text(file), text, 160)[1]
+        return text.raw[:length].decode(errors="surrogateescape")
+
+    def alloc(self, group: int, order: int = 0) -> int:
+        """Allocates 2^order frames for the group: the first one. It takes the lock only if the order isn't 0, or the CPU's
+        list and stock can't serve.
+
+        Reclaim may take a block as soon as it is allocated, and a frame of order 0 once the CPU settles, unless the unit is
+        dirty or has a reference. Raises OverLimit, NoFrames, Killed, BadOrder, BadGroup.
+        """
+        return self._call(raw.library.tempolemon_try_alloc, _word(group), _word(order))[1]
+
+    def alloc_dirty(self, group: int, order: int = 0) -> int:
+        """Allocates a unit and notes it as dirty before another thread gets the lock: it is kept and dirty.
+
+        Raises as alloc does.
+        """
+        return self._call(raw.library.tempolemon_try_alloc_dirty, _word(group), _word(order))[1]
+
+    def release(self, frame: int) -> Result:
+        """Releases the unit that this frame heads, or a fresh frame of the CPU: LISTED, RETURNED, or LEFT with references.
+
+        A kill frees all units of its group, and another group may get their frames. So if limits are lowered or groups are
+        killed, pin the unit first, and ask whose it is. Raises NotKept, BadFrame.
+        """
+        return self._result_of(raw.library.tempolemon_try_release, _word(frame))
+
+    def get(self, frame: int) -> "Pin":
+        """Pins this frame, without the lock.
+
+        Raises Zero if the frame has no reference, Full if it has 255, Raced if they changed meanwhile; PinsFull, BadFrame.
+        """
+        kind = self._call(raw.library.tempolemon_cpu_get, _word(frame))[0]
+        if kind != _HELD:
+            raise _UNPINNED[kind]()
+        return Pin(self, frame)
+
+    def touch(self, frame: int) -> Kind:
+        """Notes that the unit that this frame heads was used: MARKED or ACTIVE. Raises NotKept, BadFrame."""
+        return self._result_of(raw.library.tempolemon_try_touch, _word(frame)).kind
+
+    def dirty(self, frame: int) -> None:
+        """Notes that the unit that this frame heads is dirty, so that it isn't reclaimed. Raises NotKept, BadFrame."""
+        self._call(raw.library.tempolemon_try_dirty, _word(frame))
+
+    def clean(self, frame: int) -> None:
+        """Notes that the unit that this frame heads is clean. Raises NotKept, BadFrame."""
+        self._call(raw.library.tempolemon_try_clean, _word(frame))
+
+    def owner(self, frame: int) -> Result:
+        """The place of this frame: FREE, CPU with its number, or CHARGED with the group's. Raises BadFrame."""
+        return self._result_of(raw.library.tempolemon_try_owner, _word(frame))
+
+    def settle(self) -> None:
+        """Settles the CPU, so that other threads may reference its pages."""
+        self._call(raw.library.tempolemon_try_settle)
+
+    def show(self) -> str:
+        """The text of the command `show`. The CPU is settled; so it is by the next three calls. Raises NoMemory."""
+        return self._text_of(raw.library.tempolemon_try_show)
+
+    def blocks(self) -> str:
+        """The text of the command `blocks`. Raises NoMemory."""
+        return self._text_of(raw.library.tempolemon_try_blocks)
+
+    def stock(self) -> str:
+        """The text of the command `stock`. Raises NoMemory."""
+        return self._text_of(raw.library.tempolemon_try_stock)
+
+    def units(self, path: str) -> str:
+        """The text of the command `units`, of the group of this path. Raises NoGroup, NoMemory."""
+        return self._text_of(raw.library.tempolemon_try_units, *_text(path))
+
+    def _call(self, call: Callable[..., int], *words: Any) -> Any:
+        """The kind and the number that a typed call gives."""
+        return self._need(call, self._at, *words, self._out)
+
+    def _need(self, call: Callable[..., int], *words: Any) -> Any:
+        """Makes a call until no other thread has the zone's lock, and raises if it isn't DONE."""
+        if not self._lock.acquire(False):
+            raise InUse()
+        try:
+            # A try takes longer here than all pauses of the header, so each is followed by a yield.
+            while (status := call(*words)) == raw.BUSY:
+                time.sleep(0)
+            if status != raw.DONE:
+                raise error_of(status, self._result.number)
+            return self._result.kind, self._result.number
+        finally:
+            self._lock.release()
+
+    def _result_of(self, call: Callable[..., int], *words: Any) -> Result:
+        kind, number = self._call(call, *words)
+        return Result(Kind(kind), number)
+
+    def _text_of(self, call: Callable[..., int], *words: Any) -> str:
+        """The text that a call writes into a buffer, which grows until it is long enough."""
+        written = ctypes.c_size_t(1024)
+        while True:
+            room = written.value
+            text = ctypes.create_string_buffer(room)
+            try:
+                self._need(call, self._at, *words, text, room, ctypes.byref(written))
+                return text.raw[:written.value].decode(errors="surrogateescape")
+            except SmallBuffer:
+                pass
+
+    def __enter__(self) -> "Cpu":
+        return self
+
+    def __exit__(self, kind: Optional[Type[BaseException]], error: Optional[BaseException],
+                 trace: Optional[TracebackType]) -> None:
+        if self._part.is_live:
+            self.give_back()
+
+
+class Pin:
+    """A reference of a CPU on a frame, by Cpu.get: the unit isn't reclaimed or reused while it is held. It is put at the
+    end of `with`. One that is never put stays with its CPU until the zone ends."""
+
+    def __init__(self, cpu: Cpu, frame: int) -> None:
+        self._cpu, self._is_held, self._lock, self.frame = cpu, True, threading.Lock(), frame
+
+    def put(self) -> Result:
+        """Puts the pin: LEFT with the references, or LAST. Raises NotPinned if it was put."""
+        with self._lock:
+            if not self._is_held:
+                raise NotPinned()
+            put = self._cpu._result_of(raw.library.tempolemon_cpu_put, self.frame)
+            self._is_held = False
+            return put
+
+    def __enter__(self) -> "Pin":
+        return self
+
+    def __exit__(self, kind: Optional[Type[BaseException]], error: Optional[BaseException],
+                 trace: Optional[TracebackType]) -> None:
+        if self._is_held:
+            self.put()
+
+
+def _need(status: int) -> None:
+    if status != raw.DONE:
+        raise error_of(status)
+
+
+def _word(number: int) -> int:
+    """The number, if it has 32 bits: ctypes would cut it."""
+    if not 0 <= number < 1 << 32:
+        raise OverflowError(f"{number} isn't a number of 32 bits")
+    return number
+
+
+def _text(text: str) -> Any:
+    """A pointer to a text and its length. Each is in memory of its own: no two pointers of a call may lead to the same."""
+    encoded = text.encode(errors="surrogateescape")
+    return ctypes.create_string_buffer(encoded), len(encoded)

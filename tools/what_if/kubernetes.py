@@ -1,0 +1,95 @@
+"""Pods as `kubectl get pods -o json` writes them: their limits, and the names that long ids stand for."""
+import decimal
+import json
+import re
+import shlex
+
+from .amounts import Fault
+from .files import read_json
+
+POWERS = {"": 1, "m": decimal.Decimal("0.001"), **{unit: 1000 ** power for power, unit in enumerate("kMGTPE", 1)},
+          **{f"{unit}i": 1024 ** power for power, unit in enumerate("KMGTPE", 1)}}
+
+
+def quantity(word):
+    """The bytes of a quantity as Kubernetes writes it, in which M is a million and Mi is 1,048,576."""
+    found = re.fullmatch(r"([0-9]+\.?[0-9]*|\.[0-9]+)(?:([mkMGTPE]|[KMGTPE]i)|[eE]([+-]?[0-9]+))?", str(word))
+    if not found:
+        raise Fault(f"'{word}' is no quantity of Kubernetes")
+    count = decimal.Decimal(found[1]) * (decimal.Decimal(10) ** int(found[3]) if found[3] else POWERS[found[2] or ""])
+    return int(count.to_integral_value(decimal.ROUND_CEILING))
+
+
+def pods_of(path, whole):
+    """The pods of a list, or the one pod."""
+    pods = whole.get("items", [whole]) if isinstance(whole, dict) else []
+    if not pods or not all(isinstance(pod, dict) and "metadata" in pod and "spec" in pod for pod in pods):
+        raise Fault(f"{path}: there are no pods: kubectl get pods -o json writes them")
+    return pods
+
+
+def memory_of(container, kind):
+    """A container's limit or request of memory in bytes; None if it has none."""
+    word = container.get("resources", {}).get(kind, {}).get("memory")
+    return None if word is None else quantity(word)
+
+
+def pod_limit(spec):
+    """The limit of a pod's group: None unless each container has one. Containers run after those of init."""
+    limits = [memory_of(container, "limits") for container in spec["containers"]]
+    if None in limits:
+        return None
+    init = [memory_of(container, "limits") or 0 for container in spec.get("initContainers", [])]
+    return max([sum(limits), *init]) + quantity(spec.get("overhead", {}).get("memory", "0"))
+
+
+def limits_of(pod):
+    """The lines of limits.txt for the groups of a pod. What the program lacks is a comment."""
+    name, lacks = pod["metadata"]["name"], []
+    whole = pod_limit(pod["spec"])
+    if whole is not None:
+        yield f"/{name} {whole}"
+    for container in pod["spec"]["containers"]:
+        limit, request = (memory_of(container, kind) for kind in ("limits", "requests"))
+        yield f"/{name}/{container['name']} {'max' if limit is None else limit}"
+        lacks += [] if request is None else [f"{container['name']} {request}"]
+    if lacks:
+        yield f"# left out, since memcg has no memory.min and no memory.high: requests of /{name}: {', '.join(lacks)}"
+
+
+def limit_lines(path):
+    """The lines of limits.txt for all pods, whose groups are /POD/CONTAINER."""
+    pods = pods_of(path, read_json(path))
+    try:
+        return [line for pod in pods for line in limits_of(pod)]
+    except (KeyError, TypeError, AttributeError) as fault:
+        raise Fault(f"{path}: a pod isn't as kubectl writes it: {fault}") from None
+
+
+def names_of(path, whole):
+    """The name of each pod by its uid, as it is and as systemd writes it, and of each container by its id."""
+    names = {}
+    try:
+        for pod in pods_of(path, whole):
+            uid = pod["metadata"].get("uid")
+            if uid:
+                names[uid] = names[uid.replace("-", "_")] = pod["metadata"]["name"]
+            for status in pod.get("status", {}).get("containerStatuses", []):
+                if status.get("containerID"):
+                    names[status["containerID"].rpartition("/")[2]] = status["name"]
+    except (KeyError, TypeError, AttributeError) as fault:
+        raise Fault(f"{path}: a pod isn't as kubectl writes it: {fault}") from None
+    return names
+
+
+def patch_lines(limits):
+    """A command for each container, which changes its limit."""
+    yield "# kubectl 1.32 or newer, Kubernetes 1.33: changed in place. In a Deployment the same containers are under"
+    yield "# spec.template.spec. Limits of pods are those of their containers together."
+    for path, limit in limits.items():
+        names = path.split("/")[1:]
+        if len(names) == 2:
+            patch = {"spec": {"containers": [{"name": names[1], "resources": {"limits": {"memory": str(limit)}}}]}}
+            yield f"kubectl patch pod {shlex.quote(names[0])} --subresource resize --patch {shlex.quote(json.dumps(patch))}"
+        else:
+            yield f"# left out, since it is no /POD/CONTAINER: {path} {limit}"
