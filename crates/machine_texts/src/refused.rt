@@ -2,13 +2,13 @@
 
 ghost use Rattle.std.specs.Prelude.{◌≡◌};
 ghost use Rattle.control_files.specs.Strings.{AddsBytes};
-ghost use Rattle.machine_texts.specs.Refused.{lent_text, refused_text, sentence_of};
+ghost use Rattle.machine_texts.specs.Refused.{lent_text, refused_text, sentence_of, values_of};
 
 use crate::parts::push_count;
 use group_tree::fault::Fault;
 use std::alloc::AllocError;
 
-/// Adds the line of a refusal: its number and its sentence. If the refused command names a frame that is lent to a CPU,
+/// Adds the line of a refusal: its number, its sentence, and what a file takes if that is the matter. If the refused command names a frame that is lent to a CPU,
 /// that CPU is `lent`, and the line names it. It fails only if memory runs out.
 pub fn write_refused(fault: &Fault, lent: Option<u32>, text: &mut String) -> Result<(), AllocError>
     ensures { AddsBytes result text.old text.new (refused_text fault.now lent) }
@@ -16,8 +16,22 @@ pub fn write_refused(fault: &Fault, lent: Option<u32>, text: &mut String) -> Res
     push_count("# refused ", u128::from(fault.number()), text)?;
     text.push_str(": ")?;
     text.push_str(sentence(fault))?;
+    text.push_str(values(fault))?;
     push_lent(lent, text)?;
     text.push_str("\n")
+}
+
+// What the files take, if a text is no value of one.
+fn values(fault: &Fault) -> &'static str
+    ensures { result.now ≡ values_of fault.now }
+{
+    match fault {
+        Fault::BadLimit => {
+            "; memory.max and memory.reclaim take whole bytes, with K M G T P E, memory.max also max; \
+            memory.oom.group takes 0 or 1"
+        }
+        _ => "",
+    }
 }
 
 // Adds where a lent frame is.
