@@ -8,8 +8,9 @@ use crate::parts::push_count;
 use group_tree::fault::Fault;
 use std::alloc::AllocError;
 
-/// Adds the line of a refusal: its number, its sentence, and what a file takes if that is the matter. If the refused command names a frame that is lent to a CPU,
-/// that CPU is `lent`, and the line names it. It fails only if memory runs out.
+/// Adds the line of a refusal: its number, its sentence, and what the files take if a text is no value of one. If the
+/// refused command names a frame that is lent to a CPU, that CPU is `lent`, and the line names it. It fails only if memory
+/// runs out.
 pub fn write_refused(fault: &Fault, lent: Option<u32>, text: &mut String) -> Result<(), AllocError>
     ensures { AddsBytes result text.old text.new (refused_text fault.now lent) }
 {
