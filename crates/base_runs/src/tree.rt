@@ -80,7 +80,8 @@ const TEXTS: &str = "\
 ";
 
 // What the line that explains refusal 12 says beside the text.
-const VALUES: &str = "; memory.max and memory.reclaim take whole bytes, with K M G T P E, memory.max also max; \
+const VALUES: &str =
+    "; memory.max and memory.reclaim take whole bytes, with K M G T P E, memory.max also max; \
     memory.oom.group takes 0 or 1";
 
 // The refusals, by their numbers.
