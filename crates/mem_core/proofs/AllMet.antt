@@ -1,5 +1,5 @@
 -- A step may be made exactly if each of its conditions is met. Serves `unmet` and `is_legal`.
-use Rattle.std.proofs.Common.{◌≡◌, ◌∙◌, ℕ, ◌&&◌, ◌==◌, Bool, true, false, List, [], ◌∷◌, Option, None, Some, ap, cond, is_none, is_some, not, refl, subst, sym}
+use Rattle.std.proofs.Common.{◌≡◌, ◌∙◌, ℕ, zero, suc, ◌<◌, ◌&&◌, ◌==◌, Bool, true, false, List, [], ◌∷◌, Option, None, Some, ap, cond, drop, get_or, is_none, is_some, length, not, refl, arith, subst, sym}
 use Rattle.std.proofs.lemmas.Bool.{and_parts, true≢false}
 use Rattle.step_rules.specs.declared.step.Action.{Action}
 use Rattle.step_rules.specs.declared.step.Action.TheVariants.{Lock, Unlock, OpenVisit, ShutVisit, Get, Put, Freeze, Unfreeze, PassOut, TakeIn, PassBack, Collect, Consume, Credit}
@@ -82,18 +82,6 @@ met_start s so_far (c ∷ cs) met = (and_parts so_far (is_met s c) (met_start s 
 
 not_none : (c : Condition) → None ≡ Some c → ⊥
 not_none c e = cc
-
--- the condition that was found isn't met
-pub found_unmet : (s : State) (cs : List Condition) (c : Condition) → first_unmet s cs ≡ Some c → is_met s c ≡ false
-found_unmet s [] c found = absurd (not_none c found)
-found_unmet s (d ∷ cs) c found = by (is_met s d) refl (found_unmet s cs c) found
-  where
-    by : (v : Bool) → is_met s d ≡ v → (first_unmet s cs ≡ Some c → is_met s c ≡ false) → cond (not v) (Some d) (first_unmet s cs) ≡ Some c
-        → is_met s c ≡ false
-    by true is later e = later e
-    by false is later e =
-        let same : d ≡ c = cc in
-        subst (λ x. is_met s x ≡ false) same is
 
 found_met : (s t : State) (so_far : Bool) (cs : List Condition) (c : Condition) → first_unmet s cs ≡ Some c → and_met so_far t cs ≡ true
     → is_met t c ≡ true
