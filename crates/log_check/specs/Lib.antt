@@ -3,5 +3,6 @@ pub mod Reading
 pub mod Taking
 pub mod Texts
 pub mod Verdicts
+pub mod Conditions
 pub mod Reasons
 pub mod ReasonTexts

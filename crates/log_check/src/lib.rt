@@ -3,10 +3,12 @@
 #![tactic(auto)]
 
 mod answers;
+mod conditions;
 mod ending;
 mod finding;
 mod left_out;
 pub mod line_fault;
+mod meeting;
 mod number;
 mod progress;
 mod reader;

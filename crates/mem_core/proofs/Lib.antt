@@ -17,5 +17,3 @@ pub mod Referring
 pub mod Serving
 pub mod Ranges
 pub mod FreeBlocks
-pub mod AllMet
-pub mod Childless

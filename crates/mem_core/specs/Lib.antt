@@ -9,4 +9,3 @@ pub mod Rooms
 pub mod Counted
 pub mod Tables
 pub mod Bounded
-pub mod Conditions

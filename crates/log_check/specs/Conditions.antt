@@ -13,18 +13,18 @@ use Rattle.step_rules.specs.declared.step.Action.TheVariants.{Unfreeze, PassOut,
 use Rattle.step_rules.specs.declared.step.Action.TheVariants.{Credit, Report, Absorb, Fill, DrainStock, Grant, Ungrant}
 use Rattle.step_rules.specs.declared.step.Action.TheVariants.{PlaceBlock, Publish, Return, NoteMax, NoteOom}
 use Rattle.step_rules.specs.declared.step.Action.TheVariants.{NoteGroupKill, SetMax, SetFlag, Make, Remove, Kill}
-use Rattle.mem_core.specs.declared.quantity.Quantity.{Quantity}
-use Rattle.mem_core.specs.declared.quantity.Quantity.TheVariants.{Own, References, Pins, Listed, Fresh, Unreported, Reported}
-use Rattle.mem_core.specs.declared.quantity.Quantity.TheVariants.{InStock, Pending, Usage}
-use Rattle.mem_core.specs.declared.conditions.PlaceTest.{PlaceTest}
-use Rattle.mem_core.specs.declared.conditions.PlaceTest.TheVariants.{Free, OutTo, Passable, BackFrom, FreshAt, InHand}
-use Rattle.mem_core.specs.declared.conditions.PlaceTest.TheVariants.{Head, Returnable}
-use Rattle.mem_core.specs.declared.conditions.Condition.{Condition}
-use Rattle.mem_core.specs.declared.conditions.Condition.TheVariants.{Cpu, ZoneSeat, AnySeat, Locked, Unlocked, HeldBy}
-use Rattle.mem_core.specs.declared.conditions.Condition.TheVariants.{Visited, Frame, Group, NonePending, NonePassing}
-use Rattle.mem_core.specs.declared.conditions.Condition.TheVariants.{NonePassingAt, AtLeast, Below, IsZero, OneUp}
-use Rattle.mem_core.specs.declared.conditions.Condition.TheVariants.{UpTo255, InPlace, TakesFill, NotKilled, NotRoot}
-use Rattle.mem_core.specs.declared.conditions.Condition.TheVariants.{NoChild, Makeable}
+use Rattle.log_check.specs.declared.reason.Quantity.{Quantity}
+use Rattle.log_check.specs.declared.reason.Quantity.TheVariants.{Own, References, Pins, Listed, Fresh, Unreported, Reported}
+use Rattle.log_check.specs.declared.reason.Quantity.TheVariants.{InStock, Pending, Usage}
+use Rattle.log_check.specs.declared.conditions.PlaceTest.{PlaceTest}
+use Rattle.log_check.specs.declared.conditions.PlaceTest.TheVariants.{Free, OutTo, Passable, BackFrom, FreshAt, InHand}
+use Rattle.log_check.specs.declared.conditions.PlaceTest.TheVariants.{Head, Returnable}
+use Rattle.log_check.specs.declared.conditions.Condition.{Condition}
+use Rattle.log_check.specs.declared.conditions.Condition.TheVariants.{Cpu, ZoneSeat, AnySeat, Locked, Unlocked, HeldBy}
+use Rattle.log_check.specs.declared.conditions.Condition.TheVariants.{Visited, Frame, Group, NonePending, NonePassing}
+use Rattle.log_check.specs.declared.conditions.Condition.TheVariants.{NonePassingAt, AtLeast, Below, IsZero, OneUp}
+use Rattle.log_check.specs.declared.conditions.Condition.TheVariants.{UpTo255, InPlace, TakesFill, NotKilled, NotRoot}
+use Rattle.log_check.specs.declared.conditions.Condition.TheVariants.{NoChild, Makeable}
 
 -- the number in a state
 abbrev pub quantity_in : State → Quantity → ℕ
