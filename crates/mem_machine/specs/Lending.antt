@@ -7,7 +7,7 @@ use Rattle.step_rules.specs.After.{Run}
 use Rattle.mem_machine.specs.declared.frame_state.FrameState.TheVariants.{Free, Lent}
 use Rattle.mem_machine.specs.FrameStates.{free_of}
 use Rattle.mem_machine.specs.Machines.{OneByOne, VisitStateStays}
-use Rattle.mem_machine.specs.Local.{VisitState, Makes}
+use Rattle.mem_machine.specs.Local.{VisitState, VisitMakes}
 use Rattle.mem_machine.specs.Steps.{lend_steps, unlist_steps, refill_steps, drain_list_steps}
 
 -- the frame was free and is now at the end of the CPU's list; nothing else changed, except the run
@@ -43,7 +43,7 @@ LendsMany frames before after = OneByOne LendsOne frames before after
 pub record LendsByStep (table : KnownTable) (before after : VisitState) : Type 0 where
   pub frame : ℕ
   pub lends : LendsOne frame before after
-  pub steps : Makes table before.machine (lend_steps before.cpu.number frame) after.machine
+  pub steps : VisitMakes table before (lend_steps before.cpu.number frame) after
 
 -- what lending one frame leaves, by its result: true if a frame is lent, false if none is free
 abbrev pub LendsIfFree : KnownTable → Bool → VisitState → VisitState → Type 0
@@ -55,7 +55,7 @@ pub record Refills (table : KnownTable) (count : ℕ) (before after : VisitState
   pub frames : List ℕ
   pub all : count ≡ length frames
   pub lends : LendsMany frames before after
-  pub steps : Makes table before.machine (refill_steps before.cpu.number frames) after.machine
+  pub steps : VisitMakes table before (refill_steps before.cpu.number frames) after
 
 -- the frame was at the front of the CPU's list and is free again
 pub record UnlistsOne (frame : ℕ) (before after : VisitState) : Type 0 where
@@ -82,7 +82,7 @@ UnlistsMany frames before after = OneByOne UnlistsOne frames before after
 pub record UnlistsByStep (table : KnownTable) (before after : VisitState) : Type 0 where
   pub frame : ℕ
   pub takes : UnlistsOne frame before after
-  pub steps : Makes table before.machine (unlist_steps before.cpu.number frame) after.machine
+  pub steps : VisitMakes table before (unlist_steps before.cpu.number frame) after
 
 -- what returning one frame to the zone leaves, by its result: true if the front of the list is free again, false if the
 -- list is empty

@@ -8,20 +8,15 @@ use Rattle.step_rules.specs.declared.phase.ChargedUnit.{ChargedUnit}
 use Rattle.step_rules.specs.declared.step.Action.TheVariants.{PassBack, Collect, Report, Absorb, Unfreeze, Publish, Return}
 use Rattle.step_rules.specs.declared.step.Answer.TheVariants.{Done, Pages}
 use Rattle.step_rules.specs.After.{Run}
-use Rattle.boot_words.specs.Hidden.{group_or_0}
 use Rattle.cpu_part.specs.Cpus.{KnownCpu}
 use Rattle.mem_machine.specs.declared.frame_state.FrameState.TheVariants.{Head}
 use Rattle.mem_machine.specs.FrameStates.{frame_state_at, free_of}
-use Rattle.mem_machine.specs.Machines.{KnownMachine, OneByOne, VisitState, VisitStateStays, is_killed, stock_group}
-use Rattle.mem_machine.specs.Local.{Makes}
+use Rattle.mem_machine.specs.Machines.{OneByOne, VisitState, VisitStateStays, is_killed}
+use Rattle.mem_machine.specs.Local.{VisitMakes, group_of_fresh}
 use Rattle.mem_machine.specs.Steps.{zone_makes, cpu_makes}
 use Rattle.mem_machine.specs.Lists.{ListsUnit}
 use Rattle.mem_machine.specs.Counts.{with_killed_fresh, with_last_put}
 use Rattle.mem_machine.specs.Freeing.{FreesFrames}
-
--- the group of the CPU's fresh frames: that of its stock; 0 if it has none
-abbrev pub group_of_fresh : KnownTable → VisitState → ℕ
-group_of_fresh table now = group_or_0 (stock_group table now.machine now.cpu.number)
 
 -- the CPU passes its oldest fresh frame back
 pub record HandsOver (frame : ℕ) (before after : KnownCpu) : Type 0 where
@@ -168,12 +163,12 @@ return_all_steps now = flat_map (return_steps now.cpu.number) now.cpu.back
 abbrev pub settle_steps : KnownTable → VisitState → Run
 settle_steps table now = all_fresh_steps table now ++ return_all_steps now
 
--- if a fresh frame was settled, its steps lead from the machine before to the machine after
-abbrev pub MakesFreshSteps : KnownTable → Option ℕ → VisitState → KnownMachine → Type 0
+-- if a fresh frame was settled, its steps lead from the visit state before to the visit state after
+abbrev pub MakesFreshSteps : KnownTable → Option ℕ → VisitState → VisitState → Type 0
 MakesFreshSteps table next before after =
-    IfSome next (λ frame. Makes table before.machine (fresh_steps (is_fresh_killed table before) before.cpu.number frame) after)
+    IfSome next (λ frame. VisitMakes table before (fresh_steps (is_fresh_killed table before) before.cpu.number frame) after)
 
--- if the unit of a back frame was freed, its steps lead from the machine before to the machine after
-abbrev pub MakesReturnSteps : KnownTable → Option ℕ → VisitState → KnownMachine → Type 0
+-- if the unit of a back frame was freed, its steps lead from the visit state before to the visit state after
+abbrev pub MakesReturnSteps : KnownTable → Option ℕ → VisitState → VisitState → Type 0
 MakesReturnSteps table next before after =
-    IfSome next (λ frame. Makes table before.machine (return_steps before.cpu.number frame) after)
+    IfSome next (λ frame. VisitMakes table before (return_steps before.cpu.number frame) after)
