@@ -3,15 +3,14 @@ use Rattle.std.specs.Prelude.{ℕ, ◌+◌, Bool, true, false, Option, Some, Non
 use Rattle.frame_word.specs.Views.{looked}
 use Rattle.frame_word.specs.Seats.{KnownSeat, seat_with}
 use Rattle.stock_word.specs.declared.view.Stock.{Stock}
-use Rattle.stock_word.specs.declared.view.Stock.TheVariants.{NoGroup, HeldBy, DrainedOf}
-use Rattle.stock_word.specs.Stock.{account_of}
+use Rattle.boot_words.specs.Words.{stock_in}
 use Rattle.lru_lists.specs.declared.record.Entry.{Entry}
 use Rattle.lru_lists.specs.declared.record.LruList.{LruList}
 use Rattle.lru_lists.specs.declared.record.LruList.TheVariants.{Inactive, Active}
 -- the units of one of the group's lists, from the oldest to the newest
 pub use Rattle.mem_machine.specs.Machines.{entries_in}
 use Rattle.mem_machine.specs.Machines.{KnownMachine, VisitState, inactive_in, active_in}
-use Rattle.mem_machine.specs.Stocks.{stock_group, pages_held}
+use Rattle.mem_machine.specs.Local.{local_of}
 
 -- a kept unit with the list that it is on
 pub record ListedUnit : Type 0 where
@@ -47,13 +46,6 @@ seat_with_looks seat (unit ∷ units) (found ∷ pins) =
 abbrev pub with_looks_at : KnownMachine → List ListedUnit → List ℕ → KnownMachine
 with_looks_at machine units pins = record machine { frame_seat = seat_with_looks machine.frame_seat units pins }
 
--- the stock of this group with this many pages, if it is held; drained if it isn't; of no group if there is none
-abbrev pub stock_as : (group : Option ℕ) (is_held : Bool) (pages : ℕ) → Stock
-stock_as None is_held pages = NoGroup
-stock_as (Some group) true pages = HeldBy group pages
-stock_as (Some group) false pages = DrainedOf group
-
--- the CPU's stock as it is now, by the machine's account of it and the CPU's fresh frames
-abbrev pub stock_now : VisitState → Stock
-stock_now now = stock_as (stock_group now.machine now.cpu.number)
-    (account_of now.machine.stock_seat.view now.cpu.number).filled (pages_held now)
+-- the CPU's own stock, as it sees it under the lock
+abbrev pub stock_now : KnownTable → VisitState → Stock
+stock_now table now = stock_in ((local_of table now.machine).parts now.cpu.number)
