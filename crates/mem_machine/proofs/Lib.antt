@@ -64,3 +64,4 @@ pub mod Owning
 pub mod Behind
 pub mod Made
 pub mod Sight
+pub mod ZoneSteps

@@ -1,8 +1,9 @@
 -- A frame of the visited CPU moved, and the CPU's part changed: what the machine shows then, what is booked, and that the
 -- visit goes on. Serves the calls that move frames of a CPU's lists.
-use Rattle.std.proofs.Common.{◌≡◌, ◌≢◌, ℕ, ◌+◌, ◌-◌, ◌<◌, ◌≤◌, ◌==◌, Bool, true, false, Option, Some, None, List, [], ◌∷◌, length, cond, get_or, refl, sym, ap, ◌∙◌, subst, inl, inr, arith, eq-eqb}
+use Rattle.std.proofs.Common.{◌≡◌, ◌≢◌, ℕ, ◌+◌, ◌-◌, ◌^◌, ◌<◌, ◌≤◌, ◌==◌, Bool, true, false, Option, Some, None, List, [], ◌∷◌, length, cond, get_or, refl, sym, ap, ◌∙◌, subst, inl, inr, arith, eq-eqb}
 use Rattle.std.specs.Prelude.{is_some, slice_set}
 use Rattle.std.proofs.lemmas.Bool.{cases_eq, ne_eqb}
+use Rattle.std.proofs.lemmas.Nat.{pow_pos}
 use Rattle.std.proofs.lemmas.Option.{none-some}
 use Rattle.std.proofs.lemmas.List.{get_or-set_same, get_or-set_other, length-set}
 use Rattle.frame_word.specs.Seats.{KnownTable}
@@ -10,16 +11,19 @@ use Rattle.group_charge.specs.Charges.{pages_of}
 use Rattle.group_tree.specs.Bounds.{most_groups}
 use Rattle.lru_lists.specs.declared.record.Home.{Home}
 use Rattle.step_rules.specs.declared.phase.ChargedUnit.{ChargedUnit}
-use Rattle.step_rules.specs.declared.phase.Stage.TheVariants.{Live}
+use Rattle.step_rules.specs.declared.phase.Stage.{Stage}
+use Rattle.step_rules.specs.declared.phase.Stage.TheVariants.{BackAt, FreshAt, Live}
 use Rattle.step_rules.specs.declared.phase.Way.TheVariants.{OnList}
 use Rattle.step_rules.specs.declared.phase.Phase.{Phase}
 use Rattle.step_rules.specs.declared.phase.Phase.TheVariants as phase
 use Rattle.step_rules.specs.Phases.{unit_of}
-use Rattle.step_rules.specs.Invariant.{told_pages}
-use Rattle.step_rules.specs.State.{Part, State, Zone, is_cpu, is_frame, one_if, sum_to, visits, with_at}
-use Rattle.step_rules.specs.After.{Run}
+use Rattle.step_rules.specs.Invariant.{told_pages, IsBooked}
+use Rattle.step_rules.specs.State.{Part, State, Zone, is_cpu, is_frame, one_if, sum_to, times, visits, with_at}
+use Rattle.step_rules.specs.After.{Run, is_within, unit_size, without_unit}
 use Rattle.step_rules.specs.Reaches.{IsLocalRun}
 use Rattle.step_rules.proofs.Basics.{at_each, at_other, at_same, at_through}
+use Rattle.step_rules.proofs.Lists.{times_same}
+use Rattle.step_rules.proofs.Placing.{within_cases}
 use Rattle.step_rules.proofs.Sums.{sum_change}
 use Rattle.step_rules.proofs.SoundSteps.{cpu_range}
 use Rattle.boot_words.specs.Hidden.{hide, hide_phase}
@@ -33,12 +37,14 @@ use Rattle.mem_machine.specs.FrameStates.{frame_state_at, free_of, one_if_is, ph
 use Rattle.mem_machine.specs.Booked.{AreBooked, AreOwners}
 use Rattle.mem_machine.specs.Counting.{counts_along}
 use Rattle.mem_machine.specs.Following.{FollowsSteps}
+use Rattle.mem_machine.specs.Freeing.{FreesFrames}
 use Rattle.mem_machine.specs.Machines.{KnownMachine, VisitState, IsConsistent, IsShownBy, booked, frames_charged, home_of, left_by, pages_booked, stock_group}
 use Rattle.mem_machine.specs.Noted.{Notes}
-use Rattle.mem_machine.specs.Local.{Makes, Visits, local_of, visit_state}
+use Rattle.mem_machine.specs.Local.{Makes, Visits, holder_of, local_of, visit_state}
 use Rattle.mem_machine.proofs.HandOvers.{IsVisited}
 use Rattle.mem_machine.proofs.Made.{holder_is_cpu, zone_acts, zone_seen}
 use Rattle.mem_machine.proofs.Noted.{run_ends}
+use Rattle.mem_machine.proofs.OwnFrames.{HasFrame, back_own, fresh_group, fresh_own, listed_own, own_booked}
 use Rattle.mem_machine.proofs.Sight.{left_seen}
 
 -- ---- the books, if one part changed
@@ -140,6 +146,22 @@ module _ (t : KnownTable) (m : KnownMachine) (s : State) (shown : IsShownBy t m 
     | inr ne ↦ ap hide_phase (at_other s.phases f x y ne) ∙ shown.phases y ∙ sym (ap phase_hidden (get_or-set_other m.frame_states f y r Free ne))
   ]
 
+  -- the frames of a unit are free
+  pub phases_freed : (new : List FrameState) (unit : ChargedUnit) (stage : Stage) → FreesFrames f (2 ^ unit.order) m.frame_states new → (y : ℕ)
+      → hide_phase (without_unit (with_at s.phases f (phase.Head unit stage)) f y) ≡ phase_hidden (frame_state_at new y)
+  phases_freed new unit stage frees y =
+      let x : Phase = phase.Head unit stage in
+      let some = pow_pos unit.order in
+      ap (λ (z : Phase). hide_phase (cond (is_within f (unit_size (unit_of z)) y) phase.InZone (with_at s.phases f x y))) (at_same s.phases f x)
+      ∙ (elim (within_cases f (2 ^ unit.order) y) [
+        | inl w ↦ ap (λ (b : Bool). hide_phase (cond b phase.InZone (with_at s.phases f x y))) w.0
+            ∙ sym (ap (λ (b : Bool). phase_hidden (cond b Free (frame_state_at m.frame_states y))) w.0)
+        | inr out ↦ ap (λ (b : Bool). hide_phase (cond b phase.InZone (with_at s.phases f x y))) out.0
+            ∙ ap hide_phase (at_other s.phases f x y (λ e. out.1 (omega (arith, e)) (omega (arith, e, some)))) ∙ shown.phases y
+            ∙ sym (ap (λ (b : Bool). phase_hidden (cond b Free (frame_state_at m.frame_states y))) out.0)
+      ])
+      ∙ sym (ap phase_hidden (frees.records y))
+
 -- a CPU's part changed, and phases and the zone's references
 module _ (t : KnownTable) (m n : KnownMachine) (s : State) (shown : IsShownBy t m (hide s)) (p : ℕ) (part : Part) (ph : ℕ → Phase) (references : ℕ → ℕ → ℕ) where
   abbrev then : State
@@ -212,6 +234,42 @@ module _ (t : KnownTable) (m : KnownMachine) (c : KnownCpu) (visit : Visits t (v
   -- the group of the stock in what the CPU sees
   pub group_seen : ((local_of t m).parts c.number).stock.group ≡ stock_group t m c.number
   group_seen = ap (λ (s : State). (s.parts c.number).stock.group) (sym (left_seen t m.run.past visit.held))
+
+  -- what is known of the frames in its lists
+  pub front_here : (f : ℕ) (rest : List ℕ) → c.list ≡ f ∷ rest → HasFrame (local_of t m) c.number (phase.Lent c.number OnList) f
+  front_here f rest front =
+      subst (λ (p : ℕ). HasFrame (local_of t m) p (phase.Lent p OnList) f) visit.who
+      (listed_own (zone_of_boot t) (cpu_past m.run.past).seen (holder_of m) visit.held.holds.shows.legal f
+      (subst (λ (p : ℕ). 1 ≤ times f ((local_of t m).parts p).list) (sym visit.who)
+      (let a = ap (times f) (visit.own.list ∙ front) in let b = times_same f in omega (arith, a, b))))
+
+  pub fresh_here : (f g : ℕ) (rest : List ℕ) → c.fresh ≡ f ∷ rest → stock_group t m c.number ≡ Some g
+      → HasFrame (local_of t m) c.number (phase.Head (record { group = g; order = 0 }) (FreshAt c.number)) f
+  fresh_here f g rest front of =
+      subst (λ (p : ℕ). HasFrame (local_of t m) p (phase.Head (record { group = g; order = 0 }) (FreshAt p)) f) visit.who
+      (fresh_own (zone_of_boot t) (cpu_past m.run.past).seen (holder_of m) visit.held.holds.shows.legal f g
+      (subst (λ (p : ℕ). 1 ≤ times f ((local_of t m).parts p).fresh) (sym visit.who)
+      (let a = ap (times f) (visit.own.fresh ∙ front) in let b = times_same f in omega (arith, a, b)))
+      (subst (λ (p : ℕ). ((local_of t m).parts p).stock.group ≡ Some g) (sym visit.who) (group_seen ∙ of)))
+
+  pub back_here : (f : ℕ) (rest : List ℕ) → c.back ≡ f ∷ rest
+      → (unit : ChargedUnit) × HasFrame (local_of t m) c.number (phase.Head unit (BackAt c.number)) f
+  back_here f rest front =
+      subst (λ (p : ℕ). (unit : ChargedUnit) × HasFrame (local_of t m) p (phase.Head unit (BackAt p)) f) visit.who
+      (back_own (zone_of_boot t) (cpu_past m.run.past).seen (holder_of m) visit.held.holds.shows.legal f
+      (subst (λ (p : ℕ). 1 ≤ times f ((local_of t m).parts p).back) (sym visit.who)
+      (let a = ap (times f) (visit.own.back ∙ front) in let b = times_same f in omega (arith, a, b))))
+
+  -- with a fresh frame it has a stock of a group
+  pub fresh_group_here : 1 ≤ length c.fresh → (g : ℕ) × (stock_group t m c.number ≡ Some g)
+  fresh_group_here some =
+      let its = fresh_group (zone_of_boot t) (cpu_past m.run.past).seen (holder_of m) visit.held.holds.shows.legal
+      (subst (λ (p : ℕ). 1 ≤ length ((local_of t m).parts p).fresh) (sym visit.who) (let a = ap length visit.own.fresh in omega (arith, a, some))) in
+      (its.0, sym group_seen ∙ subst (λ (p : ℕ). ((local_of t m).parts p).stock.group ≡ Some its.0) visit.who its.1)
+
+  pub booked_here : IsBooked ((local_of t m).parts c.number)
+  booked_here = subst (λ (p : ℕ). IsBooked ((local_of t m).parts p)) visit.who
+      (own_booked (zone_of_boot t) (cpu_past m.run.past).seen (holder_of m) visit.held.holds.shows.legal)
 
   module _ (n : KnownMachine) (d : KnownCpu) (steps : Run) (x : State) (noted : Notes t m.run steps n.run) (leads : IsLocalRun c.number (local_of t m) steps x) where
     sees_then : local_of t n ≡ x
