@@ -34,11 +34,11 @@ use Rattle.mem_machine.specs.Local.{Makes, StaysVisited, holder_of, local_of}
 use Rattle.mem_machine.specs.Machines.{KnownMachine, AddsGroup, IsConsistent, IsShownBy, is_killed, left_by}
 use Rattle.mem_machine.specs.Noted.{KnownRun, MayTake, Notes, after_made}
 use Rattle.mem_machine.specs.Steps.{zone_makes, make_steps, remove_steps, set_max_steps, set_oom_group_steps}
-use Rattle.mem_machine.proofs.Booking.{owners_stay, sums_stay}
 use Rattle.mem_machine.proofs.LedgerMoves.{follows_flag, follows_limit, follows_make, follows_note, follows_remove}
 use Rattle.mem_machine.proofs.Made.{makes, one_leads, stays_visited, zone_acts}
 use Rattle.mem_machine.proofs.Reaching.{zone_step}
 use Rattle.mem_machine.proofs.Sight.{left_then, shown_seen}
+use Rattle.mem_machine.proofs.Staying.{owners_stay, sums_stay}
 use Rattle.mem_machine.proofs.Usage.{usage_is}
 
 -- ---- a step that changes the groups and which of them are killed

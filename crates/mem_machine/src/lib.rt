@@ -26,7 +26,6 @@
 mod ageing;
 pub mod bit_set;
 mod blocks;
-mod booked_seat;
 mod counts;
 mod ending;
 mod evicting;
