@@ -48,14 +48,14 @@ behind t past later seat action answer is made =
     record { run = c.seen ++ by_cpu; legal = legal; sees = shows.sees; allowed = allowed_at zone (c.seen ++ by_cpu) e [] whole }
 
 -- what holds of the pages of a drain
-pub record AreDrained (s : State) (q n : ℕ) : Type 0 where
+pub record FitsDrain (s : State) (q n : ℕ) : Type 0 where
   pub within : n ≤ (s.parts q).book
   pub no_group : (s.parts q).stock.group ≡ None → n ≡ 0
   pub drained : (s.parts q).stock.is_drained ≡ true → n ≡ 0
   pub there : (g : ℕ) → (s.parts q).stock.group ≡ Some g → 1 ≤ n → has_group s.groups g ≡ true
 
-pub are_drained : (t : KnownTable) (past later : KnownPasts) (q n : ℕ) → IsHeld t past → MakesStep t past 0 (DrainStock q) (Pages n) later → AreDrained (local_by_pasts t past) q n
-are_drained t past later q n is made =
+pub fits_drain : (t : KnownTable) (past later : KnownPasts) (q n : ℕ) → IsHeld t past → MakesStep t past 0 (DrainStock q) (Pages n) later → FitsDrain (local_by_pasts t past) q n
+fits_drain t past later q n is made =
     let at = behind t past later 0 (DrainStock q) (Pages n) is made in
     let u = state_of (zone_of_boot t) at.run in
     let p = (cpu_past past).number in
@@ -63,7 +63,7 @@ are_drained t past later q n is made =
     let count : n ≡ (u.parts q).stock.pages = at.allowed.counted in
     let booked = (sound_run (zone_of_boot t) at.run at.legal).booked q in
     let group = part_seen (λ part. part.stock.group) (λ part. refl) p u.parts q in
-    subst (λ (s : State). AreDrained s q n) (sym at.sees) (record {
+    subst (λ (s : State). FitsDrain s q n) (sym at.sees) (record {
       within = let book = part_seen (λ part. part.book) (λ part. refl) p u.parts q in omega (arith, count, booked, book);
       no_group = λ none. count ∙ kept.no_group (sym group ∙ none);
       drained = λ is_so. count ∙ kept.drained (sym (part_seen (λ part. part.stock.is_drained) (λ part. refl) p u.parts q) ∙ is_so);

@@ -64,4 +64,6 @@ pub mod Owning
 pub mod Behind
 pub mod Made
 pub mod Sight
+pub mod Hiding
+pub mod Staying
 pub mod ZoneSteps
