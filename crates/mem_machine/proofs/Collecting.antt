@@ -1,12 +1,12 @@
 -- The steps by which the zone takes over a fresh frame. Serves `collect_fresh`.
-use Rattle.std.proofs.Common.{◌≡◌, ℕ, List, ◌∷◌, refl, sym, ap, ◌∙◌, subst}
+use Rattle.std.proofs.Common.{◌≡◌, ℕ, List, ◌∷◌, sym, ap, ◌∙◌, subst}
 use Rattle.frame_word.specs.Seats.{KnownTable}
 use Rattle.boot_words.specs.Composed.{MakesInTurn}
 use Rattle.boot_words.specs.Pasts.{KnownPasts, IsHeld}
 use Rattle.boot_words.specs.TakenBack.{take_back_run}
 use Rattle.cpu_part.specs.Calls.{PassesFresh}
 use Rattle.cpu_part.specs.Cpus.{KnownCpu}
-use Rattle.cpu_part.proofs.Making.{makes_all_at}
+use Rattle.cpu_part.proofs.CallerLemmas.{makes_each}
 use Rattle.step_watch.specs.Watched.{KnownWatch, Watches}
 use Rattle.mem_machine.specs.Noted.{KnownRun, Notes}
 use Rattle.mem_machine.specs.Settling.{HandsOver, collect_steps}
@@ -17,7 +17,7 @@ pub collect_notes : (t : KnownTable) (run : KnownRun) (p f i q : ℕ) → i ≡ 
     → MakesInTurn t run.past (take_back_run p f) later → Watches run.watch (collect_steps q i) watch
     → Notes t run (collect_steps p f) (record { past = later; watch = watch })
 collect_notes t run p f i q index number later watch held made saw = record {
-  grew = all_grow t run.past (collect_steps p f) later (makes_all_at t t refl p p (λ k. collect_steps k f) refl run.past later held made);
+  grew = all_grow t run.past (collect_steps p f) later (makes_each t run.past (collect_steps p f) later held made);
   watched = subst (λ (x : ℕ × ℕ). Watches run.watch (collect_steps x.0 x.1) watch) (λ j. (number j, index j)) saw;
 }
 
@@ -27,6 +27,3 @@ hands_over f c d passes =
       front = passes.1 ∙ ap (λ (l : List ℕ). f ∷ l) (sym rest);
       cpu = passes.2 ∙ ap (λ (l : List ℕ). record c { fresh = l }) (sym rest);
     }
-
-pub handed_number : (f : ℕ) (c d : KnownCpu) → PassesFresh f c d → d.number ≡ c.number
-handed_number f c d passes = ap (λ (x : KnownCpu). x.number) passes.2

@@ -1,8 +1,8 @@
 -- A fresh frame is kept for its group, or dropped. Serves `keep_one` and `drop_one`.
 use Rattle.std.proofs.Common.{◌++◌, ◌≡◌, ◌≢◌, ℕ, ◌+◌, ◌-◌, ◌^◌, ◌<◌, ◌≤◌, ◌==◌, Bool, true, false, cond, Option, Some, None, List, [], ◌∷◌, length, get_or}
 use Rattle.std.proofs.Common.{refl, sym, ap, ◌∙◌, subst, arith, inl, inr, eq-eqb}
-use Rattle.std.specs.Prelude.{is_some, slice_set}
-use Rattle.std.proofs.lemmas.Bool.{cases_eq, false≢true}
+use Rattle.std.specs.Prelude.{drop, is_some, slice_set}
+use Rattle.std.proofs.lemmas.Bool.{cases_eq, ne_eqb, false≢true}
 use Rattle.std.proofs.lemmas.List.{get_or-set_same, get_or-set_other, length-set, ext_get_or}
 use Rattle.zone_blocks.specs.declared.block.Block.{Block}
 use Rattle.zone_blocks.specs.Block.{IsBlock}
@@ -17,8 +17,8 @@ use Rattle.lru_lists.specs.declared.record.Link.{Link}
 use Rattle.lru_lists.specs.declared.record.LruList.TheVariants.{Inactive}
 use Rattle.lru_lists.specs.declared.lru.Lru.{Lru}
 use Rattle.boot_words.specs.Composed.{AreLegal}
-use Rattle.boot_words.specs.Hidden.{hide}
-use Rattle.boot_words.specs.Pasts.{KnownPasts, IsHeld, MayMake, local_by_pasts}
+use Rattle.boot_words.specs.Hidden.{hide, hide_phase}
+use Rattle.boot_words.specs.Pasts.{KnownPasts, IsHeld, MakesStep, MayMake, local_by_pasts}
 use Rattle.cpu_part.specs.Cpus.{KnownCpu}
 use Rattle.step_rules.specs.declared.phase.ChargedUnit.{ChargedUnit}
 use Rattle.step_rules.specs.declared.phase.Stage.TheVariants.{FreshAt, Collected, Live}
@@ -27,19 +27,21 @@ use Rattle.step_rules.specs.declared.phase.Phase.TheVariants as phase
 use Rattle.step_rules.specs.declared.step.Action.TheVariants.{Unfreeze, Publish, Return}
 use Rattle.step_rules.specs.declared.step.Answer.TheVariants.{Done}
 use Rattle.step_rules.specs.Invariant.{told_pages}
-use Rattle.step_rules.specs.State.{Part, State, one_if, times, with_at}
-use Rattle.step_rules.specs.After.{is_within, Run}
+use Rattle.step_rules.specs.State.{Part, State, Zone, one_if, times, with_at}
+use Rattle.step_rules.specs.After.{is_within, without_unit, Run}
 use Rattle.step_rules.specs.Reaches.{IsLocalRun}
 use Rattle.step_rules.proofs.Basics.{at_other, at_same}
+use Rattle.step_rules.proofs.SoundSteps.{below_frames}
 use Rattle.step_rules.proofs.Lists.{times_same, without_front, without_none}
+use Rattle.step_watch.specs.Watched.{Watches}
 use Rattle.mem_machine.specs.declared.frame_state.FrameState.{FrameState}
 use Rattle.mem_machine.specs.declared.frame_state.FrameState.TheVariants.{Free, Lent, Head}
 use Rattle.mem_machine.specs.declared.counts.Counts.{Counts}
 use Rattle.mem_machine.specs.Booked.{AreBooked, AreOwners}
-use Rattle.mem_machine.specs.FrameStates.{frame_state_at, is_free_state, free_of, frame_state_group, phase_hidden}
+use Rattle.mem_machine.specs.FrameStates.{frame_state_at, is_free_state, free_of, frame_state_group, AreUnits}
 use Rattle.mem_machine.specs.Machines.{KnownMachine, VisitState, FitsFrameState, IsConsistent, IsShownBy, BalancesCounts, frames_charged, home_of, is_killed, left_by, pages_booked, stock_group}
 use Rattle.mem_machine.specs.Local.{Visits, Makes, local_of, visit_state}
-use Rattle.mem_machine.specs.Noted.{AreLocal, KnownRun, Notes}
+use Rattle.mem_machine.specs.Noted.{AreLocal, KnownRun, MayTake, Notes}
 use Rattle.mem_machine.specs.Steps.{zone_makes}
 use Rattle.mem_machine.specs.Blocks.{PlacesUnit}
 use Rattle.mem_machine.specs.Counts.{with_killed_fresh}
@@ -53,13 +55,18 @@ use Rattle.mem_machine.proofs.Followed.{follows_same, follows_still}
 use Rattle.mem_machine.proofs.Freeing.{is_out, is_in, free_block_given}
 use Rattle.mem_machine.proofs.HandOvers.{IsVisited, absorbed_part, collect_run, dropped_state, drop_run, kept_state, keep_run, one_more_held}
 use Rattle.mem_machine.proofs.Joins.{AllJoin}
-use Rattle.mem_machine.proofs.Moved.{AllMoved, IsSound, books_fall, book_within, booked_here, fresh_here, group_seen, is_visited, left_moved, lent_record, makes_moved, no_home, number_range, own_moved, owners_moved, phases_freed, phases_set, shown_moved, sums_moved, visit_moved}
-use Rattle.mem_machine.proofs.Noted.{run_steps}
+use Rattle.mem_machine.proofs.Moved.{AllMoved, books_fall, book_within, booked_here, fresh_here, group_seen, is_visited, left_moved, lent_in_use, lent_record, makes_moved, may_next, no_home, number_range, own_moved, owners_moved, phases_freed, phases_set, shown_moved, sums_moved, visit_moved}
+use Rattle.mem_machine.proofs.Made.{visits_here, zone_seen}
+use Rattle.mem_machine.proofs.Noted.{local_legal, notes_both, notes_one, run_steps}
 use Rattle.mem_machine.proofs.OwnFrames.{HasFrame}
 use Rattle.mem_machine.proofs.PlacesUnits.{head_of_block, off_block}
 use Rattle.mem_machine.proofs.Records.{free_at, free_set, length_free, units_stay, charges_stay}
 use Rattle.mem_machine.proofs.Sight.{left_seen, shown_seen}
 use Rattle.mem_machine.proofs.Units.{units_placed}
+
+-- lists with the same front have the same rest
+tail_same : (f : ℕ) (xs ys : List ℕ) → f ∷ xs ≡ f ∷ ys → xs ≡ ys
+tail_same f xs ys is = ap (λ (l : List ℕ). drop 1 l) is
 
 -- one record changed, and which frames are free did not
 free_stays : (frame_states : List FrameState) (f : ℕ) (x : FrameState) → f < length frame_states → is_free_state (frame_state_at frame_states f) ≡ false → is_free_state x ≡ false
@@ -112,7 +119,7 @@ module _ (t : KnownTable) (m : KnownMachine) (c : KnownCpu) (ok : IsConsistent t
   mine : HasFrame (local_of t m) c.number (phase.Head (record { group = g; order = 0 }) (FreshAt c.number)) f
   mine = fresh_here t m c visit f g rest front of
 
-  v : IsVisited (local_of t m) c.number f
+  pub v : IsVisited (local_of t m) c.number f
   v = is_visited t m c visit f mine.framed
 
   abbrev part : Part
@@ -208,9 +215,6 @@ module _ (t : KnownTable) (m : KnownMachine) (c : KnownCpu) (ok : IsConsistent t
   drop_leads killed = collect_run (local_of t m) c.number f v unit mine.phase_is none_reported (zone_makes (Return f) Done ∷ []) _
       (drop_run (local_of t m) c.number f v unit (shown.killed g ∙ killed))
 
-  pub none_reported_here : ((local_of t m).parts c.number).reported ≡ 0
-  none_reported_here = none_reported
-
   -- ---- kept
 
   module _ (links : List Link) (lists : List Lru) (run : KnownRun) (joined : AllJoin m.links m.lists g f links lists) (fits : g < most_groups)
@@ -296,13 +300,228 @@ module _ (t : KnownTable) (m : KnownMachine) (c : KnownCpu) (ok : IsConsistent t
           consistent = kept_consistent;
           free_is = is ∙ kept_free;
           sums_are = subst (λ (u : State). AreBooked t.cpus u.parts (fallen sums)) (sym kept_left)
-              (sums_moved t m kept (local_of t m) shown c.number part _ (one_more_held (local_of t m) c.number f v unit) sums (fallen sums) are_seen
+              (sums_moved t m kept (local_of t m) shown c.number part (with_at (local_of t m).phases f (phase.Head unit Live)) (one_more_held (local_of t m) c.number f v unit) sums (fallen sums) are_seen
               (length-set sums g (get_or sums g 0 - 1)) (sums_fall sums are_seen fits));
           owners_are = subst (λ (u : State). AreOwners t.cpus u.parts owners) (sym kept_left)
-              (owners_moved t m kept (local_of t m) shown c.number part _ (one_more_held (local_of t m) c.number f v unit) owners
+              (owners_moved t m kept (local_of t m) shown c.number part (with_at (local_of t m).phases f (phase.Head unit Live)) (one_more_held (local_of t m) c.number f v unit) owners
               (subst (λ (u : State). AreOwners t.cpus u.parts owners) seen own) refl);
           does = record { listed = joined.joins; machine = refl; cpu = record { front = front; cpu = refl } };
           visit = kept_visit;
           makes = makes_moved t m c visit kept d (keep_steps c.number f) _ noted keep_leads (follows_same _ _ _ refl)
               (collects_none (local_of t m) f (phase.Head unit (FreshAt c.number)) mine.phase_is refl m.counts);
         }
+
+  -- ---- dropped
+
+  module _ (new : List FrameState) (frees : FreesFrames f (2 ^ 0) m.frame_states new) (blocks : List Block) (areas : AreMaximalBlocks (free_of new) blocks)
+      (counts : Counts) (counted : counts ≡ with_killed_fresh m.counts) (killed : is_killed m.killed g ≡ true) (run : KnownRun)
+      (noted : Notes t m.run (drop_steps c.number f) run) where
+    abbrev dropped : KnownMachine
+    dropped = record m { blocks = blocks; frame_states = new; ledger = with_uncharge m.ledger g 1; counts = counts; run = run }
+
+    one_set : new ≡ slice_set m.frame_states f Free
+    one_set = frees_one m.frame_states new f within frees
+
+    dropped_left : left_by t run.past ≡ hide (dropped_state (local_of t m) c.number f v unit)
+    dropped_left = left_moved t m c visit dropped d (drop_steps c.number f) _ noted (drop_leads killed)
+
+    charged_one : 1 ≤ pages_of m.ledger g
+    charged_one =
+        let a : pages_of m.ledger g ≡ frames_charged m.frame_states g + pages_booked t.cpus (local_of t m).parts g = shown.charged g in
+        let b = booked_some in
+        omega (arith, a, b)
+
+    dropped_shown : IsShownBy t dropped (hide (dropped_state (local_of t m) c.number f v unit))
+    dropped_shown = shown_moved t m dropped (local_of t m) shown c.number part _ (local_of t m).references refl refl
+        (phases_freed t m (local_of t m) shown f new unit Collected frees) shown.references told (omega arith)
+        (λ h.
+        let a : pages_of m.ledger h ≡ frames_charged m.frame_states h + pages_booked t.cpus (local_of t m).parts h = shown.charged h in
+        let b = books h in
+        let e : frames_charged new h ≡ frames_charged m.frame_states h =
+        ap (λ (l : List FrameState). frames_charged l h) one_set ∙ charges_stay m.frame_states f Free within (ap frame_state_group is_lent) refl h in
+        let l = uncharge_pages m.ledger g 1 charged_one h in
+        omega (arith, a, b, e, l))
+
+    dropped_fits : (y : ℕ) → y < t.frames → FitsFrameState (home_of m.links y) (frame_state_at new y)
+    dropped_fits y low = subst (λ (l : List FrameState). FitsFrameState (home_of m.links y) (frame_state_at l y)) (sym one_set) (elim (cases_eq y f) [
+      | inl e ↦ subst (λ (o : Option Home). FitsFrameState o (frame_state_at (slice_set m.frame_states f Free) y)) (sym (ap (home_of m.links) e ∙ no_list)) tt
+      | inr ne ↦ subst (FitsFrameState (home_of m.links y)) (sym (get_or-set_other m.frame_states f y Free Free ne)) (ok.frame_states y low)
+    ])
+
+    dropped_consistent : IsConsistent t dropped
+    dropped_consistent = record {
+      sizes = record { frame_states = frees.frames ∙ ok.sizes.frame_states; links = ok.sizes.links; lists = ok.sizes.lists; killed = ok.sizes.killed };
+      areas = areas;
+      frame_states = dropped_fits;
+      units = subst AreUnits (sym one_set) (units_stay m.frame_states f Free within (ap frame_state_group is_lent) refl ok.units);
+      lists = ok.lists;
+      balances = subst BalancesCounts (sym counted) (balanced_killed_fresh m.counts ok.balances);
+      shown = subst (IsShownBy t dropped) (sym dropped_left) dropped_shown;
+    }
+
+    pub all_dropped : (free now_free : List Bool) (sums : List ℕ) (owners : List (Option ℕ)) → free ≡ free_of m.frame_states
+        → GivesFrames free (record { at = f; order = 0 }) now_free → g < most_groups
+        → AreBooked t.cpus (left_by t m.run.past).parts sums → AreOwners t.cpus (left_by t m.run.past).parts owners
+        → AllMoved t m c (DropsFresh g f) (drop_steps c.number f) dropped d now_free (fallen sums) owners
+    all_dropped free now_free sums owners was gives fits are own =
+        let seen = left_seen t m.run.past visit.held in
+        let are_seen : AreBooked t.cpus (hide (local_of t m)).parts sums = subst (λ (u : State). AreBooked t.cpus u.parts sums) seen are in
+        let inside = within in record {
+          consistent = dropped_consistent;
+          free_is = free_block_given free now_free m.frame_states new f 0 (omega (arith, inside)) was gives frees;
+          sums_are = subst (λ (u : State). AreBooked t.cpus u.parts (fallen sums)) (sym dropped_left)
+              (sums_moved t m dropped (local_of t m) shown c.number part (without_unit (with_at (local_of t m).phases f (phase.Head unit Collected)) f) (local_of t m).references sums (fallen sums) are_seen
+              (length-set sums g (get_or sums g 0 - 1)) (sums_fall sums are_seen fits));
+          owners_are = subst (λ (u : State). AreOwners t.cpus u.parts owners) (sym dropped_left)
+              (owners_moved t m dropped (local_of t m) shown c.number part (without_unit (with_at (local_of t m).phases f (phase.Head unit Collected)) f) (local_of t m).references owners
+              (subst (λ (u : State). AreOwners t.cpus u.parts owners) seen own) refl);
+          does = record { frees = frees; areas = areas; machine = λ i. record dropped { counts = counted i }; cpu = record { front = front; cpu = refl } };
+          visit = visit_moved t m c visit dropped d (drop_steps c.number f) _ noted (drop_leads killed) refl
+              (own_moved (local_of t m) c visit.own part _ (local_of t m).references c.list rest c.back (λ y. refl) listed is_fresh is_back) refl;
+          makes = makes_moved t m c visit dropped d (drop_steps c.number f) _ noted (drop_leads killed)
+              (follows_still _ m.ledger _ _ refl (uncharge_peaks m.ledger g 1) (uncharge_events m.ledger g 1))
+              (counted ∙ comes_back (local_of t m) f (phase.Head unit (FreshAt c.number)) mine.phase_is false true refl (shown.killed g ∙ killed) m.counts);
+        }
+
+-- ---- the run
+
+pub unfrozen_notes : (t u : KnownTable) → u ≡ t → (mid later : KnownRun) (f i : ℕ) → i ≡ f → MakesStep u mid.past 0 (Unfreeze f 1) Done later.past
+    → Watches mid.watch (zone_makes (Unfreeze i 1) Done ∷ []) later.watch → Notes t mid (zone_makes (Unfreeze f 1) Done ∷ []) later
+unfrozen_notes t u words mid later f i index made saw = notes_one t mid (zone_makes (Unfreeze f 1) Done) later
+    (subst (λ (x : KnownTable). MakesStep x mid.past 0 (Unfreeze f 1) Done later.past) words made)
+    (subst (λ (x : ℕ). Watches mid.watch (zone_makes (Unfreeze x 1) Done ∷ []) later.watch) index saw)
+
+-- ---- of the machine as it was seen before
+
+-- a list that isn't empty has a front
+pub front_of_some : (xs : List ℕ) → xs ≢ [] → (f : ℕ) × (rest : List ℕ) × (xs ≡ f ∷ rest)
+front_of_some [] some = absurd (some refl)
+front_of_some (x ∷ xs) some = (x, xs, refl)
+
+module _ (t : KnownTable) (m now : KnownMachine) (same : m ≡ now) (c : KnownCpu) (visit_now : Visits t (visit_state now c)) (ok : IsConsistent t m)
+    (g : ℕ) (of_now : stock_group t now c.number ≡ Some g) where
+  visit : Visits t (visit_state m c)
+  visit = visits_here t m now same c visit_now
+
+  of : stock_group t m c.number ≡ Some g
+  of = ap (λ (x : KnownMachine). stock_group t x c.number) same ∙ of_now
+
+  pub none_reported_here : ((local_of t m).parts c.number).reported ≡ 0
+  none_reported_here = let a : told_pages ((local_of t m).parts c.number) ≡ 0 = (shown_seen t m ok visit.held).absorbed c.number in omega (arith, a)
+
+  -- a page of the fresh frame is in the sum of its group
+  pub sum_some : (sums : List ℕ) → AreBooked t.cpus (left_by t m.run.past).parts sums → g < most_groups → c.fresh ≢ [] → 1 ≤ get_or sums g 0
+  sum_some sums are fits some =
+      let front = front_of_some c.fresh some in
+      let a : get_or sums g 0 ≡ pages_booked t.cpus (local_of t m).parts g =
+      (subst (λ (u : State). AreBooked t.cpus u.parts sums) (left_seen t m.run.past visit.held) are).each g fits in
+      let b = booked_some t m c ok visit front.0 g front.1 front.2 of in
+      omega (arith, a, b)
+
+  module _ (f : ℕ) (rest : List ℕ) (front : c.fresh ≡ f ∷ rest) where
+    keep_local : AreLocal c.number (local_of t m) (keep_steps c.number f)
+    keep_local = run_steps c.number (local_of t m) (keep_steps c.number f) _ (keep_leads t m c ok visit f g rest front of)
+
+    pub collect_legal : AreLegal (local_of t m) (collect_steps c.number f)
+    collect_legal = local_legal c.number (local_of t m) (collect_steps c.number f) (zone_makes (Unfreeze f 1) Done ∷ zone_makes (Publish f) Done ∷ []) keep_local
+
+    pub away_here : (i : ℕ) → i ≡ f → home_of m.links i ≡ None
+    away_here i index = ap (home_of m.links) index ∙ no_list t m c ok visit f g rest front of
+
+    pub within_here : (i : ℕ) → i ≡ f → i < length m.frame_states
+    within_here i index = let a = within t m c ok visit f g rest front of in omega (arith, a, index)
+
+    pub unit_inside : (i k : ℕ) → i ≡ f → k ≡ 0 → i + 2 ^ k ≤ length m.frame_states
+    unit_inside i k index zero_is =
+        let a = within t m c ok visit f g rest front of in
+        let one : 2 ^ k ≡ 1 = ap (λ (j : ℕ). 2 ^ j) zero_is in
+        omega (arith, a, index, one)
+
+    module _ (mid : KnownRun) (collected : Notes t m.run (collect_steps c.number f) mid) where
+      pub may_unfreeze : (u : KnownTable) → u ≡ t → MayMake u mid.past 0 (Unfreeze f 1)
+      may_unfreeze u words = subst (λ (x : KnownTable). MayMake x mid.past 0 (Unfreeze f 1)) (sym words)
+          (may_next t m.run mid (collect_steps c.number f) (zone_makes (Publish f) Done ∷ []) (zone_makes (Unfreeze f 1) Done) c.number visit.held visit.who collected
+          keep_local).legal
+
+      module _ (later : KnownRun) (unfrozen : Notes t mid (zone_makes (Unfreeze f 1) Done ∷ []) later) where
+        both : Notes t m.run (collect_steps c.number f ++ zone_makes (Unfreeze f 1) Done ∷ []) later
+        both = notes_both t m.run (collect_steps c.number f) mid (zone_makes (Unfreeze f 1) Done ∷ []) later collected unfrozen
+
+        pub may_publish : (i : ℕ) → i ≡ f → MayTake t later.past (zone_makes (Publish i) Done)
+        may_publish i index = subst (λ (x : ℕ). MayTake t later.past (zone_makes (Publish x) Done)) (sym index)
+            (may_next t m.run later (collect_steps c.number f ++ zone_makes (Unfreeze f 1) Done ∷ []) [] (zone_makes (Publish f) Done) c.number visit.held visit.who both
+            keep_local)
+
+        pub kept_notes : (last : KnownRun) (i : ℕ) → i ≡ f → Notes t later (zone_makes (Publish i) Done ∷ []) last → Notes t m.run (keep_steps c.number f) last
+        kept_notes last i index published = notes_both t m.run (collect_steps c.number f ++ zone_makes (Unfreeze f 1) Done ∷ []) later (zone_makes (Publish f) Done ∷ []) last both
+            (subst (λ (x : ℕ). Notes t later (zone_makes (Publish x) Done ∷ []) last) index published)
+
+      pub may_return : is_killed now.killed g ≡ true → (i : ℕ) → i ≡ f → MayTake t mid.past (zone_makes (Return i) Done)
+      may_return killed i index = subst (λ (x : ℕ). MayTake t mid.past (zone_makes (Return x) Done)) (sym index)
+          (may_next t m.run mid (collect_steps c.number f) [] (zone_makes (Return f) Done) c.number visit.held visit.who collected
+          (run_steps c.number (local_of t m) (drop_steps c.number f) _
+          (drop_leads t m c ok visit f g rest front of (ap (λ (x : KnownMachine). is_killed x.killed g) same ∙ killed))))
+
+      pub dropped_notes : (last : KnownRun) (i : ℕ) → i ≡ f → Notes t mid (zone_makes (Return i) Done ∷ []) last → Notes t m.run (drop_steps c.number f) last
+      dropped_notes last i index returned = notes_both t m.run (collect_steps c.number f) mid (zone_makes (Return f) Done ∷ []) last collected
+          (subst (λ (x : ℕ). Notes t mid (zone_makes (Return x) Done ∷ []) last) index returned)
+
+    -- all of it, if it is kept
+    pub keep_all : (free : List Bool) (sums sums' : List ℕ) (owners : List (Option ℕ)) → free ≡ free_of m.frame_states
+        → AreBooked t.cpus (left_by t m.run.past).parts sums → AreOwners t.cpus (left_by t m.run.past).parts owners → g < most_groups
+        → (h : KnownCpu) → HandsOver f c h → sums' ≡ slice_set sums g (get_or sums g 0 - 1) → (i k : ℕ) → i ≡ f → k ≡ 0
+        → (links : List Link) (lists : List Lru) → AllJoin m.links m.lists g i links lists → (run : KnownRun) → Notes t m.run (keep_steps c.number f) run
+        → AllMoved t now c (KeepsFresh g f) (keep_steps c.number f)
+        (record m { frame_states = slice_set m.frame_states i (Head (record { group = g; order = k })); links = links; lists = lists; run = run }) h free sums' owners
+    keep_all free sums sums' owners is are own fits h hands fell i k index zero_is links lists joined_i run noted =
+        let joined : AllJoin m.links m.lists g f links lists = subst (λ (j : ℕ). AllJoin m.links m.lists g j links lists) index joined_i in
+        let last : h.fresh ≡ rest = tail_same f h.fresh rest (sym hands.front ∙ front) in
+        let cpu : h ≡ record c { fresh = rest } = hands.cpu ∙ ap (λ (l : List ℕ). record c { fresh = l }) last in
+        subst (λ (x : KnownMachine × KnownMachine × KnownCpu × List ℕ). AllMoved t x.0 c (KeepsFresh g f) (keep_steps c.number f) x.1 x.2 free x.3 owners)
+        (λ j. (
+          same j,
+          record m { frame_states = slice_set m.frame_states (sym index j) (Head (record { group = g; order = sym zero_is j })); links = links; lists = lists; run = run },
+          sym cpu j,
+          sym fell j,
+        )) (all_kept t m c ok visit f g rest front of links lists run joined fits noted free sums owners is are own)
+
+    -- all of it, if it is dropped
+    pub drop_all : (free now_free : List Bool) (sums sums' : List ℕ) (owners : List (Option ℕ)) → free ≡ free_of m.frame_states
+        → AreBooked t.cpus (left_by t m.run.past).parts sums → AreOwners t.cpus (left_by t m.run.past).parts owners → g < most_groups
+        → is_killed now.killed g ≡ true → (h : KnownCpu) → HandsOver f c h → sums' ≡ slice_set sums g (get_or sums g 0 - 1) → (i k : ℕ) → i ≡ f → k ≡ 0
+        → (new : List FrameState) → FreesFrames i (2 ^ k) m.frame_states new → (blocks : List Block) → GivesFrames free (record { at = i; order = k }) now_free
+        → AreMaximalBlocks now_free blocks → (ledger : Ledger) → ledger ≡ with_uncharge m.ledger g (2 ^ k)
+        → (counts : Counts) → counts ≡ with_killed_fresh m.counts → (run : KnownRun) → Notes t m.run (drop_steps c.number f) run
+        → AllMoved t now c (DropsFresh g f) (drop_steps c.number f)
+        (record m { blocks = blocks; frame_states = new; ledger = ledger; counts = counts; run = run }) h now_free sums' owners
+    drop_all free now_free sums sums' owners is are own fits killed_now h hands fell i k index zero_is new frees_i blocks gives_i areas ledger uncharges counts counted run noted =
+        let frees : FreesFrames f (2 ^ 0) m.frame_states new = subst (λ (x : ℕ × ℕ). FreesFrames x.0 (2 ^ x.1) m.frame_states new) (λ j. (index j, zero_is j)) frees_i in
+        let gives : GivesFrames free (record { at = f; order = 0 }) now_free =
+        subst (λ (x : ℕ × ℕ). GivesFrames free (record { at = x.0; order = x.1 }) now_free) (λ j. (index j, zero_is j)) gives_i in
+        let inside = within t m c ok visit f g rest front of in
+        let free_is : now_free ≡ free_of new = free_block_given free now_free m.frame_states new f 0 (omega (arith, inside)) is gives frees in
+        let areas_now : AreMaximalBlocks (free_of new) blocks = subst (λ (l : List Bool). AreMaximalBlocks l blocks) free_is areas in
+        let killed : is_killed m.killed g ≡ true = ap (λ (x : KnownMachine). is_killed x.killed g) same ∙ killed_now in
+        let last : h.fresh ≡ rest = tail_same f h.fresh rest (sym hands.front ∙ front) in
+        let cpu : h ≡ record c { fresh = rest } = hands.cpu ∙ ap (λ (l : List ℕ). record c { fresh = l }) last in
+        let one : ledger ≡ with_uncharge m.ledger g 1 = uncharges ∙ ap (λ (j : ℕ). with_uncharge m.ledger g (2 ^ j)) zero_is in
+        subst (λ (x : KnownMachine × KnownMachine × KnownCpu × List ℕ). AllMoved t x.0 c (DropsFresh g f) (drop_steps c.number f) x.1 x.2 now_free x.3 owners)
+        (λ j. (
+          same j,
+          record m { blocks = blocks; frame_states = new; ledger = sym one j; counts = counts; run = run },
+          sym cpu j,
+          sym fell j,
+        )) (all_dropped t m c ok visit f g rest front of new frees blocks areas_now counts counted killed run noted free now_free sums owners is gives fits are own)
+
+    -- the page that is dropped is charged to the group
+    pub drop_charged : (k : ℕ) → k ≡ 0 → 2 ^ k ≤ pages_of m.ledger g
+    drop_charged k zero_is =
+        let a : pages_of m.ledger g ≡ frames_charged m.frame_states g + pages_booked t.cpus (local_of t m).parts g = (shown_seen t m ok visit.held).charged g in
+        let b = booked_some t m c ok visit f g rest front of in
+        let one : 2 ^ k ≡ 1 = ap (λ (j : ℕ). 2 ^ j) zero_is in
+        omega (arith, a, b, one)
+
+    -- the frame is in use
+    pub drop_in_use : (free : List Bool) → free ≡ free_of m.frame_states → (i k : ℕ) → i ≡ f → k ≡ 0 → IsInUse free (record { at = i; order = k })
+    drop_in_use free was i k index zero_is = lent_in_use m.frame_states free f i k (within t m c ok visit f g rest front of) was
+        (ap is_free_state (is_lent t m c ok visit f g rest front of)) index zero_is

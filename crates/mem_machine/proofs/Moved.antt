@@ -1,11 +1,13 @@
 -- A frame of the visited CPU moved, and the CPU's part changed: what the machine shows then, what is booked, and that the
 -- visit goes on. Serves the calls that move frames of a CPU's lists.
-use Rattle.std.proofs.Common.{◌≡◌, ◌≢◌, ℕ, ◌+◌, ◌-◌, ◌^◌, ◌<◌, ◌≤◌, ◌==◌, Bool, true, false, Option, Some, None, List, [], ◌∷◌, length, cond, get_or, refl, sym, ap, ◌∙◌, subst, inl, inr, arith, eq-eqb}
+use Rattle.std.proofs.Common.{◌≡◌, ◌≢◌, ℕ, ◌+◌, ◌-◌, ◌^◌, ◌<◌, ◌≤◌, ◌==◌, Bool, true, false, Option, Some, None, List, [], ◌∷◌, ◌++◌, length, cond, get_or, refl, sym, ap, ◌∙◌, subst, inl, inr, arith, eq-eqb}
+use Rattle.std.specs.List.{fold}
 use Rattle.std.specs.Prelude.{is_some, slice_set}
-use Rattle.std.proofs.lemmas.Bool.{cases_eq, ne_eqb}
+use Rattle.std.proofs.lemmas.Bool.{cases_eq, false≢true, ne_eqb}
 use Rattle.std.proofs.lemmas.Nat.{pow_pos}
 use Rattle.std.proofs.lemmas.Option.{none-some}
 use Rattle.std.proofs.lemmas.List.{get_or-set_same, get_or-set_other, length-set}
+use Rattle.zone_blocks.specs.Zone.{IsInUse}
 use Rattle.frame_word.specs.Seats.{KnownTable}
 use Rattle.group_charge.specs.Charges.{pages_of}
 use Rattle.group_tree.specs.Bounds.{most_groups}
@@ -20,6 +22,9 @@ use Rattle.step_rules.specs.Phases.{unit_of}
 use Rattle.step_rules.specs.Invariant.{told_pages, IsBooked}
 use Rattle.step_rules.specs.State.{Part, State, Zone, is_cpu, is_frame, one_if, sum_to, times, visits, with_at}
 use Rattle.step_rules.specs.After.{Run, is_within, unit_size, without_unit}
+use Rattle.step_rules.specs.declared.step.Answer.{Answer}
+use Rattle.step_rules.specs.declared.step.Step.{Step}
+use Rattle.step_rules.specs.Laws.{IsLocalStep}
 use Rattle.step_rules.specs.Reaches.{IsLocalRun}
 use Rattle.step_rules.proofs.Basics.{at_each, at_other, at_same, at_through}
 use Rattle.step_rules.proofs.Lists.{times_same}
@@ -27,24 +32,25 @@ use Rattle.step_rules.proofs.Placing.{within_cases}
 use Rattle.step_rules.proofs.Sums.{sum_change}
 use Rattle.step_rules.proofs.SoundSteps.{cpu_range}
 use Rattle.boot_words.specs.Hidden.{hide, hide_phase}
-use Rattle.boot_words.specs.Pasts.{KnownPasts, IsHeld, cpu_past}
+use Rattle.boot_words.specs.Pasts.{IsHeld, cpu_past, local_by_pasts}
 use Rattle.boot_words.specs.Seats.{zone_of_boot}
 use Rattle.cpu_part.specs.Cpus.{KnownCpu}
 use Rattle.cpu_part.specs.Known.{HasOwn}
 use Rattle.mem_machine.specs.declared.frame_state.FrameState.{FrameState}
 use Rattle.mem_machine.specs.declared.frame_state.FrameState.TheVariants.{Free, Lent, Head, Tail}
-use Rattle.mem_machine.specs.FrameStates.{frame_state_at, free_of, one_if_is, phase_hidden}
+use Rattle.mem_machine.specs.FrameStates.{frame_state_at, free_of, is_free_state, one_if_is, phase_hidden}
 use Rattle.mem_machine.specs.Booked.{AreBooked, AreOwners}
 use Rattle.mem_machine.specs.Counting.{counts_along}
 use Rattle.mem_machine.specs.Following.{FollowsSteps}
 use Rattle.mem_machine.specs.Freeing.{FreesFrames}
 use Rattle.mem_machine.specs.Machines.{KnownMachine, VisitState, IsConsistent, IsShownBy, booked, frames_charged, home_of, left_by, pages_booked, stock_group}
-use Rattle.mem_machine.specs.Noted.{Notes}
+use Rattle.mem_machine.specs.Noted.{AreLocal, KnownRun, MayTake, Notes, after_made}
 use Rattle.mem_machine.specs.Local.{Makes, Visits, holder_of, local_of, visit_state}
 use Rattle.mem_machine.proofs.HandOvers.{IsVisited}
 use Rattle.mem_machine.proofs.Made.{holder_is_cpu, zone_acts, zone_seen}
 use Rattle.mem_machine.proofs.Noted.{run_ends}
 use Rattle.mem_machine.proofs.OwnFrames.{HasFrame, back_own, fresh_group, fresh_own, listed_own, own_booked}
+use Rattle.mem_machine.proofs.Records.{free_at, length_free, one_covered}
 use Rattle.mem_machine.proofs.Sight.{left_seen}
 
 -- ---- the books, if one part changed
@@ -133,6 +139,17 @@ head_record (Tail g) unit is = absurd (none-some unit (ap unit_of is))
 pub no_home : (home : Option Home) → 0 ≡ one_if (is_some home) → home ≡ None
 no_home None is = refl
 no_home (Some h) is = absurd (omega (arith, is))
+
+-- a frame that isn't free is in use
+pub lent_in_use : (frame_states : List FrameState) (before : List Bool) (f i k : ℕ) → f < length frame_states → before ≡ free_of frame_states
+    → is_free_state (frame_state_at frame_states f) ≡ false → i ≡ f → k ≡ 0 → IsInUse before (record { at = i; order = k })
+lent_in_use frame_states before f i k inside was used index zero_is =
+    subst (λ (x : ℕ × ℕ). IsInUse before (record { at = x.0; order = x.1 })) (λ j. (sym index j, sym zero_is j)) (record {
+      block = let long : length before ≡ length frame_states = ap length was ∙ length_free frame_states in
+          record { order = omega arith; aligned = omega arith; inside = omega (arith, inside, long) };
+      none_free = λ g covers free. absurd (false≢true (sym used ∙ sym (free_at frame_states f inside)
+          ∙ sym (ap (λ (l : List Bool). get_or l f false) was) ∙ subst (λ (h : ℕ). get_or before h false ≡ true) (one_covered f g covers) free));
+    })
 
 -- ---- what the fields show
 
@@ -295,6 +312,20 @@ module _ (t : KnownTable) (m : KnownMachine) (c : KnownCpu) (visit : Visits t (v
       own = subst (λ (z : State). HasOwn z d) (sym sees_then) own;
     }
 
+-- ---- the run
+
+-- what is local behind the first steps
+local_behind : (p : ℕ) (a : State) (first second : Run) → AreLocal p a (first ++ second) → AreLocal p (fold after_made a first) second
+local_behind p a [] second all = all
+local_behind p a (e ∷ rest) second all = local_behind p (after_made a e) rest second all.1
+
+-- once the first steps were made, the next may be taken
+pub may_next : (t : KnownTable) (run later : KnownRun) (first rest : Run) (e : Step × Answer) (p : ℕ) → IsHeld t run.past → (cpu_past run.past).number ≡ p
+    → Notes t run first later → AreLocal p (local_by_pasts t run.past) (first ++ e ∷ rest) → MayTake t later.past e
+may_next t run later first rest e p held who noted all =
+    subst (λ (x : ℕ × State). IsLocalStep x.1 x.0 e.0.seat e.0.action e.1) (λ i. (sym (noted.grew.holder held ∙ who) i, sym (noted.grew.sees held) i))
+    (local_behind p (local_by_pasts t run.past) first (e ∷ rest) all).0
+
 -- ---- the machine as it was seen before
 
 -- what a call leaves that makes these steps
@@ -307,10 +338,3 @@ pub record AllMoved (t : KnownTable) (now : KnownMachine) (c : KnownCpu) (Does :
   pub does : Does (visit_state now c) (visit_state n d)
   pub visit : Visits t (visit_state n d)
   pub makes : Makes t now steps n
-
--- what was there before such a call
-pub record IsSound (t : KnownTable) (m : KnownMachine) (free : List Bool) (sums : List ℕ) (owners : List (Option ℕ)) : Type 0 where
-  pub consistent : IsConsistent t m
-  pub free_is : free ≡ free_of m.frame_states
-  pub sums_are : AreBooked t.cpus (left_by t m.run.past).parts sums
-  pub owners_are : AreOwners t.cpus (left_by t m.run.past).parts owners

@@ -1,5 +1,5 @@
-use Rattle.std.proofs.Common.{◌∙◌, rules}
-use Rattle.mem_machine.proofs.Collecting.{collect_notes, handed_number, hands_over}
+use Rattle.std.proofs.Common.{rules}
+use Rattle.mem_machine.proofs.Collecting.{collect_notes, hands_over}
 use Rattle.mem_machine.proofs.Moved.{AllMoved}
 use Rattle.mem_machine.proofs.settling.collect_fresh.Goals as goal
 
@@ -8,6 +8,6 @@ returns g c = record {
   cpu = hands_over _ _ _ c.in-Some.ensures.answer;
   sums = search rules;
   held = c.in-Some.ensures.run.held;
-  notes = collect_notes g.N.BootName.frames _ _ _ _ _ c.number.ensures (c.number.ensures ∙ handed_number _ _ _ c.in-Some.ensures.answer) _ _ c.requires.held
+  notes = collect_notes g.N.BootName.frames _ _ _ _ _ c.number-at.ensures c.number-cpu_number.ensures.number _ _ c.requires.held
       c.in-Some.ensures.run c.watch_collected.ensures;
 }
