@@ -1,8 +1,8 @@
 -- Steps of the zone's seat that change no CPU's part. Serves the calls on kept units and on blocks.
-use Rattle.std.proofs.Common.{◌≡◌, ◌≢◌, ℕ, true, Option, List, refl, sym, ap, ◌∙◌, subst, false, false≢true}
+use Rattle.std.proofs.Common.{◌≡◌, ◌≢◌, ℕ, true, Option, List, refl, sym, ap, ◌∙◌, subst, false}
+use Rattle.std.proofs.lemmas.Bool.{false≢true}
 use Rattle.std.specs.List.{fold}
 use Rattle.frame_word.specs.Seats.{KnownTable}
-use Rattle.cpu_part.specs.Cpus.{KnownCpu}
 use Rattle.cpu_part.specs.Known.{HasOwn}
 use Rattle.step_rules.specs.declared.phase.Hold.{Hold}
 use Rattle.step_rules.specs.declared.phase.Hold.TheVariants.{Unheld, HeldBy, Visiting}
@@ -17,9 +17,9 @@ use Rattle.boot_words.specs.Seats.{zone_of_boot}
 use Rattle.mem_machine.specs.Booked.{AreBooked, AreOwners}
 use Rattle.mem_machine.specs.Counting.{counts_along}
 use Rattle.mem_machine.specs.Following.{FollowsSteps}
-use Rattle.mem_machine.specs.Local.{Makes, StaysVisited, Visits, local_of, visit_state}
+use Rattle.mem_machine.specs.Local.{Makes, StaysVisited, local_of}
 use Rattle.mem_machine.specs.Machines.{KnownMachine, left_by}
-use Rattle.mem_machine.specs.Noted.{Notes, after_made}
+use Rattle.mem_machine.specs.Noted.{KnownRun, Notes, after_made}
 use Rattle.mem_machine.proofs.Sight.{left_seen}
 
 -- ---- what the lock's holder sees
@@ -38,38 +38,37 @@ zone_seen t past = zone_of_run (zone_of_boot t) (cpu_past past).seen
 
 -- ---- after steps that leave the hold and all parts, and the references of each CPU
 
-module _ (t : KnownTable) (m n : KnownMachine) (steps : Run) (held : IsHeld t m.run.past) (noted : Notes t m.run steps n.run) where
-  abbrev then : State
-  then = fold after_made (local_of t m) steps
+module _ (t : KnownTable) (m : KnownMachine) (steps : Run) (held : IsHeld t m.run.past) where
+  module _ (run : KnownRun) (noted : Notes t m.run steps run) where
+    -- what the past left then
+    pub left_then : left_by t run.past ≡ hide (fold after_made (local_of t m) steps)
+    left_then = left_seen t run.past (noted.grew.held held) ∙ ap hide (noted.grew.sees held)
 
-  -- what the past left then
-  pub left_then : left_by t n.run.past ≡ hide (fold after_made (local_of t m) steps)
-  left_then = left_seen t n.run.past (noted.grew.held held) ∙ ap hide (noted.grew.sees held)
+    module _ (parts : (fold after_made (local_of t m) steps).parts ≡ (local_of t m).parts) where
+      parts_then : (left_by t run.past).parts ≡ (left_by t m.run.past).parts
+      parts_then = ap (λ (s : State). s.parts) left_then ∙ ap (λ (p : ℕ → Part). (hide (record (local_of t m) { parts = p })).parts) parts
+          ∙ ap (λ (s : State). s.parts) (sym (left_seen t m.run.past held))
 
-  pub makes : IsLocalRun (cpu_past m.run.past).number (local_of t m) steps (fold after_made (local_of t m) steps)
-      → FollowsSteps (local_of t m) m.ledger steps n.ledger → n.counts ≡ counts_along (local_of t m) steps m.counts → Makes t m steps n
-  makes leads follows counts = record {
-    leads = subst (IsLocalRun (cpu_past m.run.past).number (local_of t m) steps) (sym (noted.grew.sees held)) leads;
-    follows = follows;
-    counts = counts;
-    noted = noted;
-  }
+      pub sums_then : (sums : List ℕ) → AreBooked t.cpus (left_by t m.run.past).parts sums → AreBooked t.cpus (left_by t run.past).parts sums
+      sums_then sums are = subst (λ (p : ℕ → Part). AreBooked t.cpus p sums) (sym parts_then) are
 
-  module _ (parts : (fold after_made (local_of t m) steps).parts ≡ (local_of t m).parts) where
-    parts_then : (left_by t n.run.past).parts ≡ (left_by t m.run.past).parts
-    parts_then = ap (λ (s : State). s.parts) left_then ∙ ap (λ (p : ℕ → Part). (hide (record (local_of t m) { parts = p })).parts) parts
-        ∙ ap (λ (s : State). s.parts) (sym (left_seen t m.run.past held))
+      pub owners_then : (owners : List (Option ℕ)) → AreOwners t.cpus (left_by t m.run.past).parts owners → AreOwners t.cpus (left_by t run.past).parts owners
+      owners_then owners are = subst (λ (p : ℕ → Part). AreOwners t.cpus p owners) (sym parts_then) are
 
-    pub sums_then : (sums : List ℕ) → AreBooked t.cpus (left_by t m.run.past).parts sums → AreBooked t.cpus (left_by t n.run.past).parts sums
-    sums_then sums are = subst (λ (p : ℕ → Part). AreBooked t.cpus p sums) (sym parts_then) are
-
-    pub owners_then : (owners : List (Option ℕ)) → AreOwners t.cpus (left_by t m.run.past).parts owners → AreOwners t.cpus (left_by t n.run.past).parts owners
-    owners_then owners are = subst (λ (p : ℕ → Part). AreOwners t.cpus p owners) (sym parts_then) are
+  module _ (n : KnownMachine) (noted : Notes t m.run steps n.run) where
+    pub makes : IsLocalRun (cpu_past m.run.past).number (local_of t m) steps (fold after_made (local_of t m) steps)
+        → FollowsSteps (local_of t m) m.ledger steps n.ledger → n.counts ≡ counts_along (local_of t m) steps m.counts → Makes t m steps n
+    makes leads follows counts = record {
+      leads = subst (IsLocalRun (cpu_past m.run.past).number (local_of t m) steps) (sym (noted.grew.sees held)) leads;
+      follows = follows;
+      counts = counts;
+      noted = noted;
+    }
 
     -- each visit stays open
-    pub zone_visited : (fold after_made (local_of t m) steps).hold ≡ (local_of t m).hold
+    pub zone_visited : (fold after_made (local_of t m) steps).hold ≡ (local_of t m).hold → (fold after_made (local_of t m) steps).parts ≡ (local_of t m).parts
         → ((p : ℕ) → p ≢ 0 → (fold after_made (local_of t m) steps).references p ≡ (local_of t m).references p) → StaysVisited t m n
-    zone_visited hold references c visit =
+    zone_visited hold parts references c visit =
         let later = sym (noted.grew.sees held) in
         let some : c.number ≢ 0 = λ none. held.holds.cpu_is (visit.who ∙ none) in
         record {
