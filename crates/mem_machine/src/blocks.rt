@@ -8,7 +8,7 @@ ghost use Rattle.mem_machine.specs.Blocks.{PlacesUnit, TakesBlock, RefusesBlock,
 use crate::frame_state::FrameState;
 use crate::lists::join_list;
 use crate::machine::Machine;
-use crate::proving::{prove_charges, prove_tied};
+use crate::proving::prove_charges;
 use crate::stepping;
 use cpu_part::{BootName, Cpu, Tables};
 use frame_word::Frame;
@@ -65,7 +65,6 @@ impl<N: BootName> Machine<N> {
         ensures steps { Makes N.frames self.old (block_steps group order result) self.new }
     {
         let pages = order.frames();
-        prove_tied(cpu);
         prove_charges(&self.charges);
         if let Err(over) = self.charges.try_charge(group, pages) {
             let full = over.group;

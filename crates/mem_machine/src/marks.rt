@@ -1,6 +1,7 @@
 //! Noting the use of kept units on the lists of their groups.
 
 ghost use Rattle.std.specs.Prelude.{◌<◌, []};
+ghost use Rattle.boot_words.specs.Pasts.{IsHeld};
 ghost use Rattle.mem_machine.specs.Machines.{HeadsKeptUnit};
 ghost use Rattle.mem_machine.specs.Marks.{Dirties, TouchesUnit};
 ghost use Rattle.mem_machine.specs.Local.{Makes};
