@@ -1,5 +1,5 @@
 -- A kept unit is tried: it is missed, or it is frozen and freed. Serves `evict`.
-use Rattle.std.proofs.Common.{◌≡◌, ◌≢◌, ℕ, ◌^◌, ◌<◌, Bool, Option, Some, None, List, [], ◌∷◌, length, refl, sym, ap, ◌∙◌, subst}
+use Rattle.std.proofs.Common.{◌≡◌, ◌≢◌, ℕ, ◌^◌, ◌<◌, Bool, true, Option, Some, None, List, [], ◌∷◌, length, refl, sym, ap, ◌∙◌, subst}
 use Rattle.std.specs.Prelude.{IfSome}
 use Rattle.std.proofs.lemmas.Bool.{and_from}
 use Rattle.zone_blocks.specs.declared.block.Block.{Block}
@@ -16,9 +16,10 @@ use Rattle.lru_lists.specs.Lists.{AllLinked}
 use Rattle.step_rules.specs.declared.phase.ChargedUnit.{ChargedUnit}
 use Rattle.step_rules.specs.declared.step.Action.TheVariants.{Freeze, Return}
 use Rattle.step_rules.specs.declared.step.Answer.TheVariants as answer
-use Rattle.step_rules.specs.After.{Run}
+use Rattle.step_rules.specs.After.{Run, after}
+use Rattle.step_rules.specs.Legal.{is_legal}
 use Rattle.step_rules.proofs.Basics.{at_other}
-use Rattle.boot_words.specs.Pasts.{IsHeld, MayMake, cpu_past}
+use Rattle.boot_words.specs.Pasts.{IsHeld, MayMake, cpu_past, local_by_pasts}
 use Rattle.mem_machine.specs.declared.counts.Counts.{Counts}
 use Rattle.mem_machine.specs.declared.frame_state.FrameState.{FrameState}
 use Rattle.mem_machine.specs.declared.frame_state.FrameState.TheVariants.{Head}
@@ -37,27 +38,18 @@ use Rattle.mem_machine.proofs.Followed.{follows_same, follows_still}
 use Rattle.mem_machine.proofs.Freeing.{free_block_given}
 use Rattle.mem_machine.proofs.Reaching.{zone_step}
 use Rattle.mem_machine.proofs.Releases.{freed_consistent, may_freeze, may_return}
-use Rattle.mem_machine.proofs.Sight.{left_seen}
-use Rattle.mem_machine.proofs.ZoneSteps.{left_then, makes, zone_visited}
+use Rattle.mem_machine.proofs.Made.{held_here, makes}
+use Rattle.mem_machine.proofs.Sight.{left_seen, left_then}
+use Rattle.mem_machine.proofs.ZoneSteps.{zone_visited}
 
--- what is required of the machine as it was seen before holds of its fields
-module _ (m now : KnownMachine) (same : m ≡ now) where
-  pub held_here : (t : KnownTable) → IsHeld t now.run.past → IsHeld t m.run.past
-  held_here t held = subst (λ (x : KnownMachine). IsHeld t x.run.past) (sym same) held
+-- the unit is kept, by the machine's fields too
+pub kept_here : (m now : KnownMachine) → m ≡ now → (f : ℕ) → home_of now.links f ≢ None → home_of m.links f ≢ None
+kept_here m now same f kept = subst (λ (x : KnownMachine). home_of x.links f ≢ None) (sym same) kept
 
-  pub kept_here : (f : ℕ) → home_of now.links f ≢ None → home_of m.links f ≢ None
-  kept_here f kept = subst (λ (x : KnownMachine). home_of x.links f ≢ None) (sym same) kept
-
-module _ (t : KnownTable) (m now : KnownMachine) (same : m ≡ now) (ok : IsConsistent t m) (f : ℕ) (inside : f < t.frames) (kept_now : home_of now.links f ≢ None)
-    (held_now : IsHeld t now.run.past) where
-  held : IsHeld t m.run.past
-  held = held_here m now same t held_now
-
-  kept : home_of m.links f ≢ None
-  kept = kept_here m now same f kept_now
-
-  pub freeze_may : MayMake t m.run.past 0 (Freeze f 1)
-  freeze_may = may_freeze t m ok held f inside kept
+-- the zone's reference may be frozen
+pub freeze_may : (t : KnownTable) (m now : KnownMachine) → m ≡ now → IsConsistent t m → (f : ℕ) → f < t.frames → home_of now.links f ≢ None → IsHeld t now.run.past
+    → MayMake t m.run.past 0 (Freeze f 1)
+freeze_may t m now same ok f inside kept held = may_freeze t m ok (held_here t m now same held) f inside (kept_here m now same f kept)
 
 -- ---- a miss
 
@@ -72,7 +64,7 @@ module _ (t : KnownTable) (m : KnownMachine) (ok : IsConsistent t m) (held : IsH
   missed : AllMissed t m (record m { counts = with_miss m.counts; run = run }) f
   missed =
       let n : KnownMachine = record m { counts = with_miss m.counts; run = run } in
-      let left = left_then t m (evict_steps f None) held run noted ∙ sym (left_seen t m.run.past held) in
+      let left = left_then t m (evict_steps f None) run held noted ∙ sym (left_seen t m.run.past held) in
       let shown = ok.shown in
       record {
         consistent = record {
@@ -94,8 +86,8 @@ module _ (t : KnownTable) (m : KnownMachine) (ok : IsConsistent t m) (held : IsH
           });
         };
         misses = refl;
-        visit = zone_visited t m (evict_steps f None) held n noted refl refl (λ p some. refl);
-        steps = makes t m (evict_steps f None) held n noted
+        visit = zone_visited t m n (evict_steps f None) noted refl refl (λ p some. refl);
+        steps = makes t m n (evict_steps f None) held noted
             (zone_step (local_of t m) (cpu_past m.run.past).number (Freeze f 1) answer.Missed refl (may_freeze t m ok held f inside kept) tt, refl) (follows_same _ _ _ refl) refl;
       }
 
@@ -104,7 +96,7 @@ pub missed_all : (t : KnownTable) (m now : KnownMachine) → m ≡ now → IsCon
     → AllMissed t now (record m { counts = counts; run = run }) f
 missed_all t m now same ok f inside kept_now held_now counts counted run noted =
     subst (λ (x : KnownMachine × Counts). AllMissed t x.0 (record m { counts = x.1; run = run }) f) (λ j. (same j, sym counted j))
-    (missed t m ok (held_here m now same t held_now) f inside (kept_here m now same f kept_now) run noted)
+    (missed t m ok (held_here t m now same held_now) f inside (kept_here m now same f kept_now) run noted)
 
 -- ---- a freeze
 
@@ -156,7 +148,7 @@ module _ (t : KnownTable) (m : KnownMachine) (ok : IsConsistent t m) (held : IsH
       let s = local_of t m in
       record {
         consistent = freed_consistent t m ok held f inside kept links lists leaves unit heads frame_states frees blocks areas stand linked listed (with_freeze m.counts)
-            (balanced_freeze m.counts ok.balances) (unit_noted m.notes unit.group f (2 ^ unit.order)) run (left_then t m steps held run noted);
+            (balanced_freeze m.counts ok.balances) (unit_noted m.notes unit.group f (2 ^ unit.order)) run (left_then t m steps run held noted);
         free_is = free_is;
         evicts = record {
           unit = unit;
@@ -169,12 +161,12 @@ module _ (t : KnownTable) (m : KnownMachine) (ok : IsConsistent t m) (held : IsH
           areas = areas;
           machine = refl;
         };
-        visit = zone_visited t m steps held evicted_machine noted refl refl (λ p some. at_other s.references 0 _ p some);
-        steps = makes t m steps held evicted_machine noted
+        visit = zone_visited t m evicted_machine steps noted refl refl (λ p some. at_other s.references 0 _ p some);
+        steps = makes t m evicted_machine steps held noted
             (
               zone_step s (cpu_past m.run.past).number (Freeze f 1) answer.Done refl (may_freeze t m ok held f inside kept) tt,
               (
-                zone_step _ (cpu_past m.run.past).number (Return f) answer.Done refl (may_return t m ok held f inside kept links lists leaves unit heads) tt,
+                zone_step _ (cpu_past m.run.past).number (Return f) answer.Done refl (may_return t m ok held f inside kept unit heads) tt,
                 refl,
               ),
             )
@@ -203,7 +195,7 @@ pub evicted_all : (t : KnownTable) (m now : KnownMachine) → m ≡ now → IsCo
     }) f pages free
 evicted_all t m now same ok f i inside is kept_now held_now links lists leaves stand linked listed unit head before free blocks frame_states ledger counts pages notes noted was frees
     gives areas uncharged usage counted size run made =
-    let all = evicted t m ok (held_here m now same t held_now) f inside (kept_here m now same f kept_now) links lists
+    let all = evicted t m ok (held_here t m now same held_now) f inside (kept_here m now same f kept_now) links lists
     (subst (λ (x : ℕ). LeavesList x (lists_of m) (group_lists links lists)) is leaves) stand (linked ∙ ok.sizes.links) listed unit
     (subst (λ (x : ℕ). frame_state_at m.frame_states x ≡ Head unit) is head) before free was
     (subst (λ (x : ℕ). GivesFrames before (record { at = x; order = unit.order }) free) is gives) frame_states
@@ -223,3 +215,9 @@ evicted_all t m now same ok f i inside is kept_now held_now links lists leaves s
         run = run;
       },
     )) all
+
+-- behind the freeze the unit may be returned
+pub evict_returns : (t : KnownTable) (m now : KnownMachine) → m ≡ now → IsConsistent t m → (f i : ℕ) → f < t.frames → i ≡ f → home_of now.links f ≢ None → IsHeld t now.run.past
+    → (unit : ChargedUnit) → frame_state_at m.frame_states i ≡ Head unit → is_legal (after (local_by_pasts t m.run.past) 0 (Freeze f 1) answer.Done) 0 (Return f) ≡ true
+evict_returns t m now same ok f i inside is kept held unit head =
+    may_return t m ok (held_here t m now same held) f inside (kept_here m now same f kept) unit (subst (λ (x : ℕ). frame_state_at m.frame_states x ≡ Head unit) is head)

@@ -45,8 +45,8 @@ use Rattle.mem_machine.specs.Steps.{zone_makes}
 use Rattle.mem_machine.proofs.Freeing.{homes_fit, pages_freed, phases_freed, units_freed}
 use Rattle.mem_machine.proofs.Noted.{notes_both, notes_one}
 use Rattle.mem_machine.proofs.Reaching.{zone_step}
-use Rattle.mem_machine.proofs.Sight.{left_seen}
-use Rattle.mem_machine.proofs.ZoneSteps.{left_then, zone_acts, zone_seen}
+use Rattle.mem_machine.proofs.Made.{zone_acts, zone_seen}
+use Rattle.mem_machine.proofs.Sight.{left_then, shown_seen}
 
 -- a home that is there counts one reference
 kept_once : (home : Option Home) (n : ℕ) → n ≡ one_if (is_some home) → home ≢ None → n ≡ 1
@@ -83,11 +83,8 @@ staged (phase.Head v old) u stage is = ap (λ (w : Option ChargedUnit). phase.He
 -- ---- one reference of the zone less
 
 module _ (t : KnownTable) (m : KnownMachine) (ok : IsConsistent t m) (held : IsHeld t m.run.past) (f : ℕ) (inside : f < t.frames) (kept : home_of m.links f ≢ None) where
-  abbrev s : State
-  s = local_of t m
-
   shown : IsShownBy t m (hide (local_of t m))
-  shown = subst (IsShownBy t m) (left_seen t m.run.past held) ok.shown
+  shown = shown_seen t m ok held
 
   pub kept_held : (local_of t m).references 0 f ≡ 1
   kept_held = kept_once (home_of m.links f) ((local_of t m).references 0 f) (shown.references f) kept
@@ -104,6 +101,18 @@ module _ (t : KnownTable) (m : KnownMachine) (ok : IsConsistent t m) (held : IsH
 
   pub may_freeze : is_legal (local_of t m) 0 (Freeze f 1) ≡ true
   may_freeze = and_from _ _ (and_from _ _ (and_from _ _ (zone_acts t m.run.past held) frame_is) refl) one_held
+
+  module _ (unit : ChargedUnit) (heads : frame_state_at m.frame_states f ≡ Head unit) where
+    -- the state in which the head is in the zone's hand, and nobody has a reference
+    abbrev pub ended : State
+    ended = after (local_of t m) 0 (Put f) answer.Last
+
+    head_ended : ended.phases f ≡ phase.Head unit AwaitsReturn
+    head_ended = at_same (local_of t m).phases f (at_stage AwaitsReturn ((local_of t m).phases f))
+        ∙ staged ((local_of t m).phases f) unit AwaitsReturn (is_used ((local_of t m).phases f) unit (shown.phases f ∙ ap phase_hidden heads))
+
+    pub may_return : is_legal ended 0 (Return f) ≡ true
+    may_return = and_from _ _ (and_from _ _ (zone_acts t m.run.past held) frame_is) (ap (is_returnable ended.killed) head_ended)
 
   module _ (links : List Link) (lists : List Lru) (leaves : LeavesList f (lists_of m) (group_lists links lists)) where
     homeless : home_of links f ≡ None
@@ -137,7 +146,7 @@ module _ (t : KnownTable) (m : KnownMachine) (ok : IsConsistent t m) (held : IsH
         units = ok.units;
         lists = stand;
         balances = ok.balances;
-        shown = subst (IsShownBy t then) (sym (left_then t m (zone_makes (Put f) (answer.Left left) ∷ []) held run noted)) (record {
+        shown = subst (IsShownBy t then) (sym (left_then t m (zone_makes (Put f) (answer.Left left) ∷ []) run held noted)) (record {
           groups = shown.groups;
           killed = shown.killed;
           phases = shown.phases;
@@ -152,17 +161,6 @@ module _ (t : KnownTable) (m : KnownMachine) (ok : IsConsistent t m) (held : IsH
     -- ---- the unit is freed
 
     module _ (unit : ChargedUnit) (heads : frame_state_at m.frame_states f ≡ Head unit) where
-      -- the state in which the head is in the zone's hand, and nobody has a reference
-      abbrev pub ended : State
-      ended = after (local_of t m) 0 (Put f) answer.Last
-
-      head_ended : ended.phases f ≡ phase.Head unit AwaitsReturn
-      head_ended = at_same (local_of t m).phases f (at_stage AwaitsReturn ((local_of t m).phases f))
-          ∙ staged ((local_of t m).phases f) unit AwaitsReturn (is_used ((local_of t m).phases f) unit (shown.phases f ∙ ap phase_hidden heads))
-
-      pub may_return : is_legal ended 0 (Return f) ≡ true
-      may_return = and_from _ _ (and_from _ _ (zone_acts t m.run.past held) frame_is) (ap (is_returnable ended.killed) head_ended)
-
       module _ (frame_states : List FrameState) (frees : FreesFrames f (2 ^ unit.order) m.frame_states frame_states) (blocks : List Block)
           (areas : AreMaximalBlocks (free_of frame_states) blocks) (stand : AllLinked links lists) (linked : length links ≡ t.frames) (listed : length lists ≡ 64)
           (counts : Counts) (balances : BalancesCounts counts) (notes : KnownNotes) (run : KnownRun) where
@@ -178,13 +176,13 @@ module _ (t : KnownTable) (m : KnownMachine) (ok : IsConsistent t m) (held : IsH
           run = run;
         }
 
-        freed_shown : IsShownBy t freed (hide (after ended 0 (Return f) answer.Done))
+        freed_shown : IsShownBy t freed (hide (after (ended unit heads) 0 (Return f) answer.Done))
         freed_shown = record {
           groups = shown.groups;
           killed = shown.killed;
-          phases = phases_freed t m ok f unit heads frame_states frees ended.phases
+          phases = phases_freed t m ok f unit heads frame_states frees (ended unit heads).phases
               (λ x ne. ap hide_phase (at_other (local_of t m).phases f (at_stage AwaitsReturn ((local_of t m).phases f)) x ne) ∙ shown.phases x)
-              (ap unit_of head_ended);
+              (ap unit_of (head_ended unit heads));
           references = references_then;
           settled = shown.settled;
           absorbed = shown.absorbed;
@@ -193,7 +191,7 @@ module _ (t : KnownTable) (m : KnownMachine) (ok : IsConsistent t m) (held : IsH
         }
 
         -- the machine is consistent, if its past left that state
-        pub freed_consistent : left_by t run.past ≡ hide (after ended 0 (Return f) answer.Done) → IsConsistent t (record m {
+        pub freed_consistent : left_by t run.past ≡ hide (after (ended unit heads) 0 (Return f) answer.Done) → IsConsistent t (record m {
           blocks = blocks;
           frame_states = frame_states;
           ledger = with_uncharge m.ledger unit.group (2 ^ unit.order);
