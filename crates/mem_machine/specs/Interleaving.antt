@@ -27,5 +27,5 @@ pub record IsInterleaving (table : KnownTable) (run : Run) (cpu : ℕ) (steps mi
 -- make. Then the longer run is legal, and shows the CPU the machine that the call left.
 abbrev pub CallsInterleave : Type 0
 CallsInterleave = (table : KnownTable) (run steps mixed : Run) (before after : KnownMachine)
-    → holder_of after ≡ holder_of before → Shows table run before → Makes table before steps after
+    → Shows table run before → Makes table before steps after
     → IsInterleaving table run (holder_of before) steps mixed → Shows table (run ++ mixed) after
