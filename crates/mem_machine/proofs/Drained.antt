@@ -50,7 +50,7 @@ module _ (t : KnownTable) (m : KnownMachine) (u : State) (ok : IsShownBy t m u) 
       let all = ok.charged h in let same = books_none t.cpus u.parts q inside (drained (u.parts q) n) group group h in omega (arith, all, same)
   charged_after (Some g) group h =
       let fall = uncharge_pages m.ledger g n (drain_charged g group) h in
-      let fewer = books_less t.cpus u.parts q inside g n (drained (u.parts q) n) group group less h in
+      let fewer = books_less t.cpus u.parts q inside (drained (u.parts q) n) g n group group less h in
       let all = ok.charged h in
       omega (arith, fall, fewer, all)
 
@@ -76,15 +76,12 @@ module _ (t : KnownTable) (m : KnownMachine) (u : State) (ok : IsShownBy t m u) 
 
   pub drain_sums : (sums : List ℕ) → AreBooked t.cpus u.parts sums → (g : ℕ) → (u.parts q).stock.group ≡ Some g → g < 64
       → AreBooked t.cpus (drain_state u q n).parts (slice_set sums g (get_or sums g 0 - n))
-  drain_sums sums are g group fits = sums_less t.cpus u.parts (drain_state u q n).parts sums g n are fits
-      (books_less t.cpus u.parts q inside g n (drained (u.parts q) n) group group less)
+  drain_sums sums are g group fits = sums_less t.cpus u.parts q inside (drained (u.parts q) n) g n group group less sums are fits
 
   pub drain_sums_none : n ≡ 0 → (sums : List ℕ) → AreBooked t.cpus u.parts sums → AreBooked t.cpus (drain_state u q n).parts sums
   drain_sums_none none sums are = sums_same t.cpus u.parts (drain_state u q n).parts sums are
-      (books_same t.cpus u.parts (drain_state u q n).parts (record {
-        book = at_each u.parts q (drained (u.parts q) n) (λ j x. x.book ≡ (u.parts j).book) (omega (arith, none)) (λ j ne. refl);
-        group = drain_groups;
-      }))
+      (books_same t.cpus u.parts (drain_state u q n).parts
+      (at_each u.parts q (drained (u.parts q) n) (λ j x. x.book ≡ (u.parts j).book) (omega (arith, none)) (λ j ne. refl)) drain_groups)
 
   -- its sum has the pages
   pub drain_sum_within : (sums : List ℕ) → AreBooked t.cpus u.parts sums → (g : ℕ) → (u.parts q).stock.group ≡ Some g → g < 64 → n ≤ get_or sums g 0
