@@ -1,4 +1,4 @@
-use Rattle.std.proofs.Common.{◌≡◌, ℕ, ◌<◌, ◌≤◌, Some, refl, sym, ap, ◌∙◌, subst, arith, rules}
+use Rattle.std.proofs.Common.{◌≡◌, ℕ, ◌<◌, ◌≤◌, Some, None, refl, sym, ap, ◌∙◌, arith, rules}
 use Rattle.step_rules.specs.declared.step.Action.TheVariants.{DrainStock}
 use Rattle.mem_machine.specs.Kept.{machine_of}
 use Rattle.mem_machine.specs.Machines.{stock_group}
@@ -16,3 +16,78 @@ drain-pages-requires-clause-legal g c =
 
 pub group-requires : goal.group-requires
 group-requires g c = let few = c.self.invariant.owners.few in omega (arith, few, c.requires.cpu.0, c.requires.cpu.1)
+
+pub unreachable-requires : goal.unreachable-requires
+unreachable-requires g c =
+    let t = g.N.BootName.frames in
+    let m = machine_of c.self.inside in
+    let knows = knows_drain t _ c.args.tables.now.frames_are m _ c.self.view_is c.requires.held c.args.cpu _ c.requires.cpu _ c.drain-pages.ensures in
+    let none : stock_group t m c.args.cpu ≡ None = owner_at t.cpus _ _ c.self.invariant.owners c.args.cpu c.requires.cpu.0 c.requires.cpu.1 ∙ sym c.group.ensures ∙ c.in_default.is in
+    let no_page = no_group_none t m c.self.invariant.consistent c.args.cpu _ knows none in
+    let some = c.if-pages-gt0.true in
+    absurd (omega (arith, no_page, some))
+
+pub overflow_sub-self : goal.overflow_sub-self
+overflow_sub-self g c =
+    let t = g.N.BootName.frames in
+    let m = machine_of c.self.inside in
+    let knows = knows_drain t _ c.args.tables.now.frames_are m _ c.self.view_is c.requires.held c.args.cpu _ c.requires.cpu _ c.drain-pages.ensures in
+    let owner : stock_group t m c.args.cpu ≡ Some c.in-Some.group = owner_at t.cpus _ _ c.self.invariant.owners c.args.cpu c.requires.cpu.0 c.requires.cpu.1 ∙ sym c.group.ensures ∙ c.in-Some.is in
+    sum_within t m c.self.invariant.consistent c.args.cpu _ knows _ c.self.invariant.sums c.number.result (owner ∙ ap Some (sym c.number.ensures.value)) c.number.ensures.below
+
+pub uncharge-requires : goal.uncharge-requires
+uncharge-requires g c =
+    let t = g.N.BootName.frames in
+    let m = machine_of c.self.inside in
+    let knows = knows_drain t _ c.args.tables.now.frames_are m _ c.self.view_is c.requires.held c.args.cpu _ c.requires.cpu _ c.drain-pages.ensures in
+    let owner : stock_group t m c.args.cpu ≡ Some c.in-Some.group = owner_at t.cpus _ _ c.self.invariant.owners c.args.cpu c.requires.cpu.0 c.requires.cpu.1 ∙ sym c.group.ensures ∙ c.in-Some.is in
+    let both = there_now t m c.self.invariant.consistent c.args.cpu _ knows c.in-Some.group owner c.if-pages-gt0.true in
+    record { there = both.0; charged = both.1 }
+
+pub ungrant-requires-clause-legal : goal.ungrant-requires-clause-legal
+ungrant-requires-clause-legal g c =
+    let t = g.N.BootName.frames in
+    let m = machine_of c.self.inside in
+    let knows = knows_drain t _ c.args.tables.now.frames_are m _ c.self.view_is c.requires.held c.args.cpu _ c.requires.cpu _ c.drain-pages.ensures in
+    let owner : stock_group t m c.args.cpu ≡ Some c.in-Some.group = owner_at t.cpus _ _ c.self.invariant.owners c.args.cpu c.requires.cpu.0 c.requires.cpu.1 ∙ sym c.group.ensures ∙ c.in-Some.is in
+    ungrant_may t m c.self.invariant.consistent c.args.cpu _ knows c.in-Some.group owner c.if-pages-gt0.true _
+    (made_at _ _ c.args.tables.now.frames_are 0 refl _ _ _ _ c.drain-pages.ensures)
+
+pub invariant_of-self : goal.invariant_of-self
+invariant_of-self g c =
+    let t = g.N.BootName.frames in
+    let m = machine_of c.self.inside in
+    let knows = knows_drain t _ c.args.tables.now.frames_are m _ c.self.view_is c.requires.held c.args.cpu _ c.requires.cpu _ c.drain-pages.ensures in
+    let owner : stock_group t m c.args.cpu ≡ Some c.in-Some.group = owner_at t.cpus _ _ c.self.invariant.owners c.args.cpu c.requires.cpu.0 c.requires.cpu.1 ∙ sym c.group.ensures ∙ c.in-Some.is in
+    let noted = noted_some t _ c.args.tables.now.frames_are m.run c.args.cpu _ c.in-Some.group c.if-pages-gt0.true _ _ c.drain-pages.ensures c.drained.ensures _ c.ungrant.ensures.notes in
+    drained_sound t c.self.inside c.self.invariant c.args.cpu _ knows c.in-Some.group owner c.number.result c.number.ensures.value c.number.ensures.below _ noted _ c.uncharge.ensures.uncharged
+
+pub invariant_of-self-else-pages-gt0 : goal.invariant_of-self-else-pages-gt0
+invariant_of-self-else-pages-gt0 g c =
+    let t = g.N.BootName.frames in
+    let m = machine_of c.self.inside in
+    let knows = knows_drain t _ c.args.tables.now.frames_are m _ c.self.view_is c.requires.held c.args.cpu _ c.requires.cpu _ c.drain-pages.ensures in
+    let none : c.drain-pages.result ≡ 0 = search rules in
+    emptied_sound t c.self.inside c.self.invariant c.args.cpu _ knows none _
+    (noted_none t _ c.args.tables.now.frames_are m.run c.args.cpu _ (stock_group t m c.args.cpu) none _ _ c.drain-pages.ensures c.drained.ensures)
+
+pub returns-in-Some : goal.returns-in-Some
+returns-in-Some g c =
+    let t = g.N.BootName.frames in
+    let m = machine_of c.self.inside in
+    let knows = knows_drain t _ c.args.tables.now.frames_are m _ c.self.view_is c.requires.held c.args.cpu _ c.requires.cpu _ c.drain-pages.ensures in
+    let owner : stock_group t m c.args.cpu ≡ Some c.in-Some.group = owner_at t.cpus _ _ c.self.invariant.owners c.args.cpu c.requires.cpu.0 c.requires.cpu.1 ∙ sym c.group.ensures ∙ c.in-Some.is in
+    let noted = noted_some t _ c.args.tables.now.frames_are m.run c.args.cpu _ c.in-Some.group c.if-pages-gt0.true _ _ c.drain-pages.ensures c.drained.ensures _ c.ungrant.ensures.notes in
+    let all = drained_now t m c.self.invariant.consistent c.args.cpu _ knows (Some c.in-Some.group) owner _ noted _ c.self.view_is _ c.uncharge.ensures.uncharged in
+    record { drains = all.drains; steps = all.steps; visit = all.visit }
+
+pub returns-else-pages-gt0 : goal.returns-else-pages-gt0
+returns-else-pages-gt0 g c =
+    let t = g.N.BootName.frames in
+    let m = machine_of c.self.inside in
+    let knows = knows_drain t _ c.args.tables.now.frames_are m _ c.self.view_is c.requires.held c.args.cpu _ c.requires.cpu _ c.drain-pages.ensures in
+    let none : c.drain-pages.result ≡ 0 = search rules in
+    let o = stock_group t m c.args.cpu in
+    let noted = noted_none t _ c.args.tables.now.frames_are m.run c.args.cpu _ o none _ _ c.drain-pages.ensures c.drained.ensures in
+    let all = drained_now t m c.self.invariant.consistent c.args.cpu _ knows o refl _ noted _ c.self.view_is _ (drained_none c.self.inside.charges o _ none) in
+    record { drains = all.drains; steps = all.steps; visit = all.visit }
