@@ -10,7 +10,6 @@ use Rattle.group_tree.specs.Room.{one_more}
 use Rattle.group_tree.proofs.CallerLemmas.{has_group-with, has_group-limited, has_group-flagged, has_group-without}
 use Rattle.group_charge.specs.Charges.{Ledger, SamePeaks, SameEvents}
 use Rattle.frame_word.specs.Seats.{KnownTable}
-use Rattle.cpu_part.specs.Cpus.{KnownCpu}
 use Rattle.step_rules.specs.declared.step.Step.{Step}
 use Rattle.step_rules.specs.declared.step.Action.{Action}
 use Rattle.step_rules.specs.declared.step.Action.TheVariants.{Lock, Grant, SetMax, SetFlag, Make, Remove}
@@ -19,16 +18,18 @@ use Rattle.step_rules.specs.declared.step.Answer.TheVariants.{Illegal, Done, Gra
 use Rattle.step_rules.specs.State.{State}
 use Rattle.step_rules.specs.After.{Run, after}
 use Rattle.step_rules.specs.Peaks.{peak_follows}
+use Rattle.step_rules.specs.Reaches.{IsLocalRun}
 use Rattle.step_rules.specs.Events.{event_of, noted_at, is_noted_at, is_noted_in_subtree, makes_group}
 use Rattle.step_rules.specs.Usage.{is_in_subtree}
 use Rattle.step_rules.specs.Legal.{is_of_group}
 use Rattle.step_rules.proofs.CallerLemmas.{noted_nowhere}
 use Rattle.step_rules.proofs.Moving.{gone_itself}
+use Rattle.boot_words.specs.Pasts.{cpu_past, local_by_pasts}
 use Rattle.mem_machine.specs.Following.{Moves, moved_along, moves_peak, moves_count, FollowsSteps}
 use Rattle.mem_machine.specs.declared.counts.Counts.{Counts}
 use Rattle.mem_machine.specs.Counting.{counts_after, counts_along}
 use Rattle.mem_machine.specs.Machines.{KnownMachine}
-use Rattle.mem_machine.specs.Local.{VisitState, visit_state, local_of, local_at, IsLocalRun, MakesAs}
+use Rattle.mem_machine.specs.Local.{Makes, holder_of, local_of}
 use Rattle.mem_machine.specs.Noted.{KnownRun, Notes}
 use Rattle.mem_machine.proofs.Noted.{notes_none, notes_both}
 use Rattle.mem_machine.proofs.Reaching.{run_both}
@@ -112,48 +113,28 @@ counts_both p a (e ∷ rest) two b x run =
     counts_both p (after a e.0.seat e.0.action e.1) rest two b (counts_after a e.0.seat e.0.action e.1 x) run.1
 
 -- one list after another
-pub makes_both : (t : KnownTable) (p : ℕ) (one two : Run) (a b c : VisitState) → MakesAs t p a one b → MakesAs t p b two c → MakesAs t p a (one ++ two) c
-makes_both t p one two a b c first second =
-    let s = local_of t a.machine a.cpu in
-    let u = local_of t b.machine b.cpu in
-    let v = local_of t c.machine c.cpu in
+pub makes_both : (t : KnownTable) (one two : Run) (a b c : KnownMachine) → Makes t a one b → Makes t b two c → Makes t a (one ++ two) c
+makes_both t one two a b c first second =
+    let p = holder_of a in
+    let s = local_of t a in
+    let u = local_of t b in
+    let v = local_of t c in
+    let then_leads : IsLocalRun p u two v = subst (λ (q : ℕ). IsLocalRun q u two v) first.holder second.leads in
     record {
-      leads = run_both p one two s u v first.leads second.leads;
+      holder = second.holder ∙ first.holder;
+      leads = run_both p one two s u v first.leads then_leads;
       follows = record {
-        peak = λ m there. joined p s one u two v first.leads second.leads m (moves_peak m) (peak_begins m) _ _ _
+        peak = λ m there. joined p s one u two v first.leads then_leads m (moves_peak m) (peak_begins m) _ _ _
             (first.follows.peak m) (second.follows.peak m there) there;
-        events = λ key m there. joined p s one u two v first.leads second.leads m (moves_count (is_noted_in_subtree key m) m)
+        events = λ key m there. joined p s one u two v first.leads then_leads m (moves_count (is_noted_in_subtree key m) m)
             (count_begins (is_noted_in_subtree key m) m)
             _ _ _ (first.follows.events key m) (second.follows.events key m there) there;
-        events_local = λ key m there. joined p s one u two v first.leads second.leads m (moves_count (is_noted_at key m) m)
+        events_local = λ key m there. joined p s one u two v first.leads then_leads m (moves_count (is_noted_at key m) m)
             (count_begins (is_noted_at key m) m) _ _ _ (first.follows.events_local key m) (second.follows.events_local key m there) there;
       };
-      counts = second.counts ∙ ap (counts_along u two) first.counts ∙ sym (counts_both p s one two u a.machine.counts first.leads);
-      noted = notes_both t a.machine.run one b.machine.run two c.machine.run first.noted second.noted;
+      counts = second.counts ∙ ap (counts_along u two) first.counts ∙ sym (counts_both p s one two u a.counts first.leads);
+      noted = notes_both t a.run one b.run two c.run first.noted second.noted;
     }
-
--- ---- the run
-
--- all that `MakesAs` says but for the pasts and the watch
-pub record LeadsAs (table : KnownTable) (number : ℕ) (before : VisitState) (steps : Run) (after : VisitState) : Type 0 where
-  pub leads : IsLocalRun number (local_at table before) steps (local_at table after)
-  pub follows : FollowsSteps (local_at table before) before.machine.ledger steps after.machine.ledger
-  pub counts : after.machine.counts ≡ counts_along (local_at table before) steps before.machine.counts
-
--- the same for each CPU that may hold the lock
-abbrev pub LeadsForAny : KnownTable → KnownMachine → Run → KnownMachine → Type 0
-LeadsForAny table before steps after = (cpu : KnownCpu) → LeadsAs table cpu.number (visit_state before cpu) steps (visit_state after cpu)
-
--- the pasts have grown by the steps, and the watch took them: the machine after them has this run
-pub makes_noted : (t : KnownTable) (p : ℕ) (m now : KnownMachine) → m ≡ now → (c d : KnownCpu) (steps : Run) (n : KnownMachine)
-    → LeadsAs t p (visit_state now c) steps (visit_state n d) → (run : KnownRun) → Notes t m.run steps run
-    → MakesAs t p (visit_state now c) steps (visit_state (record n { run = run }) d)
-makes_noted t p m now same c d steps n made run notes = record {
-  leads = made.leads;
-  follows = made.follows;
-  counts = made.counts;
-  noted = subst (λ (x : KnownMachine). Notes t x.run steps run) same notes;
-}
 
 -- ---- steps that move nothing
 
@@ -235,15 +216,15 @@ follows_same s l steps still = follows_still s l steps l still (λ m. refl) (sam
 
 -- ---- no step
 
-pub makes_none : (t : KnownTable) (p : ℕ) (a : VisitState) → MakesAs t p a [] a
-makes_none t p a = record { leads = refl; follows = follows_same _ _ _ refl; counts = refl; noted = notes_none t a.machine.run }
+pub makes_none : (t : KnownTable) (a : KnownMachine) → Makes t a [] a
+makes_none t a = record { holder = refl; leads = refl; follows = follows_same _ _ _ refl; counts = refl; noted = notes_none t a.run }
 
--- what is seen stays, and the ledger, the counts and the run
-pub makes_stay : (t : KnownTable) (m n : KnownMachine) (c d : KnownCpu) → local_of t m c ≡ local_of t n d → n.ledger ≡ m.ledger
-    → n.counts ≡ m.counts → n.run ≡ m.run → MakesAs t c.number (visit_state m c) [] (visit_state n d)
-makes_stay t m n c d seen same counted unnoted = record {
-  leads = seen;
+-- the ledger, the counts and the run stay
+pub makes_stay : (t : KnownTable) (m n : KnownMachine) → n.ledger ≡ m.ledger → n.counts ≡ m.counts → n.run ≡ m.run → Makes t m [] n
+makes_stay t m n same counted unnoted = record {
+  holder = ap (λ (r : KnownRun). (cpu_past r.past).number) unnoted;
+  leads = ap (λ (r : KnownRun). local_by_pasts t r.past) (sym unnoted);
   counts = counted;
   noted = subst (Notes t m.run []) (sym unnoted) (notes_none t m.run);
-  follows = subst (FollowsSteps (local_of t m c) m.ledger []) (sym same) (follows_same (local_of t m c) m.ledger [] refl);
+  follows = subst (FollowsSteps (local_of t m) m.ledger []) (sym same) (follows_same (local_of t m) m.ledger [] refl);
 }

@@ -45,7 +45,9 @@ pub mod OneGroup
 pub mod Booking
 pub mod ChargedFrames
 pub mod GivenFrames
+pub mod OwnFrames
 pub mod HandOvers
+pub mod Moved
 pub mod Absorbs
 pub mod Shown
 pub mod Fresh
@@ -59,3 +61,9 @@ pub mod Listing
 pub mod Seen
 pub mod Locks
 pub mod Owning
+pub mod Behind
+pub mod Made
+pub mod Sight
+pub mod Hiding
+pub mod Staying
+pub mod ZoneSteps

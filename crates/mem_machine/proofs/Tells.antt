@@ -18,7 +18,7 @@ use Rattle.step_rules.specs.Legal.{is_legal, Allows}
 use Rattle.step_rules.specs.Usage.{usage_of}
 use Rattle.step_rules.specs.After.{Run, after, state_of, IsLegalRun}
 use Rattle.step_rules.specs.Laws.{ShowsLocal, IsLocalStep, pushed}
-use Rattle.step_rules.specs.Reaches.{is_own, own_steps, MayFollow, IsInterleaved}
+use Rattle.step_rules.specs.Reaches.{is_own, own_steps, IsLocalRun, MayFollow, IsInterleaved}
 use Rattle.step_rules.specs.Peaks.{IsPeak, peak_follows}
 use Rattle.step_rules.specs.Events.{is_noted_at, is_noted_in_subtree, events_in, events_local_in}
 use Rattle.step_rules.proofs.LegalTests.{grant_tests, make_tests, kill_tests}
@@ -28,7 +28,7 @@ use Rattle.step_rules.proofs.LocalLaws.{own_step_is_legal, other_step_is_hidden}
 use Rattle.step_rules.proofs.Peaking.{peaks_are_kept}
 use Rattle.step_rules.proofs.Noting.{events_are_counted}
 use Rattle.mem_machine.specs.Following.{Moves, moved_along, moves_peak, moves_count}
-use Rattle.mem_machine.specs.Local.{local_of, IsLocalRun}
+use Rattle.mem_machine.specs.Local.{holder_of, local_of}
 use Rattle.mem_machine.specs.Interleaving.{zone_of}
 use Rattle.mem_machine.specs.Agreeing.{LedgersAgree}
 use Rattle.mem_machine.proofs.Followed.{is_still, only_made, Stays, Test, still_peak, below_stays, at_stays, count_begins}
@@ -181,31 +181,30 @@ module _ (zone : Zone) (p m : ℕ) where
 pub ledgers_agree : LedgersAgree
 ledgers_agree t run steps mixed before after shows told makes mixes =
     let zone = zone_of t in
-    let c = before.cpu in
-    let p = c.number in
-    let a = local_of t before.machine c in
-    let b = local_of t after.machine after.cpu in
+    let p = holder_of before in
+    let a = local_of t before in
+    let b = local_of t after in
     let own : IsLocalRun p a (own_steps p mixed) b = subst (λ (r : Run). IsLocalRun p a r b) (sym mixes.own) makes.leads in
     record {
       peak = λ m there.
-          subst (IsPeak zone (run ++ mixed) m) (ap (λ (r : Run). moved_along (moves_peak m) a r (peak_of before.machine.ledger m)) mixes.own
+          subst (IsPeak zone (run ++ mixed) m) (ap (λ (r : Run). moved_along (moves_peak m) a r (peak_of before.ledger m)) mixes.own
           ∙ sym (makes.follows.peak m there))
           (tells_on zone p m (λ r x. IsPeak zone r m x) (moves_peak m) (peak_own zone p m) (peak_other zone p m)
-          run a mixed b (peak_of before.machine.ledger m) shows own mixes.follows there (told.peak m));
+          run a mixed b (peak_of before.ledger m) shows own mixes.follows there (told.peak m));
       events = λ key m there.
           let test = is_noted_in_subtree key m in
           let law = λ (r : Run) (e : Step × Answer). (events_are_counted.step zone r e.0 e.1 key m).below in
           makes.follows.events key m there
-          ∙ ap (λ (r : Run). moved_along (moves_count test m) a r (count_of (events_of before.machine.ledger m) key)) (sym mixes.own)
+          ∙ ap (λ (r : Run). moved_along (moves_count test m) a r (count_of (events_of before.ledger m) key)) (sym mixes.own)
           ∙ tells_on zone p m (λ r x. x ≡ events_in key zone r m) (moves_count test m)
           (count_own zone p m test (λ r. events_in key zone r m) law (below_stays key m)) (count_other zone p m test (λ r. events_in key zone r m) law (below_stays key m))
-          run a mixed b (count_of (events_of before.machine.ledger m) key) shows own mixes.follows there (told.events key m);
+          run a mixed b (count_of (events_of before.ledger m) key) shows own mixes.follows there (told.events key m);
       events_local = λ key m there.
           let test = is_noted_at key m in
           let law = λ (r : Run) (e : Step × Answer). (events_are_counted.step zone r e.0 e.1 key m).local in
           makes.follows.events_local key m there
-          ∙ ap (λ (r : Run). moved_along (moves_count test m) a r (count_of (events_local_of before.machine.ledger m) key)) (sym mixes.own)
+          ∙ ap (λ (r : Run). moved_along (moves_count test m) a r (count_of (events_local_of before.ledger m) key)) (sym mixes.own)
           ∙ tells_on zone p m (λ r x. x ≡ events_local_in key zone r m) (moves_count test m)
           (count_own zone p m test (λ r. events_local_in key zone r m) law (at_stays key m)) (count_other zone p m test (λ r. events_local_in key zone r m) law (at_stays key m))
-          run a mixed b (count_of (events_local_of before.machine.ledger m) key) shows own mixes.follows there (told.events_local key m);
+          run a mixed b (count_of (events_local_of before.ledger m) key) shows own mixes.follows there (told.events_local key m);
     }

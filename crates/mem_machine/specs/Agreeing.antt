@@ -8,7 +8,8 @@ use Rattle.group_charge.specs.Charges.{Ledger, peak_of, events_of, events_local_
 use Rattle.step_rules.specs.After.{Run}
 use Rattle.step_rules.specs.Peaks.{IsPeak}
 use Rattle.step_rules.specs.Events.{events_in, events_local_in}
-use Rattle.mem_machine.specs.Local.{VisitState, Makes}
+use Rattle.mem_machine.specs.Local.{holder_of, Makes}
+use Rattle.mem_machine.specs.Machines.{KnownMachine}
 use Rattle.mem_machine.specs.Interleaving.{zone_of, Shows, IsInterleaving}
 
 -- for each existing group, the ledger has the peak that the group reached in the run, and the counts of the events that
@@ -25,6 +26,6 @@ pub record AgreesWithRun (table : KnownTable) (run : Run) (ledger : Ledger) : Ty
 -- makes these steps. Mix in any steps that other CPUs may make. Then the ledger after the call has the peaks and event
 -- counts of the longer run.
 abbrev pub LedgersAgree : Type 0
-LedgersAgree = (table : KnownTable) (run steps mixed : Run) (before after : VisitState)
-    → Shows table run before → AgreesWithRun table run before.machine.ledger → Makes table before steps after
-    → IsInterleaving table run before.cpu.number steps mixed → AgreesWithRun table (run ++ mixed) after.machine.ledger
+LedgersAgree = (table : KnownTable) (run steps mixed : Run) (before after : KnownMachine)
+    → Shows table run before → AgreesWithRun table run before.ledger → Makes table before steps after
+    → IsInterleaving table run (holder_of before) steps mixed → AgreesWithRun table (run ++ mixed) after.ledger

@@ -1,7 +1,5 @@
 -- What the machine shows of a group's kept units and of a CPU's stock.
-use Rattle.std.specs.Prelude.{ℕ, ◌+◌, Bool, true, false, Option, Some, None, List, [], ◌∷◌, ◌++◌, map}
-use Rattle.frame_word.specs.Views.{looked}
-use Rattle.frame_word.specs.Seats.{KnownSeat, seat_with}
+use Rattle.std.specs.Prelude.{ℕ, Bool, true, false, Option, Some, None, List, [], ◌∷◌, ◌++◌, map}
 use Rattle.stock_word.specs.declared.view.Stock.{Stock}
 use Rattle.stock_word.specs.declared.view.Stock.TheVariants.{NoGroup, HeldBy, DrainedOf}
 use Rattle.stock_word.specs.Stock.{account_of}
@@ -27,25 +25,6 @@ listed list entry = record { list = list; entry = entry }
 abbrev pub units_in : KnownMachine → ℕ → List ListedUnit
 units_in machine group = map (listed Inactive) (inactive_in machine group)
     ++ map (listed Active) (active_in machine group)
-
--- the zone's seat after it looked once at this frame's word, and found the zone's own reference and this many pins
-abbrev pub seat_with_look : KnownSeat → (frame pins : ℕ) → KnownSeat
-seat_with_look seat frame pins = seat_with seat frame (looked (pins + 1))
-
--- the machine after the zone's seat looked once at this frame's word, and found this many pins
-abbrev pub with_look_at : KnownMachine → (frame pins : ℕ) → KnownMachine
-with_look_at machine frame pins = record machine { frame_seat = seat_with_look machine.frame_seat frame pins }
-
--- the zone's seat after it looked once at the word of each of these units, in order, and found these numbers of pins
-abbrev pub seat_with_looks : KnownSeat → List ListedUnit → List ℕ → KnownSeat
-seat_with_looks seat [] pins = seat
-seat_with_looks seat (unit ∷ units) [] = seat
-seat_with_looks seat (unit ∷ units) (found ∷ pins) =
-    seat_with_looks (seat_with_look seat unit.entry.number found) units pins
-
--- the machine after the zone's seat looked once at the word of each of these units, and found these numbers of pins
-abbrev pub with_looks_at : KnownMachine → List ListedUnit → List ℕ → KnownMachine
-with_looks_at machine units pins = record machine { frame_seat = seat_with_looks machine.frame_seat units pins }
 
 -- the stock of this group with this many pages, if it is held; drained if it isn't; of no group if there is none
 abbrev pub stock_as : (group : Option ℕ) (is_held : Bool) (pages : ℕ) → Stock
