@@ -28,7 +28,7 @@ use Rattle.mem_machine.proofs.Locks.{shown_held}
 use Rattle.mem_machine.proofs.Made.{makes, one_leads, zone_acts}
 use Rattle.mem_machine.proofs.Reaching.{zone_step}
 use Rattle.mem_machine.proofs.Sight.{left_then, shown_seen}
-use Rattle.mem_machine.proofs.Staying.{owners_stay, sums_stay}
+use Rattle.mem_machine.proofs.Staying.{HaveSameBooks, owners_stay, sums_stay}
 
 -- ---- a step that changes who holds the lock, and nothing else
 
@@ -41,7 +41,7 @@ module _ {N : Type 0} (t : KnownTable) (fields : Inside N) (ok : IsSoundMachine 
   pub sound_held : IsSoundMachine {N = N} t (record fields { past = run.past; watch = run.watch })
   sound_held =
       let was = ok.consistent in
-      let same = record { book = λ k. ap (λ (x : State). (x.parts k).book) only; group = λ k. ap (λ (x : State). (x.parts k).stock.group) only } in
+      let same : HaveSameBooks (local_of t (machine_of {N = N} fields)).parts (after_made (local_of t (machine_of {N = N} fields)) e).parts = record { book = λ k. ap (λ (x : State). (x.parts k).book) only; group = λ k. ap (λ (x : State). (x.parts k).stock.group) only } in
       record {
         consistent = record {
           sizes = record { frame_states = was.sizes.frame_states; links = was.sizes.links; lists = was.sizes.lists; killed = was.sizes.killed };

@@ -8,7 +8,7 @@ use Rattle.step_watch.specs.Watched.{Watches}
 use Rattle.boot_words.specs.Pasts.{IsHeld, MakesStep, MayMake}
 use Rattle.mem_machine.specs.Kept.{machine_of}
 use Rattle.mem_machine.specs.Local.{IsShut, Makes}
-use Rattle.mem_machine.specs.Machines.{KnownMachine}
+use Rattle.mem_machine.specs.Machines.{KnownMachine, with_run}
 use Rattle.mem_machine.specs.Steps.{open_steps, zone_makes}
 use Rattle.mem_machine.proofs.AtTable.{made_at, may_at}
 use Rattle.mem_machine.proofs.Holds.{hold_then, holds_then, makes_then, may_open, sound_held}
@@ -52,7 +52,8 @@ returns-clause-steps g c =
     let noted = notes_one g.N.BootName.frames (machine_of c.self.inside).run (zone_makes (OpenVisit c.args.cpu.now.number) Done) (record { past = c.open_visit.new.held; watch = c.visit_opened.new.self })
     (subst (λ (n : ℕ). MakesStep g.N.BootName.frames c.self.inside.past 0 (OpenVisit n) Done c.open_visit.new.held) c.number-cpu_number.ensures.number made)
     (subst (λ (n : ℕ). Watches c.self.inside.watch (open_steps n) c.visit_opened.new.self) c.number-cpu_number.ensures.number c.visit_opened.ensures) in
-    subst (λ (k : KnownMachine). Makes g.N.BootName.frames k (open_steps c.args.cpu.now.number) _) c.self.view_is (makes_then g.N.BootName.frames c.self.inside c.self.invariant c.args.cpu.now holds (zone_makes (OpenVisit c.args.cpu.now.number) Done) (Visiting c.args.cpu.now.number) refl _ noted legal refl refl)
+    subst (λ (k : KnownMachine). Makes g.N.BootName.frames k (open_steps c.args.cpu.now.number)
+    (with_run (machine_of c.self.inside) (record { past = c.open_visit.new.held; watch = c.visit_opened.new.self }))) c.self.view_is (makes_then g.N.BootName.frames c.self.inside c.self.invariant c.args.cpu.now holds (zone_makes (OpenVisit c.args.cpu.now.number) Done) (Visiting c.args.cpu.now.number) refl _ noted legal refl refl)
 
 pub returns-clause-visits : goal.returns-clause-visits
 returns-clause-visits g c =
