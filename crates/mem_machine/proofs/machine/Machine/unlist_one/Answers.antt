@@ -27,7 +27,7 @@ collect-requires g c =
     record {
       held = held_at _ _ c.args.tables.now.frames_are _ c.in-Some.ensures.run.held;
       holder = c.number-cpu_number.ensures.number ∙ sym (c.in-Some.ensures.run.cpu_grew.number ∙ visit.who);
-      legal = may_at _ _ c.args.tables.now.frames_are 0 refl _ (Collect c.in-Some.frame c.number-cpu_number.result)
+      legal = may_at _ _ c.args.tables.now.frames_are 0 refl c.pass_front.new.held (Collect c.in-Some.frame c.number-cpu_number.result)
           (may_collect_front t m _ c.self.view_is c.args.cpu.now c.requires c.self.invariant.consistent c.in-Some.frame _ c.in-Some.ensures.answer _ c.number-cpu_number.ensures.number _ c.in-Some.ensures.run);
     }
 
