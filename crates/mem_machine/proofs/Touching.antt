@@ -3,7 +3,6 @@ use Rattle.std.proofs.Common.{◌≡◌, ℕ, ◌<◌, Some, List, [], length, g
 use Rattle.std.specs.Prelude.{slice_set, option_map}
 use Rattle.std.proofs.lemmas.List.{get_or-set_same, length-set}
 use Rattle.frame_word.specs.Seats.{KnownTable}
-use Rattle.stock_word.specs.Stock.{KnownStockTable}
 use Rattle.lru_lists.specs.declared.record.Link.{Link}
 use Rattle.lru_lists.specs.declared.record.Home.{Home}
 use Rattle.lru_lists.specs.declared.lru.Lru.{Lru}
@@ -17,7 +16,7 @@ use Rattle.mem_machine.proofs.Listed.{touched_owners, lists_consistent, unlisted
 use Rattle.mem_machine.proofs.Dirties.{owner_bound, on_list, owned, stands, its_lists}
 use Rattle.mem_machine.proofs.Followed.{makes_stay}
 
-module _ (t : KnownTable) (w : KnownStockTable) (m : KnownMachine) (ok : IsConsistent t w m) (f : ℕ) (inside : f < t.frames) (h : Home)
+module _ (t : KnownTable) (m : KnownMachine) (ok : IsConsistent t m) (f : ℕ) (inside : f < t.frames) (h : Home)
     (home : home_of m.links f ≡ Some h)
     (lru : Lru) (read : lru ≡ get_or m.lists h.owner lru) (links : List Link) (new : Lru) (touched : Touched) (now_stands : AreLinked links new)
     (owner : new.owner ≡ lru.owner) (touches : Touches m.links lru f touched links new) (changes : ChangesOwn m.links links lru.owner)
@@ -37,8 +36,8 @@ module _ (t : KnownTable) (w : KnownStockTable) (m : KnownMachine) (ok : IsConsi
   owners = touched_owners m.links links lru new f touched (stands t w m ok f inside h home lru read) now_stands owner changes
       (λ none. on_list m.links f h home (ap (λ (k : ℕ). list_of m.links k f) (sym own) ∙ none)) touches
 
-  pub touch_consistent : IsConsistent t w (record m { links = links; lists = slice_set m.lists h.owner new })
-  touch_consistent = lists_consistent t w m ok links (slice_set m.lists h.owner new) changes.frames (length-set m.lists h.owner new) owners all_stand
+  pub touch_consistent : IsConsistent t (record m { links = links; lists = slice_set m.lists h.owner new })
+  touch_consistent = lists_consistent t m ok links (slice_set m.lists h.owner new) changes.frames (length-set m.lists h.owner new) owners all_stand
 
   pub touch_does : TouchesUnit f touched m (record m { links = links; lists = slice_set m.lists h.owner new })
   touch_does = record {
@@ -53,20 +52,20 @@ module _ (t : KnownTable) (w : KnownStockTable) (m : KnownMachine) (ok : IsConsi
   }
 
 -- all of it, of the machine as it was seen before
-pub record AllTouched (t : KnownTable) (w : KnownStockTable) (now : KnownMachine) (f : ℕ) (touched : Touched) (n : KnownMachine) : Type 0 where
-  pub consistent : IsConsistent t w n
+pub record AllTouched (t : KnownTable) (now : KnownMachine) (f : ℕ) (touched : Touched) (n : KnownMachine) : Type 0 where
+  pub consistent : IsConsistent t n
   pub touches : TouchesUnit f touched now n
   pub steps : (c : KnownCpu) → MakesAs t c.number (visit_state now c) [] (visit_state n c)
 
-pub touch_all : (t : KnownTable) (w : KnownStockTable) (m now : KnownMachine) → m ≡ now → IsConsistent t w m → (f i : ℕ) → f < t.frames → i ≡ f → (h : Home)
+pub touch_all : (t : KnownTable) (m now : KnownMachine) → m ≡ now → IsConsistent t m → (f i : ℕ) → f < t.frames → i ≡ f → (h : Home)
     → Some h ≡ home_of m.links i → (lru : Lru) → lru ≡ get_or m.lists h.owner lru → (links : List Link) (new : Lru) (touched : Touched) → AreLinked links new
     → new.owner ≡ lru.owner → Touches m.links lru i touched links new → ChangesOwn m.links links lru.owner
-    → OthersStayLinked → OneOfAllChanges → AllTouched t w now f touched (record m { links = links; lists = slice_set m.lists h.owner new })
-touch_all t w m now same ok f i inside is h home lru read links new touched now_stands owner touches changes others all =
+    → OthersStayLinked → OneOfAllChanges → AllTouched t now f touched (record m { links = links; lists = slice_set m.lists h.owner new })
+touch_all t m now same ok f i inside is h home lru read links new touched now_stands owner touches changes others all =
     let at : home_of m.links f ≡ Some h = ap (home_of m.links) (sym is) ∙ sym home in
     let told : Touches m.links lru f touched links new = subst (λ (k : ℕ). Touches m.links lru k touched links new) is touches in
     let n : KnownMachine = record m { links = links; lists = slice_set m.lists h.owner new } in
-    subst (λ (x : KnownMachine). AllTouched t w x f touched n) same (record {
+    subst (λ (x : KnownMachine). AllTouched t x f touched n) same (record {
       consistent = touch_consistent t w m ok f inside h at lru read links new touched now_stands owner told changes others all;
       touches = touch_does t w m ok f inside h at lru read links new touched now_stands owner told changes others all;
       steps = λ c. makes_stay t m n c c refl refl refl refl;
