@@ -10,19 +10,18 @@ use Rattle.lru_lists.specs.declared.record.LruList.{LruList}
 use Rattle.lru_lists.specs.declared.record.LruList.TheVariants.{Inactive, Active}
 use Rattle.lru_lists.specs.declared.lru.Lru.{Lru}
 use Rattle.lru_lists.specs.Lists.{OthersStayLinked, OneOfAllChanges, AreLinked, AllLinked, ChangesOwn, list_of, list_at, entries_of, changed_at, dirtied}
-use Rattle.cpu_part.specs.Cpus.{KnownCpu}
 use Rattle.mem_machine.specs.FrameStates.{frame_state_at, head_group_of}
 use Rattle.mem_machine.specs.Machines.{KnownMachine, IsConsistent, OthersStay, home_of, lists_at, no_lists, group_lists, lists_of}
 use Rattle.mem_machine.specs.Marks.{Dirties}
-use Rattle.mem_machine.specs.Local.{MakesAs, visit_state}
+use Rattle.mem_machine.specs.Local.{Makes}
 use Rattle.mem_machine.proofs.Listed.{dirtied_owners, lists_consistent, place_here, unlisted_stay, others_stay}
 use Rattle.mem_machine.proofs.Followed.{makes_stay}
 
 -- a home that is there is of a group number
 pub owner_bound : (t : KnownTable) (m : KnownMachine) → IsConsistent t m → (f : ℕ) (h : Home) → f < t.frames
     → home_of m.links f ≡ Some h → h.owner < 64
-owner_bound t w m ok f h inside is = (subst (λ (x : Option Home). IfSome x (λ y. (y.owner < 64) × (head_group_of
-    (frame_state_at m.frame_states f) ≡ Some y.owner))) is (ok.frame_states f inside).kept).0
+owner_bound t m ok f h inside is = (subst (λ (x : Option Home). IfSome x (λ y. (y.owner < 64) × (head_group_of
+    (frame_state_at m.frame_states f) ≡ Some y.owner))) is (ok.frame_states f inside)).0
 
 pub on_list : (links : List Link) (f : ℕ) (h : Home) → home_of links f ≡ Some h → list_of links h.owner f ≢ None
 on_list links f h is none = none-some h.list (sym none ∙ ap (λ (x : Option Home). list_at x h.owner) is ∙ place_here h.owner h.list)
@@ -31,7 +30,7 @@ module _ (t : KnownTable) (m : KnownMachine) (ok : IsConsistent t m) (f : ℕ) (
     (home : home_of m.links f ≡ Some h)
     (lru : Lru) (read : lru ≡ get_or m.lists h.owner lru) where
   bound : h.owner < length m.lists
-  bound = let a = owner_bound t w m ok f h inside home in let b = ok.sizes.lists in omega (arith, a, b)
+  bound = let a = owner_bound t m ok f h inside home in let b = ok.sizes.lists in omega (arith, a, b)
 
   pub owned : lru.owner ≡ h.owner
   owned = ap (λ (x : Lru). x.owner) read ∙ (ok.lists h.owner lru bound).0
@@ -81,7 +80,7 @@ has_home m now same f i is kept none =
 pub record AllDirtied (t : KnownTable) (now : KnownMachine) (f : ℕ) (d : Bool) (n : KnownMachine) : Type 0 where
   pub consistent : IsConsistent t n
   pub dirties : Dirties f d now n
-  pub steps : (c : KnownCpu) → MakesAs t c.number (visit_state now c) [] (visit_state n c)
+  pub steps : Makes t now [] n
 
 pub dirty_all : (t : KnownTable) (m now : KnownMachine) → m ≡ now → IsConsistent t m → (f i : ℕ) → f < t.frames → i ≡ f → (h : Home)
     → Some h ≡ home_of m.links i → (lru : Lru) → lru ≡ get_or m.lists h.owner lru → (links : List Link) (d : Bool) → AreLinked links lru
@@ -92,7 +91,7 @@ dirty_all t m now same ok f i inside is h home lru read links d now_stands entri
     let told : (list : LruList) → entries_of links lru list ≡ changed_at f (dirtied d) (entries_of m.links lru list) =
     subst (λ (k : ℕ). (list : LruList) → entries_of links lru list ≡ changed_at k (dirtied d) (entries_of m.links lru list)) is entries in
     subst (λ (x : KnownMachine). AllDirtied t x f d (record m { links = links })) same (record {
-      consistent = dirty_consistent t w m ok f inside h at lru read links d now_stands told changes others all;
-      dirties = dirty_does t w m ok f inside h at lru read links d now_stands told changes others all;
-      steps = λ c. makes_stay t m (record m { links = links }) c c refl refl refl refl;
+      consistent = dirty_consistent t m ok f inside h at lru read links d now_stands told changes others all;
+      dirties = dirty_does t m ok f inside h at lru read links d now_stands told changes others all;
+      steps = makes_stay t m (record m { links = links }) refl refl refl;
     })

@@ -96,7 +96,7 @@ module _ (t : KnownTable) (m : KnownMachine) (ok : IsConsistent t m) (g : ℕ) (
     others = others_stay m.links links m.lists g lru new ok.lists ok.sizes.lists own changes others_stay_linked;
     owners = owners;
     unlisted = λ f none. unlisted_stay m.links links lru.owner f changes (mapped f) none;
-    steps = λ c. makes_stay t m (record m { links = links; lists = slice_set m.lists g new }) c c refl refl refl refl;
+    steps = makes_stay t m (record m { links = links; lists = slice_set m.lists g new }) refl refl refl;
   }
 
 -- the same, of the machine as it was seen before
@@ -112,7 +112,7 @@ change_all t m now same ok g i fits is any lru read links new stands owner chang
 
 pub ages_group : (t : KnownTable) (m now : KnownMachine) → m ≡ now → (g : ℕ) (lru new : Lru) (n : KnownMachine) → GroupChanged t now g lru new n
     → Ages m.links lru n.links new → AgesGroup g now n
-ages_group t w m now same g lru new n changed ages = record {
+ages_group t m now same g lru new n changed ages = record {
   machine = changed.machine;
   ages = subst (λ (x : KnownMachine × Lru × Lru). Ages x.0.links x.1 n.links x.2) (λ j. (same j, sym changed.before j, sym changed.after j)) ages;
   others = changed.others;
@@ -126,7 +126,7 @@ pub renews_unit : (t : KnownTable) (m now : KnownMachine) → m ≡ now → (g f
     → GroupChanged t now g lru new n
     → inactive_of n.links new ≡ entries_without i (inactive_of m.links lru) ++ marked false (entry_of m.links i) ∷ []
     → active_of n.links new ≡ active_of m.links lru → RenewsUnit g f now n
-renews_unit t w m now same g f i is lru new n changed inactive active = record {
+renews_unit t m now same g f i is lru new n changed inactive active = record {
   machine = changed.machine;
   inactive = subst (λ (x : KnownMachine × Lru × Lru × ℕ). inactive_of n.links x.2 ≡ entries_without x.3 (inactive_of x.0.links x.1)
       ++ marked false (entry_of x.0.links x.3) ∷ []) (λ j. (same j, sym changed.before j, sym changed.after j, is j)) inactive;
