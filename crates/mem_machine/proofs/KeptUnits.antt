@@ -45,7 +45,7 @@ homeless (Some k) x none is = absurd (none-some k.owner (sym (no_head x none) �
 -- ---- the lists of the group
 
 -- the lists of a group number, as they are read from the machine
-module _ (t : KnownTable) (w : KnownStockTable) (m : KnownMachine) (ok : IsConsistent t w m) (g : ℕ) (fits : g < 64) (any lru : Lru) (read : lru ≡ get_or m.lists g any) where
+module _ (t : KnownTable) (m : KnownMachine) (ok : IsConsistent t m) (g : ℕ) (fits : g < 64) (any lru : Lru) (read : lru ≡ get_or m.lists g any) where
   pub there : g < length m.lists
   there = let a = ok.sizes.lists in omega (arith, a, fits)
 
