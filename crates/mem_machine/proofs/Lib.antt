@@ -34,7 +34,6 @@ pub mod Freeing
 pub mod PlacesUnits
 pub mod BlockCharges
 pub mod Joins
-pub mod KeptUnits
 pub mod Interleaves
 pub mod Tells
 pub mod TakesBlocks

@@ -1,7 +1,7 @@
 -- The two lists of one group are read, or change and nothing else. Serves `age`, `renew` and the walks.
-use Rattle.std.proofs.Common.{◌≡◌, ℕ, ◌<◌, false, Option, Some, None, List, [], ◌∷◌, ◌++◌, length, get_or, refl, sym, ap, ◌∙◌, subst}
+use Rattle.std.proofs.Common.{◌≡◌, ℕ, ◌<◌, false, Option, Some, None, List, [], ◌∷◌, ◌++◌, length, get_or, refl, sym, ap, ◌∙◌, subst, arith}
 use Rattle.std.specs.Prelude.{slice_set, option_map}
-use Rattle.std.proofs.lemmas.List.{get_or-set_same, length-set}
+use Rattle.std.proofs.lemmas.List.{get_or_default, get_or-set_same, length-set}
 use Rattle.frame_word.specs.Seats.{KnownTable}
 use Rattle.lru_lists.specs.declared.record.Link.{Link}
 use Rattle.lru_lists.specs.declared.record.Home.{Home}
@@ -14,10 +14,23 @@ use Rattle.mem_machine.specs.Machines.{KnownMachine, IsConsistent, OthersStay, U
 use Rattle.mem_machine.specs.Ageing.{AgesGroup, RenewsUnit}
 use Rattle.mem_machine.specs.Local.{Makes}
 use Rattle.mem_machine.proofs.Listed.{lists_consistent, others_stay, place_here, unlisted_stay}
-use Rattle.mem_machine.proofs.KeptUnits.{there, read_owner, read_stands, read_is}
 use Rattle.mem_machine.proofs.Followed.{makes_stay}
 
 -- ---- the lists as they are read
+
+-- the lists of a group number, as they are read from the machine
+module _ (t : KnownTable) (m : KnownMachine) (ok : IsConsistent t m) (g : ℕ) (fits : g < 64) (any lru : Lru) (read : lru ≡ get_or m.lists g any) where
+  there : g < length m.lists
+  there = let a = ok.sizes.lists in omega (arith, a, fits)
+
+  read_owner : lru.owner ≡ g
+  read_owner = ap (λ (x : Lru). x.owner) read ∙ (ok.lists g any there).0
+
+  read_stands : AreLinked m.links lru
+  read_stands = subst (AreLinked m.links) (sym read) (ok.lists g any there).1
+
+  read_is : lists_at m.lists g ≡ lru
+  read_is = sym (read ∙ get_or_default m.lists g any no_lists there)
 
 -- the lists that were read of a group number
 pub record AreRead (now : KnownMachine) (g : ℕ) (lru : Lru) : Type 0 where
