@@ -29,7 +29,6 @@ pub mod Touching
 pub mod Ledgers
 pub mod Usage
 pub mod Grants
-pub mod Placed
 pub mod Units
 pub mod Freeing
 pub mod PlacesUnits
