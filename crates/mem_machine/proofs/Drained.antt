@@ -4,7 +4,9 @@ use Rattle.std.specs.List.{fold}
 use Rattle.std.specs.Prelude.{slice_set}
 use Rattle.frame_word.specs.Seats.{KnownTable}
 use Rattle.group_tree.specs.Groups.{has_group}
+use Rattle.group_charge.specs.declared.note.Note.TheVariants.{Stock}
 use Rattle.group_charge.specs.Charges.{Ledger, pages_of}
+use Rattle.group_charge.specs.Notes.{KnownNotes, noted}
 use Rattle.group_charge.proofs.CallerLemmas.{uncharge_pages}
 use Rattle.step_rules.specs.declared.step.Action.TheVariants.{DrainStock, Ungrant}
 use Rattle.step_rules.specs.declared.step.Answer.TheVariants.{Done, Pages}
@@ -24,7 +26,7 @@ use Rattle.mem_machine.specs.Local.{Makes, StaysVisited, holder_of, local_of}
 use Rattle.mem_machine.specs.Machines.{KnownMachine, IsConsistent, IsCpuOf, IsShownBy, frames_charged, left_by, pages_booked, stock_group}
 use Rattle.mem_machine.specs.Noted.{AreLocal, KnownRun, MayTake, MayTakeAll, Notes, after_made}
 use Rattle.mem_machine.specs.Steps.{drain_steps, zone_makes}
-use Rattle.mem_machine.specs.Stocks.{Drains, uncharged}
+use Rattle.mem_machine.specs.Stocks.{Drains, DrainsNoted, uncharged}
 use Rattle.mem_machine.proofs.AtTable.{made_at}
 use Rattle.mem_machine.proofs.Behind.{FitsDrain, fits_drain}
 use Rattle.mem_machine.proofs.Booking.{book_within, books_less, books_none, books_same, sums_less, sums_same}
@@ -248,3 +250,42 @@ module _ {N : Type 0} (t : KnownTable) (fields : Inside N) (ok : IsSoundMachine 
         sums = sums_stay t m ok.consistent q n k o refl run noted none fields.sums ok.sums;
         owners = owners_then t m ok.consistent q n k o refl run noted fields.owners ok.owners;
       }
+
+-- ---- a drain that is noted
+
+-- the note is no step
+pub drains_noted : (t : KnownTable) (m n : KnownMachine) (q k : ℕ) → Drains t q k m n → (notes : KnownNotes) → notes ≡ noted n.notes (Stock q k)
+    → DrainsNoted t q k m (record n { notes = notes })
+drains_noted t m n q k drains notes note =
+    let same : n.notes ≡ m.notes = ap (λ (x : KnownMachine). x.notes) drains.machine in record {
+      drains = subst (Drains t q k m) (λ i. record n { notes = same i }) drains;
+      noted = note ∙ ap (λ (x : KnownNotes). noted x (Stock q k)) same;
+    }
+
+pub makes_noted : (t : KnownTable) (m n : KnownMachine) (steps : Run) (notes : KnownNotes) → Makes t m steps n → Makes t m steps (record n { notes = notes })
+makes_noted t m n steps notes makes = record { holder = makes.holder; leads = makes.leads; follows = makes.follows; counts = makes.counts; noted = makes.noted }
+
+pub noted_sound : {N : Type 0} (t : KnownTable) (fields : Inside N) (notes : KnownNotes) → IsSoundMachine t fields → IsSoundMachine {N = N} t (record fields { notes = notes })
+noted_sound {N} t fields notes ok = let was = ok.consistent in record {
+  consistent = record {
+    sizes = record { frame_states = was.sizes.frame_states; links = was.sizes.links; lists = was.sizes.lists; killed = was.sizes.killed };
+    areas = was.areas;
+    frame_states = was.frame_states;
+    units = was.units;
+    lists = was.lists;
+    balances = was.balances;
+    shown = record {
+      groups = was.shown.groups;
+      killed = was.shown.killed;
+      phases = was.shown.phases;
+      references = was.shown.references;
+      settled = was.shown.settled;
+      absorbed = was.shown.absorbed;
+      bounded = was.shown.bounded;
+      charged = was.shown.charged;
+    };
+  };
+  free = ok.free;
+  sums = ok.sums;
+  owners = ok.owners;
+}

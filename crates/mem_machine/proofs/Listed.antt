@@ -1,14 +1,14 @@
 -- The lists of one group changed: its units were marked, moved or dirtied. Each frame is on a list of the same group as
 -- before, and the lists of all other groups stay. Serves all calls that change a list.
-use Rattle.std.proofs.Common.{◌≡◌, ◌≢◌, ℕ, ◌<◌, ◌==◌, ◌||◌, ◌⊎◌, Bool, true, false, Option, Some, None, List, [], ◌∷◌, ◌++◌, length, map, refl, sym, ap, ◌∙◌, rules}
-use Rattle.mem_machine.specs.FrameStates.{frame_state_at}
+use Rattle.std.proofs.Common.{◌≡◌, ◌≢◌, ℕ, ◌<◌, ◌==◌, ◌||◌, ◌⊎◌, Bool, true, false, Option, Some, None, List, [], ◌∷◌, ◌++◌, length, map, refl, sym, ap, ◌∙◌}
+use Rattle.mem_machine.specs.FrameStates.{frame_state_at, head_group_of}
 use Rattle.frame_word.specs.Seats.{KnownTable}
 use Rattle.std.proofs.Common.{subst, inl, inr, eq-eqb, cond, get_or, arith}
 use Rattle.std.specs.Prelude.{is_some, option_map, slice_set}
+use Rattle.step_rules.specs.State.{one_if}
 use Rattle.std.proofs.lemmas.List.{get_or-set_other}
 use Rattle.std.proofs.lemmas.Bool.{cases_eq, ne_eqb, or_left, or_right}
 use Rattle.std.proofs.lemmas.Option.{none-some}
-use Rattle.step_rules.specs.State.{one_if}
 use Rattle.lru_lists.specs.declared.record.Link.{Link}
 use Rattle.lru_lists.specs.declared.record.Home.{Home}
 use Rattle.lru_lists.specs.declared.record.Entry.{Entry}
@@ -63,13 +63,6 @@ fits_home None None frame_state same fits = fits
 fits_home None (Some k) frame_state same fits = absurd (none-some k.owner (sym same))
 fits_home (Some h) None frame_state same fits = absurd (none-some h.owner same)
 fits_home (Some h) (Some k) frame_state same fits = (subst (λ (n : ℕ). n < 64) (sym (some_same 0 k.owner h.owner same)) fits.0, fits.1 ∙ sym same)
-
--- a frame is on a list as before if it is on a list of the same owner
-home_there : (h k : Option Home) → option_map (λ (x : Home). x.owner) k ≡ option_map (λ (x : Home). x.owner) h → is_some k ≡ is_some h
-home_there None None same = refl
-home_there None (Some k) same = absurd (none-some k.owner (sym same))
-home_there (Some h) None same = absurd (none-some h.owner same)
-home_there (Some h) (Some k) same = refl
 
 -- a frame on no list, which no owner has afterwards, has the record that it had
 none_stays : (h k : Option Home) → option_map (λ (x : Home). x.owner) k ≡ option_map (λ (x : Home). x.owner) h → h ≡ None → k ≡ None
@@ -265,7 +258,7 @@ others_stay before after lists g lru new all sized own changes others_stay_linke
 pub lists_consistent : (t : KnownTable) (m : KnownMachine) → IsConsistent t m → (links : List Link) (lists : List Lru) → length links ≡ length m.links
     → length lists ≡ length m.lists → ((f : ℕ) → option_map (λ (x : Home). x.owner) (home_of links f) ≡ option_map (λ (x : Home). x.owner) (home_of m.links f))
     → AllLinked links lists → IsConsistent t (record m { links = links; lists = lists })
-lists_consistent t m ok links lists linked listed owners all = let shown = ok.shown in record {
+lists_consistent t m ok links lists linked listed owners all = record {
   sizes = record { frame_states = ok.sizes.frame_states; links = linked ∙ ok.sizes.links; lists = listed ∙ ok.sizes.lists; killed = ok.sizes.killed };
   areas = ok.areas;
   frame_states = λ f within. fits_home (home_of m.links f) (home_of links f) (frame_state_at m.frame_states f) (owners f) (ok.frame_states f within);
@@ -273,13 +266,19 @@ lists_consistent t m ok links lists linked listed owners all = let shown = ok.sh
   lists = all;
   balances = ok.balances;
   shown = record {
-    groups = shown.groups;
-    killed = shown.killed;
-    phases = shown.phases;
-    references = λ f. shown.references f ∙ sym (ap one_if (home_there (home_of m.links f) (home_of links f) (owners f)));
-    settled = shown.settled;
-    absorbed = shown.absorbed;
-    bounded = shown.bounded;
-    charged = shown.charged;
+    groups = ok.shown.groups;
+    killed = ok.shown.killed;
+    phases = ok.shown.phases;
+    references = λ f. ok.shown.references f ∙ ap one_if (sym (some_home (home_of m.links f) (home_of links f) (owners f)));
+    settled = ok.shown.settled;
+    absorbed = ok.shown.absorbed;
+    bounded = ok.shown.bounded;
+    charged = ok.shown.charged;
   };
 }
+  where
+    some_home : (a b : Option Home) → option_map (λ (x : Home). x.owner) b ≡ option_map (λ (x : Home). x.owner) a → is_some b ≡ is_some a
+    some_home None None same = refl
+    some_home (Some x) (Some y) same = refl
+    some_home None (Some y) same = absurd (none-some y.owner (sym same))
+    some_home (Some x) None same = absurd (none-some x.owner same)

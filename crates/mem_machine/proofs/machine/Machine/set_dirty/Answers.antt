@@ -11,8 +11,8 @@ invariant_of-self g c = record {
       c.others_stay_linked.ensures
       c.one_of_all_changes.ensures).consistent;
   free = c.self.invariant.free;
-      sums = c.self.invariant.sums;
-      owners = c.self.invariant.owners;
+  sums = c.self.invariant.sums;
+  owners = c.self.invariant.owners;
 }
 
 pub returns : goal.returns
