@@ -1,7 +1,6 @@
 -- A kept unit is tried: it is missed, or it is frozen and freed. Serves `evict`.
-use Rattle.std.proofs.Common.{◌≡◌, ◌≢◌, ℕ, ◌^◌, ◌<◌, Bool, true, Option, Some, None, List, [], ◌∷◌, length, refl, sym, ap, ◌∙◌, subst}
+use Rattle.std.proofs.Common.{◌≡◌, ◌≢◌, ℕ, ◌^◌, ◌<◌, Bool, true, Option, Some, None, List, length, refl, sym, ap, ◌∙◌, subst}
 use Rattle.std.specs.Prelude.{IfSome}
-use Rattle.std.proofs.lemmas.Bool.{and_from}
 use Rattle.zone_blocks.specs.declared.block.Block.{Block}
 use Rattle.zone_blocks.specs.Areas.{AreMaximalBlocks}
 use Rattle.zone_blocks.specs.Zone.{GivesFrames}
@@ -29,7 +28,7 @@ use Rattle.mem_machine.specs.Local.{Makes, StaysVisited, local_of}
 use Rattle.mem_machine.specs.Noted.{KnownRun, Notes}
 use Rattle.mem_machine.specs.Freeing.{FreesFrames}
 use Rattle.mem_machine.specs.Counts.{with_freeze, with_miss}
-use Rattle.mem_machine.specs.Counting.{one_more_freeze, one_more_return}
+use Rattle.mem_machine.specs.Counting.{one_more_freeze}
 use Rattle.mem_machine.specs.Lists.{LeavesList}
 use Rattle.mem_machine.specs.Evicting.{EvictsUnit, MissesUnit, evict_steps}
 use Rattle.mem_machine.proofs.Balances.{balanced_freeze}
@@ -37,14 +36,10 @@ use Rattle.mem_machine.proofs.Counted.{returned_ended}
 use Rattle.mem_machine.proofs.Followed.{follows_same, follows_still}
 use Rattle.mem_machine.proofs.Freeing.{free_block_given}
 use Rattle.mem_machine.proofs.Reaching.{zone_step}
-use Rattle.mem_machine.proofs.Releases.{freed_consistent, may_freeze, may_return}
+use Rattle.mem_machine.proofs.Releases.{freed_consistent, kept_here, may_freeze, may_return}
 use Rattle.mem_machine.proofs.Made.{held_here, makes}
 use Rattle.mem_machine.proofs.Sight.{left_seen, left_then}
 use Rattle.mem_machine.proofs.ZoneSteps.{zone_visited}
-
--- the unit is kept, by the machine's fields too
-pub kept_here : (m now : KnownMachine) → m ≡ now → (f : ℕ) → home_of now.links f ≢ None → home_of m.links f ≢ None
-kept_here m now same f kept = subst (λ (x : KnownMachine). home_of x.links f ≢ None) (sym same) kept
 
 -- the zone's reference may be frozen
 pub freeze_may : (t : KnownTable) (m now : KnownMachine) → m ≡ now → IsConsistent t m → (f : ℕ) → f < t.frames → home_of now.links f ≢ None → IsHeld t now.run.past
