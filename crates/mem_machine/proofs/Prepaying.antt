@@ -21,28 +21,34 @@ use Rattle.step_rules.proofs.Basics.{at_each}
 use Rattle.step_rules.proofs.CoverParts.{own_part}
 use Rattle.step_rules.proofs.SoundSteps.{cpu_range}
 use Rattle.boot_words.specs.Hidden.{hide}
-use Rattle.boot_words.specs.Pasts.{IsHeld, cpu_past}
+use Rattle.boot_words.specs.Pasts.{IsHeld, KnownPasts, MakesStep, cpu_past}
 use Rattle.boot_words.specs.Seats.{zone_of_boot}
 use Rattle.boot_words.specs.Sight.{HasSameLists}
 use Rattle.boot_words.proofs.Returning.{none_booked}
 use Rattle.cpu_part.specs.Cpus.{KnownCpu}
+use Rattle.step_watch.specs.Watched.{KnownWatch, Watches}
+use Rattle.mem_machine.specs.declared.machine.Machine.TheInside.{Inside}
 use Rattle.mem_machine.specs.Booked.{AreBooked, AreOwners}
 use Rattle.mem_machine.specs.Following.{FollowsSteps}
+use Rattle.mem_machine.specs.Kept.{IsSoundMachine, machine_of}
 use Rattle.mem_machine.specs.Local.{Makes, StaysVisited, Visits, holder_of, local_of, visit_state}
 use Rattle.mem_machine.specs.Machines.{KnownMachine, IsConsistent, IsShownBy, frames_charged, is_killed, left_by, pages_booked}
 use Rattle.mem_machine.specs.Noted.{KnownRun, MayTake, MayTakeAll, Notes, after_made}
+use Rattle.mem_machine.specs.Paying.{HasRoomFor, MayCharge}
 use Rattle.mem_machine.specs.Steps.{fill_steps, over_steps, zone_makes}
 use Rattle.mem_machine.specs.Stocks.{Fills, HasDrained, IsDrained, RefusesGrant}
+use Rattle.mem_machine.proofs.AtTable.{made_at}
 use Rattle.mem_machine.proofs.Booking.{books_more, sums_more}
 use Rattle.mem_machine.proofs.Followed.{follows_same, same_events}
 use Rattle.mem_machine.proofs.Grants.{is_granted, is_over, none_pends, pending_is, with_granted}
 use Rattle.mem_machine.proofs.LedgerMoves.{follows_grant}
 use Rattle.mem_machine.proofs.Made.{holder_is_cpu, makes, makes_as, stays_visited, zone_acts}
-use Rattle.mem_machine.proofs.Noted.{may_all, run_ends, run_steps}
+use Rattle.mem_machine.proofs.Noted.{may_all, notes_both, notes_one, run_ends, run_steps}
 use Rattle.mem_machine.proofs.Owning.{owners_set}
 use Rattle.mem_machine.proofs.Reaching.{zone_step}
 use Rattle.mem_machine.proofs.Seen.{own_booked}
 use Rattle.mem_machine.proofs.Sight.{hide_part, left_seen, left_then, shown_seen}
+use Rattle.mem_machine.proofs.Staying.{room_booked}
 use Rattle.mem_machine.proofs.Usage.{usage_is}
 
 -- ---- what a fill leaves
@@ -252,3 +258,99 @@ module _ (t : KnownTable) (m : KnownMachine) (ok : IsConsistent t m) (facts : Ar
 
     pub refused_owners : (owners : List (Option ℕ)) → AreOwners t.cpus (left_by t m.run.past).parts owners → AreOwners t.cpus (left_by t run.past).parts owners
     refused_owners owners are = subst (λ (s : State). AreOwners t.cpus s.parts owners) (sym refused_left) are
+
+-- ---- in the words of the call
+
+-- what is known of the machine before it
+pub record KnowsFill (t : KnownTable) (m : KnownMachine) (c : KnownCpu) (g k : ℕ) : Type 0 where
+  pub visit : Visits t (visit_state m c)
+  pub drained : IsDrained t m c.number
+  pub there : has_group m.ledger.groups g ≡ true
+  pub alive : is_killed m.killed g ≡ false
+
+pub knows_fill : (t : KnownTable) (m now : KnownMachine) → m ≡ now → (c : KnownCpu) (g k : ℕ) → Visits t (visit_state now c) → MayCharge now g k → IsDrained t now c.number
+    → KnowsFill t m c g k
+knows_fill t m now same c g k visit charges drained =
+    subst (λ (x : KnownMachine). KnowsFill t x c g k) (sym same) (record { visit = visit; drained = drained; there = charges.there; alive = charges.alive })
+
+-- the steps as they were made
+pub fill_noted : (t u : KnownTable) → u ≡ t → (run : KnownRun) (p g k n h : ℕ) → n ≡ p → h ≡ g → (mid : KnownRun) → Notes t run (zone_makes (Grant g k) Granted ∷ []) mid
+    → (later : KnownPasts) (watch : KnownWatch) → MakesStep u mid.past 0 (Fill n h k) Done later → Watches mid.watch (zone_makes (Fill n g k) Done ∷ []) watch
+    → Notes t run (fill_steps p g k) (record { past = later; watch = watch })
+fill_noted t u at run p g k n h number group mid granted later watch made saw =
+    notes_both t run (zone_makes (Grant g k) Granted ∷ []) mid (zone_makes (Fill p g k) Done ∷ []) (record { past = later; watch = watch }) granted
+    (notes_one t mid (zone_makes (Fill p g k) Done) (record { past = later; watch = watch })
+    (made_at t u at 0 refl mid.past (Fill p g k) Done later (subst (λ (x : ℕ × ℕ). MakesStep u mid.past 0 (Fill x.0 x.1 k) Done later) (λ i. (number i, group i)) made))
+    (subst (λ (x : ℕ). Watches mid.watch (zone_makes (Fill x g k) Done ∷ []) watch) number saw))
+
+-- the fields after it
+module _ {N : Type 0} (t : KnownTable) (fields : Inside N) (ok : IsSoundMachine t fields) (c : KnownCpu) (g k : ℕ) (facts : AreCharges fields.charges)
+    (knows : KnowsFill t (machine_of fields) c g k) (none : c.fresh ≡ []) where
+  abbrev m : KnownMachine
+  m = machine_of fields
+
+  -- the group's sum doesn't overflow
+  pub fill_fits : (now : KnownMachine) → machine_of fields ≡ now → HasRoomFor now k → (i : ℕ) → i ≡ g → i < 64 → get_or fields.sums i 0 + k < 2 ^ 32
+  fill_fits now same room i is low =
+      let booked = room_booked t m m refl ok.consistent facts g k knows.there (subst (λ (x : KnownMachine). HasRoomFor x k) (sym same) room) i is in
+      let sum = ok.sums.each i low in
+      omega (arith, booked, sum)
+
+  module _ (has : room.PathHasRoom fields.charges.groups (current_of fields.charges) g k) (run : KnownRun) (noted : Notes t (machine_of fields).run (fill_steps c.number g k) run) where
+    pub filled_sound : k < 65536 → (i : ℕ) → i ≡ g → i < 64 → (n : ℕ) → n ≡ c.number → (charges : Ledger) → charges ≡ with_charge fields.charges g k → (owners : List (Option ℕ))
+        → owners ≡ slice_set fields.owners (n - 1) (Some g)
+        → IsSoundMachine {N = N} t (record fields {
+          charges = charges;
+          sums = slice_set fields.sums i (get_or fields.sums i 0 + k);
+          owners = owners;
+          past = run.past;
+          watch = run.watch;
+        })
+    filled_sound small i is low n number charges charged owners set = record {
+      consistent = filled_consistent t m c ok.consistent facts knows.visit none knows.drained g k knows.there knows.alive has run noted small charges charged;
+      free = ok.free;
+      sums = subst (λ (x : ℕ). AreBooked t.cpus (left_by t run.past).parts (slice_set fields.sums x (get_or fields.sums x 0 + k))) (sym is)
+          (filled_sums t m c ok.consistent facts knows.visit none knows.drained g k knows.there knows.alive has run noted fields.sums ok.sums (subst (λ (x : ℕ). x < 64) is low));
+      owners = subst (AreOwners t.cpus (left_by t run.past).parts) (sym (set ∙ ap (λ (x : ℕ). slice_set fields.owners (x - 1) (Some g)) number))
+          (filled_owners t m c ok.consistent facts knows.visit none knows.drained g k knows.there knows.alive has run noted fields.owners ok.owners);
+    }
+
+-- what a fill leaves, of the machine as it was seen before
+pub record AllFilled (t : KnownTable) (now : KnownMachine) (c : KnownCpu) (g k : ℕ) (after : KnownMachine) : Type 0 where
+  pub fills : Fills t c.number g k now after
+  pub steps : Makes t now (fill_steps c.number g k) after
+  pub visit : Visits t (visit_state after c)
+
+pub filled_now : (t : KnownTable) (m now : KnownMachine) → m ≡ now → (c : KnownCpu) (g k : ℕ) → IsConsistent t m → AreCharges m.ledger → KnowsFill t m c g k → c.fresh ≡ []
+    → room.PathHasRoom m.ledger.groups (current_of m.ledger) g k → (run : KnownRun) → Notes t m.run (fill_steps c.number g k) run → (l : Ledger) → l ≡ with_charge m.ledger g k
+    → AllFilled t now c g k (record m { ledger = l; run = run })
+filled_now t m now same c g k ok facts knows none has run noted l charged =
+    subst (λ (x : KnownMachine × Ledger). AllFilled t x.0 c g k (record m { ledger = x.1; run = run })) (λ i. (same i, sym charged i)) (record {
+      fills = fills_here t m c ok facts knows.visit none knows.drained g k knows.there knows.alive has run noted;
+      steps = fill_makes t m c ok facts knows.visit none knows.drained g k knows.there knows.alive has run noted;
+      visit = fill_visit t m c ok facts knows.visit none knows.drained g k knows.there knows.alive has run noted;
+    })
+
+-- what a refusal leaves
+module _ {N : Type 0} (t : KnownTable) (fields : Inside N) (ok : IsSoundMachine t fields) (c : KnownCpu) (g k over : ℕ) (facts : AreCharges fields.charges)
+    (knows : KnowsFill t (machine_of fields) c g k) (low : room.IsLowestOver fields.charges.groups (current_of fields.charges) g k over) (run : KnownRun)
+    (noted : Notes t (machine_of fields).run (over_steps g k over) run) (charges : Ledger) (same : charges ≡ fields.charges) where
+  abbrev before : KnownMachine
+  before = machine_of fields
+
+  pub refused_sound : IsSoundMachine {N = N} t (record fields { charges = charges; past = run.past; watch = run.watch })
+  refused_sound = record {
+    consistent = subst (λ (l : Ledger). IsConsistent t (record before { ledger = l; run = run })) (sym same)
+        (refused_consistent t before ok.consistent facts knows.visit.held g k over knows.there knows.alive low run noted);
+    free = ok.free;
+    sums = refused_sums t before ok.consistent facts knows.visit.held g k over knows.there knows.alive low run noted fields.sums ok.sums;
+    owners = refused_owners t before ok.consistent facts knows.visit.held g k over knows.there knows.alive low run noted fields.owners ok.owners;
+  }
+
+  pub refused_now : (now : KnownMachine) → machine_of fields ≡ now → RefusesGrant t g k over now (machine_of {N = N} (record fields { charges = charges; past = run.past; watch = run.watch }))
+  refused_now now was = subst (λ (x : KnownMachine × Ledger). RefusesGrant t g k over x.0 (record before { ledger = x.1; run = run })) (λ i. (was i, sym same i))
+      (refused_here t before ok.consistent facts knows.visit.held g k over knows.there knows.alive low run noted)
+
+  pub refused_visits : Visits t (visit_state (machine_of {N = N} (record fields { charges = charges; past = run.past; watch = run.watch })) c)
+  refused_visits = subst (λ (l : Ledger). Visits t (visit_state (record before { ledger = l; run = run }) c)) (sym same)
+      (refused_visit t before ok.consistent facts knows.visit.held g k over knows.there knows.alive low run noted c knows.visit)
