@@ -1,7 +1,7 @@
 -- A block is charged to a group and taken, or none is there. Serves `take_block`.
-use Rattle.std.proofs.Common.{◌≡◌, ◌≢◌, ℕ, zero, suc, ◌+◌, ◌-◌, ◌^◌, ◌≤◌, ◌<◌, ◌==◌, Bool, true, false, cond, Option, Some, None, List, [], ◌∷◌, length, get_or, refl, sym, ap, ◌∙◌, subst, arith, inl, inr, eq-eqb}
+use Rattle.std.proofs.Common.{◌≡◌, ℕ, zero, suc, ◌+◌, ◌-◌, ◌^◌, ◌≤◌, ◌<◌, ◌==◌, Bool, true, false, cond, Option, Some, None, List, [], ◌∷◌, length, get_or, refl, sym, ap, ◌∙◌, subst, arith, inl, inr, eq-eqb}
 use Rattle.std.specs.List.{fold}
-use Rattle.std.specs.Prelude.{is_some, nat_le, IfSome}
+use Rattle.std.specs.Prelude.{is_some, nat_le}
 use Rattle.std.specs.Cmp.{both_ways}
 use Rattle.std.proofs.lemmas.Bool.{and_from, cases_eq, cond-true, false≢true, le-leb, lt-ltb, ne_eqb}
 use Rattle.std.proofs.lemmas.List.{ext_get_or}
@@ -23,13 +23,12 @@ use Rattle.lru_lists.specs.declared.record.Link.{Link}
 use Rattle.lru_lists.specs.declared.lru.Lru.{Lru}
 use Rattle.step_rules.specs.declared.phase.ChargedUnit.{ChargedUnit}
 use Rattle.step_rules.specs.declared.phase.Stage.TheVariants.{Bare, Live}
-use Rattle.step_rules.specs.declared.phase.Phase.{Phase}
 use Rattle.step_rules.specs.declared.phase.Phase.TheVariants as phase
 use Rattle.step_rules.specs.declared.step.Action.TheVariants.{Grant, PlaceBlock, Publish, Ungrant, Unfreeze}
 use Rattle.step_rules.specs.declared.step.Answer.TheVariants.{Done, Granted, NoFreeBlock, Over, Placed}
 use Rattle.step_rules.specs.Phases.{at_stage, is_head, is_head_in_hand}
 use Rattle.step_rules.specs.Phases as phases
-use Rattle.step_rules.specs.State.{State, Zone, free_in, is_frame, one_if, with_at}
+use Rattle.step_rules.specs.State.{State, Zone, free_in, is_frame, one_if}
 use Rattle.step_rules.specs.After.{Run, after, is_within, placed_phase}
 use Rattle.step_rules.specs.Legal.{is_legal}
 use Rattle.step_rules.specs.Reaches.{IsLocalRun}
@@ -41,7 +40,7 @@ use Rattle.step_watch.specs.Watched.{Watches}
 use Rattle.mem_machine.specs.declared.frame_state.FrameState.{FrameState}
 use Rattle.mem_machine.specs.declared.frame_state.FrameState.TheVariants.{Free, Head, Tail}
 use Rattle.mem_machine.specs.FrameStates.{frame_state_at, is_free_state, free_of, frame_state_group, head_group_of, phase_hidden}
-use Rattle.mem_machine.specs.Machines.{KnownMachine, FitsFrameState, IsConsistent, IsShownBy, home_of, is_killed, pages_booked}
+use Rattle.mem_machine.specs.Machines.{KnownMachine, FitsFrameState, IsConsistent, IsShownBy, home_of, is_killed}
 use Rattle.mem_machine.specs.Noted.{KnownRun, MayTakeAll, Notes, after_made}
 use Rattle.mem_machine.specs.Paying.{MayCharge}
 use Rattle.mem_machine.specs.Steps.{over_steps, zone_makes}
@@ -168,11 +167,11 @@ module _ (t : KnownTable) (m : KnownMachine) (ok : IsConsistent t m) (facts : Ar
   inside : b.at < t.frames
   inside = let some = pow_pos b.order in let h = block.inside in let sized = ok.sizes.frame_states in omega (arith, h, sized, some)
 
-  head_free : frame_state_at m.frame_states b.at ≡ Free
-  head_free = let some = pow_pos b.order in free b.at (omega arith) (omega (arith, some))
+  here_free : frame_state_at m.frame_states b.at ≡ Free
+  here_free = let some = pow_pos b.order in free b.at (omega arith) (omega (arith, some))
 
   no_list : home_of m.links b.at ≡ None
-  no_list = homeless (home_of m.links b.at) (frame_state_at m.frame_states b.at) head_free (ok.frame_states b.at inside)
+  no_list = homeless (home_of m.links b.at) (frame_state_at m.frame_states b.at) here_free (ok.frame_states b.at inside)
 
   unreferred : (local_of t m).references 0 b.at ≡ 0
   unreferred = shown.references b.at ∙ ap (λ (h : Option Home). one_if (is_some h)) no_list
@@ -304,7 +303,7 @@ module _ (t : KnownTable) (m : KnownMachine) (ok : IsConsistent t m) (facts : Ar
       pub taken_makes : Makes t m (taken_steps g b.order b.at)
           (record m { blocks = blocks; frame_states = frame_states; ledger = with_charge m.ledger g (2 ^ b.order); links = links; lists = lists; run = run })
       taken_makes = makes t m then (taken_steps g b.order b.at) held noted taken_leads
-          (follows_grant (local_of t m) m.ledger shown.groups facts (usage_is t m ok facts held) g (2 ^ b.order)
+          (follows_grant (local_of t m) m.ledger shown.groups facts (usage_is t m ok facts held) g (2 ^ b.order) there
           (zone_makes (PlaceBlock g b.order) (Placed b) ∷ zone_makes (Unfreeze b.at 1) Done ∷ zone_makes (Publish b.at) Done ∷ []) refl
           (with_charge m.ledger g (2 ^ b.order)) (λ h. refl) (same_events (with_charge m.ledger g (2 ^ b.order)))) refl
 
@@ -358,6 +357,16 @@ taken_all t m now same ok facts held_now g fits k pages size may_now room ledger
       visit = taken_visits t m ok facts held g b may.there may.alive room_here block were_free frame_states placed links lists joined_here fits blocks areas rise_here run noted_here;
       steps = taken_makes t m ok facts held g b may.there may.alive room_here block were_free frame_states placed links lists joined_here fits blocks areas rise_here run noted_here;
     })
+
+-- the head was on no list
+pub was_away : (t : KnownTable) (m : KnownMachine) → IsConsistent t m → (before free : List Bool) (b : Block) → before ≡ free_of m.frame_states → (k : ℕ)
+    → IsFrontOfSmallest m.blocks k b → TakesFrames before b free → (f u : ℕ) → f ≡ b.at → u ≡ f → home_of m.links u ≡ None
+was_away t m ok before free b was k front takes f u head named =
+    let sized = ok.sizes.frame_states in
+    let low = head_inside m.frame_states m.blocks ok.areas before free was k b front takes in
+    ap (home_of m.links) (named ∙ head)
+    ∙ homeless (home_of m.links b.at) (frame_state_at m.frame_states b.at) (head_free m.frame_states m.blocks ok.areas before free was k b front takes)
+    (ok.frame_states b.at (omega (arith, sized, low)))
 
 -- the grant may be made, if there is room
 pub granted_may : (t : KnownTable) (m now : KnownMachine) → m ≡ now → IsConsistent t m → AreCharges m.ledger → IsHeld t now.run.past → (g k pages : ℕ) → MayCharge now g (2 ^ k)
@@ -446,7 +455,7 @@ module _ (t : KnownTable) (m : KnownMachine) (ok : IsConsistent t m) (facts : Ar
 
     pub none_makes : Makes t m (unplaced_steps g k) (record m { ledger = with_uncharge (with_charge m.ledger g (2 ^ k)) g (2 ^ k); run = run })
     none_makes = makes t m unplaced (unplaced_steps g k) held noted none_leads
-        (follows_grant (local_of t m) m.ledger none_shown.groups facts (usage_is t m ok facts held) g (2 ^ k)
+        (follows_grant (local_of t m) m.ledger none_shown.groups facts (usage_is t m ok facts held) g (2 ^ k) there
         (zone_makes (PlaceBlock g k) NoFreeBlock ∷ zone_makes (Ungrant g (2 ^ k)) Done ∷ []) refl unplaced.ledger
         (uncharge_peaks (with_charge m.ledger g (2 ^ k)) g (2 ^ k)) (uncharge_events (with_charge m.ledger g (2 ^ k)) g (2 ^ k))) refl
 

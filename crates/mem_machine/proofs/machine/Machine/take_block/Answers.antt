@@ -1,4 +1,4 @@
-use Rattle.std.proofs.Common.{ℕ, ◌≤◌, ◌<◌, ◌^◌, ◌≡◌, ap, refl, sym, subst, ◌∙◌, rules, arith, IsTrue, ◌+◌, [], ◌∷◌}
+use Rattle.std.proofs.Common.{ℕ, ◌≤◌, ◌<◌, ◌^◌, ap, refl, sym, subst, ◌∙◌, rules, arith, IsTrue, ◌+◌}
 use Rattle.group_tree.specs.Groups.{has_group}
 use Rattle.group_tree.specs.Room.{IsLowestOver}
 use Rattle.group_charge.specs.Charges.{current_of}
@@ -15,7 +15,7 @@ use Rattle.mem_machine.proofs.AtTable.{made_at, may_at}
 use Rattle.mem_machine.proofs.GroupSteps.{may_group}
 use Rattle.mem_machine.proofs.Made.{held_here}
 use Rattle.mem_machine.proofs.Staying.{owners_stay, sums_stay}
-use Rattle.mem_machine.proofs.TakesBlocks.{granted_may, head_inside, none_all, refused_all, refused_step, taken_all, taken_inside, taken_may, taken_notes, unplaced_may, unplaced_notes}
+use Rattle.mem_machine.proofs.TakesBlocks.{granted_may, head_inside, none_all, refused_all, refused_step, taken_all, taken_inside, taken_may, taken_notes, unplaced_may, unplaced_notes, was_away}
 use Rattle.mem_machine.proofs.ZoneSteps.{same_books}
 use Rattle.mem_machine.proofs.machine.Machine.take_block.Goals as goal
 
@@ -111,6 +111,11 @@ unreachable-requires g c =
 pub place_unit-requires : goal.place_unit-requires
 place_unit-requires g c =
     (taken_inside _ _ c.self.invariant.consistent.areas _ _ c.self.invariant.free _ c.in-Some.block c.in-Some.ensures.taken c.in-Some.ensures.frames).inside
+
+pub join_list-requires-clause-away : goal.join_list-requires-clause-away
+join_list-requires-clause-away g c =
+    was_away g.N.BootName.frames (machine_of c.self.inside) c.self.invariant.consistent _ _ c.in-Some.block c.self.invariant.free _ c.in-Some.ensures.taken
+    c.in-Some.ensures.frames c.in-Some-frame.head _ c.in-Some-frame.ensures.0 c.number-at.ensures
 
 pub place-requires-clause-legal : goal.place-requires-clause-legal
 place-requires-clause-legal g c =
