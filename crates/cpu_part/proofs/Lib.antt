@@ -1,5 +1,6 @@
 pub mod Counts
 pub mod Owning
+pub mod Legal
 pub mod Knowing
 pub mod Unlisted
 pub mod Telling

@@ -1,13 +1,12 @@
 -- What a step under the lock says of the CPU's frames.
-use Rattle.std.proofs.Common.{◌≡◌, ℕ, ◌<◌, ◌≤◌, List, ◌∷◌, length, sym, ap, ◌∙◌, subst, arith}
+use Rattle.std.proofs.Common.{◌≡◌, ℕ, ◌<◌, ◌≤◌, List, ◌∷◌, length, sym, ap, ◌∙◌, subst, arith, inr}
 use Rattle.std.proofs.lemmas.Bool.{leb-true, ltb-true}
 use Rattle.frame_word.specs.Seats.{KnownTable}
 use Rattle.step_rules.specs.declared.step.Action.TheVariants.{Consume, PassBack}
 use Rattle.step_rules.specs.Invariant.{KeepsInvariant}
-use Rattle.step_rules.specs.Phases.{ListFrame}
 use Rattle.step_rules.specs.State.{Part, Zone, is_frame, times}
 use Rattle.step_rules.specs.After.{state_of}
-use Rattle.step_rules.proofs.CoverParts.{own_part}
+use Rattle.step_rules.specs.Views.{seen_by}
 use Rattle.step_rules.proofs.Freeing.{zone_of_run}
 use Rattle.step_rules.proofs.LegalTests.{consume_tests, pass_back_tests}
 use Rattle.step_rules.proofs.Lists.{times_same}
@@ -17,7 +16,8 @@ use Rattle.boot_words.specs.Pasts.{KnownPasts, IsHeld, IsHolder, MayMake, cpu_pa
 use Rattle.boot_words.specs.Seats.{zone_of_boot}
 use Rattle.cpu_part.specs.Cpus.{KnownCpu}
 use Rattle.cpu_part.specs.Known.{HasOwn}
-use Rattle.cpu_part.proofs.Knowing.{listed_inside}
+use Rattle.cpu_part.proofs.Legal.{list_inside}
+use Rattle.cpu_part.proofs.Owning.{own_unseen}
 
 module _ (t : KnownTable) (s : KnownPasts) where
   zone_is : (local_by_pasts t s).zone ≡ zone_of_boot t
@@ -43,7 +43,7 @@ module _ (t : KnownTable) (s : KnownPasts) where
     front_inside held holder f rest front =
         let zone = zone_of_boot t in let run = (cpu_past s).seen in
         let sound : KeepsInvariant (state_of zone run) = sound_run zone run held.holds.shows.legal in
-        let mine : (local_by_pasts t s).parts c.number ≡ (state_of zone run).parts c.number = own_part (cpu_past s).number (state_of zone run).parts c.number holder in
-        let list : ((state_of zone run).parts c.number).list ≡ f ∷ rest = ap (λ (part : Part). part.list) (sym mine) ∙ own.list ∙ front in
-        let count = ap (times f) list in let once = times_same f in
-        subst (λ (z : Zone). f < z.frames) (zone_of_run zone run) (listed_inside (state_of zone run) sound c.number f ListFrame (omega (arith, count, once)))
+        let there : HasOwn (state_of zone run) c =
+        own_unseen (state_of zone run) c (subst (λ (q : ℕ). HasOwn (seen_by q (state_of zone run)) c) (sym holder) own) in
+        let count = ap (times f) front in let once = times_same f in
+        subst (λ (z : Zone). f < z.frames) (zone_of_run zone run) (list_inside (state_of zone run) sound c there f (omega (arith, count, once)))

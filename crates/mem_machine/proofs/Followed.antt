@@ -1,6 +1,8 @@
 -- The peaks and the event counts of the ledger follow lists of steps. Serves the `steps` clauses of all calls.
 use Rattle.std.proofs.Common.{◌≡◌, ℕ, ◌&&◌, ◌++◌, Bool, true, false, Option, Some, None, List, [], ◌∷◌, cond, refl, sym, ap, ◌∙◌, subst, inl, inr, eq-eqb}
 use Rattle.std.specs.Prelude.{is_none}
+use Rattle.std.specs.List.{fold}
+use Rattle.std.proofs.lemmas.List.Sums.{fold-append}
 use Rattle.std.proofs.lemmas.Bool.{cases_eq, cases_Bool, and_parts, true≢false, false≢true}
 use Rattle.group_tree.specs.declared.event.EventKey.{EventKey}
 use Rattle.group_tree.specs.declared.group.Group.{Group}
@@ -25,13 +27,13 @@ use Rattle.step_rules.specs.Legal.{is_of_group}
 use Rattle.step_rules.proofs.CallerLemmas.{noted_nowhere}
 use Rattle.step_rules.proofs.Moving.{gone_itself}
 use Rattle.boot_words.specs.Pasts.{cpu_past, local_by_pasts}
-use Rattle.mem_machine.specs.Following.{Moves, moved_along, moves_peak, moves_count, FollowsSteps}
+use Rattle.mem_machine.specs.Following.{Moves, moved_along, moves_peak, moves_count, ExistsAfter, FollowsSteps}
 use Rattle.mem_machine.specs.declared.counts.Counts.{Counts}
 use Rattle.mem_machine.specs.Counting.{counts_after, counts_along}
 use Rattle.mem_machine.specs.Machines.{KnownMachine}
 use Rattle.mem_machine.specs.Local.{Makes, holder_of, local_of}
-use Rattle.mem_machine.specs.Noted.{KnownRun, Notes}
-use Rattle.mem_machine.proofs.Noted.{notes_none, notes_both}
+use Rattle.mem_machine.specs.Noted.{KnownRun, Notes, after_made}
+use Rattle.mem_machine.proofs.Noted.{notes_none, notes_both, run_ends}
 use Rattle.mem_machine.proofs.Reaching.{run_both}
 
 -- ---- one list after another
@@ -120,17 +122,23 @@ makes_both t one two a b c first second =
     let u = local_of t b in
     let v = local_of t c in
     let then_leads : IsLocalRun p u two v = subst (λ (q : ℕ). IsLocalRun q u two v) first.holder second.leads in
+    let here : fold after_made s one ≡ u = run_ends p s one u first.leads in
+    let end : fold after_made u two ≡ v = run_ends p u two v then_leads in
+    let whole : fold after_made s (one ++ two) ≡ v = fold-append after_made s one two ∙ ap (λ (x : State). fold after_made x two) here ∙ end in
+    let was : (m : ℕ) → has_group u.groups m ≡ true → ExistsAfter s one m = λ m. subst (λ (x : State). has_group x.groups m ≡ true) (sym here) in
+    let is : (m : ℕ) → ExistsAfter s (one ++ two) m → has_group v.groups m ≡ true = λ m. subst (λ (x : State). has_group x.groups m ≡ true) whole in
+    let is_then : (m : ℕ) → ExistsAfter s (one ++ two) m → ExistsAfter u two m = λ m there. subst (λ (x : State). has_group x.groups m ≡ true) (sym end) (is m there) in
     record {
       holder = second.holder ∙ first.holder;
       leads = run_both p one two s u v first.leads then_leads;
       follows = record {
         peak = λ m there. joined p s one u two v first.leads then_leads m (moves_peak m) (peak_begins m) _ _ _
-            (first.follows.peak m) (second.follows.peak m there) there;
+            (λ old. first.follows.peak m (was m old)) (second.follows.peak m (is_then m there)) (is m there);
         events = λ key m there. joined p s one u two v first.leads then_leads m (moves_count (is_noted_in_subtree key m) m)
             (count_begins (is_noted_in_subtree key m) m)
-            _ _ _ (first.follows.events key m) (second.follows.events key m there) there;
+            _ _ _ (λ old. first.follows.events key m (was m old)) (second.follows.events key m (is_then m there)) (is m there);
         events_local = λ key m there. joined p s one u two v first.leads then_leads m (moves_count (is_noted_at key m) m)
-            (count_begins (is_noted_at key m) m) _ _ _ (first.follows.events_local key m) (second.follows.events_local key m there) there;
+            (count_begins (is_noted_at key m) m) _ _ _ (λ old. first.follows.events_local key m (was m old)) (second.follows.events_local key m (is_then m there)) (is m there);
       };
       counts = second.counts ∙ ap (counts_along u two) first.counts ∙ sym (counts_both p s one two u a.counts first.leads);
       noted = notes_both t a.run one b.run two c.run first.noted second.noted;

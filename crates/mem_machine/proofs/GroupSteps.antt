@@ -38,7 +38,7 @@ use Rattle.mem_machine.proofs.LedgerMoves.{follows_flag, follows_limit, follows_
 use Rattle.mem_machine.proofs.Made.{makes, one_leads, stays_visited, zone_acts}
 use Rattle.mem_machine.proofs.Reaching.{zone_step}
 use Rattle.mem_machine.proofs.Sight.{left_then, shown_seen}
-use Rattle.mem_machine.proofs.Staying.{owners_stay, sums_stay}
+use Rattle.mem_machine.proofs.Staying.{HaveSameBooks, owners_stay, sums_stay}
 use Rattle.mem_machine.proofs.Usage.{usage_is}
 
 -- ---- a step that changes the groups and which of them are killed
@@ -87,7 +87,7 @@ module _ (t : KnownTable) (m : KnownMachine) (ok : IsConsistent t m) (is : IsHel
   grouped_here =
       let s = local_of t m in
       let u = after_made (local_of t m) made in
-      let same = record { book = λ k. ap (λ (x : State). (x.parts k).book) group.only; group = λ k. ap (λ (x : State). (x.parts k).stock.group) group.only } in
+      let same : HaveSameBooks (local_of t m).parts (after_made (local_of t m) made).parts = record { book = λ k. ap (λ (x : State). (x.parts k).book) group.only; group = λ k. ap (λ (x : State). (x.parts k).stock.group) group.only } in
       record {
         consistent = record {
           sizes = record { frame_states = ok.sizes.frame_states; links = ok.sizes.links; lists = ok.sizes.lists; killed = sized };
@@ -162,8 +162,8 @@ module _ (t : KnownTable) (m now : KnownMachine) (same : m ≡ now) (ok : IsCons
 
     -- a group is killed
     pub kills : g < length m.killed → is_killed now.killed g ≡ false → (l : Ledger) → l.groups ≡ m.ledger.groups → CountsEvent OomKill m.ledger l g → SamePeaks m.ledger l
-        → IsGroupStep t m (zone_makes (Kill g) Done) l (slice_set m.killed g true)
-    kills inside alive l groups counts peaks = record {
+        → (marks : List Bool) → marks ≡ slice_set m.killed g true → IsGroupStep t m (zone_makes (Kill g) Done) l marks
+    kills inside alive l groups counts peaks marks set = subst (λ (k : List Bool). IsGroupStep t m (zone_makes (Kill g) Done) l k) (sym set) (record {
       step = zone_step (local_of t m) (holder_of m) (Kill g) Done refl (and_from _ _ (and_from _ _ (zone_acts t m.run.past is) (seen_there g there))
           (ap not (shown.killed g ∙ ap (λ (x : KnownMachine). is_killed x.killed g) same ∙ alive))) tt;
       only = refl;
@@ -171,10 +171,10 @@ module _ (t : KnownTable) (m now : KnownMachine) (same : m ≡ now) (ok : IsCons
       killed = marks_set (local_of t m).killed m.killed g true shown.killed inside;
       follows = follows_note OomKill (Kill g) g refl (local_of t m) m.ledger l shown.groups counts peaks;
       counts = refl;
-    }
+    })
 
-    pub sets_max : (limit : Option ℕ) → g ≢ 0 → IsGroupStep t m (zone_makes (SetMax g limit) Done) (with_group_limit m.ledger g limit) m.killed
-    sets_max limit below = record {
+    pub sets_max : (limit : Option ℕ) → g ≢ 0 → (l : Ledger) → l ≡ with_group_limit m.ledger g limit → IsGroupStep t m (zone_makes (SetMax g limit) Done) l m.killed
+    sets_max limit below l limited = subst (λ (k : Ledger). IsGroupStep t m (zone_makes (SetMax g limit) Done) k m.killed) (sym limited) (record {
       step = zone_step (local_of t m) (holder_of m) (SetMax g limit) Done refl
           (and_from _ _ (and_from _ _ (zone_acts t m.run.past is) (seen_there g there)) (ap not (ne_eqb g 0 below))) tt;
       only = refl;
@@ -182,10 +182,10 @@ module _ (t : KnownTable) (m now : KnownMachine) (same : m ≡ now) (ok : IsCons
       killed = shown.killed;
       follows = follows_limit (local_of t m) m.ledger g limit;
       counts = refl;
-    }
+    })
 
-    pub sets_oom_group : (flag : Bool) → g ≢ 0 → IsGroupStep t m (zone_makes (SetFlag g flag) Done) (with_oom_flag m.ledger g flag) m.killed
-    sets_oom_group flag below = record {
+    pub sets_oom_group : (flag : Bool) → g ≢ 0 → (l : Ledger) → l ≡ with_oom_flag m.ledger g flag → IsGroupStep t m (zone_makes (SetFlag g flag) Done) l m.killed
+    sets_oom_group flag below l flagged = subst (λ (k : Ledger). IsGroupStep t m (zone_makes (SetFlag g flag) Done) k m.killed) (sym flagged) (record {
       step = zone_step (local_of t m) (holder_of m) (SetFlag g flag) Done refl
           (and_from _ _ (and_from _ _ (zone_acts t m.run.past is) (seen_there g there)) (ap not (ne_eqb g 0 below))) tt;
       only = refl;
@@ -193,30 +193,31 @@ module _ (t : KnownTable) (m now : KnownMachine) (same : m ≡ now) (ok : IsCons
       killed = shown.killed;
       follows = follows_flag (local_of t m) m.ledger g flag;
       counts = refl;
-    }
+    })
 
     -- a group that goes
-    pub removes : AreCharges m.ledger → has_child now.ledger.groups g ≡ false → g ≢ 0 → current_of now.ledger g ≡ 0
-        → IsGroupStep t m (zone_makes (Remove g) Done) (with_group_removed m.ledger g) m.killed
-    removes charges leaf below empty =
+    pub removes : AreCharges m.ledger → has_child now.ledger.groups g ≡ false → g ≢ 0 → current_of now.ledger g ≡ 0 → (l : Ledger) → l ≡ with_group_removed m.ledger g
+        → IsGroupStep t m (zone_makes (Remove g) Done) l m.killed
+    removes charges leaf below empty l removed =
         let s = local_of t m in
         let no_child : has_child s.groups g ≡ false = ap (λ (gs : List Group). has_child gs g) shown.groups ∙ ap (λ (x : KnownMachine). has_child x.ledger.groups g) same ∙ leaf in
         let none : usage_of s g ≡ 0 = usage_is t m ok charges is g ∙ ap (λ (x : KnownMachine). current_of x.ledger g) same ∙ empty in
         let removable : is_removable s g ≡ true =
         and_from _ _ (and_from _ _ (and_from _ _ (seen_there g there) (ap not (ne_eqb g 0 below))) (ap not no_child)) (eq-eqb (usage_of s g) 0 none) in
-        record {
+        subst (λ (k : Ledger). IsGroupStep t m (zone_makes (Remove g) Done) k m.killed) (sym removed) (record {
           step = zone_step s (holder_of m) (Remove g) Done refl (and_from _ _ (zone_acts t m.run.past is) removable) tt;
           only = refl;
           groups = ap (λ (gs : List Group). (after_made (record (local_of t m) { groups = gs }) (zone_makes (Remove g) Done)).groups) shown.groups;
           killed = shown.killed;
           follows = follows_remove s m.ledger g;
           counts = refl;
-        }
+        })
 
   -- a group is made
   pub makes_group : (g : ℕ) (path : List ℕ) → g < length m.killed → None ≡ make_fault m.ledger.groups path → AreCharges m.ledger → IsLeastFreeNumber m.ledger.groups g
-      → IsGroupStep t m (zone_makes (Make path) (Number g)) (with_new_group m.ledger g path) (slice_set m.killed g false)
-  makes_group g path inside allowed facts least = record {
+      → (l : Ledger) → l ≡ with_new_group m.ledger g path → (marks : List Bool) → marks ≡ slice_set m.killed g false
+      → IsGroupStep t m (zone_makes (Make path) (Number g)) l marks
+  makes_group g path inside allowed facts least l made marks cleared = subst (λ (x : Ledger × List Bool). IsGroupStep t m (zone_makes (Make path) (Number g)) x.0 x.1) (λ i. (sym made i, sym cleared i)) (record {
     step = zone_step (local_of t m) (holder_of m) (Make path) (Number g) refl
         (and_from _ _ (zone_acts t m.run.past is) (ap (λ (gs : List Group). is_none (make_fault gs path)) shown.groups ∙ none_of (make_fault m.ledger.groups path) (sym allowed)))
         (subst (λ (gs : List Group). IsLeastFreeNumber gs g) (sym shown.groups) least);
@@ -225,7 +226,7 @@ module _ (t : KnownTable) (m now : KnownMachine) (same : m ≡ now) (ok : IsCons
     killed = marks_set (local_of t m).killed m.killed g false shown.killed inside;
     follows = follows_make (local_of t m) m.ledger path g facts least;
     counts = refl;
-  }
+  })
 
   pub adds : (l : Ledger) (marks : List Bool) (g : ℕ) (path : List ℕ) → IsLeastFreeNumber m.ledger.groups g → l ≡ with_new_group m.ledger g path
       → marks ≡ slice_set m.killed g false → (run : KnownRun) → AddsGroup g path now (record m { ledger = l; killed = marks; run = run })

@@ -1,25 +1,25 @@
--- A frame moves between the zone and the visited CPU: the steps by which it is lent, freed, kept or dropped, and the state
--- that each list of steps leads to. Serves `lend`, `unlist_one` and `settle`.
+-- A frame of the visited CPU moves into the zone's hand: the steps by which it is freed, kept or dropped, and the state
+-- that each list of steps leads to. Serves `unlist_one` and `settle`.
 use Rattle.std.proofs.Common.{◌≡◌, ℕ, ◌+◌, ◌-◌, ◌==◌, Bool, true, false, cond, List, [], ◌∷◌, ◌++◌, refl, ap, ◌∙◌, subst, sym, arith, eq-eqb}
 use Rattle.std.specs.Prelude.{nat_le}
 use Rattle.std.proofs.lemmas.Bool.{and_from, or_left, or_right, le-leb}
 use Rattle.step_rules.specs.declared.phase.ChargedUnit.{ChargedUnit}
 use Rattle.step_rules.specs.declared.phase.Stage.TheVariants.{FreshAt, FreshPassing, Collected, Live, BackAt, BackPassing, AwaitsReturn}
-use Rattle.step_rules.specs.declared.phase.Way.TheVariants.{OnList, PassingBack, PassingOut}
+use Rattle.step_rules.specs.declared.phase.Way.TheVariants.{OnList, PassingBack}
 use Rattle.step_rules.specs.declared.phase.Phase.{Phase}
 use Rattle.step_rules.specs.declared.phase.Phase.TheVariants as phase
 use Rattle.step_rules.specs.declared.step.Action.{Action}
-use Rattle.step_rules.specs.declared.step.Action.TheVariants.{PassOut, TakeIn, PassBack, Collect, Report, Absorb, Unfreeze, Publish, Return}
+use Rattle.step_rules.specs.declared.step.Action.TheVariants.{PassBack, Collect, Report, Absorb, Unfreeze, Publish, Return}
 use Rattle.step_rules.specs.declared.step.Answer.{Answer}
 use Rattle.step_rules.specs.declared.step.Answer.TheVariants.{Done, Pages}
 use Rattle.step_rules.specs.Phases as phases
 use Rattle.step_rules.specs.State.{State, Part, front_of, with_at, is_cpu, is_frame, visits, may_zone_act, one_if}
 use Rattle.step_rules.specs.Legal.{is_legal}
-use Rattle.step_rules.specs.After.{Run, after, with_listed, without_frame, without_unit}
+use Rattle.step_rules.specs.After.{Run, after, without_frame, without_unit}
 use Rattle.step_rules.specs.Laws.{IsLocalStep}
 use Rattle.step_rules.specs.Reaches.{IsLocalRun}
 use Rattle.step_rules.proofs.Basics.{at_same}
-use Rattle.mem_machine.specs.Steps.{zone_makes, cpu_makes, lend_steps, unlist_steps}
+use Rattle.mem_machine.specs.Steps.{zone_makes, cpu_makes, unlist_steps}
 use Rattle.mem_machine.specs.Settling.{collect_steps, return_steps}
 use Rattle.mem_machine.proofs.Reaching.{zone_step, cpu_step}
 
@@ -58,27 +58,7 @@ module _ (s : State) (p f : ℕ) (visited : IsVisited s p f) where
   hands : (x : Phase) → s.phases f ≡ x → after s p (PassBack f) Done ≡ moved s p f (part_without x) (phases.passed_back x) s.references
   hands x is i = moved s p f (without_frame (s.parts p) (is i) p f) (phases.passed_back (is i)) s.references
 
-  -- ---- a free frame
-
-  abbrev pub lent_state : State
-  lent_state = moved s p f (with_listed (s.parts p) f) (phase.Lent p OnList) s.references
-
-  pub lend_run : phases.is_free (s.phases f) ≡ true → IsLocalRun p s (lend_steps p f) lent_state
-  lend_run free =
-      let out : State = after s 0 (PassOut f p) Done in
-      let may_pass : is_legal s 0 (PassOut f p) ≡ true = and_from _ _ (and_from _ _ (and_from _ _ visited.acts visited.framed) visited.visiting) free in
-      let may_take : is_legal out p (TakeIn f) ≡ true = and_from _ _ (and_from _ _ visited.cpu visited.framed)
-      (ap (phases.passes_out p) (at_same s.phases f (phase.Lent p PassingOut)) ∙ same_cpu) in
-      (
-        zone_step s p (PassOut f p) Done refl may_pass tt,
-        (
-          cpu_step out p (TakeIn f) Done refl may_take tt,
-          λ i. record lent_state { phases = λ y. again (y == f) (phase.Lent p PassingOut) (phase.Lent p OnList) (s.phases y) i },
-        ),
-      )
-
-  -- ---- what is passed back is collected
-
+  -- what is passed back is collected
   module _ (part : Part) (x : Phase) (passes : phases.passes_back p x ≡ true) where
     may_collect : is_legal (moved s p f part x s.references) 0 (Collect f p) ≡ true
     may_collect = and_from _ _ (and_from _ _ (and_from _ _ visited.acts visited.framed) visited.cpu)

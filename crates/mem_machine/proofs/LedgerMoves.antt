@@ -204,5 +204,5 @@ follows_remove s l g = record {
       ∙ sym (at_still key m s (remove_steps g) _ refl);
 }
   where
-    other : (m : ℕ) → has_group (without_group l.groups g) m ≡ true → m ≢ g
-    other m is e = true≢false (sym is ∙ ap (has_group (without_group l.groups g)) e ∙ gone_itself l.groups g)
+    other : (m : ℕ) → has_group (without_group s.groups g) m ≡ true → m ≢ g
+    other m is e = true≢false (sym is ∙ ap (has_group (without_group s.groups g)) e ∙ gone_itself s.groups g)

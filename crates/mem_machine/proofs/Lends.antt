@@ -1,222 +1,247 @@
--- A free frame goes to the list of the visited CPU. Serves `lend` and `lend_one`.
-use Rattle.std.proofs.Common.{◌≡◌, ℕ, ◌+◌, ◌<◌, ◌≤◌, ◌==◌, Bool, true, false, Option, Some, None, List, [], ◌∷◌, ◌++◌, length, get_or, refl, sym, ap, ◌∙◌, subst, inl, inr, arith}
-use Rattle.std.specs.Prelude.{slice_set}
-use Rattle.std.proofs.lemmas.Bool.{cases_eq, false≢true, lt-ltb}
-use Rattle.std.proofs.lemmas.List.{get_or-set_same, get_or-set_other, length-set}
+-- A free frame goes to the list of the visited CPU, or the front of its list is free again. Serves `lend_one`, `lend` and
+-- `unlist_one`.
+use Rattle.std.proofs.Common.{◌≡◌, ℕ, ◌+◌, ◌<◌, ◌≤◌, ◌==◌, Bool, true, false, Option, Some, None, List, [], ◌∷◌, ◌++◌, length, get_or, refl, sym, ap, ◌∙◌, subst, inl, inr, arith, eq-eqb}
+use Rattle.std.specs.List.{fold}
+use Rattle.std.specs.Prelude.{IfSome, slice_set}
+use Rattle.std.proofs.lemmas.Bool.{and_from, cases_eq, lt-ltb}
+use Rattle.std.proofs.lemmas.List.{get_or-set_other, get_or-set_same, length-set}
+use Rattle.std.proofs.lemmas.Option.{none-some}
 use Rattle.zone_blocks.specs.declared.block.Block.{Block}
 use Rattle.zone_blocks.specs.Areas.{AreMaximalBlocks, HasNoneFrom, IsFree, IsFrontOfSmallest}
 use Rattle.zone_blocks.specs.Zone.{TakesFrames}
 use Rattle.frame_word.specs.Seats.{KnownTable}
-use Rattle.group_charge.specs.Charges.{pages_of}
-use Rattle.boot_words.specs.Composed.{AreLegal, MakesInTurn, lend_run}
-use Rattle.boot_words.specs.Hidden.{hide, hide_phase}
-use Rattle.boot_words.specs.Pasts.{IsHeld}
-use Rattle.cpu_part.specs.Cpus.{KnownCpu}
-use Rattle.cpu_part.proofs.CallerLemmas.{makes_each}
-use Rattle.step_rules.specs.declared.phase.ChargedUnit.{ChargedUnit}
-use Rattle.step_rules.specs.declared.phase.Stage.{Stage}
-use Rattle.step_rules.specs.declared.phase.Stage.TheVariants.{FreshAt, Collected, Bare, Live, BackAt, AwaitsReturn, BackPassing, FreshPassing}
-use Rattle.step_rules.specs.declared.phase.Way.TheVariants.{OnList}
+use Rattle.lru_lists.specs.declared.record.Home.{Home}
+use Rattle.step_rules.specs.declared.phase.Way.TheVariants.{OnList, PassingOut}
 use Rattle.step_rules.specs.declared.phase.Phase.{Phase}
 use Rattle.step_rules.specs.declared.phase.Phase.TheVariants as phase
 use Rattle.step_rules.specs.declared.step.Action.TheVariants.{PassOut, TakeIn}
 use Rattle.step_rules.specs.declared.step.Answer.TheVariants.{Done}
 use Rattle.step_rules.specs.Phases as phases
 use Rattle.step_rules.specs.Invariant.{told_pages}
-use Rattle.step_rules.specs.State.{Part, State, Zone, is_frame, with_at}
-use Rattle.step_rules.specs.After.{with_listed}
+use Rattle.step_rules.specs.State.{Part, State, Zone, is_cpu, is_frame, with_at}
+use Rattle.step_rules.specs.Legal.{is_legal}
+use Rattle.step_rules.specs.After.{Run, after, with_listed}
 use Rattle.step_rules.specs.Reaches.{IsLocalRun}
+use Rattle.step_rules.proofs.Basics.{at_other, at_same}
+use Rattle.boot_words.specs.Composed.{AreLegal, MakesInTurn}
+use Rattle.boot_words.specs.Hidden.{hide, hide_phase}
+use Rattle.boot_words.specs.Pasts.{KnownPasts, IsHeld, MakesStep, local_by_pasts}
+use Rattle.boot_words.specs.Seats.{zone_of_boot}
+use Rattle.cpu_part.specs.Cpus.{KnownCpu}
+use Rattle.cpu_part.proofs.CallerLemmas.{makes_each}
 use Rattle.step_watch.specs.Watched.{KnownWatch, Watches}
+use Rattle.mem_machine.specs.declared.counts.Counts.{Counts}
 use Rattle.mem_machine.specs.declared.frame_state.FrameState.{FrameState}
-use Rattle.mem_machine.specs.declared.frame_state.FrameState.TheVariants.{Free, Lent}
+use Rattle.mem_machine.specs.declared.frame_state.FrameState.TheVariants.{Free, Lent, Head, Tail}
 use Rattle.mem_machine.specs.Booked.{AreBooked, AreOwners}
-use Rattle.mem_machine.specs.FrameStates.{frame_state_at, frame_state_group, free_of, is_free_state, phase_hidden}
-use Rattle.mem_machine.specs.Machines.{KnownMachine, VisitState, FitsFrameState, IsConsistent, IsShownBy, frames_charged, home_of, left_by, pages_booked}
-use Rattle.mem_machine.specs.Lending.{LendsFrame, LendsNone}
+use Rattle.mem_machine.specs.Counting.{counts_along}
+use Rattle.mem_machine.specs.FrameStates.{frame_state_at, frame_state_group, free_of, head_group_of, is_free_state, phase_hidden}
+use Rattle.mem_machine.specs.Lending.{LendsFrame, LendsNone, LendsOne}
 use Rattle.mem_machine.specs.Local.{Visits, local_of, visit_state}
-use Rattle.mem_machine.specs.Noted.{KnownRun, Notes}
+use Rattle.mem_machine.specs.Machines.{KnownMachine, VisitState, FitsFrameState, IsConsistent, IsShownBy, home_of, left_by, pages_booked}
+use Rattle.mem_machine.specs.Noted.{AreLocal, KnownRun, Notes, after_made}
 use Rattle.mem_machine.specs.Steps.{cpu_makes, lend_steps, zone_makes}
-use Rattle.mem_machine.proofs.Followed.{follows_same}
-use Rattle.mem_machine.proofs.HandOvers.{IsVisited, lend_run as lend_leads_from, lent_state}
+use Rattle.mem_machine.proofs.Followed.{are_still, follows_same}
+use Rattle.mem_machine.proofs.HandOvers.{IsVisited}
+use Rattle.mem_machine.proofs.Hiding.{is_free_seen}
 use Rattle.mem_machine.proofs.Made.{visits_here, zone_seen}
-use Rattle.mem_machine.proofs.Moved.{AllMoved, books_stay, is_visited, left_moved, makes_moved, number_range, own_moved, owners_moved, phases_set, shown_moved, sums_moved, visit_moved}
-use Rattle.mem_machine.proofs.Noted.{all_grow, local_legal, run_steps}
+use Rattle.mem_machine.proofs.Moved.{AllMoved, books_stay, is_visited, left_moved, makes_moved, number_range, own_moved, owners_moved, shown_moved, sums_moved, visit_moved}
+use Rattle.mem_machine.proofs.Noted.{local_legal, notes_both, notes_one, run_steps}
+use Rattle.mem_machine.proofs.Reaching.{cpu_step, zone_step}
 use Rattle.mem_machine.proofs.Records.{charges_stay, covers_one, free_at, free_inside, free_is, free_taken, units_stay}
 use Rattle.mem_machine.proofs.Sight.{left_seen, shown_seen}
-use Rattle.step_watch.proofs.Watching.{watches_both}
 
--- ---- a frame that is shown free is free
+-- ---- one frame's record changes, which is charged neither before nor after, and the CPU's part
 
-stage_shown : (u : ChargedUnit) (stage : Stage) → phases.is_free (hide_phase (phase.Head u stage)) ≡ true → ⊥
-stage_shown u (FreshAt q) e = false≢true e
-stage_shown u (BackAt q) e = false≢true e
-stage_shown u (FreshPassing q) e = false≢true e
-stage_shown u Collected e = false≢true e
-stage_shown u Bare e = false≢true e
-stage_shown u Live e = false≢true e
-stage_shown u (BackPassing q) e = false≢true e
-stage_shown u AwaitsReturn e = false≢true e
+-- a frame that heads no unit is on no list
+no_list : (home : Option Home) (x : FrameState) → FitsFrameState home x → head_group_of x ≡ None → home ≡ None
+no_list None x fits none = refl
+no_list (Some h) x fits none = absurd (none-some h.owner (sym none ∙ fits.1))
 
-free_shown : (x : Phase) → phases.is_free (hide_phase x) ≡ true → phases.is_free x ≡ true
-free_shown (phase.Head u stage) e = absurd (stage_shown u stage e)
-free_shown phase.InZone e = refl
-free_shown (phase.Lent q way) e = e
-free_shown (phase.Tail g) e = e
+unheaded : (x : FrameState) → frame_state_group x ≡ None → head_group_of x ≡ None
+unheaded Free is = refl
+unheaded (Lent q) is = refl
+unheaded (Head unit) is = is
+unheaded (Tail g) is = refl
 
 module _ (t : KnownTable) (m : KnownMachine) (c : KnownCpu) (ok : IsConsistent t m) (visit : Visits t (visit_state m c)) (f : ℕ) (inside : f < t.frames)
-    (free : frame_state_at m.frame_states f ≡ Free) where
-  shown : IsShownBy t m (hide (local_of t m))
-  shown = shown_seen t m ok visit.held
+    (r : FrameState) (was : frame_state_group (frame_state_at m.frame_states f) ≡ None) (now : frame_state_group r ≡ None)
+    (ph : ℕ → Phase) (phases_are : (y : ℕ) → hide_phase (ph y) ≡ phase_hidden (frame_state_at (slice_set m.frame_states f r) y))
+    (part : Part) (told : told_pages part ≡ told_pages ((local_of t m).parts c.number)) (book : part.book ≡ ((local_of t m).parts c.number).book)
+    (group : part.stock.group ≡ ((local_of t m).parts c.number).stock.group)
+    (list : List ℕ) (listed : part.list ≡ list) (fresh : part.fresh ≡ c.fresh) (back : part.back ≡ c.back)
+    (steps : Run) (leads : IsLocalRun c.number (local_of t m) steps (record (local_of t m) { phases = ph; parts = with_at (local_of t m).parts c.number part; references = (local_of t m).references }))
+    (still : are_still steps ≡ true) (counts : m.counts ≡ counts_along (local_of t m) steps m.counts)
+    (blocks : List Block) (areas : AreMaximalBlocks (free_of (slice_set m.frame_states f r)) blocks) (run : KnownRun) (noted : Notes t m.run steps run) where
+  abbrev s : State
+  s = local_of t m
+
+  abbrev x : State
+  x = record (local_of t m) { phases = ph; parts = with_at (local_of t m).parts c.number part; references = (local_of t m).references }
+
+  abbrev n : KnownMachine
+  n = record m { blocks = blocks; frame_states = slice_set m.frame_states f r; run = run }
 
   abbrev d : KnownCpu
-  d = record c { list = c.list ++ f ∷ [] }
+  d = record c { list = list; fresh = c.fresh; back = c.back }
 
   within : f < length m.frame_states
   within = let sized = ok.sizes.frame_states in omega (arith, sized, inside)
 
-  pub v : IsVisited (local_of t m) c.number f
-  v = is_visited t m c visit f (ap (λ (z : Zone). is_frame z f) (zone_seen t m.run.past) ∙ lt-ltb f t.frames inside)
-
-  abbrev part : Part
-  part = with_listed ((local_of t m).parts c.number) f
-
-  pub lend_leads : IsLocalRun c.number (local_of t m) (lend_steps c.number f) (lent_state (local_of t m) c.number f v)
-  lend_leads = lend_leads_from (local_of t m) c.number f v
-      (free_shown ((local_of t m).phases f) (ap phases.is_free (shown.phases f) ∙ ap (λ (x : FrameState). phases.is_free (phase_hidden x)) free))
-
   books : (h : ℕ) → pages_booked t.cpus (with_at (local_of t m).parts c.number part) h ≡ pages_booked t.cpus (local_of t m).parts h
-  books = books_stay t.cpus (local_of t m).parts c.number (number_range t m c visit).1 part refl refl
+  books = books_stay t.cpus (local_of t m).parts c.number (number_range t m c visit).1 part book group
 
-  module _ (blocks : List Block) (areas : AreMaximalBlocks (free_of (slice_set m.frame_states f (Lent c.number))) blocks) (run : KnownRun)
-      (noted : Notes t m.run (lend_steps c.number f) run) where
-    abbrev lent : KnownMachine
-    lent = record m { blocks = blocks; frame_states = slice_set m.frame_states f (Lent c.number); run = run }
+  fits : (y : ℕ) → y < t.frames → FitsFrameState (home_of m.links y) (frame_state_at (slice_set m.frame_states f r) y)
+  fits y low = elim (cases_eq y f) [
+    | inl e ↦
+        let none = no_list (home_of m.links f) (frame_state_at m.frame_states f) (ok.frame_states f inside) (unheaded (frame_state_at m.frame_states f) was) in
+        subst (λ (h : Option Home). FitsFrameState h (frame_state_at (slice_set m.frame_states f r) y)) (sym (ap (home_of m.links) e ∙ none)) tt
+    | inr ne ↦ subst (FitsFrameState (home_of m.links y)) (sym (get_or-set_other m.frame_states f y r Free ne)) (ok.frame_states y low)
+  ]
 
-    left : left_by t run.past ≡ hide (lent_state (local_of t m) c.number f v)
-    left = left_moved t m c visit lent d (lend_steps c.number f) _ noted lend_leads
+  shown : IsShownBy t m (hide (local_of t m))
+  shown = shown_seen t m ok visit.held
 
-    lent_shown : IsShownBy t lent (hide (lent_state (local_of t m) c.number f v))
-    lent_shown = shown_moved t m lent (local_of t m) shown c.number part _ (local_of t m).references refl refl
-        (phases_set t m (local_of t m) shown f (phase.Lent c.number OnList) (Lent c.number) within refl) shown.references refl (omega arith)
-        (λ h.
-        let a : pages_of m.ledger h ≡ frames_charged m.frame_states h + pages_booked t.cpus (local_of t m).parts h = shown.charged h in
-        let b = books h in
-        let e = charges_stay m.frame_states f (Lent c.number) within (ap frame_state_group free) refl h in
-        omega (arith, a, b, e))
+  left : left_by t run.past ≡ hide x
+  left = left_moved t m c visit n d steps x noted leads
 
-    fits : (y : ℕ) → y < t.frames → FitsFrameState (home_of m.links y) (frame_state_at (slice_set m.frame_states f (Lent c.number)) y)
-    fits y low = elim (cases_eq y f) [
-      | inl e ↦ subst (λ (k : ℕ). FitsFrameState (home_of m.links k) (frame_state_at (slice_set m.frame_states f (Lent c.number)) k)) (sym e)
-          (subst (FitsFrameState (home_of m.links f)) (sym (get_or-set_same m.frame_states f (Lent c.number) Free within))
-          (subst (FitsFrameState (home_of m.links f)) free (ok.frame_states f inside)))
-      | inr ne ↦ subst (FitsFrameState (home_of m.links y)) (sym (get_or-set_other m.frame_states f y (Lent c.number) Free ne)) (ok.frame_states y low)
-    ]
+  pub consistent_moved : IsConsistent t (record m { blocks = blocks; frame_states = slice_set m.frame_states f r; run = run })
+  consistent_moved = record {
+    sizes = record { frame_states = length-set m.frame_states f r ∙ ok.sizes.frame_states; links = ok.sizes.links; lists = ok.sizes.lists; killed = ok.sizes.killed };
+    areas = areas;
+    frame_states = fits;
+    units = units_stay m.frame_states f r within was now ok.units;
+    lists = ok.lists;
+    balances = ok.balances;
+    shown = subst (IsShownBy t n) (sym left) (shown_moved t m n s shown c.number part ph s.references refl refl phases_are shown.references told
+        (let same = book in omega (arith, same))
+        (λ h. let a = shown.charged h in let b = charges_stay m.frame_states f r within was now h in let e = books h in omega (arith, a, b, e)));
+  }
 
-    pub all_lent : (is_free : List Bool) (sums : List ℕ) (owners : List (Option ℕ)) → is_free ≡ free_of (slice_set m.frame_states f (Lent c.number))
-        → AreBooked t.cpus (left_by t m.run.past).parts sums → AreOwners t.cpus (left_by t m.run.past).parts owners
-        → AllMoved t m c (LendsFrame f) (lend_steps c.number f) lent d is_free sums owners
-    all_lent is_free sums owners is are own =
-        let seen = left_seen t m.run.past visit.held in
-        let are_seen : AreBooked t.cpus (hide (local_of t m)).parts sums = subst (λ (u : State). AreBooked t.cpus u.parts sums) seen are in
-        let phases = with_at (local_of t m).phases f (phase.Lent c.number OnList) in record {
-          consistent = record {
-            sizes = record {
-              frame_states = length-set m.frame_states f (Lent c.number) ∙ ok.sizes.frame_states;
-              links = ok.sizes.links;
-              lists = ok.sizes.lists;
-              killed = ok.sizes.killed;
-            };
-            areas = areas;
-            frame_states = fits;
-            units = units_stay m.frame_states f (Lent c.number) within (ap frame_state_group free) refl ok.units;
-            lists = ok.lists;
-            balances = ok.balances;
-            shown = subst (IsShownBy t lent) (sym left) lent_shown;
-          };
-          free_is = is;
-          sums_are = subst (λ (u : State). AreBooked t.cpus u.parts sums) (sym left)
-              (sums_moved t m lent (local_of t m) shown c.number part phases (local_of t m).references sums sums are_seen refl
-              (λ h small. are_seen.each h small ∙ sym (books h)));
-          owners_are = subst (λ (u : State). AreOwners t.cpus u.parts owners) (sym left)
-              (owners_moved t m lent (local_of t m) shown c.number part phases (local_of t m).references owners
-              (subst (λ (u : State). AreOwners t.cpus u.parts owners) seen own) refl);
-          does = record { areas = areas; machine = refl; cpu = refl };
-          visit = visit_moved t m c visit lent d (lend_steps c.number f) _ noted lend_leads refl
-              (own_moved (local_of t m) c visit.own part _ (local_of t m).references (c.list ++ f ∷ []) c.fresh c.back (λ y. refl)
-              (ap (λ (l : List ℕ). l ++ f ∷ []) visit.own.list) visit.own.fresh visit.own.back) refl;
-          makes = makes_moved t m c visit lent d (lend_steps c.number f) _ noted lend_leads (follows_same _ _ _ refl) refl;
-        }
+  pub all_moved : (Does : VisitState → VisitState → Type 0) (sums : List ℕ) (owners : List (Option ℕ)) → AreBooked t.cpus (left_by t m.run.past).parts sums → AreOwners t.cpus (left_by t m.run.past).parts owners
+      → Does (visit_state m c) (visit_state (record m { blocks = blocks; frame_states = slice_set m.frame_states f r; run = run }) (record c { list = list; fresh = c.fresh; back = c.back }))
+      → AllMoved t m c Does steps (record m { blocks = blocks; frame_states = slice_set m.frame_states f r; run = run }) (record c { list = list; fresh = c.fresh; back = c.back })
+      (free_of (slice_set m.frame_states f r)) sums owners
+  all_moved Does sums owners are own does =
+      let seen = left_seen t m.run.past visit.held in
+      let here = subst (λ (u : State). AreBooked t.cpus u.parts sums) seen are in
+      record {
+        consistent = consistent_moved;
+        free_is = refl;
+        sums_are = subst (λ (u : State). AreBooked t.cpus u.parts sums) (sym left)
+            (sums_moved t m n s shown c.number part ph s.references sums sums here refl (λ h small. here.each h small ∙ sym (books h)));
+        owners_are = subst (λ (u : State). AreOwners t.cpus u.parts owners) (sym left)
+            (owners_moved t m n s shown c.number part ph s.references owners (subst (λ (u : State). AreOwners t.cpus u.parts owners) seen own) group);
+        does = does;
+        visit = visit_moved t m c visit n d steps x noted leads refl (own_moved s c visit.own part ph s.references list c.fresh c.back (λ y. refl) listed fresh back) refl;
+        makes = makes_moved t m c visit n d steps x noted leads (follows_same s m.ledger steps still) counts;
+      }
 
--- ---- the run
+-- ---- a free frame is lent
 
--- both steps were made, and the watch took them
-pub lent_notes : (t : KnownTable) (run : KnownRun) (p f i q : ℕ) → i ≡ f → q ≡ p → IsHeld t run.past → (last : KnownRun) (mid : KnownWatch)
-    → MakesInTurn t run.past (lend_run p f) last.past → Watches run.watch (zone_makes (PassOut i q) Done ∷ []) mid
-    → Watches mid (cpu_makes q (TakeIn i) Done ∷ []) last.watch → Notes t run (lend_steps p f) last
-lent_notes t run p f i q index number held last mid made saw saw_too = record {
-  grew = all_grow t run.past (lend_steps p f) last.past (makes_each t run.past (lend_steps p f) last.past held made);
-  watched = subst (λ (x : ℕ × ℕ). Watches run.watch (lend_steps x.1 x.0) last.watch) (λ j. (index j, number j))
-      (watches_both run.watch (zone_makes (PassOut i q) Done ∷ []) mid (cpu_makes q (TakeIn i) Done ∷ []) last.watch saw saw_too);
-}
+abbrev lend_state : State → ℕ → ℕ → State
+lend_state s p f = fold after_made s (lend_steps p f)
+
+module _ (t : KnownTable) (m : KnownMachine) (c : KnownCpu) (ok : IsConsistent t m) (visit : Visits t (visit_state m c)) (f : ℕ) (inside : f < t.frames)
+    (free : frame_state_at m.frame_states f ≡ Free) where
+  framed : is_frame (local_of t m).zone f ≡ true
+  framed = ap (λ (z : Zone). is_frame z f) (zone_seen t m.run.past) ∙ lt-ltb f t.frames inside
+
+  v : IsVisited (local_of t m) c.number f
+  v = is_visited t m c visit f framed
+
+  lend_local : AreLocal c.number (local_of t m) (lend_steps c.number f)
+  lend_local =
+      let s = local_of t m in
+      let out : State = after s 0 (PassOut f c.number) Done in
+      let is_free : phases.is_free (s.phases f) ≡ true = is_free_seen t m s (shown_seen t m ok visit.held) f ∙ ap is_free_state free in
+      let may_pass : is_legal s 0 (PassOut f c.number) ≡ true = and_from _ _ (and_from _ _ (and_from _ _ v.acts v.framed) v.visiting) is_free in
+      let passing : phases.passes_out c.number (with_at s.phases f (phase.Lent c.number PassingOut) f) ≡ true =
+      ap (phases.passes_out c.number) (at_same s.phases f (phase.Lent c.number PassingOut)) ∙ eq-eqb c.number c.number refl in
+      let may_take : is_legal out c.number (TakeIn f) ≡ true = and_from _ _ (and_from _ _ v.cpu v.framed) passing in
+      (zone_step s c.number (PassOut f c.number) Done refl may_pass tt, (cpu_step out c.number (TakeIn f) Done refl may_take tt, tt))
+
+  pub lend_legal : AreLegal (local_of t m) (lend_steps c.number f)
+  lend_legal = local_legal c.number (local_of t m) (lend_steps c.number f) [] lend_local
+
+  lend_leads : IsLocalRun c.number (local_of t m) (lend_steps c.number f) (lend_state (local_of t m) c.number f)
+  lend_leads = (lend_local.0, (lend_local.1.0, refl))
+
+  lent_inside : f < length m.frame_states
+  lent_inside = let sized = ok.sizes.frame_states in omega (arith, inside, sized)
+
+  phases_lent : (g : ℕ) → hide_phase ((lend_state (local_of t m) c.number f).phases g) ≡ phase_hidden (frame_state_at (slice_set m.frame_states f (Lent c.number)) g)
+  phases_lent g =
+      let s = local_of t m in
+      let mid : ℕ → Phase = with_at s.phases f (phase.Lent c.number PassingOut) in
+      elim (cases_eq g f) [
+        | inl e ↦ subst (λ (k : ℕ). hide_phase (with_at mid f (phase.Lent c.number OnList) k) ≡ phase_hidden (frame_state_at (slice_set m.frame_states f (Lent c.number)) k)) (sym e)
+            (ap hide_phase (at_same mid f (phase.Lent c.number OnList)) ∙ sym (ap phase_hidden (get_or-set_same m.frame_states f (Lent c.number) Free lent_inside)))
+        | inr ne ↦ ap hide_phase (at_other mid f (phase.Lent c.number OnList) g ne ∙ at_other s.phases f (phase.Lent c.number PassingOut) g ne)
+            ∙ (shown_seen t m ok visit.held).phases g ∙ sym (ap phase_hidden (get_or-set_other m.frame_states f g (Lent c.number) Free ne))
+      ]
+
+  pub lent_moved : (blocks : List Block) → AreMaximalBlocks (free_of (slice_set m.frame_states f (Lent c.number))) blocks → (run : KnownRun) → Notes t m.run (lend_steps c.number f) run
+      → (sums : List ℕ) (owners : List (Option ℕ)) → AreBooked t.cpus (left_by t m.run.past).parts sums → AreOwners t.cpus (left_by t m.run.past).parts owners
+      → AllMoved t m c (LendsFrame f) (lend_steps c.number f) (record m { blocks = blocks; frame_states = slice_set m.frame_states f (Lent c.number); run = run })
+      (record c { list = c.list ++ f ∷ [] }) (free_of (slice_set m.frame_states f (Lent c.number))) sums owners
+  lent_moved blocks areas run noted sums owners are own =
+      let s = local_of t m in
+      all_moved t m c ok visit f inside (Lent c.number) (ap frame_state_group free) refl (lend_state s c.number f).phases phases_lent
+      (with_listed (s.parts c.number) f) refl refl refl (c.list ++ f ∷ []) (ap (λ (l : List ℕ). l ++ f ∷ []) visit.own.list) visit.own.fresh visit.own.back
+      (lend_steps c.number f) lend_leads refl refl blocks areas run noted (LendsFrame f) sums owners are own (record { areas = areas; machine = refl; cpu = refl })
 
 -- ---- of the machine as it was seen before
 
-module _ (t : KnownTable) (m now : KnownMachine) (same : m ≡ now) (c : KnownCpu) (visit_now : Visits t (visit_state now c)) (ok : IsConsistent t m) where
-  visit : Visits t (visit_state m c)
-  visit = visits_here t m now same c visit_now
+module _ (t : KnownTable) (m now : KnownMachine) (same : m ≡ now) (c : KnownCpu) (visit : Visits t (visit_state now c)) (ok : IsConsistent t m) (f : ℕ) (inside : f < t.frames)
+    (free_now : frame_state_at now.frame_states f ≡ Free) where
+  free_here : frame_state_at m.frame_states f ≡ Free
+  free_here = ap (λ (x : KnownMachine). frame_state_at x.frame_states f) same ∙ free_now
 
-  pub number_low : t.cpus ≤ 64 → c.number < 256
-  number_low few = let a = (number_range t m c visit).1 in omega (arith, a, few)
+  pub may_lend : AreLegal (local_of t m) (lend_steps c.number f)
+  may_lend = lend_legal t m c ok (visits_here t m now same c visit) f inside free_here
 
-  module _ (f : ℕ) (inside : f < t.frames) (free : frame_state_at m.frame_states f ≡ Free) where
-    pub may_lend : AreLegal (local_of t m) (lend_run c.number f)
-    may_lend = local_legal c.number (local_of t m) (lend_steps c.number f) []
-        (run_steps c.number (local_of t m) (lend_steps c.number f) _ (lend_leads t m c ok visit f inside free))
+  pub lent_all : (d : KnownCpu) (before free : List Bool) (blocks : List Block) (i q : ℕ) (sums : List ℕ) (owners : List (Option ℕ)) → before ≡ free_of m.frame_states
+      → AreBooked t.cpus (left_by t m.run.past).parts sums → AreOwners t.cpus (left_by t m.run.past).parts owners
+      → TakesFrames before (record { at = i; order = 0 }) free → AreMaximalBlocks free blocks → i ≡ f → q ≡ c.number → d ≡ record c { list = c.list ++ f ∷ [] }
+      → (run : KnownRun) → Notes t m.run (lend_steps c.number f) run
+      → AllMoved t now c (LendsFrame f) (lend_steps c.number f) (record m { blocks = blocks; frame_states = slice_set m.frame_states i (Lent q); run = run }) d free sums owners
+  lent_all d before free blocks i q sums owners was are own takes areas index number cpu run noted =
+      let takes_f : TakesFrames before (record { at = f; order = 0 }) free = subst (λ (x : ℕ). TakesFrames before (record { at = x; order = 0 }) free) index takes in
+      let sized = ok.sizes.frame_states in
+      let below : f < length m.frame_states = omega (arith, inside, sized) in
+      let free_is : free ≡ free_of (slice_set m.frame_states f (Lent c.number)) = free_taken before free m.frame_states f (Lent c.number) below was takes_f refl in
+      let areas_f : AreMaximalBlocks (free_of (slice_set m.frame_states f (Lent c.number))) blocks = subst (λ (l : List Bool). AreMaximalBlocks l blocks) free_is areas in
+      let all = lent_moved t m c ok (visits_here t m now same c visit) f inside free_here blocks areas_f run noted sums owners are own in
+      subst (λ (x : KnownMachine × KnownMachine × KnownCpu × List Bool). AllMoved t x.0 c (LendsFrame f) (lend_steps c.number f) x.1 x.2 x.3 sums owners)
+      (λ j. (same j, record m { blocks = blocks; frame_states = slice_set m.frame_states (sym index j) (Lent (sym number j)); run = run }, sym cpu j, sym free_is j)) all
 
-    -- the zone's areas have the frame
-    pub is_given : (before : List Bool) → before ≡ free_of m.frame_states → (i : ℕ) → i ≡ f → IsFree before i
-    is_given before was i index =
-        let sized = ok.sizes.frame_states in
-        ap (λ (x : ℕ). get_or before x false) index ∙ ap (λ (l : List Bool). get_or l f false) was
-        ∙ free_at m.frame_states f (omega (arith, inside, sized)) ∙ ap is_free_state free
+  -- the zone's areas have the frame
+  pub given_free : (before : List Bool) (i : ℕ) → before ≡ free_of m.frame_states → i ≡ f → IsFree before i
+  given_free before i was index =
+      let sized = ok.sizes.frame_states in
+      let below : f < length m.frame_states = omega (arith, inside, sized) in
+      ap (λ (x : ℕ). get_or before x false) index ∙ ap (λ (l : List Bool). get_or l f false) was ∙ free_at m.frame_states f below ∙ ap is_free_state free_here
 
-    pub lend_all : (h : KnownCpu) → h ≡ record c { list = c.list ++ f ∷ [] } → (before now_free : List Bool) (sums : List ℕ) (owners : List (Option ℕ))
-        → before ≡ free_of m.frame_states → AreBooked t.cpus (left_by t m.run.past).parts sums → AreOwners t.cpus (left_by t m.run.past).parts owners
-        → (i q : ℕ) → i ≡ f → q ≡ c.number → (b : Block) → b ≡ record { at = f; order = 0 } → TakesFrames before b now_free → (blocks : List Block)
-        → AreMaximalBlocks now_free blocks → (run : KnownRun) → Notes t m.run (lend_steps c.number f) run
-        → AllMoved t now c (LendsFrame f) (lend_steps c.number f)
-        (record m { blocks = blocks; frame_states = slice_set m.frame_states i (Lent q); run = run }) h now_free sums owners
-    lend_all h cpu before now_free sums owners was are own i q index number b block takes_b blocks areas run noted =
-        let sized = ok.sizes.frame_states in
-        let takes : TakesFrames before (record { at = f; order = 0 }) now_free = subst (λ (x : Block). TakesFrames before x now_free) block takes_b in
-        let free_is : now_free ≡ free_of (slice_set m.frame_states f (Lent c.number)) =
-        free_taken before now_free m.frame_states f (Lent c.number) (omega (arith, inside, sized)) was takes refl in
-        let areas_now : AreMaximalBlocks (free_of (slice_set m.frame_states f (Lent c.number))) blocks = subst (λ (l : List Bool). AreMaximalBlocks l blocks) free_is areas in
-        subst (λ (x : KnownMachine × KnownMachine × KnownCpu). AllMoved t x.0 c (LendsFrame f) (lend_steps c.number f) x.1 x.2 now_free sums owners)
-        (λ j. (
-          same j,
-          record m { blocks = blocks; frame_states = slice_set m.frame_states (sym index j) (Lent (sym number j)); run = run },
-          sym cpu j,
-        )) (all_lent t m c ok visit f inside free blocks areas_now run noted now_free sums owners free_is are own)
+-- the number of a visited CPU fits a byte
+pub number_low : (t : KnownTable) (m now : KnownMachine) → m ≡ now → (c : KnownCpu) → Visits t (visit_state now c) → c.number ≤ t.cpus
+number_low t m now same c visit = (number_range t m c (visits_here t m now same c visit)).1
 
--- ---- the frame that the zone takes first
+-- the steps were made, and the watch took them
+pub lent_notes : (t : KnownTable) (run : KnownRun) (p f i q : ℕ) → i ≡ f → q ≡ p → (later : KnownPasts) (mid watch : KnownWatch) → IsHeld t run.past
+    → MakesInTurn t run.past (lend_steps p f) later → Watches run.watch (zone_makes (PassOut i q) Done ∷ []) mid
+    → Watches mid (cpu_makes q (TakeIn i) Done ∷ []) watch → Notes t run (lend_steps p f) (record { past = later; watch = watch })
+lent_notes t run p f i q index number later mid watch held turn saw saw_too =
+    let all = makes_each t run.past (lend_steps p f) later held turn in
+    notes_both t run (zone_makes (PassOut f p) Done ∷ []) (record { past = all.0; watch = mid }) (cpu_makes p (TakeIn f) Done ∷ [])
+    (record { past = later; watch = watch })
+    (notes_one t run (zone_makes (PassOut f p) Done) (record { past = all.0; watch = mid }) all.1
+    (subst (λ (x : ℕ × ℕ). Watches run.watch (zone_makes (PassOut x.0 x.1) Done ∷ []) mid) (λ j. (index j, number j)) saw))
+    (notes_one t (record { past = all.0; watch = mid }) (cpu_makes p (TakeIn f) Done) (record { past = later; watch = watch })
+    (subst (MakesStep t all.0 p (TakeIn f) Done) (sym all.2.2) all.2.1)
+    (subst (λ (x : ℕ × ℕ). Watches mid (cpu_makes x.1 (TakeIn x.0) Done ∷ []) watch) (λ j. (index j, number j)) saw_too))
 
-pub front_is : (k : ℕ) (b : Block) (blocks : List Block) → IsFrontOfSmallest blocks k b → k ≡ 0 → (f : ℕ) → f ≡ b.at → b ≡ record { at = f; order = 0 }
-front_is k b blocks taken zero_is f at = λ i. record { at = sym at i; order = (taken.order_is ∙ zero_is) i }
-
-pub front_free : (m : KnownMachine) (before free : List Bool) (k : ℕ) (b : Block) → before ≡ free_of m.frame_states → k ≡ 0
-    → IsFrontOfSmallest m.blocks k b → TakesFrames before b free → (b.at < length m.frame_states) × (frame_state_at m.frame_states b.at ≡ Free)
-front_free m before free k b was zero_is taken takes =
-    let block = front_is k b m.blocks taken zero_is b.at refl in
-    let is : IsFree (free_of m.frame_states) b.at = subst (λ (l : List Bool). IsFree l b.at) was
-    ((subst (λ (x : Block). TakesFrames before x free) block takes).were_free b.at (covers_one b.at)) in
-    let inside = free_inside m.frame_states b.at is in
-    (inside, free_is (frame_state_at m.frame_states b.at) (sym (free_at m.frame_states b.at inside) ∙ is))
-
-pub front_seen : (m now : KnownMachine) → m ≡ now → (k : ℕ) → k ≡ 0 → (b : Block) → IsFrontOfSmallest m.blocks k b → (f : ℕ) → f ≡ b.at
-    → IsFrontOfSmallest now.blocks 0 (record { at = f; order = 0 })
-front_seen m now same k zero_is b taken f at =
-    subst (λ (x : KnownMachine × ℕ × Block). IsFrontOfSmallest x.0.blocks x.1 x.2) (λ j. (same j, zero_is j, front_is k b m.blocks taken zero_is f at j)) taken
+-- ---- the first of the free frames
 
 -- there is no free frame
 pub lent_to_none : (m now : KnownMachine) → m ≡ now → (c : KnownCpu) (blocks : List Block) (k : ℕ) → k ≡ 0 → HasNoneFrom m.blocks k → blocks ≡ m.blocks
@@ -225,3 +250,58 @@ lent_to_none m now same c blocks k zero_is none is = record {
   none = subst (λ (x : KnownMachine × ℕ). HasNoneFrom x.0.blocks x.1) (λ j. (same j, zero_is j)) none;
   stays = record { machine = (λ i. record m { blocks = is i }) ∙ same; cpu = refl };
 }
+
+front_is : (k : ℕ) (b : Block) (blocks : List Block) → IsFrontOfSmallest blocks k b → k ≡ 0 → b ≡ record { at = b.at; order = 0 }
+front_is k b blocks taken zero_is = λ i. record { at = b.at; order = (taken.order_is ∙ zero_is) i }
+
+taken_free : (before after : List Bool) (frame_states : List FrameState) (f : ℕ) → before ≡ free_of frame_states → TakesFrames before (record { at = f; order = 0 }) after
+    → (f < length frame_states) × (frame_state_at frame_states f ≡ Free)
+taken_free before after frame_states f was takes =
+    let is : IsFree (free_of frame_states) f = subst (λ (l : List Bool). IsFree l f) was (takes.were_free f (covers_one f)) in
+    let inside = free_inside frame_states f is in
+    (inside, free_is (frame_state_at frame_states f) (sym (free_at frame_states f inside) ∙ is))
+
+-- the block that was taken is one frame of the zone, which was free
+pub block_inside : (frame_states : List FrameState) (blocks : List Block) (before free : List Bool) (k : ℕ) (b : Block) → before ≡ free_of frame_states → k ≡ 0
+    → IsFrontOfSmallest blocks k b → TakesFrames before b free → (b.at < length frame_states) × (frame_state_at frame_states b.at ≡ Free)
+block_inside frame_states blocks before free k b was zero_is taken takes =
+    taken_free before free frame_states b.at was (subst (λ (x : Block). TakesFrames before x free) (front_is k b blocks taken zero_is) takes)
+
+-- that frame is lent
+module _ (t : KnownTable) (m now : KnownMachine) (same : m ≡ now) (c : KnownCpu) (visit : Visits t (visit_state now c)) (ok : IsConsistent t m)
+    (before free : List Bool) (k : ℕ) (b : Block) (f : ℕ) (was : before ≡ free_of m.frame_states) (zero_is : k ≡ 0)
+    (taken : IsFrontOfSmallest m.blocks k b) (takes : TakesFrames before b free) (at : f ≡ b.at) where
+  block : b ≡ record { at = f; order = 0 }
+  block = λ j. record { at = sym at j; order = (taken.order_is ∙ zero_is) j }
+
+  there : (f < length m.frame_states) × (frame_state_at m.frame_states f ≡ Free)
+  there = taken_free before free m.frame_states f was (subst (λ (x : Block). TakesFrames before x free) block takes)
+
+  pub first_inside : f < t.frames
+  first_inside = let h = there.0 in let sized = ok.sizes.frame_states in omega (arith, h, sized)
+
+  first_free : frame_state_at now.frame_states f ≡ Free
+  first_free = sym (ap (λ (x : KnownMachine). frame_state_at x.frame_states f) same) ∙ there.1
+
+  pub may_lend_first : AreLegal (local_of t m) (lend_steps c.number f)
+  may_lend_first = may_lend t m now same c visit ok f first_inside first_free
+
+  pub first_lent : (d : KnownCpu) (blocks : List Block) (i q : ℕ) (sums : List ℕ) (owners : List (Option ℕ)) → AreBooked t.cpus (left_by t m.run.past).parts sums
+      → AreOwners t.cpus (left_by t m.run.past).parts owners → AreMaximalBlocks free blocks → i ≡ f → q ≡ c.number → d ≡ record c { list = c.list ++ f ∷ [] }
+      → (run : KnownRun) → Notes t m.run (lend_steps c.number f) run
+      → AllMoved t now c (LendsOne f) (lend_steps c.number f) (record m { blocks = blocks; frame_states = slice_set m.frame_states i (Lent q); run = run }) d free sums owners
+  first_lent d blocks i q sums owners are own areas index number cpu run noted =
+      let all = lent_all t m now same c visit ok f first_inside first_free d before free blocks i q sums owners was are own
+      (subst (λ (x : Block). TakesFrames before x free) (block ∙ (λ j. record { at = sym index j; order = 0 })) takes) areas index number cpu run noted in
+      record {
+        consistent = all.consistent;
+        free_is = all.free_is;
+        sums_are = all.sums_are;
+        owners_are = all.owners_are;
+        does = record {
+          front = subst (λ (x : KnownMachine × ℕ × Block). IsFrontOfSmallest x.0.blocks x.1 x.2) (λ j. (same j, zero_is j, block j)) taken;
+          lends = all.does;
+        };
+        visit = all.visit;
+        makes = all.makes;
+      }

@@ -19,6 +19,7 @@ pub mod Lends
 pub mod Many
 pub mod Takes
 pub mod Draining
+pub mod Drained
 pub mod DrainingAll
 pub mod Choosing
 pub mod Prepaying
@@ -28,13 +29,11 @@ pub mod Touching
 pub mod Ledgers
 pub mod Usage
 pub mod Grants
-pub mod Placed
 pub mod Units
 pub mod Freeing
 pub mod PlacesUnits
 pub mod BlockCharges
 pub mod Joins
-pub mod KeptUnits
 pub mod Interleaves
 pub mod Tells
 pub mod TakesBlocks
@@ -44,7 +43,6 @@ pub mod Evicts
 pub mod OneGroup
 pub mod Booking
 pub mod ChargedFrames
-pub mod GivenFrames
 pub mod OwnFrames
 pub mod HandOvers
 pub mod Moved

@@ -32,7 +32,7 @@ use Rattle.step_rules.proofs.Placing.{within_cases}
 use Rattle.step_rules.proofs.Sums.{sum_change}
 use Rattle.step_rules.proofs.SoundSteps.{cpu_range}
 use Rattle.boot_words.specs.Hidden.{hide, hide_phase}
-use Rattle.boot_words.specs.Pasts.{KnownPasts, IsHeld, cpu_past, local_by_pasts}
+use Rattle.boot_words.specs.Pasts.{IsHeld, cpu_past, local_by_pasts}
 use Rattle.boot_words.specs.Seats.{zone_of_boot}
 use Rattle.cpu_part.specs.Cpus.{KnownCpu}
 use Rattle.cpu_part.specs.Known.{HasOwn}
@@ -43,7 +43,7 @@ use Rattle.mem_machine.specs.Booked.{AreBooked, AreOwners}
 use Rattle.mem_machine.specs.Counting.{counts_along}
 use Rattle.mem_machine.specs.Following.{FollowsSteps}
 use Rattle.mem_machine.specs.Freeing.{FreesFrames}
-use Rattle.mem_machine.specs.Machines.{KnownMachine, VisitState, VisitStateStays, IsConsistent, IsShownBy, booked, frames_charged, home_of, left_by, pages_booked, stock_group}
+use Rattle.mem_machine.specs.Machines.{KnownMachine, VisitState, IsConsistent, IsShownBy, booked, frames_charged, home_of, left_by, pages_booked, stock_group}
 use Rattle.mem_machine.specs.Noted.{AreLocal, KnownRun, MayTake, Notes, after_made}
 use Rattle.mem_machine.specs.Local.{Makes, Visits, holder_of, local_of, visit_state}
 use Rattle.mem_machine.proofs.HandOvers.{IsVisited}
@@ -338,26 +338,3 @@ pub record AllMoved (t : KnownTable) (now : KnownMachine) (c : KnownCpu) (Does :
   pub does : Does (visit_state now c) (visit_state n d)
   pub visit : Visits t (visit_state n d)
   pub makes : Makes t now steps n
-
--- a call that found no frame, and left the pasts
-module _ (t : KnownTable) (m now : KnownMachine) (same : m ≡ now) (past : KnownPasts) (left : past ≡ m.run.past) where
-  abbrev still : KnownMachine
-  still = record m { run = record { past = past; watch = m.run.watch } }
-
-  still_is : still ≡ m
-  still_is i = record m { run = record { past = left i; watch = m.run.watch } }
-
-  pub stays_so : (c d : KnownCpu) → d ≡ c → VisitStateStays (visit_state now c) (visit_state (record m { run = record { past = past; watch = m.run.watch } }) d)
-  stays_so c d cpu = record { machine = still_is ∙ same; cpu = cpu }
-
-  pub visits_so : (c d : KnownCpu) → d ≡ c → Visits t (visit_state now c) → Visits t (visit_state (record m { run = record { past = past; watch = m.run.watch } }) d)
-  visits_so c d cpu = subst (λ (x : KnownMachine × KnownCpu). Visits t (visit_state x.0 x.1)) (λ i. (sym (still_is ∙ same) i, sym cpu i))
-
-  pub consistent_so : IsConsistent t m → IsConsistent t (record m { run = record { past = past; watch = m.run.watch } })
-  consistent_so = subst (IsConsistent t) (sym still_is)
-
-  pub sums_so : (sums : List ℕ) → AreBooked t.cpus (left_by t m.run.past).parts sums → AreBooked t.cpus (left_by t past).parts sums
-  sums_so sums = subst (λ (x : KnownPasts). AreBooked t.cpus (left_by t x).parts sums) (sym left)
-
-  pub owners_so : (owners : List (Option ℕ)) → AreOwners t.cpus (left_by t m.run.past).parts owners → AreOwners t.cpus (left_by t past).parts owners
-  owners_so owners = subst (λ (x : KnownPasts). AreOwners t.cpus (left_by t x).parts owners) (sym left)

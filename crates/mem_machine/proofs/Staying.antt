@@ -58,7 +58,8 @@ module _ (t : KnownTable) (m : KnownMachine) (is : IsHeld t m.run.past) where
     module _ (same : HaveSameBooks (local_of t m).parts (fold after_made (local_of t m) steps).parts) where
       -- steps that book nothing leave the sums and the owners
       pub sums_stay : (sums : List ℕ) → AreBooked t.cpus (left_by t m.run.past).parts sums → AreBooked t.cpus (left_by t run.past).parts sums
-      sums_stay sums are = sums_left sums (sums_same t.cpus _ _ sums (sums_seen sums are) (books_same t.cpus _ _ same.book same.group))
+      sums_stay sums are = sums_left sums (sums_same t.cpus (local_of t m).parts (fold after_made (local_of t m) steps).parts sums (sums_seen sums are)
+          (books_same t.cpus (local_of t m).parts (fold after_made (local_of t m) steps).parts same.book same.group))
 
       pub owners_stay : (owners : List (Option ℕ)) → AreOwners t.cpus (left_by t m.run.past).parts owners → AreOwners t.cpus (left_by t run.past).parts owners
       owners_stay owners are =

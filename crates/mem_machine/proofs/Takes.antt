@@ -1,56 +1,56 @@
 -- The front of the visited CPU's list is returned to the free areas. Serves `unlist_one`.
-use Rattle.std.proofs.Common.{◌≡◌, ℕ, ◌+◌, ◌<◌, ◌≤◌, ◌==◌, Bool, true, false, Option, Some, None, List, [], ◌∷◌, ◌++◌, length, refl, sym, ap, ◌∙◌, subst, inl, inr, arith}
+use Rattle.std.proofs.Common.{◌≡◌, ℕ, ◌+◌, ◌<◌, ◌≤◌, ◌==◌, Bool, false, Option, List, [], ◌∷◌, length, get_or, refl, sym, ap, ◌∙◌, subst, inl, inr, arith, eq-eqb}
 use Rattle.std.specs.Prelude.{slice_set}
-use Rattle.std.proofs.lemmas.Bool.{cases_eq}
-use Rattle.std.proofs.lemmas.List.{get_or-set_other, length-set}
+use Rattle.std.proofs.lemmas.Bool.{cases_eq, false≢true}
+use Rattle.std.proofs.lemmas.List.{get_or-set_other, get_or-set_same}
 use Rattle.zone_blocks.specs.declared.block.Block.{Block}
 use Rattle.zone_blocks.specs.Areas.{AreMaximalBlocks}
 use Rattle.zone_blocks.specs.Zone.{GivesFrames, IsInUse}
 use Rattle.frame_word.specs.Seats.{KnownTable}
-use Rattle.group_charge.specs.Charges.{pages_of}
-use Rattle.lru_lists.specs.declared.record.Home.{Home}
-use Rattle.boot_words.specs.Hidden.{hide, hide_phase}
-use Rattle.boot_words.specs.Pasts.{IsHolder, MakesStep, MayMake}
-use Rattle.cpu_part.specs.Calls.{PassesFront}
 use Rattle.cpu_part.specs.Cpus.{KnownCpu}
+use Rattle.cpu_part.specs.Calls.{PassesFront}
 use Rattle.step_rules.specs.declared.phase.Way.TheVariants.{OnList}
 use Rattle.step_rules.specs.declared.phase.Phase.TheVariants as phase
 use Rattle.step_rules.specs.declared.step.Action.TheVariants.{PassBack, Collect}
 use Rattle.step_rules.specs.declared.step.Answer.TheVariants.{Done}
 use Rattle.step_rules.specs.Invariant.{told_pages}
 use Rattle.step_rules.specs.State.{Part, State, Zone, front_of, one_if, times, with_at}
+use Rattle.step_rules.specs.After.{state_of}
 use Rattle.step_rules.specs.Reaches.{IsLocalRun}
+use Rattle.step_rules.proofs.Basics.{at_other, at_same}
 use Rattle.step_rules.proofs.Lists.{times_same, without_front, without_none}
 use Rattle.step_rules.proofs.SoundSteps.{below_frames}
-use Rattle.step_watch.specs.Watched.{Watches}
+use Rattle.boot_words.specs.Hidden.{hide, hide_phase}
+use Rattle.boot_words.specs.Pasts.{KnownPasts, MakesStep, MayMake, cpu_past}
+use Rattle.boot_words.specs.Seats.{zone_of_boot}
+use Rattle.step_watch.specs.Watched.{KnownWatch, Watches}
 use Rattle.mem_machine.specs.declared.frame_state.FrameState.{FrameState}
 use Rattle.mem_machine.specs.declared.frame_state.FrameState.TheVariants.{Free, Lent}
 use Rattle.mem_machine.specs.Booked.{AreBooked, AreOwners}
-use Rattle.mem_machine.specs.FrameStates.{frame_state_at, frame_state_group, free_of, is_free_state}
-use Rattle.mem_machine.specs.Machines.{KnownMachine, FitsFrameState, IsConsistent, IsShownBy, frames_charged, home_of, left_by, pages_booked}
-use Rattle.mem_machine.specs.Local.{Visits, local_of, visit_state}
-use Rattle.mem_machine.specs.Noted.{AreLocal, KnownRun, Notes}
+use Rattle.mem_machine.specs.FrameStates.{frame_state_at, frame_state_group, free_of, is_free_state, phase_hidden}
 use Rattle.mem_machine.specs.Lending.{UnlistsOne}
+use Rattle.mem_machine.specs.Local.{Visits, local_of, visit_state}
+use Rattle.mem_machine.specs.Machines.{KnownMachine, IsConsistent, left_by}
+use Rattle.mem_machine.specs.Noted.{KnownRun, MayTakeAll, Notes}
 use Rattle.mem_machine.specs.Steps.{cpu_makes, unlist_steps, zone_makes}
 use Rattle.mem_machine.proofs.Counted.{collects_none}
-use Rattle.mem_machine.proofs.Followed.{follows_same}
-use Rattle.mem_machine.proofs.HandOvers.{IsVisited, part_without, unlisted_state, unlist_run}
+use Rattle.mem_machine.proofs.HandOvers.{IsVisited, part_without, unlist_run, unlisted_state}
+use Rattle.mem_machine.proofs.Lends.{all_moved}
 use Rattle.mem_machine.proofs.Made.{visits_here, zone_seen}
-use Rattle.mem_machine.proofs.Moved.{AllMoved, books_stay, front_here, is_visited, left_moved, lent_in_use, lent_record, makes_moved, may_next, no_home, number_range, own_moved, owners_moved, phases_set, shown_moved, sums_moved, visit_moved}
-use Rattle.mem_machine.proofs.Noted.{notes_both, notes_one, run_steps}
-use Rattle.mem_machine.proofs.OwnFrames.{HasFrame}
-use Rattle.mem_machine.proofs.Records.{charges_stay, free_given, units_stay}
-use Rattle.mem_machine.proofs.Sight.{left_seen, shown_seen}
+use Rattle.mem_machine.proofs.Moved.{AllMoved, is_visited, lent_record}
+use Rattle.mem_machine.proofs.Noted.{may_all, notes_both, notes_one, run_steps}
+use Rattle.mem_machine.proofs.OwnFrames.{HasFrame, listed_own}
+use Rattle.mem_machine.proofs.Records.{free_at, free_given, length_free, one_covered}
+use Rattle.mem_machine.proofs.Sight.{shown_seen}
 
 module _ (t : KnownTable) (m : KnownMachine) (c : KnownCpu) (ok : IsConsistent t m) (visit : Visits t (visit_state m c)) (f : ℕ) (rest : List ℕ) (front : c.list ≡ f ∷ rest) where
-  shown : IsShownBy t m (hide (local_of t m))
-  shown = shown_seen t m ok visit.held
-
-  abbrev d : KnownCpu
-  d = record c { list = rest }
-
   mine : HasFrame (local_of t m) c.number (phase.Lent c.number OnList) f
-  mine = front_here t m c visit f rest front
+  mine =
+      let p = (cpu_past m.run.past).number in
+      let listed : ((local_of t m).parts p).list ≡ f ∷ rest = ap (λ (k : ℕ). ((local_of t m).parts k).list) visit.who ∙ visit.own.list ∙ front in
+      let some : 1 ≤ times f ((local_of t m).parts p).list = let a = ap (times f) listed in let b = times_same f in omega (arith, a, b) in
+      subst (λ (k : ℕ). HasFrame (local_of t m) k (phase.Lent k OnList) f) visit.who
+      (listed_own (zone_of_boot t) (cpu_past m.run.past).seen (cpu_past m.run.past).number visit.held.holds.shows.legal f some)
 
   pub v : IsVisited (local_of t m) c.number f
   v = is_visited t m c visit f mine.framed
@@ -58,145 +58,111 @@ module _ (t : KnownTable) (m : KnownMachine) (c : KnownCpu) (ok : IsConsistent t
   abbrev part : Part
   part = part_without (local_of t m) c.number f v (phase.Lent c.number OnList)
 
-  pub within : f < length m.frame_states
-  within =
+  pub front_inside : f < t.frames
+  front_inside =
       let low = below_frames (local_of t m).zone f mine.framed in
       let same = ap (λ (z : Zone). z.frames) (zone_seen t m.run.past) in
-      let sized = ok.sizes.frame_states in
-      omega (arith, low, same, sized)
+      omega (arith, low, same)
 
   pub is_lent : frame_state_at m.frame_states f ≡ Lent c.number
-  is_lent = lent_record (frame_state_at m.frame_states f) c.number (sym (shown.phases f) ∙ ap hide_phase mine.phase_is)
+  is_lent = lent_record (frame_state_at m.frame_states f) c.number (sym ((shown_seen t m ok visit.held).phases f) ∙ ap hide_phase mine.phase_is)
 
-  no_list : home_of m.links f ≡ None
-  no_list = no_home (home_of m.links f) (sym mine.unreferred ∙ shown.references f)
+  none_in_rest : times f rest ≡ 0
+  none_in_rest =
+      let once : times f ((local_of t m).parts c.number).list ≡ one_if (c.number == c.number) = mine.listed in
+      let one : one_if (c.number == c.number) ≡ 1 = ap one_if (eq-eqb c.number c.number refl) in
+      let a = ap (times f) (visit.own.list ∙ front) in let b = times_same f in omega (arith, once, one, a, b)
 
   pub unlist_leads : IsLocalRun c.number (local_of t m) (unlist_steps c.number f) (unlisted_state (local_of t m) c.number f v)
   unlist_leads = unlist_run (local_of t m) c.number f v mine.phase_is (ap front_of (visit.own.list ∙ front))
 
-  told : told_pages part ≡ told_pages ((local_of t m).parts c.number)
-  told = omega arith
+  within : f < length m.frame_states
+  within = let low = front_inside in let sized = ok.sizes.frame_states in omega (arith, low, sized)
 
-  none_in_rest : times f rest ≡ 0
-  none_in_rest =
-      let a : times f ((local_of t m).parts c.number).list ≡ one_if (c.number == c.number) = mine.listed in
-      let b = ap (times f) (visit.own.list ∙ front) in
-      let e = times_same c.number in
-      let h = times_same f in
-      omega (arith, a, b, e, h)
+  phases_freed : (y : ℕ) → hide_phase (with_at (local_of t m).phases f phase.InZone y) ≡ phase_hidden (frame_state_at (slice_set m.frame_states f Free) y)
+  phases_freed y = elim (cases_eq y f) [
+    | inl e ↦ subst (λ (k : ℕ). hide_phase (with_at (local_of t m).phases f phase.InZone k) ≡ phase_hidden (frame_state_at (slice_set m.frame_states f Free) k)) (sym e)
+        (ap hide_phase (at_same (local_of t m).phases f phase.InZone) ∙ sym (ap phase_hidden (get_or-set_same m.frame_states f Free Free within)))
+    | inr ne ↦ ap hide_phase (at_other (local_of t m).phases f phase.InZone y ne) ∙ (shown_seen t m ok visit.held).phases y
+        ∙ sym (ap phase_hidden (get_or-set_other m.frame_states f y Free Free ne))
+  ]
 
-  books : (h : ℕ) → pages_booked t.cpus (with_at (local_of t m).parts c.number part) h ≡ pages_booked t.cpus (local_of t m).parts h
-  books = books_stay t.cpus (local_of t m).parts c.number (number_range t m c visit).1 part refl refl
-
-  module _ (blocks : List Block) (areas : AreMaximalBlocks (free_of (slice_set m.frame_states f Free)) blocks) (run : KnownRun)
-      (noted : Notes t m.run (unlist_steps c.number f) run) where
-    abbrev unlisted : KnownMachine
-    unlisted = record m { blocks = blocks; frame_states = slice_set m.frame_states f Free; run = run }
-
-    left : left_by t run.past ≡ hide (unlisted_state (local_of t m) c.number f v)
-    left = left_moved t m c visit unlisted d (unlist_steps c.number f) _ noted unlist_leads
-
-    unlisted_shown : IsShownBy t unlisted (hide (unlisted_state (local_of t m) c.number f v))
-    unlisted_shown = shown_moved t m unlisted (local_of t m) shown c.number part _ (local_of t m).references refl refl
-        (phases_set t m (local_of t m) shown f phase.InZone Free within refl) shown.references told (omega arith)
-        (λ h.
-        let a : pages_of m.ledger h ≡ frames_charged m.frame_states h + pages_booked t.cpus (local_of t m).parts h = shown.charged h in
-        let b = books h in
-        let e = charges_stay m.frame_states f Free within (ap frame_state_group is_lent) refl h in
-        omega (arith, a, b, e))
-
-    fits : (y : ℕ) → y < t.frames → FitsFrameState (home_of m.links y) (frame_state_at (slice_set m.frame_states f Free) y)
-    fits y low = elim (cases_eq y f) [
-      | inl e ↦ subst (λ (o : Option Home). FitsFrameState o (frame_state_at (slice_set m.frame_states f Free) y)) (sym (ap (home_of m.links) e ∙ no_list)) tt
-      | inr ne ↦ subst (FitsFrameState (home_of m.links y)) (sym (get_or-set_other m.frame_states f y Free Free ne)) (ok.frame_states y low)
-    ]
-
-    pub all_unlisted : (free : List Bool) (sums : List ℕ) (owners : List (Option ℕ)) → free ≡ free_of (slice_set m.frame_states f Free)
-        → AreBooked t.cpus (left_by t m.run.past).parts sums → AreOwners t.cpus (left_by t m.run.past).parts owners
-        → AllMoved t m c (UnlistsOne f) (unlist_steps c.number f) unlisted d free sums owners
-    all_unlisted free sums owners is are own =
-        let seen = left_seen t m.run.past visit.held in
-        let are_seen : AreBooked t.cpus (hide (local_of t m)).parts sums = subst (λ (u : State). AreBooked t.cpus u.parts sums) seen are in
-        let phases = with_at (local_of t m).phases f phase.InZone in record {
-          consistent = record {
-            sizes = record { frame_states = length-set m.frame_states f Free ∙ ok.sizes.frame_states; links = ok.sizes.links; lists = ok.sizes.lists; killed = ok.sizes.killed };
-            areas = areas;
-            frame_states = fits;
-            units = units_stay m.frame_states f Free within (ap frame_state_group is_lent) refl ok.units;
-            lists = ok.lists;
-            balances = ok.balances;
-            shown = subst (IsShownBy t unlisted) (sym left) unlisted_shown;
-          };
-          free_is = is;
-          sums_are = subst (λ (u : State). AreBooked t.cpus u.parts sums) (sym left)
-              (sums_moved t m unlisted (local_of t m) shown c.number part phases (local_of t m).references sums sums are_seen refl
-              (λ h small. are_seen.each h small ∙ sym (books h)));
-          owners_are = subst (λ (u : State). AreOwners t.cpus u.parts owners) (sym left)
-              (owners_moved t m unlisted (local_of t m) shown c.number part phases (local_of t m).references owners
-              (subst (λ (u : State). AreOwners t.cpus u.parts owners) seen own) refl);
-          does = record { rest = rest; front = front; areas = areas; machine = refl; cpu = refl };
-          visit = visit_moved t m c visit unlisted d (unlist_steps c.number f) _ noted unlist_leads refl
-              (own_moved (local_of t m) c visit.own part _ (local_of t m).references rest c.fresh c.back (λ y. refl)
-              (without_front f ((local_of t m).parts c.number).list rest (visit.own.list ∙ front) none_in_rest)
-              (without_none f ((local_of t m).parts c.number).fresh mine.fresh ∙ visit.own.fresh)
-              (without_none f ((local_of t m).parts c.number).back mine.back ∙ visit.own.back)) refl;
-          makes = makes_moved t m c visit unlisted d (unlist_steps c.number f) _ noted unlist_leads (follows_same _ _ _ refl)
-              (collects_none (local_of t m) f (phase.Lent c.number OnList) mine.phase_is refl m.counts);
-        }
+  pub unlisted_moved : (blocks : List Block) → AreMaximalBlocks (free_of (slice_set m.frame_states f Free)) blocks → (run : KnownRun) → Notes t m.run (unlist_steps c.number f) run
+      → (sums : List ℕ) (owners : List (Option ℕ)) → AreBooked t.cpus (left_by t m.run.past).parts sums → AreOwners t.cpus (left_by t m.run.past).parts owners
+      → AllMoved t m c (UnlistsOne f) (unlist_steps c.number f) (record m { blocks = blocks; frame_states = slice_set m.frame_states f Free; run = run })
+      (record c { list = rest }) (free_of (slice_set m.frame_states f Free)) sums owners
+  unlisted_moved blocks areas run noted sums owners are own =
+      let s = local_of t m in
+      all_moved t m c ok visit f front_inside Free (ap frame_state_group is_lent) refl (with_at s.phases f phase.InZone) phases_freed part
+      told refl refl rest
+      (without_front f (s.parts c.number).list rest (visit.own.list ∙ front) none_in_rest)
+      (without_none f (s.parts c.number).fresh mine.fresh ∙ visit.own.fresh)
+      (without_none f (s.parts c.number).back mine.back ∙ visit.own.back)
+      (unlist_steps c.number f) unlist_leads refl (collects_none s f (phase.Lent c.number OnList) mine.phase_is refl m.counts) blocks areas run noted (UnlistsOne f) sums owners are own
+      (record { rest = rest; front = front; areas = areas; machine = refl; cpu = refl })
+    where
+      told : told_pages part ≡ told_pages ((local_of t m).parts c.number)
+      told = omega arith
 
 -- ---- of the machine as it was seen before
 
-module _ (t : KnownTable) (m now : KnownMachine) (same : m ≡ now) (c : KnownCpu) (visit_now : Visits t (visit_state now c)) (ok : IsConsistent t m) where
-  visit : Visits t (visit_state m c)
-  visit = visits_here t m now same c visit_now
+module _ (t : KnownTable) (m now : KnownMachine) (same : m ≡ now) (c : KnownCpu) (visit : Visits t (visit_state now c)) (ok : IsConsistent t m) where
+  here : Visits t (visit_state m c)
+  here = visits_here t m now same c visit
 
-  module _ (f : ℕ) (rest : List ℕ) (front : c.list ≡ f ∷ rest) where
-    local : AreLocal c.number (local_of t m) (unlist_steps c.number f)
-    local = run_steps c.number (local_of t m) (unlist_steps c.number f) _ (unlist_leads t m c ok visit f rest front)
+  unlist_may : (f : ℕ) (rest : List ℕ) → c.list ≡ f ∷ rest → MayTakeAll t m.run.past (unlist_steps c.number f)
+  unlist_may f rest front =
+      may_all t m.run.past c.number (local_of t m) (unlist_steps c.number f) here.who refl
+      (run_steps c.number (local_of t m) (unlist_steps c.number f) _ (unlist_leads t m c ok here f rest front))
 
-    pub front_may_pass : MayMake t m.run.past c.number (PassBack f)
-    front_may_pass = local.0.legal
+  pub may_pass_front : (f : ℕ) (rest : List ℕ) → c.list ≡ f ∷ rest → MayMake t m.run.past c.number (PassBack f)
+  may_pass_front f rest front = (unlist_may f rest front).0.legal
 
-    pub within_here : (i : ℕ) → i ≡ f → i < length m.frame_states
-    within_here i index = let a = within t m c ok visit f rest front in omega (arith, a, index)
+  module _ (f : ℕ) (h : KnownCpu) (hands : PassesFront f c h) where
+    pub may_collect_front : (p : ℕ) → p ≡ c.number → (later : KnownPasts) → MakesStep t m.run.past c.number (PassBack f) Done later → MayMake t later 0 (Collect f p)
+    may_collect_front p number later made = subst (λ (x : ℕ). MayMake t later 0 (Collect f x)) (sym number) ((unlist_may f hands.0 hands.1).1 later made).0.legal
 
-    pub may_give : (free : List Bool) → free ≡ free_of m.frame_states → (i k : ℕ) → i ≡ f → k ≡ 0 → IsInUse free (record { at = i; order = k })
-    may_give free was i k index zero_is = lent_in_use m.frame_states free f i k (within t m c ok visit f rest front) was
-        (ap is_free_state (is_lent t m c ok visit f rest front)) index zero_is
+    -- its frame may be freed
+    pub may_give : (before : List Bool) (i k : ℕ) → before ≡ free_of m.frame_states → i ≡ f → k ≡ 0 → IsInUse before (record { at = i; order = k })
+    may_give before i k was index zero_is =
+        let low = front_inside t m c ok here f hands.0 hands.1 in
+        let sized = ok.sizes.frame_states in
+        let below : f < length m.frame_states = omega (arith, low, sized) in
+        let used : get_or before f false ≡ false =
+        ap (λ (l : List Bool). get_or l f false) was ∙ free_at m.frame_states f below ∙ ap is_free_state (is_lent t m c ok here f hands.0 hands.1) in
+        let long : length before ≡ length m.frame_states = ap length was ∙ length_free m.frame_states in
+        subst (λ (x : ℕ × ℕ). IsInUse before (record { at = x.0; order = x.1 })) (λ j. (sym index j, sym zero_is j))
+        (record {
+          block = record { order = omega arith; aligned = omega arith; inside = omega (arith, long, below) };
+          none_free = λ g covers is. false≢true (sym used ∙ ap (λ (x : ℕ). get_or before x false) (sym (one_covered f g covers)) ∙ is);
+        })
 
-    module _ (q : ℕ) (number : q ≡ c.number) (i : ℕ) (index : i ≡ f) (mid : KnownRun) (made : MakesStep t m.run.past c.number (PassBack f) Done mid.past)
-        (saw : Watches m.run.watch (cpu_makes q (PassBack i) Done ∷ []) mid.watch) where
-      passed : Notes t m.run (cpu_makes c.number (PassBack f) Done ∷ []) mid
-      passed = notes_one t m.run (cpu_makes c.number (PassBack f) Done) mid made
-          (subst (λ (x : ℕ × ℕ). Watches m.run.watch (cpu_makes x.1 (PassBack x.0) Done ∷ []) mid.watch) (λ j. (index j, number j)) saw)
+    pub unlisted_all : (before free : List Bool) (k : ℕ) (blocks : List Block) (i : ℕ) (sums : List ℕ) (owners : List (Option ℕ)) → before ≡ free_of m.frame_states
+        → AreBooked t.cpus (left_by t m.run.past).parts sums → AreOwners t.cpus (left_by t m.run.past).parts owners → k ≡ 0
+        → GivesFrames before (record { at = i; order = k }) free → AreMaximalBlocks free blocks → i ≡ f → (run : KnownRun) → Notes t m.run (unlist_steps c.number f) run
+        → AllMoved t now c (UnlistsOne f) (unlist_steps c.number f) (record m { blocks = blocks; frame_states = slice_set m.frame_states i Free; run = run }) h free sums owners
+    unlisted_all before free k blocks i sums owners was are own zero_is gives areas index run noted =
+        let gives_f : GivesFrames before (record { at = f; order = 0 }) free =
+        subst (λ (x : ℕ × ℕ). GivesFrames before (record { at = x.0; order = x.1 }) free) (λ j. (index j, zero_is j)) gives in
+        let low = front_inside t m c ok here f hands.0 hands.1 in
+        let sized = ok.sizes.frame_states in
+        let below : f < length m.frame_states = omega (arith, low, sized) in
+        let free_is : free ≡ free_of (slice_set m.frame_states f Free) = free_given before free m.frame_states f Free below was gives_f refl in
+        let areas_f : AreMaximalBlocks (free_of (slice_set m.frame_states f Free)) blocks = subst (λ (l : List Bool). AreMaximalBlocks l blocks) free_is areas in
+        let all = unlisted_moved t m c ok here f hands.0 hands.1 blocks areas_f run noted sums owners are own in
+        subst (λ (x : KnownMachine × KnownMachine × KnownCpu × List Bool). AllMoved t x.0 c (UnlistsOne f) (unlist_steps c.number f) x.1 x.2 x.3 sums owners)
+        (λ j. (same j, record m { blocks = blocks; frame_states = slice_set m.frame_states (sym index j) Free; run = run }, sym hands.2 j, sym free_is j)) all
 
-      pub may_collect : (u : KnownTable) → u ≡ t → MayMake u mid.past 0 (Collect f q)
-      may_collect u words = subst (λ (x : KnownTable × ℕ). MayMake x.0 mid.past 0 (Collect f x.1)) (λ j. (sym words j, sym number j))
-          (may_next t m.run mid (cpu_makes c.number (PassBack f) Done ∷ []) [] (zone_makes (Collect f c.number) Done) c.number visit.held visit.who passed local).legal
-
-      pub unlisted_notes : (u : KnownTable) → u ≡ t → (last : KnownRun) → MakesStep u mid.past 0 (Collect f q) Done last.past
-          → Watches mid.watch (zone_makes (Collect i q) Done ∷ []) last.watch → Notes t m.run (unlist_steps c.number f) last
-      unlisted_notes u words last collected saw_too =
-          notes_both t m.run (cpu_makes c.number (PassBack f) Done ∷ []) mid (zone_makes (Collect f c.number) Done ∷ []) last passed
-          (notes_one t mid (zone_makes (Collect f c.number) Done) last
-          (subst (λ (x : KnownTable × ℕ). MakesStep x.0 mid.past 0 (Collect f x.1) Done last.past) (λ j. (words j, number j)) collected)
-          (subst (λ (x : ℕ × ℕ). Watches mid.watch (zone_makes (Collect x.0 x.1) Done ∷ []) last.watch) (λ j. (index j, number j)) saw_too))
-
-  pub unlist_all : (f : ℕ) (h : KnownCpu) → PassesFront f c h → (free now_free : List Bool) (sums : List ℕ) (owners : List (Option ℕ)) → free ≡ free_of m.frame_states
-      → AreBooked t.cpus (left_by t m.run.past).parts sums → AreOwners t.cpus (left_by t m.run.past).parts owners → (i k : ℕ) → i ≡ f → k ≡ 0
-      → (blocks : List Block) → GivesFrames free (record { at = i; order = k }) now_free → AreMaximalBlocks now_free blocks
-      → (run : KnownRun) → Notes t m.run (unlist_steps c.number f) run
-      → AllMoved t now c (UnlistsOne f) (unlist_steps c.number f)
-      (record m { blocks = blocks; frame_states = slice_set m.frame_states i Free; run = run }) h now_free sums owners
-  unlist_all f h hands free now_free sums owners was are own i k index zero_is blocks gives_i areas run noted =
-      let gives : GivesFrames free (record { at = f; order = 0 }) now_free =
-      subst (λ (x : ℕ × ℕ). GivesFrames free (record { at = x.0; order = x.1 }) now_free) (λ j. (index j, zero_is j)) gives_i in
-      let free_is : now_free ≡ free_of (slice_set m.frame_states f Free) =
-      free_given free now_free m.frame_states f Free (within t m c ok visit f hands.0 hands.1) was gives refl in
-      let areas_now : AreMaximalBlocks (free_of (slice_set m.frame_states f Free)) blocks = subst (λ (l : List Bool). AreMaximalBlocks l blocks) free_is areas in
-      subst (λ (x : KnownMachine × KnownMachine × KnownCpu). AllMoved t x.0 c (UnlistsOne f) (unlist_steps c.number f) x.1 x.2 now_free sums owners)
-      (λ j. (
-        same j,
-        record m { blocks = blocks; frame_states = slice_set m.frame_states (sym index j) Free; run = run },
-        sym hands.2 j,
-      )) (all_unlisted t m c ok visit f hands.0 hands.1 blocks areas_now run noted now_free sums owners free_is are own)
+  -- they were made, and the watch took them
+  pub taken_notes : (f i p q : ℕ) → i ≡ f → p ≡ c.number → q ≡ c.number → (back later : KnownPasts) (mid watch : KnownWatch)
+      → MakesStep t m.run.past c.number (PassBack f) Done back → MakesStep t back 0 (Collect f p) Done later
+      → Watches m.run.watch (cpu_makes q (PassBack i) Done ∷ []) mid → Watches mid (zone_makes (Collect i q) Done ∷ []) watch
+      → Notes t m.run (unlist_steps c.number f) (record { past = later; watch = watch })
+  taken_notes f i p q index handed number back later mid watch passed collected saw saw_too =
+      notes_both t m.run (cpu_makes c.number (PassBack f) Done ∷ []) (record { past = back; watch = mid }) (zone_makes (Collect f c.number) Done ∷ [])
+      (record { past = later; watch = watch })
+      (notes_one t m.run (cpu_makes c.number (PassBack f) Done) (record { past = back; watch = mid }) passed
+      (subst (λ (x : ℕ × ℕ). Watches m.run.watch (cpu_makes x.1 (PassBack x.0) Done ∷ []) mid) (λ j. (index j, number j)) saw))
+      (notes_one t (record { past = back; watch = mid }) (zone_makes (Collect f c.number) Done) (record { past = later; watch = watch })
+      (subst (λ (x : ℕ). MakesStep t back 0 (Collect f x) Done later) handed collected)
+      (subst (λ (x : ℕ × ℕ). Watches mid (zone_makes (Collect x.0 x.1) Done ∷ []) watch) (λ j. (index j, number j)) saw_too))

@@ -1,6 +1,6 @@
 //! The groups: making, removing, limiting and killing them, and noting their events.
 
-ghost use Rattle.std.specs.Prelude.{◌≡◌, ◌≢◌, IsTrue, IfOk, OnErr, false, true, slice_set, []};
+ghost use Rattle.std.specs.Prelude.{◌≡◌, ◌≢◌, IsTrue, IfOk, OnErr, false, true, slice_set};
 ghost use Rattle.std.specs.Result.{result_err};
 ghost use Rattle.group_tree.specs.Groups.{has_group, has_child, make_fault};
 ghost use Rattle.group_charge.specs.Charges.{current_of, SameUsage, with_group_limit, with_group_removed};
@@ -8,14 +8,14 @@ ghost use Rattle.group_charge.specs.Charges.{with_oom_flag, with_group_kill_note
 ghost use Rattle.group_charge.specs.Charges.{with_oom_noted};
 ghost use Rattle.mem_machine.specs.Machines.{is_killed, AddsGroup};
 ghost use Rattle.boot_words.specs.Pasts.{IsHeld};
-ghost use Rattle.mem_machine.specs.Local.{Makes, StaysVisited, Visits, visit_state};
+ghost use Rattle.mem_machine.specs.Local.{Makes, StaysVisited};
 ghost use Rattle.mem_machine.specs.Steps.{kill_steps, note_group_kill_steps, note_max_steps, note_oom_steps};
 ghost use Rattle.mem_machine.specs.Steps.{make_steps, remove_steps, set_max_steps, set_oom_group_steps};
 
 use crate::machine::Machine;
 use crate::proving::prove_charges;
 use crate::stepping::make_step;
-use cpu_part::{BootName, Cpu, Tables};
+use cpu_part::{BootName, Tables};
 use group_tree::fault::Fault;
 use group_tree::group::GroupId;
 use group_tree::path::PathText;
@@ -144,20 +144,18 @@ impl<N: BootName> Machine<N> {
         Ok(group)
     }
 
-    /// Removes an existing group other than the root, if it has no child and nothing charged. The CPU has been settled:
-    /// it has no fresh frame.
-    pub fn remove(&mut self, tables: &Tables<N>, cpu: &Cpu<N>, group: GroupId)
-        requires visit { Visits N.frames (visit_state self.old cpu.now) }
+    /// Removes an existing group other than the root, if it has no child and nothing charged.
+    pub fn remove(&mut self, tables: &Tables<N>, group: GroupId)
         requires there { IsTrue (has_group self.old.ledger.groups group) }
         requires leaf { has_child self.old.ledger.groups group ≡ false }
         requires below_root { group ≢ 0 }
         requires empty { current_of self.old.ledger group ≡ 0 }
-        requires none_fresh { cpu.now.fresh ≡ [] }
+        requires held { IsHeld N.frames self.old.run.past }
         ensures machine { self.new ≡ record self.old {
           ledger = with_group_removed self.old.ledger group;
           run = self.new.run;
         } }
-        ensures visit { Visits N.frames (visit_state self.new cpu.now) }
+        ensures visit { StaysVisited N.frames self.old self.new }
         ensures steps { Makes N.frames self.old (remove_steps group) self.new }
     {
         prove_charges(&self.charges);

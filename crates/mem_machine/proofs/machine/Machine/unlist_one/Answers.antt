@@ -1,7 +1,11 @@
-use Rattle.std.proofs.Common.{sym, arith}
+use Rattle.std.proofs.Common.{◌≡◌, ◌<◌, rules, refl, sym, subst, ◌∙◌, arith}
+use Rattle.frame_word.specs.Seats.{KnownTable}
+use Rattle.step_rules.specs.declared.step.Action.TheVariants.{Collect}
+use Rattle.step_rules.specs.declared.step.Answer.TheVariants.{Done}
 use Rattle.mem_machine.specs.Kept.{machine_of}
+use Rattle.mem_machine.proofs.AtTable.{held_at, made_at, may_at}
 use Rattle.mem_machine.proofs.Made.{visits_here}
-use Rattle.mem_machine.proofs.Takes.{front_may_pass, may_collect, may_give, unlist_all, unlisted_notes, within_here}
+use Rattle.mem_machine.proofs.Takes.{may_collect_front, may_give, may_pass_front, taken_notes, unlisted_all}
 use Rattle.mem_machine.proofs.machine.Machine.unlist_one.Goals as goal
 
 pub pass_front-requires : goal.pass_front-requires
@@ -12,50 +16,48 @@ pass_front-requires g c =
     record {
       held = visit.held;
       holder = sym visit.who;
-      legal = front_may_pass t m _ c.self.view_is c.args.cpu.now c.requires c.self.invariant.consistent;
+      legal = may_pass_front t m _ c.self.view_is c.args.cpu.now c.requires c.self.invariant.consistent;
     }
 
-pub collect-requires-clause-legal : goal.collect-requires-clause-legal
-collect-requires-clause-legal g c =
-    may_collect g.N.BootName.frames (machine_of c.self.inside) _ c.self.view_is c.args.cpu.now c.requires c.self.invariant.consistent c.in-Some.frame _
-    c.in-Some.ensures.answer.1 _ c.number-cpu_number.ensures.number _ c.number-at.ensures (record { past = c.pass_front.new.held; watch = c.passed_back.new.self })
-    c.in-Some.ensures.run c.passed_back.ensures _ c.args.tables.now.frames_are
-
-pub index_mut-requires : goal.index_mut-requires
-index_mut-requires g c =
-    let inside = within_here g.N.BootName.frames (machine_of c.self.inside) _ c.self.view_is c.args.cpu.now c.requires c.self.invariant.consistent c.in-Some.frame _
-    c.in-Some.ensures.answer.1 _ c.number-at.ensures in
-    omega (arith, inside)
+pub collect-requires : goal.collect-requires
+collect-requires g c =
+    let t = g.N.BootName.frames in
+    let m = machine_of c.self.inside in
+    let visit = visits_here t m _ c.self.view_is c.args.cpu.now c.requires in
+    record {
+      held = held_at _ _ c.args.tables.now.frames_are _ c.in-Some.ensures.run.held;
+      holder = c.number-cpu_number.ensures.number ∙ sym (c.in-Some.ensures.run.cpu_grew.number ∙ visit.who);
+      legal = may_at _ _ c.args.tables.now.frames_are 0 refl c.pass_front.new.held (Collect c.in-Some.frame c.number-cpu_number.result)
+          (may_collect_front t m _ c.self.view_is c.args.cpu.now c.requires c.self.invariant.consistent c.in-Some.frame _ c.in-Some.ensures.answer _ c.number-cpu_number.ensures.number _ c.in-Some.ensures.run);
+    }
 
 pub give-requires : goal.give-requires
-give-requires g c = may_give g.N.BootName.frames (machine_of c.self.inside) _ c.self.view_is c.args.cpu.now c.requires c.self.invariant.consistent c.in-Some.frame _
-    c.in-Some.ensures.answer.1 _ c.self.invariant.free _ _ c.number-at.ensures c.single_order.ensures
+give-requires g c =
+    may_give g.N.BootName.frames (machine_of c.self.inside) _ c.self.view_is c.args.cpu.now c.requires c.self.invariant.consistent c.in-Some.frame _ c.in-Some.ensures.answer _ _
+    c.single_order.result c.self.invariant.free c.number-at.ensures c.single_order.ensures
 
 pub invariant_of-self-2 : goal.invariant_of-self-2
 invariant_of-self-2 g c =
     let t = g.N.BootName.frames in
-    let m = machine_of c.self.inside in
-    let ok = c.self.invariant.consistent in
-    let notes = unlisted_notes t m _ c.self.view_is c.args.cpu.now c.requires ok c.in-Some.frame _
-    c.in-Some.ensures.answer.1 _ c.number-cpu_number.ensures.number _ c.number-at.ensures (record { past = c.pass_front.new.held; watch = c.passed_back.new.self })
-    c.in-Some.ensures.run c.passed_back.ensures _ c.args.tables.now.frames_are (record { past = c.collect.new.held; watch = c.collected.new.self })
-    c.collect.ensures c.collected.ensures in
-    let all = unlist_all t m _ c.self.view_is c.args.cpu.now c.requires ok c.in-Some.frame _ c.in-Some.ensures.answer _ _ _ _ c.self.invariant.free
-    c.self.invariant.sums c.self.invariant.owners _ _ c.number-at.ensures c.single_order.ensures _ c.give.ensures.frames c.give.ensures.areas _ notes in
+    let made = made_at g.N.BootName.frames _ c.args.tables.now.frames_are 0 refl _ (Collect c.in-Some.frame c.number-cpu_number.result) Done _ c.collect.ensures in
+    let noted = taken_notes t (machine_of c.self.inside) _ c.self.view_is c.args.cpu.now c.requires c.self.invariant.consistent c.in-Some.frame _ c.number-cpu_number.result _ c.number-at.ensures c.number-cpu_number.ensures.number
+    c.number-cpu_number.ensures.number _ _ _ _ c.in-Some.ensures.run made c.passed_back.ensures c.collected.ensures in
+    let all = unlisted_all t (machine_of c.self.inside) _ c.self.view_is c.args.cpu.now c.requires c.self.invariant.consistent c.in-Some.frame _ c.in-Some.ensures.answer _ _ c.single_order.result _ _ _ _ c.self.invariant.free
+    c.self.invariant.sums c.self.invariant.owners c.single_order.ensures c.give.ensures.frames c.give.ensures.areas c.number-at.ensures _ noted in
     record { consistent = all.consistent; free = all.free_is; sums = all.sums_are; owners = all.owners_are }
 
 pub returns : goal.returns
 returns g c =
     let t = g.N.BootName.frames in
-    let m = machine_of c.self.inside in
-    let ok = c.self.invariant.consistent in
-    let notes = unlisted_notes t m _ c.self.view_is c.args.cpu.now c.requires ok c.in-Some.frame _
-    c.in-Some.ensures.answer.1 _ c.number-cpu_number.ensures.number _ c.number-at.ensures (record { past = c.pass_front.new.held; watch = c.passed_back.new.self })
-    c.in-Some.ensures.run c.passed_back.ensures _ c.args.tables.now.frames_are (record { past = c.collect.new.held; watch = c.collected.new.self })
-    c.collect.ensures c.collected.ensures in
-    let all = unlist_all t m _ c.self.view_is c.args.cpu.now c.requires ok c.in-Some.frame _ c.in-Some.ensures.answer _ _ _ _ c.self.invariant.free
-    c.self.invariant.sums c.self.invariant.owners _ _ c.number-at.ensures c.single_order.ensures _ c.give.ensures.frames c.give.ensures.areas _ notes in
-    record {
-      takes = record { frame = c.in-Some.frame; takes = all.does; steps = all.makes };
-      visit = all.visit;
-    }
+    let made = made_at g.N.BootName.frames _ c.args.tables.now.frames_are 0 refl _ (Collect c.in-Some.frame c.number-cpu_number.result) Done _ c.collect.ensures in
+    let noted = taken_notes t (machine_of c.self.inside) _ c.self.view_is c.args.cpu.now c.requires c.self.invariant.consistent c.in-Some.frame _ c.number-cpu_number.result _ c.number-at.ensures c.number-cpu_number.ensures.number
+    c.number-cpu_number.ensures.number _ _ _ _ c.in-Some.ensures.run made c.passed_back.ensures c.collected.ensures in
+    let all = unlisted_all t (machine_of c.self.inside) _ c.self.view_is c.args.cpu.now c.requires c.self.invariant.consistent c.in-Some.frame _ c.in-Some.ensures.answer _ _ c.single_order.result _ _ _ _ c.self.invariant.free
+    c.self.invariant.sums c.self.invariant.owners c.single_order.ensures c.give.ensures.frames c.give.ensures.areas c.number-at.ensures _ noted in
+    record { takes = record { frame = c.in-Some.frame; takes = all.does; steps = all.makes }; visit = all.visit }
+
+pub invariant_of-self : goal.invariant_of-self
+invariant_of-self g c = search rules
+
+pub index_mut-requires : goal.index_mut-requires
+index_mut-requires g c = omega (arith, c.in-Some.ensures.frame, c.number-at.ensures, c.self.invariant.consistent.sizes.frame_states)
