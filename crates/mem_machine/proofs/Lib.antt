@@ -59,3 +59,4 @@ pub mod Sight
 pub mod Hiding
 pub mod Staying
 pub mod ZoneSteps
+pub mod LentTo
