@@ -48,7 +48,7 @@ use Rattle.mem_machine.proofs.Owning.{owners_set}
 use Rattle.mem_machine.proofs.Reaching.{zone_step}
 use Rattle.mem_machine.proofs.Seen.{own_booked}
 use Rattle.mem_machine.proofs.Sight.{hide_part, left_seen, left_then, shown_seen}
-use Rattle.mem_machine.proofs.Staying.{room_booked}
+use Rattle.mem_machine.proofs.Staying.{room_booked, sound_same}
 use Rattle.mem_machine.proofs.Usage.{usage_is}
 
 -- ---- what a fill leaves
@@ -233,32 +233,6 @@ module _ (t : KnownTable) (m : KnownMachine) (ok : IsConsistent t m) (facts : Ar
     pub refused_visit : StaysVisited t m (record m { run = run })
     refused_visit = stays_visited t m (record m { run = run }) (over_steps g k over) noted refl (λ p. record { list = refl; fresh = refl; back = refl; references = refl })
 
-    pub refused_consistent : IsConsistent t (record m { run = run })
-    refused_consistent = record {
-      sizes = record { frame_states = ok.sizes.frame_states; links = ok.sizes.links; lists = ok.sizes.lists; killed = ok.sizes.killed };
-      areas = ok.areas;
-      frame_states = ok.frame_states;
-      units = ok.units;
-      lists = ok.lists;
-      balances = ok.balances;
-      shown = subst (IsShownBy t (record m { run = run })) (sym refused_left) (record {
-        groups = ok.shown.groups;
-        killed = ok.shown.killed;
-        phases = ok.shown.phases;
-        references = ok.shown.references;
-        settled = ok.shown.settled;
-        absorbed = ok.shown.absorbed;
-        bounded = ok.shown.bounded;
-        charged = ok.shown.charged;
-      });
-    }
-
-    pub refused_sums : (sums : List ℕ) → AreBooked t.cpus (left_by t m.run.past).parts sums → AreBooked t.cpus (left_by t run.past).parts sums
-    refused_sums sums are = subst (λ (s : State). AreBooked t.cpus s.parts sums) (sym refused_left) are
-
-    pub refused_owners : (owners : List (Option ℕ)) → AreOwners t.cpus (left_by t m.run.past).parts owners → AreOwners t.cpus (left_by t run.past).parts owners
-    refused_owners owners are = subst (λ (s : State). AreOwners t.cpus s.parts owners) (sym refused_left) are
-
 -- ---- in the words of the call
 
 -- what is known of the machine before it
@@ -339,13 +313,8 @@ module _ {N : Type 0} (t : KnownTable) (fields : Inside N) (ok : IsSoundMachine 
   before = machine_of fields
 
   pub refused_sound : IsSoundMachine {N = N} t (record fields { charges = charges; past = run.past; watch = run.watch })
-  refused_sound = record {
-    consistent = subst (λ (l : Ledger). IsConsistent t (record before { ledger = l; run = run })) (sym same)
-        (refused_consistent t before ok.consistent facts knows.visit.held g k over knows.there knows.alive low run noted);
-    free = ok.free;
-    sums = refused_sums t before ok.consistent facts knows.visit.held g k over knows.there knows.alive low run noted fields.sums ok.sums;
-    owners = refused_owners t before ok.consistent facts knows.visit.held g k over knows.there knows.alive low run noted fields.owners ok.owners;
-  }
+  refused_sound = subst (λ (l : Ledger). IsSoundMachine {N = N} t (record fields { charges = l; past = run.past; watch = run.watch })) (sym same)
+      (sound_same t fields ok run (refused_left t before ok.consistent facts knows.visit.held g k over knows.there knows.alive low run noted))
 
   pub refused_now : (now : KnownMachine) → machine_of fields ≡ now → RefusesGrant t g k over now (machine_of {N = N} (record fields { charges = charges; past = run.past; watch = run.watch }))
   refused_now now was = subst (λ (x : KnownMachine × Ledger). RefusesGrant t g k over x.0 (record before { ledger = x.1; run = run })) (λ i. (was i, sym same i))
