@@ -124,7 +124,7 @@ lent_record (Lent r) q is = ap Lent (ap (λ (y : Phase). number (lent_to y)) is)
 lent_record (Head unit) q is = absurd (none-some q (ap lent_to is))
 lent_record (Tail g) q is = absurd (none-some q (ap lent_to is))
 
-abbrev headed : ChargedUnit → Phase → ChargedUnit
+abbrev pub headed : ChargedUnit → Phase → ChargedUnit
 headed unit (phase.Head u stage) = u
 headed unit x = unit
 
