@@ -1,5 +1,5 @@
 -- A CPU's lists and references change by its own steps alone.
-use Rattle.std.proofs.Common.{◌≡◌, ◌≢◌, ℕ, ◌==◌, Bool, true, false, [], ◌∷◌, ◌++◌, List, refl, sym, ap, ◌∙◌, cond}
+use Rattle.std.proofs.Common.{[], ◌≡◌, ◌≢◌, ℕ, ◌==◌, Bool, true, false, ◌∷◌, ◌++◌, List, refl, sym, ap, ◌∙◌, cond}
 use Rattle.std.specs.List.{fold}
 use Rattle.step_rules.specs.declared.step.Action.{Action}
 use Rattle.step_rules.specs.declared.step.Action.TheVariants.{Lock, Get, Put, Freeze, Unfreeze}

@@ -1,5 +1,5 @@
 -- While nobody holds the lock only fast steps are made.
-use Rattle.std.proofs.Common.{◌≡◌, ◌≢◌, ℕ, ◌==◌, true, false, [], ◌∷◌, ◌++◌, append_assoc, length, ap, sym, ◌∙◌, subst, inl, inr}
+use Rattle.std.proofs.Common.{[], ◌≡◌, ◌≢◌, ℕ, ◌==◌, true, false, ◌∷◌, ◌++◌, append_assoc, length, ap, sym, ◌∙◌, subst, inl, inr}
 use Rattle.std.specs.Prelude.{not}
 use Rattle.std.proofs.lemmas.Bool.{and_parts, false≢true, true≢false}
 use Rattle.step_rules.specs.declared.phase.Hold.{Hold}

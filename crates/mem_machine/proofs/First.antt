@@ -27,7 +27,7 @@ use Rattle.step_rules.specs.State.{is_unheld}
 use Rattle.step_rules.specs.After.{state_of}
 use Rattle.boot_words.specs.Hidden.{hide}
 use Rattle.boot_words.specs.Pasts.{IsZonePast, KnownPasts, own_past}
-use Rattle.boot_words.specs.Seating.{no_past}
+use Rattle.boot_words.specs.Runs.{no_past}
 use Rattle.boot_words.specs.Seats.{zone_of_boot}
 use Rattle.mem_machine.specs.Local.{part_with}
 use Rattle.mem_machine.specs.Resting.{Rests, hidden_of, phase_hidden}

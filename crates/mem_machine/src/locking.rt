@@ -9,7 +9,7 @@ ghost use Rattle.mem_machine.specs.Resting.{Rests};
 
 use crate::machine::Machine;
 use cpu_part::{BootName, Cpu, Tables};
-use run_words::CpuSeat;
+use boot_words::CpuSeat;
 
 impl<N: BootName> Machine<N> {
     /// The CPU takes the lock, which is free. Its past, which it gives away, is the machine's until `unlock`. The caller

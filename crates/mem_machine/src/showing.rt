@@ -3,7 +3,7 @@
 ghost use Rattle.std.specs.Prelude.{◌≡◌, ◌+◌, ◌<◌};
 ghost use Rattle.frame_word.specs.ReferenceRule.{most_references};
 ghost use Rattle.boot_words.specs.Pasts.{IsHeld};
-ghost use Rattle.run_words.specs.Looking.{LoadsReferences};
+ghost use Rattle.boot_words.specs.Looking.{LoadsReferences};
 ghost use Rattle.mem_machine.specs.Machines.{HeadsKeptUnit, entries_in};
 
 use crate::machine::Machine;
