@@ -1,7 +1,6 @@
 -- A load makes the step of Lock, or that of Unlock.
 use Rattle.std.proofs.Common.{[], ◌≡◌, ◌≢◌, ℕ, ◌+◌, ◌≤◌, ◌==◌, ◌&&◌, ◌||◌, Bool, true, false, List, ◌∷◌, ◌++◌, length, cond, refl, ap, sym, ◌∙◌, subst, arith, inl, inr, eq-eqb}
-use Rattle.std.specs.Prelude.{slice_index}
-use Rattle.std.specs.Prelude.{not}
+use Rattle.std.specs.Prelude.{slice_index, not}
 use Rattle.std.proofs.lemmas.Bool.{or_left}
 use Rattle.atomic_table.specs.Table.{keeps}
 use Rattle.frame_word.specs.Seats.{KnownTable}

@@ -1,6 +1,6 @@
 -- The end of a table.
 use Rattle.std.specs.Prelude.{[], ◌≡◌, ℕ, ◌≤◌, ◌<◌, ◌++◌, nat_le, List, ◌∷◌}
-use Rattle.frame_word.specs.Seats.{KnownTable}
+use Rattle.frame_word.specs.Seats.{KnownTable, KnownWords}
 use Rattle.frame_word.specs.Totals.{sum_over}
 use Rattle.step_rules.specs.State.{Zone, one_if}
 use Rattle.step_rules.specs.After.{Run, state_of}
@@ -9,10 +9,6 @@ use Rattle.boot_words.specs.Words.{IsRunOf, Words}
 use Rattle.boot_words.specs.declared.past.Past.{Past}
 use Rattle.boot_words.specs.Rule.{AllOf, words_in, BeginsRun, of_number}
 use Rattle.boot_words.specs.Cpus.{KnownCpuSeat}
-use Rattle.std.specs.Prelude.{◌≡◌, ℕ, ◌<◌, ◌≤◌, List, ◌∷◌, ◌++◌}
-use Rattle.frame_word.specs.Seats.{KnownWords}
-use Rattle.step_rules.specs.State.{Zone}
-use Rattle.step_rules.specs.After.{Run}
 
 -- the seat has the past of one of the CPUs
 abbrev pub HasCpuPast : KnownTable → KnownCpuSeat → Type 0

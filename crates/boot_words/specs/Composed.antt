@@ -3,9 +3,9 @@ use Rattle.std.specs.Prelude.{[], ◌≡◌, ℕ, true, ◌∷◌}
 use Rattle.frame_word.specs.Seats.{KnownTable}
 use Rattle.step_rules.specs.declared.step.Step.{Step}
 use Rattle.step_rules.specs.declared.step.Action.{Action}
-use Rattle.step_rules.specs.declared.step.Action.TheVariants.{PassOut, TakeIn}
+use Rattle.step_rules.specs.declared.step.Action.TheVariants.{PassOut, TakeIn, Absorb, Collect, PassBack, Report}
 use Rattle.step_rules.specs.declared.step.Answer.{Answer}
-use Rattle.step_rules.specs.declared.step.Answer.TheVariants.{Done}
+use Rattle.step_rules.specs.declared.step.Answer.TheVariants.{Done, Pages}
 use Rattle.step_rules.specs.State.{Zone, State}
 use Rattle.step_rules.specs.Legal.{is_legal}
 use Rattle.step_rules.specs.After.{Run, after}
@@ -14,11 +14,6 @@ use Rattle.boot_words.specs.Runs.{GrewBy}
 use Rattle.boot_words.specs.Held.{HoldsLock, local_seen}
 use Rattle.boot_words.specs.Pasts.{KnownPasts, IsHeld, cpu_past, own_past}
 use Rattle.boot_words.specs.Seats.{zone_of_boot}
-use Rattle.std.specs.Prelude.{◌≡◌, ℕ, ◌∷◌}
-use Rattle.step_rules.specs.declared.step.Action.TheVariants.{Absorb, Collect, PassBack, Report}
-use Rattle.step_rules.specs.declared.step.Answer.TheVariants.{Pages}
-use Rattle.step_rules.specs.State.{Zone}
-use Rattle.step_rules.specs.After.{Run}
 
 -- ---- the table: the steps of each list, in their order
 

@@ -1,6 +1,5 @@
 -- How a past grows by several steps, and what the pasts of all seats say of the run together.
-use Rattle.std.specs.Prelude.{[], ◌≡◌, ◌≢◌, ◌⊎◌, ℕ, suc, ◌+◌, ◌==◌, ◌&&◌, not, Bool, true, false, Some, List, ◌∷◌, ◌++◌}
-use Rattle.std.specs.Prelude.{length, slice_get, slice_set}
+use Rattle.std.specs.Prelude.{[], ◌≡◌, ◌≢◌, ◌⊎◌, ℕ, suc, ◌+◌, ◌==◌, ◌&&◌, not, Bool, true, false, Some, List, ◌∷◌, ◌++◌, length, slice_get, slice_set}
 use Rattle.step_rules.specs.declared.step.Step.{Step}
 use Rattle.step_rules.specs.declared.step.Answer.{Answer}
 use Rattle.step_rules.specs.declared.step.Answer.TheVariants.{Drained, Full, Illegal, Zero}

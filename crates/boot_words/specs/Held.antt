@@ -1,16 +1,12 @@
 -- Which stores on a frame's word the rule of the one table allows under the lock, and what each adds to the run.
 use Rattle.std.specs.Prelude.{◌≡◌, ◌≢◌, ℕ, ◌-◌, ◌==◌, if◌then◌else◌}
 use Rattle.step_rules.specs.declared.step.Answer.{Answer}
-use Rattle.step_rules.specs.declared.step.Answer.TheVariants.{Done, Missed}
+use Rattle.step_rules.specs.declared.step.Answer.TheVariants.{Done, Missed, Left, Last}
 use Rattle.step_rules.specs.State.{Zone, State}
 use Rattle.step_rules.specs.After.{state_of}
 use Rattle.step_rules.specs.Views.{seen_by}
 use Rattle.step_rules.specs.Laws.{ShowsLocal}
 use Rattle.boot_words.specs.declared.past.Past.{Past}
-use Rattle.std.specs.Prelude.{◌≡◌, ◌≢◌, ℕ, ◌-◌, ◌==◌, if◌then◌else◌}
-use Rattle.step_rules.specs.declared.step.Answer.TheVariants.{Left, Last}
-use Rattle.step_rules.specs.State.{Zone}
-use Rattle.step_rules.specs.After.{state_of}
 
 -- A CPU holds the lock, and its past is joined with the zone's: both end with the last step of the two, after which the
 -- run shows the CPU this local state.

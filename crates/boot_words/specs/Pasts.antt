@@ -14,8 +14,7 @@ use Rattle.step_rules.specs.declared.phase.Hold.TheVariants.{HeldBy, Unheld}
 use Rattle.step_rules.specs.declared.step.Action.{Action}
 use Rattle.step_rules.specs.declared.step.Action.TheVariants.{Lock, Unlock}
 use Rattle.step_rules.specs.declared.step.Answer.{Answer}
-use Rattle.step_rules.specs.declared.step.Answer.TheVariants.{Done, Full, Held, Last, Left, Missed}
-use Rattle.step_rules.specs.declared.step.Answer.TheVariants.{Zero}
+use Rattle.step_rules.specs.declared.step.Answer.TheVariants.{Done, Full, Held, Last, Left, Missed, Zero}
 use Rattle.step_rules.specs.State.{State}
 use Rattle.step_rules.specs.Legal.{is_legal}
 use Rattle.step_rules.specs.After.{after, state_of, IsLegalRun}

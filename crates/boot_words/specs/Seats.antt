@@ -1,5 +1,5 @@
 -- The table as contracts see it, its words, the pasts of its seats, and what a seat may do to a word.
-use Rattle.std.specs.Prelude.{[], ◌≡◌, ℕ, ◌+◌, ◌≤◌, ◌<◌, List, ◌∷◌}
+use Rattle.std.specs.Prelude.{[], ◌≡◌, ℕ, ◌+◌, ◌≤◌, ◌<◌, List, ◌∷◌, zero, suc}
 use Rattle.atomic_table.specs.Seated.{TableId}
 use Rattle.atomic_table.specs.Table.{Allows}
 use Rattle.frame_word.specs.ReferenceRule.{visit_index}
@@ -9,11 +9,8 @@ use Rattle.step_rules.specs.State.{Zone}
 use Rattle.boot_words.specs.declared.word.Word.{Word}
 use Rattle.boot_words.specs.declared.word.Word.TheVariants.{Quiet, StockOf, OfFrame, VisitOf}
 use Rattle.boot_words.specs.Rule.{frame_base, word_count, run_rule}
-use Rattle.std.specs.Prelude.{◌≡◌, ℕ, zero, suc, ◌+◌, ◌<◌, ◌≤◌, List, ◌∷◌}
 use Rattle.boot_words.specs.declared.past.Past.{Past}
 use Rattle.boot_words.specs.Runs.{no_past}
-use Rattle.boot_words.specs.declared.word.Word.{Word}
-use Rattle.boot_words.specs.declared.word.Word.TheVariants.{Quiet, StockOf, OfFrame, VisitOf}
 
 -- the zone of a table
 abbrev pub zone_of_boot : KnownTable → Zone
