@@ -5,7 +5,6 @@ use Rattle.std.proofs.lemmas.List.Elements.{All-append}
 use Rattle.std.proofs.lemmas.List.{append-nil, append_assoc, length-append, map-append}
 use Rattle.frame_word.specs.ReferenceRule.{most_references}
 use Rattle.frame_word.specs.Seats.{KnownTable, KnownSeat}
-use Rattle.stock_word.specs.Stock.{KnownStockTable}
 use Rattle.lru_lists.specs.declared.record.Entry.{Entry}
 use Rattle.lru_lists.specs.declared.record.LruList.{LruList}
 use Rattle.lru_lists.specs.Lists.{entry_after, first_entry}
@@ -105,8 +104,8 @@ ahead_is next (e ∷ es) u is some = (es, let s : Some e ≡ Some u = sym is ∙
     same : (a b : Entry) → Some a ≡ Some b → a ≡ b
     same a b e = cc
 
-module _ (t : KnownTable) (w : KnownStockTable) (g : ℕ) (fits : g < 64) (list : LruList) (before : KnownMachine) (i : ℕ) (next : Option Entry) (now : KnownMachine)
-    (tells : List ℕ → Type 0) (ok : IsConsistent t w now) (s : MetSoFar g list before i next now tells) where
+module _ (t : KnownTable) (g : ℕ) (fits : g < 64) (list : LruList) (before : KnownMachine) (i : ℕ) (next : Option Entry) (now : KnownMachine)
+    (tells : List ℕ → Type 0) (ok : IsConsistent t now) (s : MetSoFar g list before i next now tells) where
   same_entries : entries_in now g list ≡ entries_in before g list
   same_entries = ap (λ (x : KnownMachine). entries_in x g list) s.looks.machine
 
@@ -114,13 +113,13 @@ module _ (t : KnownTable) (w : KnownStockTable) (g : ℕ) (fits : g < 64) (list 
   is_met u some =
       let a = ahead_is next s.todo u s.next_is some in
       let are : entries_in now g list ≡ s.met ++ u ∷ a.0 = same_entries ∙ s.are ∙ ap (λ (l : List Entry). s.met ++ l) a.1 in
-      let is : IsListed now g list (s.met ++ u ∷ a.0) = subst (IsListed now g list) are (listed_is t w now ok g fits list) in
+      let is : IsListed now g list (s.met ++ u ∷ a.0) = subst (IsListed now g list) are (listed_is t now ok g fits list) in
       let home = is.homes u.number (has_mid s.met a.0 u u.number refl) in
       record {
         rest = a.0;
         ahead = a.1;
         home = home;
-        inside = home_inside t w now ok u.number (record { owner = g; list = list }) home;
+        inside = home_inside t now ok u.number (record { owner = g; list = list }) home;
         newer = ap (λ (l : List Entry). entry_after u.number l) are ∙ after_mid s.met a.0 u (apart_mid s.met a.0 u is.apart);
       }
 

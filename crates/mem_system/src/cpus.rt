@@ -48,7 +48,7 @@ impl<N: BootName> Cpu<N> {
         requires seats { AreFirstSeats N.frames (seat_number seats.frames) seats }
         requires stocks { N.stocks.table ≡ N.frames.table }
         requires cpus { N.stocks.cpus ≡ N.frames.cpus }
-        ensures part { IfOk result (λ c. c.part ≡ part_at_first N.frames N.stocks (seat_number seats.frames)) }
+        ensures part { IfOk result (λ c. c.part ≡ part_at_first N.frames (seat_number seats.frames)) }
         ensures past { IfOk result (λ c. c.past ≡ seats.past) }
     {
         let OwnSeats {
@@ -134,7 +134,7 @@ impl<N: BootName> Cpu<N> {
     /// The CPU's number, from 1 up.
     pub fn number(&self) -> u32
         ensures number { result ≡ self.now.part.number }
-        ensures tied { IsTied N.frames N.stocks self.now.part }
+        ensures tied { IsTied N.frames self.now.part }
         ensures in_run { (own_past self.now.past).number ≡ self.now.part.number }
     {
         self.part.number()

@@ -40,7 +40,7 @@ fn empty_cpu<N: BootName>(machine: &mut Machine<N>, tables: &Tables<N>, cpu: &mu
         (visit_state machine.new cpu.new) }
     ensures shut { AllShut machine.new }
     ensures shown { IsSeenByRun N.frames (visit_state machine.new cpu.new) }
-    ensures emptied { IsEmptied N.frames N.stocks machine.new cpu.new }
+    ensures emptied { IsEmptied N.frames machine.new cpu.new }
     ensures others { LendsAndFillsNone machine.old machine.new }
 {
     machine.open(tables, cpu);
@@ -79,7 +79,7 @@ fn empty_under_lock<N: BootName>(machine: &mut Machine<N>, tables: &Tables<N>, c
         (machine_and_cpu machine.old cpu.old) (machine_and_cpu machine.new cpu.new) }
     ensures shut { AllShut machine.new }
     ensures rests { Rests N.frames machine.new }
-    ensures emptied { IsEmptied N.frames N.stocks machine.new cpu.new.part }
+    ensures emptied { IsEmptied N.frames machine.new cpu.new.part }
     ensures others { LendsAndFillsNone machine.old machine.new }
 {
     let cpu_number = cpu.number();
@@ -122,7 +122,7 @@ pub(crate) fn empty_all<N: BootName>(
     ensures empties { ForEachCpu (VisitsUnderLock N.frames Empties) machine.old cpus.old machine.new cpus.new }
     ensures shut { AllShut machine.new }
     ensures rests { Rests N.frames machine.new }
-    ensures emptied { All (λ cpu. IsEmptied N.frames N.stocks machine.new cpu) (parts_of cpus.new) }
+    ensures emptied { All (λ cpu. IsEmptied N.frames machine.new cpu) (parts_of cpus.new) }
 {
     for cpu in cpus.iter_mut() {
         empty_under_lock(machine, tables, cpu);

@@ -1,6 +1,6 @@
 use Rattle.std.proofs.Common.{◌∙◌, ap, subst, sym}
 use Rattle.frame_word.specs.Seats.{KnownSeat, KnownTable}
-use Rattle.stock_word.specs.Stock.{KnownStockSeat, KnownStockTable}
+use Rattle.stock_word.specs.Stock.{KnownStockSeat}
 use Rattle.boot_words.specs.Closing.{AreAt}
 use Rattle.boot_words.specs.Pasts.{KnownPasts}
 use Rattle.boot_words.specs.Rule.{AllOf}
@@ -30,6 +30,6 @@ close-closed-requires-clause-cpus g c =
 
 pub returns : goal.returns
 returns g c =
-    closed_from g.N.BootName.frames g.N.BootName.stocks c.args.machine _ _ c.into_seats.result c.args.seats.items c.into_words-words.ensures
+    closed_from g.N.BootName.frames c.args.machine _ _ c.into_seats.result c.args.seats.items c.into_words-words.ensures
     (sym (ap (λ (x : KnownStockTable). x.cpus) c.args.tables.stocks_are) ∙ ap (λ (x : KnownTable). x.cpus) c.args.tables.frames_are)
     (ap (λ (s : KnownPasts). s.pasts) c.into_seats.ensures.past ∙ c.requires.rests.past_is.alone) c.into_seats.ensures.frame_seat c.into_seats.ensures.stock_seat c.into_seats.ensures.consistent c.close-closed.ensures.end
