@@ -1,6 +1,6 @@
 -- Behind which run a step under the lock was made, and so what holds of an answer that others' steps decide. Serves
 -- `drain_stock`, `evict`, `release` and `put_zone_reference`.
-use Rattle.std.proofs.Common.{◌≡◌, ℕ, ◌+◌, ◌≤◌, true, Some, None, [], ◌∷◌, ◌++◌, length, refl, ap, sym, ◌∙◌, subst, arith}
+use Rattle.std.proofs.Common.{◌≡◌, ℕ, ◌+◌, ◌≤◌, ◌==◌, Bool, true, false, Some, None, [], ◌∷◌, ◌++◌, length, cond, refl, ap, sym, ◌∙◌, subst, arith}
 use Rattle.std.proofs.lemmas.List.{append_cancel_left, append_cancel_right}
 use Rattle.frame_word.specs.Seats.{KnownTable}
 use Rattle.group_tree.specs.Groups.{has_group}
@@ -12,7 +12,7 @@ use Rattle.step_rules.specs.declared.step.Answer.TheVariants.{Pages}
 use Rattle.step_rules.specs.State.{Part, State, Zone}
 use Rattle.step_rules.specs.Legal.{Allows}
 use Rattle.step_rules.specs.After.{Run, state_of, IsLegalRun}
-use Rattle.step_rules.specs.Views.{seen_by}
+use Rattle.step_rules.specs.Views.{other_part_seen, seen_by}
 use Rattle.step_rules.proofs.CoverParts.{part_seen}
 use Rattle.step_rules.proofs.Keeping.{keepers_are_there}
 use Rattle.step_rules.proofs.Runs.{legal_from, sound_run}
@@ -50,9 +50,14 @@ behind t past later seat action answer is made =
 -- what holds of the pages of a drain
 pub record FitsDrain (s : State) (q n : ℕ) : Type 0 where
   pub within : n ≤ (s.parts q).book
+  pub enough : n ≤ (s.parts q).stock.pages
   pub no_group : (s.parts q).stock.group ≡ None → n ≡ 0
   pub drained : (s.parts q).stock.is_drained ≡ true → n ≡ 0
   pub there : (g : ℕ) → (s.parts q).stock.group ≡ Some g → 1 ≤ n → has_group s.groups g ≡ true
+
+shown_pages : (b : Bool) (part : Part) → part.stock.pages ≤ (cond b part (other_part_seen part)).stock.pages
+shown_pages true part = omega arith
+shown_pages false part = omega arith
 
 pub fits_drain : (t : KnownTable) (past later : KnownPasts) (q n : ℕ) → IsHeld t past → MakesStep t past 0 (DrainStock q) (Pages n) later → FitsDrain (local_by_pasts t past) q n
 fits_drain t past later q n is made =
@@ -65,6 +70,7 @@ fits_drain t past later q n is made =
     let group = part_seen (λ part. part.stock.group) (λ part. refl) p u.parts q in
     subst (λ (s : State). FitsDrain s q n) (sym at.sees) (record {
       within = let book = part_seen (λ part. part.book) (λ part. refl) p u.parts q in omega (arith, count, booked, book);
+      enough = let pages = shown_pages (q == p) (u.parts q) in omega (arith, count, pages);
       no_group = λ none. count ∙ kept.no_group (sym group ∙ none);
       drained = λ is_so. count ∙ kept.drained (sym (part_seen (λ part. part.stock.is_drained) (λ part. refl) p u.parts q) ∙ is_so);
       there = λ g of some. kept.stock g (sym group ∙ of) (omega (arith, count, some));

@@ -1,55 +1,38 @@
--- A stock is drained: the steps, and what they leave. Serves `drain_stock`.
-use Rattle.std.proofs.Common.{◌≡◌, ℕ, zero, suc, ◌+◌, ◌-◌, ◌<◌, ◌≤◌, ◌==◌, Bool, true, false, Option, Some, None, List, [], ◌∷◌, map, cond, get_or, refl, sym, ap, ◌∙◌, subst, inl, inr, arith}
-use Rattle.std.specs.List.{fold}
+-- A stock is drained: the charges, and the steps. Serves `drain_stock`.
+use Rattle.std.proofs.Common.{◌≡◌, ℕ, zero, suc, ◌+◌, ◌-◌, ◌≤◌, ◌==◌, Bool, true, false, Option, Some, None, List, [], ◌∷◌, map, length, cond, refl, sym, ap, ◌∙◌, arith}
 use Rattle.std.specs.Option.{option_map_or}
-use Rattle.std.specs.Prelude.{nat_le, is_some, slice_set}
+use Rattle.std.specs.Prelude.{nat_le, is_some}
 use Rattle.std.proofs.lemmas.Bool.{and_from, le-leb}
 use Rattle.frame_word.specs.Seats.{KnownTable}
 use Rattle.group_tree.specs.Groups.{has_group}
 use Rattle.group_tree.proofs.GroupLemmas.{is_some-find}
 use Rattle.group_charge.specs.declared.account.Account as charge
 use Rattle.group_charge.specs.Charges.{Ledger, AreCharges, account_at, pages_of, taken}
-use Rattle.group_charge.proofs.CallerLemmas.{has_account, uncharge_events, uncharge_pages, uncharge_peaks}
+use Rattle.group_charge.proofs.CallerLemmas.{has_account, uncharge_events, uncharge_peaks}
 use Rattle.step_rules.specs.declared.step.Action.TheVariants.{DrainStock, Ungrant}
 use Rattle.step_rules.specs.declared.step.Answer.TheVariants.{Done, Pages}
-use Rattle.step_rules.specs.Invariant.{told_pages}
 use Rattle.step_rules.specs.State.{Part, State, Zone, is_cpu, with_at}
 use Rattle.step_rules.specs.Legal.{is_legal}
 use Rattle.step_rules.specs.Laws.{IsLocalStep}
-use Rattle.step_rules.specs.After.{Run, after, drained, state_of, with_more, with_part}
+use Rattle.step_rules.specs.After.{Run, after, drained, with_more, with_part}
 use Rattle.step_rules.specs.Reaches.{IsLocalRun}
 use Rattle.step_rules.specs.Views.{other_part_seen}
 use Rattle.step_rules.proofs.Basics.{at_each, at_other, at_same}
-use Rattle.step_rules.proofs.CoverParts.{part_seen}
-use Rattle.step_rules.proofs.Freeing.{zone_of_run}
-use Rattle.step_rules.proofs.Keeping.{keepers_are_there}
 use Rattle.step_rules.proofs.LegalTests.{drain_stock_tests}
-use Rattle.step_rules.proofs.Runs.{sound_run}
 use Rattle.boot_words.specs.Hidden.{hide}
-use Rattle.boot_words.specs.Pasts.{KnownPasts, IsHeld, MakesStep, MayMake, cpu_past, local_by_pasts}
-use Rattle.boot_words.specs.Seats.{zone_of_boot}
+use Rattle.boot_words.specs.Pasts.{KnownPasts, IsHeld, MayMake}
 use Rattle.boot_words.specs.Sight.{HasSameLists}
-use Rattle.step_watch.specs.Watched.{KnownWatch, Watches}
-use Rattle.mem_machine.specs.declared.machine.Machine.TheInside.{Inside}
 use Rattle.mem_machine.specs.declared.counts.Counts.{Counts}
-use Rattle.mem_machine.specs.Booked.{AreBooked, AreOwners}
 use Rattle.mem_machine.specs.Counting.{counts_along}
 use Rattle.mem_machine.specs.Following.{FollowsSteps}
-use Rattle.mem_machine.specs.Kept.{IsSoundMachine, machine_of}
-use Rattle.mem_machine.specs.Local.{Makes, StaysVisited, local_of}
-use Rattle.mem_machine.specs.Machines.{KnownMachine, IsConsistent, IsCpuOf, IsShownBy, frames_charged, left_by, pages_booked, part_at, stock_group}
-use Rattle.mem_machine.specs.Noted.{AreLocal, KnownRun, MayTake, MayTakeAll, Notes, after_made}
+use Rattle.mem_machine.specs.Machines.{IsCpuOf}
 use Rattle.mem_machine.specs.Steps.{drain_steps, ungrant_steps, zone_makes}
-use Rattle.mem_machine.specs.Stocks.{Drains, HasDrained, uncharged}
-use Rattle.mem_machine.proofs.AtTable.{made_at}
-use Rattle.mem_machine.proofs.Behind.{behind}
-use Rattle.mem_machine.proofs.Booking.{book_within, books_less, books_none, books_same, sums_less, sums_same}
+use Rattle.mem_machine.specs.Stocks.{uncharged}
+use Rattle.mem_machine.proofs.Behind.{FitsDrain}
 use Rattle.mem_machine.proofs.Followed.{follows_same, follows_still}
-use Rattle.mem_machine.proofs.Made.{makes, stays_visited, zone_acts}
-use Rattle.mem_machine.proofs.Noted.{may_all, notes_both, notes_one, run_ends, run_steps}
-use Rattle.mem_machine.proofs.Owning.{owners_stay}
+use Rattle.mem_machine.proofs.Made.{zone_acts, zone_seen}
 use Rattle.mem_machine.proofs.Reaching.{zone_step}
-use Rattle.mem_machine.proofs.Sight.{hide_part, left_seen}
+use Rattle.mem_machine.proofs.Sight.{hide_part}
 
 -- ---- the ledger
 
@@ -92,36 +75,6 @@ groups_stay l None n = refl
 groups_stay l (Some g) n = refl
 
 -- ---- the steps
-
--- what holds of the pages of a drain
-pub record FitsDrain (s : State) (q n : ℕ) : Type 0 where
-  pub within : n ≤ (s.parts q).book
-  pub enough : n ≤ (s.parts q).stock.pages
-  pub no_group : (s.parts q).stock.group ≡ None → n ≡ 0
-  pub drained : (s.parts q).stock.is_drained ≡ true → n ≡ 0
-  pub there : (g : ℕ) → (s.parts q).stock.group ≡ Some g → 1 ≤ n → has_group s.groups g ≡ true
-
-shown_pages : (b : Bool) (part : Part) → part.stock.pages ≤ (cond b part (other_part_seen part)).stock.pages
-shown_pages true part = omega arith
-shown_pages false part = omega arith
-
--- a drain that was made has such pages
-pub fits_drain : (t : KnownTable) (past later : KnownPasts) (q n : ℕ) → IsHeld t past → MakesStep t past 0 (DrainStock q) (Pages n) later → FitsDrain (local_by_pasts t past) q n
-fits_drain t past later q n is made =
-    let at = behind t past later 0 (DrainStock q) (Pages n) is made in
-    let u = state_of (zone_of_boot t) at.run in
-    let p = (cpu_past past).number in
-    let kept = (keepers_are_there (zone_of_boot t) at.run at.legal).parts q in
-    let count : n ≡ (u.parts q).stock.pages = at.allowed.counted in
-    let booked = (sound_run (zone_of_boot t) at.run at.legal).booked q in
-    let group = part_seen (λ part. part.stock.group) (λ part. refl) p u.parts q in
-    subst (λ (s : State). FitsDrain s q n) (sym at.sees) (record {
-      within = let book = part_seen (λ part. part.book) (λ part. refl) p u.parts q in omega (arith, count, booked, book);
-      enough = let pages = shown_pages (q == p) (u.parts q) in omega (arith, count, pages);
-      no_group = λ none. count ∙ kept.no_group (sym group ∙ none);
-      drained = λ was. count ∙ kept.drained (sym (part_seen (λ part. part.stock.is_drained) (λ part. refl) p u.parts q) ∙ was);
-      there = λ g of some. kept.stock g (sym group ∙ of) (omega (arith, count, some));
-    })
 
 module _ (s : State) (q n : ℕ) where
   -- what a drain leaves
@@ -208,67 +161,12 @@ pub ungrants_some : (g k : ℕ) → 1 ≤ k → ungrant_steps (Some g) k ≡ zon
 ungrants_some g zero some = absurd (omega (arith, some))
 ungrants_some g (suc k) some = refl
 
-ungrants_none : (o : Option ℕ) (k : ℕ) → k ≡ 0 → ungrant_steps o k ≡ []
+pub ungrants_none : (o : Option ℕ) (k : ℕ) → k ≡ 0 → ungrant_steps o k ≡ []
 ungrants_none None k none = refl
 ungrants_none (Some g) k none = ap (ungrant_steps (Some g)) none
 
 -- any stock of the boot may be drained
 pub drain_may : (t : KnownTable) (past : KnownPasts) → IsHeld t past → (q : ℕ) → IsCpuOf t q → MayMake t past 0 (DrainStock q)
 drain_may t past is q of =
-    and_from _ _ (zone_acts t past is) (ap (λ (z : Zone). is_cpu z q) (zone_of_run (zone_of_boot t) (cpu_past past).seen)
+    and_from _ _ (zone_acts t past is) (ap (λ (z : Zone). is_cpu z q) (zone_seen t past)
     ∙ and_from (nat_le 1 q) (nat_le q t.cpus) (le-leb 1 q of.0) (le-leb q t.cpus of.1))
-
--- ---- what it leaves of the machine
-
--- what the run left before is `u`
-module _ (t : KnownTable) (m : KnownMachine) (u : State) (ok : IsShownBy t m u) (q n : ℕ) (inside : q ≤ t.cpus) (within : n ≤ (u.parts q).book) where
-  less : (drained (u.parts q) n).book + n ≡ (u.parts q).book
-  less = omega (arith, within)
-
-  -- the pages are charged to their group
-  pub drain_charged : (g : ℕ) → (u.parts q).stock.group ≡ Some g → n ≤ pages_of m.ledger g
-  drain_charged g group =
-      let book = book_within t.cpus u.parts q inside g group in let all = ok.charged g in omega (arith, book, all, within)
-
-  charged_after : (o : Option ℕ) → (u.parts q).stock.group ≡ o → (h : ℕ) → pages_of (uncharged m.ledger o n) h
-      ≡ frames_charged m.frame_states h + pages_booked t.cpus (drain_state u q n).parts h
-  charged_after None group h =
-      let all = ok.charged h in let same = books_none t.cpus u.parts q inside (drained (u.parts q) n) group group h in omega (arith, all, same)
-  charged_after (Some g) group h =
-      let fall = uncharge_pages m.ledger g n (drain_charged g group) h in
-      let fewer = books_less t.cpus u.parts q inside (drained (u.parts q) n) g n group group less h in
-      let all = ok.charged h in
-      omega (arith, fall, fewer, all)
-
-  pub drain_shown : (o : Option ℕ) → (u.parts q).stock.group ≡ o → (run : KnownRun)
-      → IsShownBy t (record m { ledger = uncharged m.ledger o n; run = run }) (drain_state u q n)
-  drain_shown o group run = record {
-    groups = ok.groups ∙ sym (groups_stay m.ledger o n);
-    killed = ok.killed;
-    phases = ok.phases;
-    references = ok.references;
-    settled = ok.settled;
-    absorbed = at_each u.parts q (drained (u.parts q) n) (λ j x. told_pages x ≡ 0) (ok.absorbed q) (λ j ne. ok.absorbed j);
-    bounded = at_each u.parts q (drained (u.parts q) n) (λ j x. x.book < 65536) (let a = ok.bounded q in omega (arith, a)) (λ j ne. ok.bounded j);
-    charged = charged_after o group;
-  }
-
-  -- the groups of the stocks stay
-  pub drain_owners : (owners : List (Option ℕ)) → AreOwners t.cpus u.parts owners → AreOwners t.cpus (drain_state u q n).parts owners
-  drain_owners owners are = owners_stay t.cpus u.parts (drain_state u q n).parts owners are
-      (at_each u.parts q (drained (u.parts q) n) (λ j x. x.stock.group ≡ (u.parts j).stock.group) refl (λ j ne. refl))
-
-  pub drain_sums : (sums : List ℕ) → AreBooked t.cpus u.parts sums → (g : ℕ) → (u.parts q).stock.group ≡ Some g → g < 64
-      → AreBooked t.cpus (drain_state u q n).parts (slice_set sums g (get_or sums g 0 - n))
-  drain_sums sums are g group fits = sums_less t.cpus u.parts q inside (drained (u.parts q) n) g n group group less sums are fits
-
-  pub drain_sums_none : n ≡ 0 → (sums : List ℕ) → AreBooked t.cpus u.parts sums → AreBooked t.cpus (drain_state u q n).parts sums
-  drain_sums_none none sums are = sums_same t.cpus u.parts (drain_state u q n).parts sums are
-      (books_same t.cpus u.parts (drain_state u q n).parts
-      (at_each u.parts q (drained (u.parts q) n) (λ j x. x.book ≡ (u.parts j).book) (omega (arith, none)) (λ j ne. refl))
-      (at_each u.parts q (drained (u.parts q) n) (λ j x. x.stock.group ≡ (u.parts j).stock.group) refl (λ j ne. refl)))
-
-  -- its sum has the pages
-  pub drain_sum_within : (sums : List ℕ) → AreBooked t.cpus u.parts sums → (g : ℕ) → (u.parts q).stock.group ≡ Some g → g < 64 → n ≤ get_or sums g 0
-  drain_sum_within sums are g group fits =
-      let book = book_within t.cpus u.parts q inside g group in let sum = are.each g fits in omega (arith, book, within, sum)

@@ -55,7 +55,7 @@ module _ (t : KnownTable) (m : KnownMachine) (s : State) (shown : IsShownBy t m 
   rests_all p f =
       sym (hidden_through (still p) (λ u q. refl) (λ u q. refl) (s.phases f)) ∙ ap (still p) (shown.phases f) ∙ by (frame_state_at m.frame_states f)
     where
-      abbrev still : ℕ → Phase → Bool
+      still : ℕ → Phase → Bool
       still p x = not (passes_out p x) && not (passes_back p x)
 
       by : (x : FrameState) → still p (phase_hidden x) ≡ true

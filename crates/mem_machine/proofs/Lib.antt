@@ -19,6 +19,7 @@ pub mod Lends
 pub mod Many
 pub mod Takes
 pub mod Draining
+pub mod Drained
 pub mod DrainingAll
 pub mod Choosing
 pub mod Prepaying

@@ -4,8 +4,9 @@ use Rattle.std.proofs.Common.{◌≡◌, ℕ, ◌+◌, ◌==◌, ◌||◌, Bool,
 use Rattle.std.specs.List.{fold}
 use Rattle.frame_word.specs.Seats.{KnownTable}
 use Rattle.step_rules.specs.State.{Part, State}
-use Rattle.step_rules.specs.After.{Run, state_of}
+use Rattle.step_rules.specs.After.{Run, state_of, with_part}
 use Rattle.step_rules.specs.Views.{other_part_seen, references_seen_by, seen_by}
+use Rattle.step_rules.proofs.Basics.{cond-ap}
 use Rattle.step_rules.proofs.CoverParts.{part_seen}
 use Rattle.step_rules.proofs.CoverPhases.{seen_through}
 use Rattle.boot_words.specs.Hidden.{hide, hide_phase, zone_references}
@@ -47,3 +48,10 @@ left_then t m steps run is noted = left_seen t run.past (noted.grew.held is) ∙
 -- the machine's fields are what the lock's holder sees
 pub shown_seen : (t : KnownTable) (m : KnownMachine) → IsConsistent t m → IsHeld t m.run.past → IsShownBy t m (hide (local_of t m))
 shown_seen t m ok is = subst (IsShownBy t m) (left_seen t m.run.past is) ok.shown
+
+-- a change of one part that hiding the part's lists lets through
+pub hide_part : (s : State) (q : ℕ) (change : Part → Part) → other_part_seen (change (s.parts q)) ≡ change (other_part_seen (s.parts q))
+    → hide (with_part s q (change (s.parts q))) ≡ with_part (hide s) q (change ((hide s).parts q))
+hide_part s q change same i = record (hide s) {
+  parts = λ p. (cond-ap other_part_seen (p == q) (change (s.parts q)) (s.parts p) ∙ ap (λ (x : Part). cond (p == q) x (other_part_seen (s.parts p))) same) i;
+}
