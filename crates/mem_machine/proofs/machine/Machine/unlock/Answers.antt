@@ -3,7 +3,7 @@ use Rattle.frame_word.specs.Seats.{KnownTable}
 use Rattle.step_rules.specs.declared.phase.Hold.TheVariants.{Unheld}
 use Rattle.step_rules.specs.declared.step.Action.TheVariants.{Unlock}
 use Rattle.boot_words.specs.Pasts.{IsHeld, MayMake, Unlocks}
-use Rattle.run_words.specs.Cpus.{IsAwayCpu}
+use Rattle.boot_words.specs.Cpus.{IsAwayCpu}
 use Rattle.mem_machine.specs.Kept.{machine_of}
 use Rattle.mem_machine.specs.Local.{IsShut}
 use Rattle.mem_machine.specs.Machines.{KnownMachine}
