@@ -12,12 +12,15 @@ use Rattle.step_rules.specs.State.{State, Zone, live_references}
 use Rattle.step_rules.specs.After.{state_of}
 use Rattle.step_rules.proofs.Living.{live_are_referenced}
 use Rattle.step_rules.proofs.Referring.{live_from_one}
-use Rattle.step_rules.proofs.Sums.{sum_part}
 use Rattle.boot_words.specs.Words.{stock_in}
 use Rattle.boot_words.specs.Held.{local_seen}
 use Rattle.boot_words.specs.declared.past.Past.{Past}
-use Rattle.boot_words.specs.Rule.{frame_base, words_in}
-use Rattle.boot_words.specs.Pasts.{KnownPasts, IsHeld, IsHolder, cpu_past, local_by_pasts, own_past}
+use Rattle.boot_words.specs.Rule.{AllOf, BeginsRun, frame_base, words_in}
+use Rattle.boot_words.proofs.Each.{all_at}
+use Rattle.boot_words.proofs.Growing.{past_of_run}
+use Rattle.boot_words.proofs.Resting.{zone_rests}
+use Rattle.boot_words.specs.Locks.{LeavesFree}
+use Rattle.boot_words.specs.Pasts.{KnownPasts, IsHeld, IsHolder, IsZonePast, cpu_past, local_by_pasts, own_past}
 use Rattle.boot_words.specs.Seats.{zone_of_boot, MayChange}
 use Rattle.boot_words.proofs.WordCounts.{live_word}
 use Rattle.boot_words.proofs.Following.{stands_in}
@@ -28,7 +31,7 @@ use Rattle.boot_words.proofs.Fast.{stays}
 use Rattle.boot_words.proofs.Visiting.{cpu_of_held, stock_held}
 use Rattle.boot_words.proofs.Drains.{StockFound, stock_found}
 use Rattle.boot_words.proofs.Referring.{word_now}
-use Rattle.boot_words.proofs.UnderLock.{fits_both, of_held, shows_end, stands_at}
+use Rattle.boot_words.proofs.UnderLock.{of_held, stands_at}
 
 -- the seat has the pasts that it had
 pub same_seat : (t : KnownTable) (s s' : KnownPasts) → IsHeld t s → s'.table ≡ s.table → s'.pasts ≡ own_past s ∷ cpu_past s ∷ [] → s' ≡ s
@@ -95,32 +98,30 @@ group_fits t s cpu found later stock told decodes =
 
 -- ---- references
 pub record SeesReferences (t : KnownTable) (s : KnownPasts) (f found : ℕ) (later : List Past) : Type 0 where
-  pub counted : LoadsReferences t s f found
-  pub own : (local_by_pasts t s).references 0 f ≤ found
+  pub counted : LoadsReferences (zone_of_boot t) (own_past s) f found
+  pub some : 1 ≤ found
   pub most : found ≤ most_references
-  pub later_is : later ≡ own_past s ∷ cpu_past s ∷ []
+  pub later_is : later ≡ own_past s ∷ []
 
-pub sees_references : (t : KnownTable) (s : KnownPasts) (f : ℕ) → IsHeld t s → f < t.frames → 1 ≤ (local_by_pasts t s).references 0 f
-    → MayChange (zone_of_boot t) s.pasts (OfFrame f) (λ n. n) (SeesReferences t s f)
-sees_references t s f is inside some =
+pub sees_references : (t : KnownTable) (s : KnownPasts) (f : ℕ) → IsZonePast t s → LeavesFree (zone_of_boot t) (own_past s) → f < t.frames
+    → 1 ≤ (state_of (zone_of_boot t) (own_past s).seen).references 0 f → MayChange (zone_of_boot t) s.pasts (OfFrame f) (λ n. n) (SeesReferences t s f)
+sees_references t s f is free inside some =
     let zone = zone_of_boot t in
     let z = own_past s in
-    let c = cpu_past s in
-    of_held t s (OfFrame f) (λ n. n) (SeesReferences t s f) is
+    subst (λ (l : List Past). MayChange zone l (OfFrame f) (λ n. n) (SeesReferences t s f)) (sym is.alone)
     (λ id b k homes at small.
-    let st = stands_at zone b k id z c at is.holds in
-    let fit = fits_both zone b.words b.views id z c st in
+    let fits : BeginsRun zone k.run z = (all_at (AllOf (BeginsRun zone k.run)) b.views id (z ∷ []) at k.fits).0 in
     let run = state_of zone k.run in
     let stands = stands_in zone (words_in zone b.words) k.run k.is in
-    let own : (local_by_pasts t s).references 0 f ≡ run.references 0 f = ap (λ (l : State). l.references 0 f) (shows_end zone b.words b.views id z c st).sees in
-    let one : 1 ≤ run.references 0 f = subst (λ n. 1 ≤ n) own some in
+    let own : run.references 0 f ≡ (state_of zone z.seen).references 0 f
+    = ap (λ (l : State). l.references 0 f) (zone_rests zone k.run z k.is.legal (past_of_run zone k.run z fits) is.zone_is free) in
+    let one : 1 ≤ run.references 0 f = subst (λ n. 1 ≤ n) (sym own) some in
     let live : is_live_phase (run.phases f) ≡ true = live_from_one run 0 f stands.sound one in
-    let part = sum_part (run.zone.cpus + 1) (λ q. run.references q f) 0 (omega arith) in
     let j = frame_base zone + f in
     let found : live_references run f ≡ slice_index b.words j =
     sym (live_word run f live (live_references run f)) ∙ word_now zone (words_in zone b.words) k.run f k.is inside ∙ frame_reads zone f b.words in
     let range = (live_are_referenced zone k.run k.is.legal f).some live in
-    let r = stays zone b k id j (slice_index b.words j) (z ∷ c ∷ []) at refl in (
+    let r = stays zone b k id j (slice_index b.words j) (z ∷ []) at refl in (
       r.0,
       r.1,
       r.2,
@@ -128,10 +129,14 @@ sees_references t s f is inside some =
       (
         r.4.0,
         record {
-          counted = record { run = k.run; zone_begins = fit.0; cpu_begins = fit.1; legal = k.is.legal; counted = found };
-          own = omega (arith, own, part, found);
+          counted = record { run = k.run; begins = fits.goes; legal = k.is.legal; counted = found };
+          some = (let a = range.0 in omega (arith, a, found));
           most = (let a = range.1 in omega (arith, a, found));
           later_is = r.4.1;
         },
       ),
     ))
+
+-- the seat has the past that it had
+pub same_zone : (t : KnownTable) (s s' : KnownPasts) → IsZonePast t s → s'.table ≡ s.table → s'.pasts ≡ own_past s ∷ [] → s' ≡ s
+same_zone t s s' is table later i = record { table = table i; pasts = (later ∙ sym is.alone) i }

@@ -1,8 +1,11 @@
-//! Loads under the lock that are no step.
+//! Loads that are no step.
 ghost use Rattle.std.specs.Prelude.{◌≡◌, ◌<◌, ◌≤◌, IfSome};
 ghost use Rattle.frame_word.specs.ReferenceRule.{most_references};
 ghost use Rattle.stock_word.specs.Stock.{HasWord};
-ghost use Rattle.boot_words.specs.Pasts.{local_by_pasts, IsHeld, IsHolder};
+ghost use Rattle.step_rules.specs.After.{state_of};
+ghost use Rattle.boot_words.specs.Locks.{LeavesFree};
+ghost use Rattle.boot_words.specs.Pasts.{local_by_pasts, own_past, IsHeld, IsHolder, IsZonePast};
+ghost use Rattle.boot_words.specs.Seats.{zone_of_boot};
 ghost use Rattle.boot_words.specs.Words.{stock_in};
 ghost use Rattle.boot_words.specs.Looking.{LoadsReferences};
 
@@ -37,17 +40,18 @@ impl BootWords {
         Stock::of_word(self.load::<Brand>(held, Word::StockOf(cpu))).group()
     }
 
-    /// The number of references on a frame of which the zone has one, by one load. It is the number at that load; CPUs may
-    /// get and put before and after it.
-    pub fn references(&self, held: &mut PastSeat, frame: Frame) -> u64
-        requires held { IsHeld self.now held.old }
+    /// The number of references on a frame of which the zone has one, while nobody holds the lock, by one load. It is the
+    /// number at that load; CPUs may get and put before and after it.
+    pub fn references(&self, zone: &mut PastSeat, frame: Frame) -> u64
+        requires zone { IsZonePast self.now zone.old }
+        requires free { LeavesFree (zone_of_boot self.now) (own_past zone.old) }
         requires frame { frame < self.now.frames }
-        requires reference { 1 ≤ (local_by_pasts self.now held.old).references 0 frame }
-        ensures counted { LoadsReferences self.now held.old frame result }
-        ensures own { (local_by_pasts self.now held.old).references 0 frame ≤ result }
+        requires reference { 1 ≤ (state_of (zone_of_boot self.now) (own_past zone.old).seen).references 0 frame }
+        ensures counted { LoadsReferences (zone_of_boot self.now) (own_past zone.old) frame result }
+        ensures some { 1 ≤ result }
         ensures most { result ≤ most_references }
-        ensures same { held.new ≡ held.old }
+        ensures same { zone.new ≡ zone.old }
     {
-        self.load::<Brand>(held, Word::OfFrame(frame))
+        self.load::<Brand>(zone, Word::OfFrame(frame))
     }
 }

@@ -25,8 +25,7 @@ pub record ReadsUnderLock (table : KnownTable) (tells : KnownMachine → Type 0)
   pub told : tells left.machine
 
 -- What a text of the units of a group leaves, by the number of the group, if there is one. If there is none, `none`
--- holds and the machine stays the same. Else the zone's seat looked at the words of the group's kept units, and `tells`
--- holds of the text of these.
+-- holds. Else `tells` holds of the text of the group's kept units.
 abbrev pub UnitsAt : Option ℕ → (none : Type 0) → (tells : List ℕ → Type 0) → (before after : KnownMachine) → Type 0
 UnitsAt None none tells before after = none × (after ≡ before)
 UnitsAt (Some group) none tells before after = ReadsUnits group tells before after

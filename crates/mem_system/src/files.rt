@@ -3,7 +3,7 @@
 ghost use Rattle.std.specs.Prelude.{◌≢◌, ℕ, IsTrue, IfOk, IfErr, List};
 ghost use Rattle.group_tree.specs.Groups.{has_group};
 ghost use Rattle.mem_system.specs.Outcomes.{ComesToForAny, HasItsGroups, reply_of};
-ghost use Rattle.mem_machine.specs.Local.{MakesForAny, SomeSeenByRun};
+ghost use Rattle.mem_machine.specs.Local.{Makes, SomeSeenByRun};
 ghost use Rattle.mem_machine.specs.Transitions.{BySteps};
 ghost use Rattle.mem_system.specs.Files.{IsFileOf, HasNoFile, Reads, Writes, WritesTo};
 ghost use Rattle.mem_system.specs.Files.{KeepsAnyVisit, SetsLimit};
@@ -57,7 +57,7 @@ fn set_limit<N: BootName>(
     requires there { IsTrue (has_group machine.old.ledger.groups group) }
     requires below_root { group ≢ 0 }
     requires shown { SomeSeenByRun N.frames machine.old }
-    ensures sets { BySteps MakesForAny N.frames (SetsLimit group limit) machine.old machine.new }
+    ensures sets { BySteps Makes N.frames (SetsLimit group limit) machine.old machine.new }
     ensures stays { KeepsAnyVisit N.frames machine.old machine.new }
 {
     machine.set_max(tables, group, limit);

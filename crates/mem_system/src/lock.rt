@@ -12,7 +12,7 @@ ghost use Rattle.mem_system.specs.Locked.{IsQuiet};
 ghost use Rattle.zone_blocks.specs.Config.{IsValidConfig};
 
 use crate::cpus::Cpu;
-use boot_words::OwnSeats;
+use boot_words::CpuSeat;
 use cpu_part::{BootName, Tables};
 use group_charge::charges::Charges;
 use group_tree::group::GroupId;
@@ -27,7 +27,7 @@ use zone_blocks::config::Config;
 pub struct Locked<N: BootName> {
     pub(crate) machine: Machine<N>,
     pub(crate) sizes: Config,
-    pub(crate) seats: Vec<OwnSeats>,
+    pub(crate) seats: Vec<CpuSeat>,
 }
 
 impl<N: BootName> Model for Locked<N> {
@@ -135,6 +135,7 @@ impl<N: BootName> Locked<N> {
     pub fn meet(&mut self, tables: &Tables<N>, cpu: &mut Cpu<N>)
         ensures locked { self.new ≡ record self.old { machine = with_past self.old.machine self.new.machine.run.past } }
         ensures part { cpu.new.part ≡ cpu.old.part }
+        ensures last { cpu.new.last ≡ cpu.old.last }
         ensures meets { Meets N.frames self.old.machine.run.past cpu.old.past self.new.machine.run.past cpu.new.past }
     {
         self.machine.meet(tables, &cpu.part, &mut cpu.past);

@@ -36,12 +36,12 @@ pub fn serve_outcome<N: BootName>(
         (locked_state locked.new cpu.new) }
     ensures groups { HasItsGroups locked.new.machine.ledger result }
     ensures settled { IsSettledAfter cmd.now (reply_of locked.new.machine.ledger result) cpu.new.part }
-    ensures ends { EndsVisit N.frames (locked_state locked.old cpu.old) (locked_state locked.new cpu.new) }
+    ensures ends { EndsVisit (locked_state locked.old cpu.old) (locked_state locked.new cpu.new) }
     ensures lost { LosesNoUnit N.frames locked.new.machine }
 {
     locked.machine.lock(tables, &cpu.part, &mut cpu.past);
     locked.machine.forget_notes();
-    locked.machine.open(tables, &mut cpu.part);
+    locked.machine.open(tables, &cpu.part);
     locked.machine.settle(tables, &mut cpu.part);
     let outcome = execute(
         &mut locked.machine,
@@ -50,7 +50,7 @@ pub fn serve_outcome<N: BootName>(
         locked.sizes,
         cmd,
     );
-    locked.machine.shut(tables, &mut cpu.part);
+    locked.machine.shut(tables, &cpu.part);
     locked.machine.unlock(tables, &cpu.part, &mut cpu.past);
     locked.machine.prove_consistent();
     outcome
@@ -69,7 +69,7 @@ pub(crate) fn serve_into<N: BootName>(
     ensures served { IsServed N.frames cmd.now reply.new (locked_state locked.old cpu.old)
         (locked_state locked.new cpu.new) }
     ensures settled { IsSettledAfter cmd.now reply.new cpu.new.part }
-    ensures ends { EndsVisit N.frames (locked_state locked.old cpu.old) (locked_state locked.new cpu.new) }
+    ensures ends { EndsVisit (locked_state locked.old cpu.old) (locked_state locked.new cpu.new) }
 {
     let outcome = serve_outcome(locked, tables, cpu, cmd);
     set_reply(locked.charges(), outcome, reply);
@@ -88,7 +88,7 @@ pub fn serve<N: BootName>(
     ensures served { IsServed N.frames cmd.now result (locked_state locked.old cpu.old)
         (locked_state locked.new cpu.new) }
     ensures settled { IsSettledAfter cmd.now result cpu.new.part }
-    ensures ends { EndsVisit N.frames (locked_state locked.old cpu.old) (locked_state locked.new cpu.new) }
+    ensures ends { EndsVisit (locked_state locked.old cpu.old) (locked_state locked.new cpu.new) }
 {
     let mut reply = Reply::Done;
     serve_into(locked, tables, cpu, cmd, &mut reply);
@@ -110,17 +110,17 @@ pub fn serve_frame_outcome<N: BootName>(
     ensures groups { HasItsGroups locked.new.machine.ledger result }
     ensures fresh { FreshOf (reply_of locked.new.machine.ledger result) 0 cpu.new.part.fresh }
     ensures back { cpu.new.part.back ≡ [] }
-    ensures ends { EndsVisit N.frames (locked_state locked.old cpu.old) (locked_state locked.new cpu.new) }
+    ensures ends { EndsVisit (locked_state locked.old cpu.old) (locked_state locked.new cpu.new) }
     ensures lost { LosesNoUnit N.frames locked.new.machine }
 {
     let sizes = locked.sizes;
     let machine = &mut locked.machine;
     machine.lock(tables, &cpu.part, &mut cpu.past);
     machine.forget_notes();
-    machine.open(tables, &mut cpu.part);
+    machine.open(tables, &cpu.part);
     machine.settle(tables, &mut cpu.part);
     let answer = alloc_frame(machine, tables, &mut cpu.part, sizes, group);
-    machine.shut(tables, &mut cpu.part);
+    machine.shut(tables, &cpu.part);
     machine.unlock(tables, &cpu.part, &mut cpu.past);
     machine.prove_consistent();
     outcome_of(&answer)
@@ -130,7 +130,7 @@ pub fn serve_frame_outcome<N: BootName>(
 pub fn settle<N: BootName>(locked: &mut Locked<N>, tables: &Tables<N>, cpu: &mut Cpu<N>)
     ensures served { SettlesCaller N.frames (locked_state locked.old cpu.old) (locked_state locked.new cpu.new) }
     ensures settled { IsSettled cpu.new.part }
-    ensures ends { EndsVisit N.frames (locked_state locked.old cpu.old) (locked_state locked.new cpu.new) }
+    ensures ends { EndsVisit (locked_state locked.old cpu.old) (locked_state locked.new cpu.new) }
 {
     let _done = serve_outcome(locked, tables, cpu, &Cmd::Settle);
 }
