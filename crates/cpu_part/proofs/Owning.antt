@@ -1,5 +1,5 @@
 -- A CPU's lists and pins after each of its steps without the lock.
-use Rattle.std.proofs.Common.{◌≡◌, ◌≢◌, ℕ, ◌+◌, ◌-◌, ◌<◌, ◌≤◌, ◌==◌, List, [], ◌∷◌, ◌++◌, length, get_or, refl, sym, ap, ◌∙◌, arith}
+use Rattle.std.proofs.Common.{◌≡◌, ◌≢◌, ℕ, ◌+◌, ◌-◌, ◌<◌, ◌≤◌, ◌==◌, List, [], ◌∷◌, ◌++◌, length, get_or, refl, sym, ap, ◌∙◌, arith, inr}
 use Rattle.std.proofs.lemmas.Bool.{cond-false, ne_eqb}
 use Rattle.std.specs.Prelude.{IsPermutation, remove}
 use Rattle.step_rules.specs.declared.step.Action.TheVariants.{Get, Put, Consume, Credit}
@@ -8,6 +8,8 @@ use Rattle.step_rules.specs.State.{Part, State, front_of, with_at, with_last, wi
 use Rattle.step_rules.specs.After.{after, credited, paid, with_back}
 use Rattle.step_rules.proofs.Basics.{at_each, at_same}
 use Rattle.step_rules.proofs.Lists.{removed_once, times_same, times_other, times_last, without_front}
+use Rattle.step_rules.specs.Views.{seen_by}
+use Rattle.step_rules.proofs.CoverParts.{own_part, own_reference}
 use Rattle.boot_words.specs.Sight.{HasSameLists}
 use Rattle.cpu_part.specs.Cpus.{KnownCpu}
 use Rattle.cpu_part.specs.Known.{HasOwn}
@@ -85,3 +87,26 @@ module _ (s : State) (c : KnownCpu) (own : HasOwn s c) where
         back = ap (λ (part : Part). part.back) here ∙ ap (λ (l : List ℕ). with_last l f) own.back ∙ sym end;
         references = fewer f pins parts;
       }
+
+-- ---- what the CPU sees
+
+module _ (s : State) (c : KnownCpu) where
+  here : (seen_by c.number s).parts c.number ≡ s.parts c.number
+  here = own_part c.number s.parts c.number refl
+
+  -- a CPU sees its own lists and references as they are
+  pub own_seen : HasOwn s c → HasOwn (seen_by c.number s) c
+  own_seen own = record {
+    list = ap (λ (part : Part). part.list) here ∙ own.list;
+    fresh = ap (λ (part : Part). part.fresh) here ∙ own.fresh;
+    back = ap (λ (part : Part). part.back) here ∙ own.back;
+    references = λ f. own_reference c.number s.references c.number f (inr refl) ∙ own.references f;
+  }
+
+  pub own_unseen : HasOwn (seen_by c.number s) c → HasOwn s c
+  own_unseen own = record {
+    list = ap (λ (part : Part). part.list) (sym here) ∙ own.list;
+    fresh = ap (λ (part : Part). part.fresh) (sym here) ∙ own.fresh;
+    back = ap (λ (part : Part). part.back) (sym here) ∙ own.back;
+    references = λ f. sym (own_reference c.number s.references c.number f (inr refl)) ∙ own.references f;
+  }

@@ -6,7 +6,7 @@ use Rattle.step_rules.specs.declared.step.Action.TheVariants.{Consume, PassBack}
 use Rattle.step_rules.specs.Invariant.{KeepsInvariant}
 use Rattle.step_rules.specs.State.{Part, Zone, is_frame, times}
 use Rattle.step_rules.specs.After.{state_of}
-use Rattle.step_rules.proofs.CoverParts.{own_part, own_reference}
+use Rattle.step_rules.specs.Views.{seen_by}
 use Rattle.step_rules.proofs.Freeing.{zone_of_run}
 use Rattle.step_rules.proofs.LegalTests.{consume_tests, pass_back_tests}
 use Rattle.step_rules.proofs.Lists.{times_same}
@@ -17,6 +17,7 @@ use Rattle.boot_words.specs.Seats.{zone_of_boot}
 use Rattle.cpu_part.specs.Cpus.{KnownCpu}
 use Rattle.cpu_part.specs.Known.{HasOwn}
 use Rattle.cpu_part.proofs.Legal.{list_inside}
+use Rattle.cpu_part.proofs.Owning.{own_unseen}
 
 module _ (t : KnownTable) (s : KnownPasts) where
   zone_is : (local_by_pasts t s).zone ≡ zone_of_boot t
@@ -42,12 +43,7 @@ module _ (t : KnownTable) (s : KnownPasts) where
     front_inside held holder f rest front =
         let zone = zone_of_boot t in let run = (cpu_past s).seen in
         let sound : KeepsInvariant (state_of zone run) = sound_run zone run held.holds.shows.legal in
-        let mine : (local_by_pasts t s).parts c.number ≡ (state_of zone run).parts c.number = own_part (cpu_past s).number (state_of zone run).parts c.number holder in
-        let there : HasOwn (state_of zone run) c = record {
-          list = ap (λ (part : Part). part.list) (sym mine) ∙ own.list;
-          fresh = ap (λ (part : Part). part.fresh) (sym mine) ∙ own.fresh;
-          back = ap (λ (part : Part). part.back) (sym mine) ∙ own.back;
-          references = λ g. sym (own_reference (cpu_past s).number (state_of zone run).references c.number g (inr holder)) ∙ own.references g;
-        } in
+        let there : HasOwn (state_of zone run) c =
+        own_unseen (state_of zone run) c (subst (λ (q : ℕ). HasOwn (seen_by q (state_of zone run)) c) (sym holder) own) in
         let count = ap (times f) front in let once = times_same f in
         subst (λ (z : Zone). f < z.frames) (zone_of_run zone run) (list_inside (state_of zone run) sound c there f (omega (arith, count, once)))

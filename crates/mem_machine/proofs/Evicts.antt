@@ -37,14 +37,10 @@ use Rattle.mem_machine.proofs.Counted.{returned_ended}
 use Rattle.mem_machine.proofs.Followed.{follows_same, follows_still}
 use Rattle.mem_machine.proofs.Freeing.{free_block_given}
 use Rattle.mem_machine.proofs.Reaching.{zone_step}
-use Rattle.mem_machine.proofs.Releases.{freed_consistent, may_freeze, may_return}
+use Rattle.mem_machine.proofs.Releases.{freed_consistent, kept_here, may_freeze, may_return}
 use Rattle.mem_machine.proofs.Made.{held_here, makes}
 use Rattle.mem_machine.proofs.Sight.{left_seen, left_then}
 use Rattle.mem_machine.proofs.ZoneSteps.{zone_visited}
-
--- the unit is kept, by the machine's fields too
-pub kept_here : (m now : KnownMachine) → m ≡ now → (f : ℕ) → home_of now.links f ≢ None → home_of m.links f ≢ None
-kept_here m now same f kept = subst (λ (x : KnownMachine). home_of x.links f ≢ None) (sym same) kept
 
 -- the zone's reference may be frozen
 pub freeze_may : (t : KnownTable) (m now : KnownMachine) → m ≡ now → IsConsistent t m → (f : ℕ) → f < t.frames → home_of now.links f ≢ None → IsHeld t now.run.past

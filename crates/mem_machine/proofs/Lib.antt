@@ -29,13 +29,11 @@ pub mod Touching
 pub mod Ledgers
 pub mod Usage
 pub mod Grants
-pub mod Placed
 pub mod Units
 pub mod Freeing
 pub mod PlacesUnits
 pub mod BlockCharges
 pub mod Joins
-pub mod KeptUnits
 pub mod Interleaves
 pub mod Tells
 pub mod TakesBlocks

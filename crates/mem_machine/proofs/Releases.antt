@@ -1,15 +1,17 @@
 -- The zone's reference on a kept unit is given up: the unit is freed, or references of CPUs are left. Serves `evict` and
 -- `put_zone_reference`.
-use Rattle.std.proofs.Common.{◌≡◌, ◌≢◌, ℕ, ◌+◌, ◌-◌, ◌^◌, ◌<◌, ◌≤◌, true, false, Option, Some, None, List, [], ◌∷◌, length, get_or, refl, sym, ap, ◌∙◌, subst, inl, inr, arith}
+use Rattle.std.proofs.Common.{◌≡◌, ◌≢◌, ℕ, ◌+◌, ◌-◌, ◌^◌, ◌<◌, ◌≤◌, Bool, true, false, Option, Some, None, List, [], ◌∷◌, length, get_or, refl, sym, ap, ◌∙◌, subst, inl, inr, arith}
 use Rattle.std.specs.Prelude.{is_some, nat_le}
 use Rattle.std.proofs.lemmas.Bool.{and_from, cases_eq, false≢true, lt-ltb, le-leb}
 use Rattle.std.proofs.lemmas.List.{get_or_default}
 use Rattle.std.proofs.lemmas.Option.{none-some}
 use Rattle.zone_blocks.specs.declared.block.Block.{Block}
 use Rattle.zone_blocks.specs.Areas.{AreMaximalBlocks}
+use Rattle.zone_blocks.specs.Zone.{GivesFrames}
 use Rattle.frame_word.specs.Seats.{KnownTable}
-use Rattle.group_charge.specs.Charges.{with_uncharge}
+use Rattle.group_charge.specs.Charges.{Ledger, with_uncharge}
 use Rattle.group_charge.specs.Notes.{KnownNotes}
+use Rattle.group_charge.proofs.CallerLemmas.{uncharge_events, uncharge_peaks}
 use Rattle.lru_lists.specs.declared.record.Link.{Link}
 use Rattle.lru_lists.specs.declared.record.Home.{Home}
 use Rattle.lru_lists.specs.declared.lru.Lru.{Lru}
@@ -26,11 +28,15 @@ use Rattle.step_rules.specs.declared.step.Answer.TheVariants as answer
 use Rattle.step_rules.specs.Phases.{at_stage, is_live_phase, is_returnable, unit_of}
 use Rattle.step_rules.specs.State.{State, Zone, is_frame, one_if, with_at}
 use Rattle.step_rules.specs.Legal.{is_legal}
-use Rattle.step_rules.specs.After.{after}
+use Rattle.step_rules.specs.After.{Run, after, state_of}
 use Rattle.step_rules.specs.Laws.{IsLocalStep}
 use Rattle.step_rules.proofs.Basics.{at_same, at_other}
+use Rattle.step_rules.proofs.Living.{live_are_referenced}
+use Rattle.step_rules.proofs.Referring.{live_from_references}
+use Rattle.step_rules.proofs.Runs.{sound_run}
 use Rattle.boot_words.specs.Hidden.{hide, hide_phase}
-use Rattle.boot_words.specs.Pasts.{KnownPasts, IsHeld, MakesStep, cpu_past, local_by_pasts}
+use Rattle.boot_words.specs.Pasts.{KnownPasts, IsHeld, MakesStep, MayMake, cpu_past, local_by_pasts}
+use Rattle.boot_words.specs.Seats.{zone_of_boot}
 use Rattle.step_watch.specs.Watched.{Watches}
 use Rattle.mem_machine.specs.declared.counts.Counts.{Counts}
 use Rattle.mem_machine.specs.declared.frame_state.FrameState.{FrameState}
@@ -38,15 +44,25 @@ use Rattle.mem_machine.specs.declared.frame_state.FrameState.TheVariants.{Free, 
 use Rattle.mem_machine.specs.FrameStates.{frame_state_at, free_of, phase_hidden}
 use Rattle.mem_machine.specs.Freeing.{FreesFrames}
 use Rattle.mem_machine.specs.Lists.{LeavesList}
-use Rattle.mem_machine.specs.Local.{local_of}
+use Rattle.mem_machine.specs.declared.releasing.Released.{Released}
+use Rattle.mem_machine.specs.declared.releasing.Released.TheVariants.{Left, Returned}
+use Rattle.mem_machine.specs.Releasing.{Releases, release_steps}
+use Rattle.mem_machine.specs.Counts.{with_last_put}
+use Rattle.mem_machine.specs.Counting.{one_more_last_put}
+use Rattle.mem_machine.specs.Local.{Makes, StaysVisited, holder_of, local_of}
 use Rattle.mem_machine.specs.Machines.{KnownMachine, BalancesCounts, FitsFrameState, IsConsistent, IsShownBy, group_lists, home_of, left_by, lists_of, pages_booked}
 use Rattle.mem_machine.specs.Noted.{KnownRun, MayTake, Notes}
 use Rattle.mem_machine.specs.Steps.{zone_makes}
-use Rattle.mem_machine.proofs.Freeing.{homes_fit, pages_freed, phases_freed, units_freed}
+use Rattle.mem_machine.proofs.Balances.{balanced_last_put}
+use Rattle.mem_machine.proofs.Behind.{behind}
+use Rattle.mem_machine.proofs.Counted.{returned_ended}
+use Rattle.mem_machine.proofs.Followed.{follows_same, follows_still}
+use Rattle.mem_machine.proofs.Freeing.{free_block_given, homes_fit, pages_freed, phases_freed, units_freed}
 use Rattle.mem_machine.proofs.Noted.{notes_both, notes_one}
 use Rattle.mem_machine.proofs.Reaching.{zone_step}
-use Rattle.mem_machine.proofs.Made.{zone_acts, zone_seen}
+use Rattle.mem_machine.proofs.Made.{held_here, makes, zone_acts, zone_seen}
 use Rattle.mem_machine.proofs.Sight.{left_then, shown_seen}
+use Rattle.mem_machine.proofs.ZoneSteps.{zone_visited}
 
 -- a home that is there counts one reference
 kept_once : (home : Option Home) (n : ℕ) → n ≡ one_if (is_some home) → home ≢ None → n ≡ 1
@@ -238,3 +254,137 @@ pub return_may : (t : KnownTable) (past later : KnownPasts) (f i : ℕ) → i �
 return_may t past later f i is action answered made legal =
     subst (λ (x : ℕ × State). IsLocalStep x.1 (cpu_past later).number 0 (Return x.0) answer.Done) (λ j. (sym is j, sym made.local_is j))
     (zone_step (after (local_by_pasts t past) 0 action answered) (cpu_past later).number (Return f) answer.Done refl legal tt)
+
+-- the unit is kept, by the machine's fields too
+pub kept_here : (m now : KnownMachine) → m ≡ now → (f : ℕ) → home_of now.links f ≢ None → home_of m.links f ≢ None
+kept_here m now same f kept = subst (λ (x : KnownMachine). home_of x.links f ≢ None) (sym same) kept
+
+-- ---- the zone puts its reference
+
+-- how many references a put leaves
+pub left_few : (t : KnownTable) (past later : KnownPasts) (f n : ℕ) → IsHeld t past → MakesStep t past 0 (Put f) (answer.Left n) later → (1 ≤ n) × (n < 255)
+left_few t past later f n held made =
+    let at = behind t past later 0 (Put f) (answer.Left n) held made in
+    let zone = zone_of_boot t in
+    let counted = at.allowed.counted.0 in
+    let some = at.allowed.counted.1 in
+    let live = live_from_references (state_of zone at.run) f (sound_run zone at.run at.legal) (omega (arith, counted)) in
+    let most = ((live_are_referenced zone at.run at.legal f).some live).1 in
+    (some, omega (arith, counted, most))
+
+-- the zone's reference may be put
+pub put_may : (t : KnownTable) (m now : KnownMachine) → m ≡ now → IsConsistent t m → (f : ℕ) → f < t.frames → home_of now.links f ≢ None → IsHeld t now.run.past
+    → MayMake t m.run.past 0 (Put f)
+put_may t m now same ok f inside kept held = may_put t m ok (held_here t m now same held) f inside (kept_here m now same f kept)
+
+-- behind the last put the unit may be returned
+pub put_returns : (t : KnownTable) (m now : KnownMachine) → m ≡ now → IsConsistent t m → (f i : ℕ) → f < t.frames → i ≡ f → home_of now.links f ≢ None → IsHeld t now.run.past
+    → (unit : ChargedUnit) → frame_state_at m.frame_states i ≡ Head unit → is_legal (after (local_by_pasts t m.run.past) 0 (Put f) answer.Last) 0 (Return f) ≡ true
+put_returns t m now same ok f i inside is kept held unit head =
+    may_return t m ok (held_here t m now same held) f inside (kept_here m now same f kept) unit (subst (λ (x : ℕ). frame_state_at m.frame_states x ≡ Head unit) is head)
+
+pub record AllReleased (t : KnownTable) (now n : KnownMachine) (f : ℕ) (result : Released) (free : List Bool) : Type 0 where
+  pub consistent : IsConsistent t n
+  pub free_is : free ≡ free_of n.frame_states
+  pub releases : Releases f result now n
+  pub visit : StaysVisited t now n
+  pub steps : Makes t now (release_steps f result) n
+
+module _ (t : KnownTable) (m : KnownMachine) (ok : IsConsistent t m) (held : IsHeld t m.run.past) (f : ℕ) (inside : f < t.frames) (kept : home_of m.links f ≢ None)
+    (links : List Link) (lists : List Lru) (leaves : LeavesList f (lists_of m) (group_lists links lists)) (stand : AllLinked links lists)
+    (linked : length links ≡ t.frames) (listed : length lists ≡ 64) (run : KnownRun) where
+  -- references of CPUs are left
+  left_here : (left : ℕ) → 1 ≤ left → Notes t m.run (release_steps f (Left left)) run → (free : List Bool) → free ≡ free_of m.frame_states
+      → AllReleased t m (record m { links = links; lists = lists; run = run }) f (Left left) free
+  left_here left some noted free was =
+      let n : KnownMachine = record m { links = links; lists = lists; run = run } in
+      let steps : Run = release_steps f (Left left) in
+      record {
+        consistent = left_consistent t m ok held f inside kept links lists leaves left stand linked listed run noted;
+        free_is = was;
+        releases = record { list = leaves; some = some; machine = refl };
+        visit = zone_visited t m n steps noted refl refl (λ p some. at_other (local_of t m).references 0 _ p some);
+        steps = makes t m n steps held noted
+            (zone_step (local_of t m) (holder_of m) (Put f) (answer.Left left) refl (may_put t m ok held f inside kept) tt, refl) (follows_same _ _ _ refl) refl;
+      }
+
+  -- the unit is freed
+  returned_here : (unit : ChargedUnit) (heads : frame_state_at m.frame_states f ≡ Head unit) (before free : List Bool) → before ≡ free_of m.frame_states
+      → GivesFrames before (record { at = f; order = unit.order }) free → (frame_states : List FrameState) → FreesFrames f (2 ^ unit.order) m.frame_states frame_states
+      → (blocks : List Block) → AreMaximalBlocks free blocks → Notes t m.run (release_steps f Returned) run
+      → AllReleased t m (record m {
+        blocks = blocks;
+        frame_states = frame_states;
+        ledger = with_uncharge m.ledger unit.group (2 ^ unit.order);
+        links = links;
+        lists = lists;
+        counts = with_last_put m.counts;
+        run = run;
+      }) f Returned free
+  returned_here unit heads before free was gives frame_states frees blocks areas_free noted =
+      let steps : Run = release_steps f Returned in
+      let free_is : free ≡ free_of frame_states =
+      free_block_given before free m.frame_states frame_states f unit.order (ok.units.heads f unit heads).block.inside was gives frees in
+      let areas : AreMaximalBlocks (free_of frame_states) blocks = subst (λ (l : List Bool). AreMaximalBlocks l blocks) free_is areas_free in
+      let n : KnownMachine = record m {
+        blocks = blocks;
+        frame_states = frame_states;
+        ledger = with_uncharge m.ledger unit.group (2 ^ unit.order);
+        links = links;
+        lists = lists;
+        counts = with_last_put m.counts;
+        run = run;
+      } in
+      record {
+        consistent = freed_consistent t m ok held f inside kept links lists leaves unit heads frame_states frees blocks areas stand linked listed (with_last_put m.counts)
+            (balanced_last_put m.counts ok.balances) m.notes run (left_then t m steps run held noted);
+        free_is = free_is;
+        releases = record { unit = unit; heads = heads; list = leaves; frees = frees; areas = areas; machine = refl };
+        visit = zone_visited t m n steps noted refl refl (λ p some. at_other (local_of t m).references 0 _ p some);
+        steps = makes t m n steps held noted
+            (
+              zone_step (local_of t m) (holder_of m) (Put f) answer.Last refl (may_put t m ok held f inside kept) tt,
+              (zone_step _ (holder_of m) (Return f) answer.Done refl (may_return t m ok held f inside kept unit heads) tt, refl),
+            )
+            (follows_still _ m.ledger steps _ refl (uncharge_peaks m.ledger unit.group (2 ^ unit.order)) (uncharge_events m.ledger unit.group (2 ^ unit.order)))
+            (sym (returned_ended (local_of t m) f (one_more_last_put m.counts)));
+      }
+
+-- ---- the same of the machine as it was seen before
+
+pub left_all : (t : KnownTable) (m now : KnownMachine) → m ≡ now → IsConsistent t m → (f i : ℕ) → f < t.frames → i ≡ f → home_of now.links f ≢ None → IsHeld t now.run.past
+    → (links : List Link) (lists : List Lru) → LeavesList i (lists_of m) (group_lists links lists) → AllLinked links lists → length links ≡ length m.links → length lists ≡ 64
+    → (left : ℕ) → 1 ≤ left → (run : KnownRun) → Notes t m.run (release_steps f (Left left)) run → (free : List Bool) → free ≡ free_of m.frame_states
+    → AllReleased t now (record m { links = links; lists = lists; run = run }) f (Left left) free
+left_all t m now same ok f i inside is kept held links lists leaves stand linked listed left some run noted free was =
+    subst (λ (x : KnownMachine). AllReleased t x (record m { links = links; lists = lists; run = run }) f (Left left) free) same
+    (left_here t m ok (held_here t m now same held) f inside (kept_here m now same f kept) links lists
+    (subst (λ (x : ℕ). LeavesList x (lists_of m) (group_lists links lists)) is leaves) stand (linked ∙ ok.sizes.links) listed run left some noted free was)
+
+pub returned_all : (t : KnownTable) (m now : KnownMachine) → m ≡ now → IsConsistent t m → (f i : ℕ) → f < t.frames → i ≡ f → home_of now.links f ≢ None → IsHeld t now.run.past
+    → (links : List Link) (lists : List Lru) → LeavesList i (lists_of m) (group_lists links lists) → AllLinked links lists → length links ≡ length m.links → length lists ≡ 64
+    → (unit : ChargedUnit) → frame_state_at m.frame_states i ≡ Head unit
+    → (before free : List Bool) (blocks : List Block) (frame_states : List FrameState) (ledger : Ledger) (counts : Counts)
+    → before ≡ free_of m.frame_states → FreesFrames i (2 ^ unit.order) m.frame_states frame_states → GivesFrames before (record { at = i; order = unit.order }) free
+    → AreMaximalBlocks free blocks → ledger ≡ with_uncharge m.ledger unit.group (2 ^ unit.order) → counts ≡ with_last_put m.counts
+    → (run : KnownRun) → Notes t m.run (release_steps f Returned) run
+    → AllReleased t now (record m {
+      blocks = blocks;
+      frame_states = frame_states;
+      ledger = ledger;
+      links = links;
+      lists = lists;
+      counts = counts;
+      run = run;
+    }) f Returned free
+returned_all t m now same ok f i inside is kept held links lists leaves stand linked listed unit head before free blocks frame_states ledger counts was frees gives areas
+    uncharged counted run noted =
+    let all = returned_here t m ok (held_here t m now same held) f inside (kept_here m now same f kept) links lists
+    (subst (λ (x : ℕ). LeavesList x (lists_of m) (group_lists links lists)) is leaves) stand (linked ∙ ok.sizes.links) listed run unit
+    (subst (λ (x : ℕ). frame_state_at m.frame_states x ≡ Head unit) is head) before free was
+    (subst (λ (x : ℕ). GivesFrames before (record { at = x; order = unit.order }) free) is gives) frame_states
+    (subst (λ (x : ℕ). FreesFrames x (2 ^ unit.order) m.frame_states frame_states) is frees) blocks areas noted in
+    subst (λ (x : KnownMachine × KnownMachine). AllReleased t x.0 x.1 f Returned free) (λ j. (
+      same j,
+      record m { blocks = blocks; frame_states = frame_states; ledger = sym uncharged j; links = links; lists = lists; counts = sym counted j; run = run },
+    )) all

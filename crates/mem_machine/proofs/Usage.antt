@@ -12,7 +12,7 @@ use Rattle.step_rules.specs.declared.phase.Stage.TheVariants.{FreshAt, Live, Bac
 use Rattle.step_rules.specs.declared.phase.Way.TheVariants.{OnList}
 use Rattle.step_rules.specs.declared.phase.Phase.{Phase}
 use Rattle.step_rules.specs.declared.phase.Phase.TheVariants as phase
-use Rattle.step_rules.specs.Invariant.{IsBooked, KeepsInvariant, PhasePaid, groups_in}
+use Rattle.step_rules.specs.Invariant.{KeepsInvariant, PhasePaid, groups_in, told_pages}
 use Rattle.step_rules.specs.Phases.{keeper_of}
 use Rattle.step_rules.specs.State.{Part, State, one_if, sum_to}
 use Rattle.step_rules.specs.After.{Run, state_of}
@@ -51,7 +51,7 @@ keeper_hidden cpus groups phase.InZone paid = refl
 keeper_hidden cpus groups (phase.Lent q way) paid = refl
 keeper_hidden cpus groups (phase.Tail g) paid = refl
 
-usage_hidden : (s : State) → KeepsInvariant s → (p g : ℕ) → usage_of (seen_by p s) g ≡ usage_of (hide s) g
+pub usage_hidden : (s : State) → KeepsInvariant s → (p g : ℕ) → usage_of (seen_by p s) g ≡ usage_of (hide s) g
 usage_hidden s sound p g =
     let n = s.zone.cpus in
     let frames : frames_kept s.groups (λ f. phase_seen_by (n + 1) (s.phases f)) s.zone.frames g ≡ frames_kept s.groups (λ f. hide_phase (s.phases f)) s.zone.frames g =
@@ -70,24 +70,14 @@ keeper_is (Lent q) = refl
 keeper_is (Head unit) = refl
 keeper_is (Tail g) = refl
 
-module _ (t : KnownTable) (m : KnownMachine) (ok : IsConsistent t m) (charges : AreCharges m.ledger) (is : IsHeld t m.run.past) (g : ℕ) where
-  -- what the zone's past left, whole
-  abbrev u : State
-  u = state_of (zone_of_boot t) (own_past m.run.past).seen
-
-  sound : KeepsInvariant (state_of (zone_of_boot t) (own_past m.run.past).seen)
-  sound = subst (λ (r : Run). KeepsInvariant (state_of (zone_of_boot t) r)) (sym is.holds.same)
-      (sound_run (zone_of_boot t) (cpu_past m.run.past).seen is.holds.shows.legal)
-
-  -- all pages of a book are in the stock, or paid for fresh frames
-  book_is : (q : ℕ) → ((left_by t m.run.past).parts q).stock.pages ≡ ((left_by t m.run.past).parts q).book
-  book_is q = let booked = sound.booked q in let none = ok.shown.absorbed q in omega (arith, booked, none)
-
+module _ (t : KnownTable) (m : KnownMachine) (ok : IsConsistent t m) (charges : AreCharges m.ledger) (g : ℕ) where
   stock_is : (groups : List Group) (part : Part) → part.stock.pages ≡ part.book → stock_in_subtree groups g part ≡ cond (is_in_subtree groups g part.stock.group) part.book 0
   stock_is groups part same = ap (λ (n : ℕ). cond (is_in_subtree groups g part.stock.group) n 0) same
 
-  usage_left : usage_of (left_by t m.run.past) g ≡ current_of m.ledger g
-  usage_left =
+  -- if all pages of each book are in the stock, or paid for fresh frames
+  pub usage_left : ((q : ℕ) → ((left_by t m.run.past).parts q).stock.pages ≡ ((left_by t m.run.past).parts q).book)
+      → usage_of (left_by t m.run.past) g ≡ current_of m.ledger g
+  usage_left book_is =
       let s = left_by t m.run.past in
       let groups = m.ledger.groups in
       let zone : s.zone ≡ zone_of_boot t = zone_of_run (zone_of_boot t) (own_past m.run.past).seen in
@@ -101,9 +91,15 @@ module _ (t : KnownTable) (m : KnownMachine) (ok : IsConsistent t m) (charges : 
       let all = ledger_visit_state t m ok charges g in
       omega (arith, frames, stocks, none, all)
 
-  -- the usage that the rules of the steps count is the ledger's
-  pub usage_is : usage_of (local_of t m) g ≡ current_of m.ledger g
-  usage_is =
-      usage_hidden (state_of (zone_of_boot t) (cpu_past m.run.past).seen) (sound_run (zone_of_boot t) (cpu_past m.run.past).seen is.holds.shows.legal) (cpu_past m.run.past).number g
-      ∙ ap (λ (r : Run). usage_of (hide (state_of (zone_of_boot t) r)) g) (sym is.holds.same)
-      ∙ usage_left
+-- the usage that the rules of the steps count is the ledger's
+pub usage_is : (t : KnownTable) (m : KnownMachine) → IsConsistent t m → AreCharges m.ledger → IsHeld t m.run.past → (g : ℕ) → usage_of (local_of t m) g ≡ current_of m.ledger g
+usage_is t m ok charges is g =
+    let zone = zone_of_boot t in
+    let seen = (cpu_past m.run.past).seen in
+    let sound : KeepsInvariant (state_of zone seen) = sound_run zone seen is.holds.shows.legal in
+    let left : left_by t m.run.past ≡ hide (state_of zone seen) = ap (λ (r : Run). hide (state_of zone r)) is.holds.same in
+    let book_is : (q : ℕ) → ((left_by t m.run.past).parts q).stock.pages ≡ ((left_by t m.run.past).parts q).book = λ q.
+    let booked = sound.booked q in let none = ok.shown.absorbed q in
+    let pages = ap (λ (s : State). (s.parts q).stock.pages) left in let book = ap (λ (s : State). (s.parts q).book) left in
+    let told = ap (λ (s : State). told_pages (s.parts q)) left in omega (arith, booked, none, pages, book, told) in
+    usage_hidden (state_of zone seen) sound (cpu_past m.run.past).number g ∙ ap (λ (s : State). usage_of s g) (sym left) ∙ usage_left t m ok charges g book_is
