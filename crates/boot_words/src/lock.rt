@@ -5,7 +5,7 @@ ghost use Rattle.boot_words.specs.Locks.{LeavesFree};
 ghost use Rattle.boot_words.specs.Pasts.{local_by_pasts, own_past, IsHeld, IsHolder, IsZonePast, Locks, MayMake, Unlocks};
 ghost use Rattle.boot_words.specs.Seats.{zone_of_boot};
 ghost use Rattle.boot_words.specs.Words.{stock_in};
-ghost use Rattle.boot_words.specs.Cpus.{IsAwayCpu, SawLast};
+ghost use Rattle.boot_words.specs.Cpus.{IsAwayCpu, SawLast, state_left};
 
 use crate::cpu::CpuSeat;
 use crate::raw::{PastSeat, BootWords};
@@ -36,6 +36,7 @@ impl BootWords {
         requires legal { MayMake self.now zone.old cpu.old.number step.Unlock }
         ensures run { Unlocks self.now zone.old zone.new cpu.new.seat }
         ensures cpu { IsAwayCpu self.now cpu.new }
+        ensures last { cpu.new.last ≡ stock_in ((state_left self.now cpu.new).parts cpu.new.number) }
     {
         let found = self.load::<Brand>(zone, Word::StockOf(cpu.number));
         cpu.past = self.split_others(zone);

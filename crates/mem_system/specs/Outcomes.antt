@@ -55,7 +55,7 @@ ComesTo table outcome Does before after =
     BySteps VisitMakes table (Does (reply_of after.machine.ledger outcome)) before after
 
 -- the same for a call on the machine alone
-abbrev pub ComesToForAny : KnownTable → Outcome → (Reply → Transition KnownMachine → Type 0)
+abbrev pub ComesToAlone : KnownTable → Outcome → (Reply → Transition KnownMachine → Type 0)
     → (before after : KnownMachine) → Type 0
-ComesToForAny table outcome Does before after =
+ComesToAlone table outcome Does before after =
     BySteps Makes table (Does (reply_of after.ledger outcome)) before after

@@ -26,9 +26,9 @@ pub record ReadsUnderLock (table : KnownTable) (tells : KnownMachine → Type 0)
 
 -- What a text of the units of a group leaves, by the number of the group, if there is one. If there is none, `none`
 -- holds. Else `tells` holds of the text of the group's kept units.
-abbrev pub UnitsAt : Option ℕ → (none : Type 0) → (tells : List ℕ → Type 0) → (before after : KnownMachine) → Type 0
-UnitsAt None none tells before after = none × (after ≡ before)
-UnitsAt (Some group) none tells before after = ReadsUnits group tells before after
+abbrev pub UnitsAt : KnownTable → Option ℕ → (none : Type 0) → (tells : List ℕ → Type 0) → (before after : KnownMachine) → Type 0
+UnitsAt table None none tells before after = none × (after ≡ before)
+UnitsAt table (Some group) none tells before after = ReadsUnits table group tells before after
 
 -- What a text through the lock says if it needs looks at words. Some sound value was behind the lock, the caller was
 -- settled in it, which left a sound value, and so did the looks. `tells` holds of the settled state and of the machine

@@ -9,6 +9,7 @@ use Rattle.mem_machine.specs.Machines.{KnownMachine, with_run, without_notes}
 use Rattle.mem_machine.specs.Local.{VisitState, visit_state, Makes}
 use Rattle.mem_machine.specs.Noted.{KnownRun}
 use Rattle.mem_machine.specs.Settling.{Settles, settle_steps}
+use Rattle.mem_machine.specs.Showing.{stock_left}
 use Rattle.mem_machine.specs.Steps.{open_steps, shut_steps}
 use Rattle.mem_reclaim.specs.Moves.{has_kill}
 -- a call, described by the state before it, its steps and the state after it
@@ -91,10 +92,11 @@ ServesFrameOutcome table group outcome before after =
     (path : Bor (List ℕ)) → number_at before.locked.machine.ledger.groups path.now ≡ Some group
     → ServesOutcome table (Alloc path 0) outcome before after
 
--- What a visit leaves: if the CPU's list had at most `high` frames, its list and its fresh frames together have at most
--- `high`.
-abbrev pub EndsVisit : (before after : LockedState) → Type 0
-EndsVisit before after = ListAndFreshStayWithin before.locked.sizes before.cpu.part after.cpu.part
+-- What a visit leaves. If the CPU's list had at most `high` frames, its list and its fresh frames together have at most
+-- `high`. The CPU has seen its stock as it is.
+pub record EndsVisit (table : KnownTable) (before after : LockedState) : Type 0 where
+  pub at_most_high : ListAndFreshStayWithin before.locked.sizes before.cpu.part after.cpu.part
+  pub last : after.cpu.last ≡ stock_left table after.locked.machine after.cpu.part.number
 
 -- What a visit through the lock says. Some sound value was behind the lock, with these sizes. The CPU was served with
 -- it, and a sound value was left.

@@ -125,7 +125,7 @@ pub(crate) fn execute<N: BootName>(
 {
     match cmd {
         Cmd::Mkdir { path } => make_group(machine, tables, path),
-        Cmd::Rmdir { path } => remove_group(machine, tables, cpu, path),
+        Cmd::Rmdir { path } => remove_group(machine, tables, path),
         Cmd::Write { path, file, value } => write_file(machine, tables, path, file, value),
         Cmd::Read { path, file } => read_file(machine.charges(), path, file),
         Cmd::Settle => Outcome::Done,

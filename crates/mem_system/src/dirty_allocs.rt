@@ -26,7 +26,7 @@ pub fn serve_dirty_alloc<N: BootName>(
     ensures served { ServesDirtyAlloc N.frames path.entry order result (locked_state locked.old cpu.old)
         (locked_state locked.new cpu.new) }
     ensures settled { IsSettled cpu.new.part }
-    ensures ends { EndsVisit (locked_state locked.old cpu.old) (locked_state locked.new cpu.new) }
+    ensures ends { EndsVisit N.frames (locked_state locked.old cpu.old) (locked_state locked.new cpu.new) }
 {
     let outcome = serve_outcome(locked, tables, cpu, &Cmd::Alloc { path, order });
     let Outcome::Frame(frame) = outcome else {

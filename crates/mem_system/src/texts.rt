@@ -28,7 +28,7 @@ pub fn show_text<N: BootName>(
     ensures served { SettlesCaller N.frames (locked_state locked.old cpu.old) (locked_state locked.new cpu.new) }
     ensures text { IfOk result (λ text. text.items ≡ show_text locked.new.machine) }
     ensures settled { IsSettled cpu.new.part }
-    ensures ends { EndsVisit (locked_state locked.old cpu.old) (locked_state locked.new cpu.new) }
+    ensures ends { EndsVisit N.frames (locked_state locked.old cpu.old) (locked_state locked.new cpu.new) }
 {
     settle(locked, tables, cpu);
     let mut text = String::new(alloc);
@@ -47,7 +47,7 @@ pub fn blocks_text<N: BootName>(
     ensures served { SettlesCaller N.frames (locked_state locked.old cpu.old) (locked_state locked.new cpu.new) }
     ensures text { IfOk result (λ text. text.items ≡ blocks_text locked.new.machine.blocks) }
     ensures settled { IsSettled cpu.new.part }
-    ensures ends { EndsVisit (locked_state locked.old cpu.old) (locked_state locked.new cpu.new) }
+    ensures ends { EndsVisit N.frames (locked_state locked.old cpu.old) (locked_state locked.new cpu.new) }
 {
     settle(locked, tables, cpu);
     let mut text = String::new(alloc);

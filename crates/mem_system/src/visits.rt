@@ -36,7 +36,7 @@ pub fn serve_outcome<N: BootName>(
         (locked_state locked.new cpu.new) }
     ensures groups { HasItsGroups locked.new.machine.ledger result }
     ensures settled { IsSettledAfter cmd.now (reply_of locked.new.machine.ledger result) cpu.new.part }
-    ensures ends { EndsVisit (locked_state locked.old cpu.old) (locked_state locked.new cpu.new) }
+    ensures ends { EndsVisit N.frames (locked_state locked.old cpu.old) (locked_state locked.new cpu.new) }
     ensures lost { LosesNoUnit N.frames locked.new.machine }
 {
     locked.machine.lock(tables, &cpu.part, &mut cpu.past);
@@ -69,7 +69,7 @@ pub(crate) fn serve_into<N: BootName>(
     ensures served { IsServed N.frames cmd.now reply.new (locked_state locked.old cpu.old)
         (locked_state locked.new cpu.new) }
     ensures settled { IsSettledAfter cmd.now reply.new cpu.new.part }
-    ensures ends { EndsVisit (locked_state locked.old cpu.old) (locked_state locked.new cpu.new) }
+    ensures ends { EndsVisit N.frames (locked_state locked.old cpu.old) (locked_state locked.new cpu.new) }
 {
     let outcome = serve_outcome(locked, tables, cpu, cmd);
     set_reply(locked.charges(), outcome, reply);
@@ -88,7 +88,7 @@ pub fn serve<N: BootName>(
     ensures served { IsServed N.frames cmd.now result (locked_state locked.old cpu.old)
         (locked_state locked.new cpu.new) }
     ensures settled { IsSettledAfter cmd.now result cpu.new.part }
-    ensures ends { EndsVisit (locked_state locked.old cpu.old) (locked_state locked.new cpu.new) }
+    ensures ends { EndsVisit N.frames (locked_state locked.old cpu.old) (locked_state locked.new cpu.new) }
 {
     let mut reply = Reply::Done;
     serve_into(locked, tables, cpu, cmd, &mut reply);
@@ -110,7 +110,7 @@ pub fn serve_frame_outcome<N: BootName>(
     ensures groups { HasItsGroups locked.new.machine.ledger result }
     ensures fresh { FreshOf (reply_of locked.new.machine.ledger result) 0 cpu.new.part.fresh }
     ensures back { cpu.new.part.back ≡ [] }
-    ensures ends { EndsVisit (locked_state locked.old cpu.old) (locked_state locked.new cpu.new) }
+    ensures ends { EndsVisit N.frames (locked_state locked.old cpu.old) (locked_state locked.new cpu.new) }
     ensures lost { LosesNoUnit N.frames locked.new.machine }
 {
     let sizes = locked.sizes;
@@ -130,7 +130,7 @@ pub fn serve_frame_outcome<N: BootName>(
 pub fn settle<N: BootName>(locked: &mut Locked<N>, tables: &Tables<N>, cpu: &mut Cpu<N>)
     ensures served { SettlesCaller N.frames (locked_state locked.old cpu.old) (locked_state locked.new cpu.new) }
     ensures settled { IsSettled cpu.new.part }
-    ensures ends { EndsVisit (locked_state locked.old cpu.old) (locked_state locked.new cpu.new) }
+    ensures ends { EndsVisit N.frames (locked_state locked.old cpu.old) (locked_state locked.new cpu.new) }
 {
     let _done = serve_outcome(locked, tables, cpu, &Cmd::Settle);
 }
