@@ -43,7 +43,6 @@ pub mod Evicts
 pub mod OneGroup
 pub mod Booking
 pub mod ChargedFrames
-pub mod GivenFrames
 pub mod OwnFrames
 pub mod HandOvers
 pub mod Moved
