@@ -1,8 +1,6 @@
 -- The front of the visited CPU's list is returned to the free areas. Serves `unlist_one`.
-use Rattle.std.proofs.Common.{◌≡◌, ℕ, ◌+◌, ◌<◌, ◌≤◌, ◌==◌, Bool, false, Option, List, [], ◌∷◌, length, get_or, refl, sym, ap, ◌∙◌, subst, inl, inr, arith, eq-eqb}
+use Rattle.std.proofs.Common.{◌≡◌, ℕ, ◌<◌, ◌==◌, Bool, Option, List, [], ◌∷◌, length, refl, sym, ap, ◌∙◌, subst, arith, eq-eqb}
 use Rattle.std.specs.Prelude.{slice_set}
-use Rattle.std.proofs.lemmas.Bool.{cases_eq, false≢true}
-use Rattle.std.proofs.lemmas.List.{get_or-set_other, get_or-set_same}
 use Rattle.zone_blocks.specs.declared.block.Block.{Block}
 use Rattle.zone_blocks.specs.Areas.{AreMaximalBlocks}
 use Rattle.zone_blocks.specs.Zone.{GivesFrames, IsInUse}
@@ -14,20 +12,16 @@ use Rattle.step_rules.specs.declared.phase.Phase.TheVariants as phase
 use Rattle.step_rules.specs.declared.step.Action.TheVariants.{PassBack, Collect}
 use Rattle.step_rules.specs.declared.step.Answer.TheVariants.{Done}
 use Rattle.step_rules.specs.Invariant.{told_pages}
-use Rattle.step_rules.specs.State.{Part, State, Zone, front_of, one_if, times, with_at}
-use Rattle.step_rules.specs.After.{state_of}
+use Rattle.step_rules.specs.State.{Part, Zone, front_of, one_if, times, with_at}
 use Rattle.step_rules.specs.Reaches.{IsLocalRun}
-use Rattle.step_rules.proofs.Basics.{at_other, at_same}
 use Rattle.step_rules.proofs.Lists.{times_same, without_front, without_none}
 use Rattle.step_rules.proofs.SoundSteps.{below_frames}
-use Rattle.boot_words.specs.Hidden.{hide, hide_phase}
-use Rattle.boot_words.specs.Pasts.{KnownPasts, MakesStep, MayMake, cpu_past}
-use Rattle.boot_words.specs.Seats.{zone_of_boot}
+use Rattle.boot_words.specs.Hidden.{hide_phase}
+use Rattle.boot_words.specs.Pasts.{KnownPasts, MakesStep, MayMake}
 use Rattle.step_watch.specs.Watched.{KnownWatch, Watches}
-use Rattle.mem_machine.specs.declared.frame_state.FrameState.{FrameState}
 use Rattle.mem_machine.specs.declared.frame_state.FrameState.TheVariants.{Free, Lent}
 use Rattle.mem_machine.specs.Booked.{AreBooked, AreOwners}
-use Rattle.mem_machine.specs.FrameStates.{frame_state_at, frame_state_group, free_of, is_free_state, phase_hidden}
+use Rattle.mem_machine.specs.FrameStates.{frame_state_at, frame_state_group, free_of, is_free_state}
 use Rattle.mem_machine.specs.Lending.{UnlistsOne}
 use Rattle.mem_machine.specs.Local.{Visits, local_of, visit_state}
 use Rattle.mem_machine.specs.Machines.{KnownMachine, IsConsistent, left_by}
@@ -37,20 +31,15 @@ use Rattle.mem_machine.proofs.Counted.{collects_none}
 use Rattle.mem_machine.proofs.HandOvers.{IsVisited, part_without, unlist_run, unlisted_state}
 use Rattle.mem_machine.proofs.Lends.{all_moved}
 use Rattle.mem_machine.proofs.Made.{visits_here, zone_seen}
-use Rattle.mem_machine.proofs.Moved.{AllMoved, is_visited, lent_record}
+use Rattle.mem_machine.proofs.Moved.{AllMoved, front_here, is_visited, lent_in_use, lent_record, phases_set}
 use Rattle.mem_machine.proofs.Noted.{may_all, notes_both, notes_one, run_steps}
-use Rattle.mem_machine.proofs.OwnFrames.{HasFrame, listed_own}
-use Rattle.mem_machine.proofs.Records.{free_at, free_given, length_free, one_covered}
+use Rattle.mem_machine.proofs.OwnFrames.{HasFrame}
+use Rattle.mem_machine.proofs.Records.{free_given}
 use Rattle.mem_machine.proofs.Sight.{shown_seen}
 
 module _ (t : KnownTable) (m : KnownMachine) (c : KnownCpu) (ok : IsConsistent t m) (visit : Visits t (visit_state m c)) (f : ℕ) (rest : List ℕ) (front : c.list ≡ f ∷ rest) where
   mine : HasFrame (local_of t m) c.number (phase.Lent c.number OnList) f
-  mine =
-      let p = (cpu_past m.run.past).number in
-      let listed : ((local_of t m).parts p).list ≡ f ∷ rest = ap (λ (k : ℕ). ((local_of t m).parts k).list) visit.who ∙ visit.own.list ∙ front in
-      let some : 1 ≤ times f ((local_of t m).parts p).list = let a = ap (times f) listed in let b = times_same f in omega (arith, a, b) in
-      subst (λ (k : ℕ). HasFrame (local_of t m) k (phase.Lent k OnList) f) visit.who
-      (listed_own (zone_of_boot t) (cpu_past m.run.past).seen (cpu_past m.run.past).number visit.held.holds.shows.legal f some)
+  mine = front_here t m c visit f rest front
 
   pub v : IsVisited (local_of t m) c.number f
   v = is_visited t m c visit f mine.framed
@@ -79,21 +68,14 @@ module _ (t : KnownTable) (m : KnownMachine) (c : KnownCpu) (ok : IsConsistent t
   within : f < length m.frame_states
   within = let low = front_inside in let sized = ok.sizes.frame_states in omega (arith, low, sized)
 
-  phases_freed : (y : ℕ) → hide_phase (with_at (local_of t m).phases f phase.InZone y) ≡ phase_hidden (frame_state_at (slice_set m.frame_states f Free) y)
-  phases_freed y = elim (cases_eq y f) [
-    | inl e ↦ subst (λ (k : ℕ). hide_phase (with_at (local_of t m).phases f phase.InZone k) ≡ phase_hidden (frame_state_at (slice_set m.frame_states f Free) k)) (sym e)
-        (ap hide_phase (at_same (local_of t m).phases f phase.InZone) ∙ sym (ap phase_hidden (get_or-set_same m.frame_states f Free Free within)))
-    | inr ne ↦ ap hide_phase (at_other (local_of t m).phases f phase.InZone y ne) ∙ (shown_seen t m ok visit.held).phases y
-        ∙ sym (ap phase_hidden (get_or-set_other m.frame_states f y Free Free ne))
-  ]
-
   pub unlisted_moved : (blocks : List Block) → AreMaximalBlocks (free_of (slice_set m.frame_states f Free)) blocks → (run : KnownRun) → Notes t m.run (unlist_steps c.number f) run
       → (sums : List ℕ) (owners : List (Option ℕ)) → AreBooked t.cpus (left_by t m.run.past).parts sums → AreOwners t.cpus (left_by t m.run.past).parts owners
       → AllMoved t m c (UnlistsOne f) (unlist_steps c.number f) (record m { blocks = blocks; frame_states = slice_set m.frame_states f Free; run = run })
       (record c { list = rest }) (free_of (slice_set m.frame_states f Free)) sums owners
   unlisted_moved blocks areas run noted sums owners are own =
       let s = local_of t m in
-      all_moved t m c ok visit f front_inside Free (ap frame_state_group is_lent) refl (with_at s.phases f phase.InZone) phases_freed part
+      all_moved t m c ok visit f front_inside Free (ap frame_state_group is_lent) refl (with_at s.phases f phase.InZone)
+      (phases_set t m s (shown_seen t m ok visit.held) f phase.InZone Free within refl) part
       told refl refl rest
       (without_front f (s.parts c.number).list rest (visit.own.list ∙ front) none_in_rest)
       (without_none f (s.parts c.number).fresh mine.fresh ∙ visit.own.fresh)
@@ -125,17 +107,7 @@ module _ (t : KnownTable) (m now : KnownMachine) (same : m ≡ now) (c : KnownCp
     -- its frame may be freed
     pub may_give : (before : List Bool) (i k : ℕ) → before ≡ free_of m.frame_states → i ≡ f → k ≡ 0 → IsInUse before (record { at = i; order = k })
     may_give before i k was index zero_is =
-        let low = front_inside t m c ok here f hands.0 hands.1 in
-        let sized = ok.sizes.frame_states in
-        let below : f < length m.frame_states = omega (arith, low, sized) in
-        let used : get_or before f false ≡ false =
-        ap (λ (l : List Bool). get_or l f false) was ∙ free_at m.frame_states f below ∙ ap is_free_state (is_lent t m c ok here f hands.0 hands.1) in
-        let long : length before ≡ length m.frame_states = ap length was ∙ length_free m.frame_states in
-        subst (λ (x : ℕ × ℕ). IsInUse before (record { at = x.0; order = x.1 })) (λ j. (sym index j, sym zero_is j))
-        (record {
-          block = record { order = omega arith; aligned = omega arith; inside = omega (arith, long, below) };
-          none_free = λ g covers is. false≢true (sym used ∙ ap (λ (x : ℕ). get_or before x false) (sym (one_covered f g covers)) ∙ is);
-        })
+        lent_in_use m.frame_states before f i k (within t m c ok here f hands.0 hands.1) was (ap is_free_state (is_lent t m c ok here f hands.0 hands.1)) index zero_is
 
     pub unlisted_all : (before free : List Bool) (k : ℕ) (blocks : List Block) (i : ℕ) (sums : List ℕ) (owners : List (Option ℕ)) → before ≡ free_of m.frame_states
         → AreBooked t.cpus (left_by t m.run.past).parts sums → AreOwners t.cpus (left_by t m.run.past).parts owners → k ≡ 0
