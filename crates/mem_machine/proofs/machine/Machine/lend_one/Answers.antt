@@ -15,7 +15,7 @@ borrow-requires g c =
       held = visit.held;
       holder = sym visit.who;
       legal = may_lend_first t m _ c.self.view_is c.args.cpu.now c.requires.visit c.self.invariant.consistent
-    _ _ c.single_order.result c.in-Some.block c.in-Some-frame.frame c.self.invariant.free c.single_order.ensures c.in-Some.ensures.taken c.in-Some.ensures.frames c.in-Some-frame.ensures.0;
+          _ _ c.single_order.result c.in-Some.block c.in-Some-frame.frame c.self.invariant.free c.single_order.ensures c.in-Some.ensures.taken c.in-Some.ensures.frames c.in-Some-frame.ensures.0;
       room = search rules;
     }
 
