@@ -1,4 +1,4 @@
-use Rattle.std.proofs.Common.{◌≡◌, ◌<◌, ◌≤◌, ap, sym, subst, ◌∙◌, arith, rules}
+use Rattle.std.proofs.Common.{◌<◌, ◌≤◌, ap, sym, subst, arith, rules}
 use Rattle.zone_blocks.specs.Zone.{BuddyZone}
 use Rattle.frame_word.specs.Seats.{KnownTable}
 use Rattle.mem_machine.specs.Kept.{machine_of}
