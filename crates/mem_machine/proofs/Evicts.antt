@@ -1,7 +1,6 @@
 -- A kept unit is tried: it is missed, or it is frozen and freed. Serves `evict`.
-use Rattle.std.proofs.Common.{◌≡◌, ◌≢◌, ℕ, ◌^◌, ◌<◌, Bool, true, Option, Some, None, List, [], ◌∷◌, length, refl, sym, ap, ◌∙◌, subst}
+use Rattle.std.proofs.Common.{◌≡◌, ◌≢◌, ℕ, ◌^◌, ◌<◌, Bool, true, Option, Some, None, List, length, refl, sym, ap, ◌∙◌, subst}
 use Rattle.std.specs.Prelude.{IfSome}
-use Rattle.std.proofs.lemmas.Bool.{and_from}
 use Rattle.zone_blocks.specs.declared.block.Block.{Block}
 use Rattle.zone_blocks.specs.Areas.{AreMaximalBlocks}
 use Rattle.zone_blocks.specs.Zone.{GivesFrames}
@@ -29,7 +28,7 @@ use Rattle.mem_machine.specs.Local.{Makes, StaysVisited, local_of}
 use Rattle.mem_machine.specs.Noted.{KnownRun, Notes}
 use Rattle.mem_machine.specs.Freeing.{FreesFrames}
 use Rattle.mem_machine.specs.Counts.{with_freeze, with_miss}
-use Rattle.mem_machine.specs.Counting.{one_more_freeze, one_more_return}
+use Rattle.mem_machine.specs.Counting.{one_more_freeze}
 use Rattle.mem_machine.specs.Lists.{LeavesList}
 use Rattle.mem_machine.specs.Evicting.{EvictsUnit, MissesUnit, evict_steps}
 use Rattle.mem_machine.proofs.Balances.{balanced_freeze}

@@ -1,13 +1,13 @@
 -- A charge of the ledger is a grant of the rules, and pages that were granted and not used are ungranted. Serves
 -- `take_block` and `fill_stock`.
-use Rattle.std.proofs.Common.{◌≡◌, ℕ, ◌+◌, ◌-◌, ◌^◌, ◌≤◌, ◌<◌, ◌==◌, true, false, [], ◌∷◌, length, List, refl, sym, ap, ◌∙◌, subst, arith, inl, inr}
+use Rattle.std.proofs.Common.{◌≡◌, ℕ, ◌+◌, ◌-◌, ◌^◌, ◌≤◌, true, false, length, List, refl, sym, ap, ◌∙◌, subst, arith, inl, inr}
 use Rattle.std.specs.Prelude.{not}
 use Rattle.std.proofs.lemmas.Bool.{and_from, le-leb, cases_eq}
 use Rattle.std.proofs.lemmas.List.FromFn.{length-map-range_with_len}
 use Rattle.std.proofs.lemmas.Nat.{pow_pos}
 use Rattle.zone_blocks.specs.declared.block.Block.{Block}
 use Rattle.zone_blocks.specs.Block.{IsBlock, Covers}
-use Rattle.zone_blocks.specs.Areas.{IsFreeBlock, AreMaximalBlocks, HasNoneFrom}
+use Rattle.zone_blocks.specs.Areas.{IsFreeBlock, HasNoneFrom}
 use Rattle.zone_blocks.proofs.Nested.{greater_denied}
 use Rattle.zone_blocks.proofs.Unique.{in_maximal}
 use Rattle.frame_word.specs.Seats.{KnownTable}
@@ -27,7 +27,7 @@ use Rattle.step_rules.proofs.Basics.{at_same, at_other}
 use Rattle.step_rules.proofs.Placing.{block_free}
 use Rattle.boot_words.specs.Hidden.{hide}
 use Rattle.boot_words.specs.Pasts.{IsHeld}
-use Rattle.mem_machine.specs.FrameStates.{frame_state_at, free_of}
+use Rattle.mem_machine.specs.FrameStates.{free_of}
 use Rattle.mem_machine.specs.Machines.{KnownMachine, IsConsistent, IsShownBy, is_killed}
 use Rattle.mem_machine.specs.Local.{local_of}
 use Rattle.mem_machine.proofs.Hiding.{is_free_seen}

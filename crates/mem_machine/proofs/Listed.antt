@@ -1,7 +1,7 @@
 -- The lists of one group changed: its units were marked, moved or dirtied. Each frame is on a list of the same group as
 -- before, and the lists of all other groups stay. Serves all calls that change a list.
 use Rattle.std.proofs.Common.{◌≡◌, ◌≢◌, ℕ, ◌<◌, ◌==◌, ◌||◌, ◌⊎◌, Bool, true, false, Option, Some, None, List, [], ◌∷◌, ◌++◌, length, map, refl, sym, ap, ◌∙◌}
-use Rattle.mem_machine.specs.FrameStates.{frame_state_at, head_group_of}
+use Rattle.mem_machine.specs.FrameStates.{frame_state_at}
 use Rattle.frame_word.specs.Seats.{KnownTable}
 use Rattle.std.proofs.Common.{subst, inl, inr, eq-eqb, cond, get_or, arith}
 use Rattle.std.specs.Prelude.{is_some, option_map, slice_set}

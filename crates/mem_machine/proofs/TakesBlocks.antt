@@ -1,7 +1,7 @@
 -- A block is charged to a group and taken, or none is there. Serves `take_block`.
-use Rattle.std.proofs.Common.{◌≡◌, ◌≢◌, ℕ, zero, suc, ◌+◌, ◌-◌, ◌^◌, ◌≤◌, ◌<◌, ◌==◌, Bool, true, false, cond, Option, Some, None, List, [], ◌∷◌, length, get_or, refl, sym, ap, ◌∙◌, subst, arith, inl, inr, eq-eqb}
+use Rattle.std.proofs.Common.{◌≡◌, ℕ, zero, suc, ◌+◌, ◌-◌, ◌^◌, ◌≤◌, ◌<◌, ◌==◌, Bool, true, false, cond, Option, Some, None, List, [], ◌∷◌, length, get_or, refl, sym, ap, ◌∙◌, subst, arith, inl, inr, eq-eqb}
 use Rattle.std.specs.List.{fold}
-use Rattle.std.specs.Prelude.{is_some, nat_le, IfSome}
+use Rattle.std.specs.Prelude.{is_some, nat_le}
 use Rattle.std.specs.Cmp.{both_ways}
 use Rattle.std.proofs.lemmas.Bool.{and_from, cases_eq, cond-true, false≢true, le-leb, lt-ltb, ne_eqb}
 use Rattle.std.proofs.lemmas.List.{ext_get_or}
@@ -23,13 +23,12 @@ use Rattle.lru_lists.specs.declared.record.Link.{Link}
 use Rattle.lru_lists.specs.declared.lru.Lru.{Lru}
 use Rattle.step_rules.specs.declared.phase.ChargedUnit.{ChargedUnit}
 use Rattle.step_rules.specs.declared.phase.Stage.TheVariants.{Bare, Live}
-use Rattle.step_rules.specs.declared.phase.Phase.{Phase}
 use Rattle.step_rules.specs.declared.phase.Phase.TheVariants as phase
 use Rattle.step_rules.specs.declared.step.Action.TheVariants.{Grant, PlaceBlock, Publish, Ungrant, Unfreeze}
 use Rattle.step_rules.specs.declared.step.Answer.TheVariants.{Done, Granted, NoFreeBlock, Over, Placed}
 use Rattle.step_rules.specs.Phases.{at_stage, is_head, is_head_in_hand}
 use Rattle.step_rules.specs.Phases as phases
-use Rattle.step_rules.specs.State.{State, Zone, free_in, is_frame, one_if, with_at}
+use Rattle.step_rules.specs.State.{State, Zone, free_in, is_frame, one_if}
 use Rattle.step_rules.specs.After.{Run, after, is_within, placed_phase}
 use Rattle.step_rules.specs.Legal.{is_legal}
 use Rattle.step_rules.specs.Reaches.{IsLocalRun}
@@ -41,7 +40,7 @@ use Rattle.step_watch.specs.Watched.{Watches}
 use Rattle.mem_machine.specs.declared.frame_state.FrameState.{FrameState}
 use Rattle.mem_machine.specs.declared.frame_state.FrameState.TheVariants.{Free, Head, Tail}
 use Rattle.mem_machine.specs.FrameStates.{frame_state_at, is_free_state, free_of, frame_state_group, head_group_of, phase_hidden}
-use Rattle.mem_machine.specs.Machines.{KnownMachine, FitsFrameState, IsConsistent, IsShownBy, home_of, is_killed, pages_booked}
+use Rattle.mem_machine.specs.Machines.{KnownMachine, FitsFrameState, IsConsistent, IsShownBy, home_of, is_killed}
 use Rattle.mem_machine.specs.Noted.{KnownRun, MayTakeAll, Notes, after_made}
 use Rattle.mem_machine.specs.Paying.{MayCharge}
 use Rattle.mem_machine.specs.Steps.{over_steps, zone_makes}

@@ -1,6 +1,6 @@
 -- Steps of the zone's seat that change no CPU's part and no reference of a CPU. Serves the calls on kept units and on
 -- blocks.
-use Rattle.std.proofs.Common.{◌≡◌, ◌≢◌, ℕ, true, refl, sym, ap, ◌∙◌, subst}
+use Rattle.std.proofs.Common.{◌≡◌, ◌≢◌, ℕ, true, sym, ap, ◌∙◌, subst}
 use Rattle.std.specs.List.{fold}
 use Rattle.frame_word.specs.Seats.{KnownTable}
 use Rattle.cpu_part.specs.Known.{HasOwn}

@@ -1,4 +1,4 @@
-use Rattle.std.proofs.Common.{◌^◌, ◌<◌, ◌≡◌, ℕ, Some, None, ◌∙◌, ap, refl, sym, subst, arith}
+use Rattle.std.proofs.Common.{Some, None, refl, arith}
 use Rattle.step_rules.specs.declared.step.Action.TheVariants.{Freeze}
 use Rattle.step_rules.specs.declared.step.Answer.TheVariants.{Done, Missed}
 use Rattle.mem_machine.specs.Evicting.{evict_steps}

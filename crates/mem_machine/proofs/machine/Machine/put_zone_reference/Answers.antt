@@ -1,4 +1,4 @@
-use Rattle.std.proofs.Common.{◌<◌, ◌≤◌, ◌≡◌, ℕ, ◌∙◌, ap, inl, refl, sym, subst, arith, rules}
+use Rattle.std.proofs.Common.{refl, arith}
 use Rattle.step_rules.specs.declared.step.Action.TheVariants.{Put}
 use Rattle.step_rules.specs.declared.step.Answer.TheVariants as answer
 use Rattle.mem_machine.specs.declared.releasing.Released.TheVariants.{Left, Returned}
