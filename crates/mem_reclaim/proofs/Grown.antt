@@ -5,14 +5,12 @@ use Rattle.std.proofs.lemmas.Bool.{ne_eqb}
 use Rattle.std.proofs.lemmas.List.Sums.{sum_by-append, sum_by-cons}
 use Rattle.frame_word.specs.Seats.{KnownTable}
 use Rattle.group_charge.specs.declared.note.Note.{Note}
-use Rattle.step_rules.specs.declared.phase.Hold.{Hold}
 use Rattle.step_rules.specs.declared.step.Step.{Step}
 use Rattle.step_rules.specs.declared.step.Answer.{Answer}
-use Rattle.step_rules.specs.State.{Part, State}
+use Rattle.step_rules.specs.State.{State}
 use Rattle.step_rules.specs.After.{Run}
 use Rattle.step_rules.specs.Views.{other_part_seen}
 use Rattle.boot_words.specs.Growth.{GrewByAll}
-use Rattle.boot_words.specs.Hidden.{hide}
 use Rattle.boot_words.specs.Pasts.{IsHeld, own_past}
 use Rattle.boot_words.specs.Runs.{HasNoStepOf}
 use Rattle.boot_words.specs.declared.view.Past.{Past}

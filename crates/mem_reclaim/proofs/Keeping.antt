@@ -1,5 +1,5 @@
 -- What stays, from one call to the next, and in one call. Serves the clauses on what stays.
-use Rattle.std.proofs.Common.{◌≡◌, ◌≢◌, ℕ, ◌+◌, ◌≤◌, Bool, true, false, Option, Some, None, List, [], refl, sym, ap, ◌∙◌, subst, arith, cond}
+use Rattle.std.proofs.Common.{◌≡◌, ◌≢◌, ℕ, ◌+◌, ◌≤◌, Bool, true, false, Option, Some, None, List, refl, sym, ap, ◌∙◌, subst, arith, cond}
 use Rattle.std.proofs.lemmas.Bool.{true≢false}
 use Rattle.std.proofs.lemmas.Option.{none-some}
 use Rattle.frame_word.specs.Seats.{KnownTable}
@@ -138,4 +138,3 @@ module _ (t : KnownTable) (m n : KnownMachine) (f : ℕ) (visit : (c : KnownCpu)
   pub keeps_try : (answer : Option ℕ) → Evicts f answer m n → Makes t m (evict_steps f answer) n → (link_at m.links f).is_dirty ≡ false → Keeps t m n
   keeps_try None is runs clean = keeps_missed is runs
   keeps_try (Some pages) is runs clean = keeps_evicted pages is runs clean
-

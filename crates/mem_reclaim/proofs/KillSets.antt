@@ -6,14 +6,12 @@ use Rattle.std.specs.Prelude.{not, slice_set}
 use Rattle.std.proofs.lemmas.Bool.{and_parts, or_parts, true≢false}
 use Rattle.std.proofs.lemmas.List.{append_assoc, append-nil, get_or-set_other}
 use Rattle.std.proofs.lemmas.List.Elements.{All-append, All-cons, All-nil}
-use Rattle.std.proofs.lemmas.List.Sums.{fold-append, sum_by-append}
+use Rattle.std.proofs.lemmas.List.Sums.{fold-append}
 use Rattle.frame_word.specs.Seats.{KnownTable}
 use Rattle.group_tree.specs.Groups.{in_subtree, is_oom_group}
 use Rattle.group_charge.specs.Charges.{current_of, with_group_kill_noted}
 use Rattle.step_rules.specs.declared.step.Action.{Action}
 use Rattle.step_rules.specs.declared.step.Action.TheVariants as action
-use Rattle.step_rules.specs.declared.step.Answer.{Answer}
-use Rattle.step_rules.specs.declared.step.Step.{Step}
 use Rattle.step_rules.specs.After.{Run}
 use Rattle.step_rules.specs.Legal.{is_of_group}
 use Rattle.group_charge.specs.declared.note.Note.{Note}
@@ -33,7 +31,7 @@ use Rattle.mem_reclaim.specs.Killing.{HasNoKeptUnit, IsKilledBy, KillsGroups, Ki
 use Rattle.mem_reclaim.specs.Killing.{KillsSubtree, AreKillsOf}
 use Rattle.mem_reclaim.specs.Killing.{OnlyDrains, OnlyReleases, counts_before_kill, killed_note, with_all_killed}
 use Rattle.mem_reclaim.specs.KillNotes.{NotesVictim}
-use Rattle.mem_reclaim.specs.Moves.{Rises, has_kill, is_kill, is_miss, killed_by, kills_in, missed_in, returned_in}
+use Rattle.mem_reclaim.specs.Moves.{Rises, has_kill, is_kill, killed_by, kills_in, missed_in, returned_in}
 use Rattle.mem_reclaim.specs.Sets.{HasNoFlagged, IsKilledRoot, IsHighestFlagged, alive_in_subtree, group_kill_note, kill_set}
 use Rattle.mem_reclaim.specs.Staying.{OnlyLeave}
 use Rattle.mem_reclaim.specs.Victim.{may_be_killed, victim_note}
