@@ -1,7 +1,7 @@
 -- What contracts see of a boot, of a system, and of the first parts of its CPUs.
 use Rattle.std.specs.Prelude.{◌≡◌, ℕ, zero, suc, ◌+◌, ◌≤◌, List, [], ◌∷◌}
 use Rattle.frame_word.specs.Seats.{KnownTable, first_cpu_view}
-use Rattle.stock_word.specs.Stock.{first_cpu_stock_view}
+use Rattle.stock_word.specs.Stock.{KnownStockTable, first_cpu_stock_view}
 use Rattle.boot_words.specs.declared.seat.OwnSeats.{OwnSeats}
 use Rattle.boot_words.specs.declared.view.Past.{Past}
 use Rattle.boot_words.specs.Seating.{no_past}
@@ -24,7 +24,7 @@ pub record KnownSystem : Type 0 where
   pub sizes : Config
 
 -- the tables have these sizes
-pub record IsSizedAs (sizes : Config) (table : KnownTable) : Type 0 where
+pub record IsSizedAs (sizes : Config) (table : KnownTable) (stock_table : KnownStockTable) : Type 0 where
   pub frames : table.frames ≡ sizes.frames
   pub cpus : table.cpus ≡ sizes.cpus
   pub stock_cpus : stock_table.cpus ≡ sizes.cpus
@@ -44,16 +44,16 @@ pub record AreFirstSeats (table : KnownTable) (cpu : ℕ) (seats : OwnSeats) : T
   pub are : seats ≡ seats_of table.table (no_past cpu) (first_cpu_view cpu) (first_cpu_stock_view cpu)
 
 -- the part of this CPU, which has done nothing yet
-abbrev pub part_at_first : KnownTable → (cpu : ℕ) → KnownCpu
-part_at_first table cpu =
+abbrev pub part_at_first : KnownTable → KnownStockTable → (cpu : ℕ) → KnownCpu
+part_at_first table stock_table cpu =
     first_cpu (record { table = table.table; view = first_cpu_view cpu })
     (record { table = stock_table.table; view = first_cpu_stock_view cpu })
 
 -- the first parts of this many CPUs, from number `first` on: no frame is listed, fresh or back, and there is no pin
-abbrev pub first_cpus : KnownTable → (first count : ℕ) → List KnownCpu
-first_cpus table first zero = []
-first_cpus table first (suc more) =
-    part_at_first table first ∷ first_cpus table (first + 1) more
+abbrev pub first_cpus : KnownTable → KnownStockTable → (first count : ℕ) → List KnownCpu
+first_cpus table stock_table first zero = []
+first_cpus table stock_table first (suc more) =
+    part_at_first table stock_table first ∷ first_cpus table stock_table (first + 1) more
 
 -- the pasts of this many CPUs at first, from number `first` on: none has a step
 abbrev pub first_pasts : (first count : ℕ) → List Past

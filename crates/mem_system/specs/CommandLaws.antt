@@ -3,7 +3,7 @@ use Rattle.std.specs.Prelude.{◌≡◌, ℕ, ◌≤◌, ◌<◌, ◌⊎◌, Lis
 use Rattle.std.specs.Borrow.{Bor}
 use Rattle.frame_word.specs.Seats.{KnownTable}
 use Rattle.stock_word.specs.declared.view.Stock.{Stock}
-use Rattle.stock_word.specs.Stock.{stock_pages_of, word_of}
+use Rattle.stock_word.specs.Stock.{KnownStockTable, stock_pages_of, word_of}
 use Rattle.stock_word.specs.StockRule.{report_index, stock_index}
 use Rattle.zone_blocks.specs.declared.config.Config.{Config}
 use Rattle.zone_blocks.specs.Config.{IsValidConfig}
@@ -60,5 +60,5 @@ pub record LeavesEmptyWords (table : KnownTable) : Type 0 where
 -- when the table is closed, no page and no CPU's reference is left in any word
 abbrev pub EndsLeaveEmptyWords : Type 0
 EndsLeaveEmptyWords =
-    (table : KnownTable) (emptied : KnownEmptiedBoot) (audit : Audit)
-    → Closes table emptied audit → LeavesEmptyWords table
+    (table : KnownTable) (stock_table : KnownStockTable) (emptied : KnownEmptiedBoot) (audit : Audit)
+    → Closes table stock_table emptied audit → LeavesEmptyWords table

@@ -24,7 +24,7 @@ parts_of cpus = map (λ cpu. cpu.part) cpus
 
 -- the CPUs' own pasts
 abbrev pub pasts_of : List CpuInRun → List Past
-pasts_of cpus = map (λ cpu. own_past cpu.past.seat) cpus
+pasts_of cpus = map (λ cpu. own_past cpu.past) cpus
 
 -- the steps of a visit under the lock: the Lock, the steps of the visit itself, and the Unlock
 abbrev pub between_locks : (cpu : ℕ) → Run → Run

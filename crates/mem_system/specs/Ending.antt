@@ -2,6 +2,7 @@
 -- its steps.
 use Rattle.std.specs.Prelude.{◌≡◌, List, ◌++◌, IsPermutation}
 use Rattle.frame_word.specs.Seats.{KnownTable}
+use Rattle.stock_word.specs.Stock.{KnownStockTable}
 use Rattle.step_rules.specs.After.{Run}
 use Rattle.boot_words.specs.Growth.{GrewByAll}
 use Rattle.boot_words.specs.Pasts.{own_past}
@@ -23,8 +24,8 @@ pub record EndsCpu (run : Run) (cpu : CpuInRun) : Type 0 where
   pub settling : Run
   pub emptying : Run
   pub last : Past
-  pub number : (own_past cpu.past.seat).number ≡ cpu.part.number
-  pub grew : GrewByAll (own_past cpu.past.seat)
+  pub number : (own_past cpu.past).number ≡ cpu.part.number
+  pub grew : GrewByAll (own_past cpu.past)
       (unpin_steps cpu.part.number puts
       ++ (between_locks cpu.part.number settling ++ between_locks cpu.part.number emptying))
       last
@@ -34,19 +35,19 @@ pub record EndsCpu (run : Run) (cpu : CpuInRun) : Type 0 where
 -- the table (`ends.closes`). The past of each CPU is a beginning of it (`each`). So is the zone's past, which led to what
 -- is behind the lock (`sound.quiet.rests`): behind it the zone's seat makes only the steps of the last visits, each after
 -- steps of CPUs.
-pub record PutsAndEnds (table : KnownTable) (locked : KnownLocked)
+pub record PutsAndEnds (table : KnownTable) (stock_table : KnownStockTable) (locked : KnownLocked)
     (cpus : List CpuInRun) (ended : SystemEnd) : Type 0 where
-  pub sound : IsSound table locked
+  pub sound : IsSound table stock_table locked
   pub held : ended.held ≡ pins_of_all (parts_of cpus)
   pub left : List CpuInRun
   pub puts : EachPuts cpus left
-  pub ends : Ends table locked left ended.audit
+  pub ends : Ends table stock_table locked left ended.audit
   pub each : AllOf (EndsCpu ends.closes.run) cpus
   pub zone : GrewByAll (own_past locked.machine.run.past) ends.visits.steps (own_past ends.emptied.machine.run.past)
 
 -- A system with these tables ended so, whatever its CPUs and what lay behind its lock. It says nothing of `held`: any
 -- puts may be counted as made before the end.
-abbrev pub HasEnded : KnownTable → SystemEnd → Type 0
-HasEnded table ended =
+abbrev pub HasEnded : KnownTable → KnownStockTable → SystemEnd → Type 0
+HasEnded table stock_table ended =
     (cpus : List CpuInRun)
-    × BehindLock table (λ found. PutsAndEnds table found cpus ended)
+    × BehindLock table stock_table (λ found. PutsAndEnds table stock_table found cpus ended)

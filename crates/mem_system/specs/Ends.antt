@@ -10,7 +10,7 @@ use Rattle.step_rules.specs.State.{one_if}
 use Rattle.step_rules.specs.After.{Run, state_of}
 use Rattle.frame_word.specs.Seats.{KnownTable, KnownSeat, view_of}
 use Rattle.stock_word.specs.declared.view.Stock.{Stock}
-use Rattle.stock_word.specs.Stock.{KnownStockSeat, account_of, view_in, word_of, stock_pages_of}
+use Rattle.stock_word.specs.Stock.{KnownStockTable, KnownStockSeat, account_of, view_in, word_of, stock_pages_of}
 use Rattle.stock_word.specs.StockRule.{IsStockOf, stock_index, report_index}
 use Rattle.group_tree.specs.Room.{max_count}
 use Rattle.boot_words.specs.Seats.{zone_of_boot}
@@ -86,7 +86,7 @@ pub record VisitsUnderLock (table : KnownTable) (Does : Transition VisitState �
   pub found : KnownRun
   pub left : KnownMachine
   pub lock : Watches before.machine.run.watch (cpu_makes before.cpu.part.number Lock Done ∷ []) found.watch
-  pub visit : BySteps VisitMakes table Does (visit_state (with_run before.machine found) before.cpu.part)
+  pub visit : BySteps Makes table Does (visit_state (with_run before.machine found) before.cpu.part)
       (visit_state left after.cpu.part)
   pub unlock : Watches left.run.watch (cpu_makes before.cpu.part.number Unlock Done ∷ []) after.machine.run.watch
   pub machine : after.machine ≡ with_run left after.machine.run
@@ -127,9 +127,9 @@ pub record IsSettledUnpinned (cpu : KnownCpu) : Type 0 where
   pub no_pin : cpu.pins ≡ []
 
 -- the CPU has no frame on any of its lists and no pin, no frame is lent to it, and its stock is drained
-pub record IsEmptied (table : KnownTable) (machine : KnownMachine)
+pub record IsEmptied (table : KnownTable) (stock_table : KnownStockTable) (machine : KnownMachine)
     (cpu : KnownCpu) : Type 0 where
-  pub tied : IsTied table cpu
+  pub tied : IsTied table stock_table cpu
   pub idle : IsIdle cpu
   pub none_lent : NoneLentTo cpu.number machine.frame_states
   pub drained : (account_of machine.stock_seat.view cpu.number).filled ≡ false
@@ -185,9 +185,9 @@ StockWordsAgreeAt stock_words machine seats place =
 -- The table is closed with these seats and the machine's. The machine was consistent, and the frames' words keep the
 -- reference rule. Each CPU has a seat at the stocks, and the stock words are what that seat and the machine's know. There
 -- is one legal run whose last state has just these words. The machine's past and these pasts are beginnings of it.
-pub record IsClosed (table : KnownTable) (machine : KnownMachine)
+pub record IsClosed (table : KnownTable) (stock_table : KnownStockTable) (machine : KnownMachine)
     (frame_seats : List KnownSeat) (stock_seats : List KnownStockSeat) (pasts : List Past) : Type 0 where
-  pub consistent : IsConsistent table machine
+  pub consistent : IsConsistent table stock_table machine
   pub frame_words : List ℕ
   pub rule : ReferenceRule table.frames table.cpus frame_words
       ((machine.frame_seat.view ∷ map view_of frame_seats) ∷ [])
@@ -225,10 +225,10 @@ pub record KnownEmptiedBoot : Type 0 where
 -- The last visits of a boot without pins, each under the lock. Each CPU is settled, then each CPU's list is returned
 -- and its stock drained, by steps that the machine's counts follow. These are all steps, in order, and the machine's
 -- watch took them. The run so far goes on by them.
-pub record MakesLastVisits (table : KnownTable) (locked : KnownLocked)
+pub record MakesLastVisits (table : KnownTable) (stock_table : KnownStockTable) (locked : KnownLocked)
     (cpus : List CpuInRun)
     (emptied : KnownEmptiedBoot) : Type 0 where
-  pub quiet : IsQuiet table locked
+  pub quiet : IsQuiet table stock_table locked
   pub no_pin : pins_of_all (parts_of cpus) ≡ 0
   pub settled : KnownMachine
   pub settled_cpus : List CpuInRun
@@ -247,9 +247,9 @@ pub record MakesLastVisits (table : KnownTable) (locked : KnownLocked)
 -- words are what the seats know, and there is one legal run whose last state has just these words. The pasts of the zone
 -- and of all CPUs are beginnings of it. It leaves the lock free, and every CPU's own part hidden, its last state is what
 -- the machine shows. The audit counts what the machine and the CPUs counted, and it adds up.
-pub record Closes (table : KnownTable) (emptied : KnownEmptiedBoot)
+pub record Closes (table : KnownTable) (stock_table : KnownStockTable) (emptied : KnownEmptiedBoot)
     (audit : Audit) : Type 0 where
-  pub all_emptied : All (λ cpu. IsEmptied table emptied.machine cpu) (parts_of emptied.cpus)
+  pub all_emptied : All (λ cpu. IsEmptied table stock_table emptied.machine cpu) (parts_of emptied.cpus)
   pub count : length emptied.cpus ≡ table.cpus
   pub none_lent : (cpu : ℕ) → NoneLentTo cpu emptied.machine.frame_states
   pub stock_words : List ℕ
@@ -268,8 +268,8 @@ pub record Closes (table : KnownTable) (emptied : KnownEmptiedBoot)
   pub adds_up : AddsUp audit
 
 -- the end of a boot without pins: its last visits are made, and then its table is closed
-pub record Ends (table : KnownTable) (locked : KnownLocked) (cpus : List CpuInRun)
+pub record Ends (table : KnownTable) (stock_table : KnownStockTable) (locked : KnownLocked) (cpus : List CpuInRun)
     (audit : Audit) : Type 0 where
   pub emptied : KnownEmptiedBoot
-  pub visits : MakesLastVisits table locked cpus emptied
-  pub closes : Closes table emptied audit
+  pub visits : MakesLastVisits table stock_table locked cpus emptied
+  pub closes : Closes table stock_table emptied audit

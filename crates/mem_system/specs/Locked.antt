@@ -3,6 +3,7 @@ use Rattle.std.specs.Prelude.{◌≡◌, ℕ, ◌≤◌}
 use Rattle.boot_words.specs.Growth.{SeesMore}
 use Rattle.boot_words.specs.Pasts.{own_past}
 use Rattle.frame_word.specs.Seats.{KnownTable, IsShut}
+use Rattle.stock_word.specs.Stock.{KnownStockTable}
 use Rattle.zone_blocks.specs.declared.config.Config.{Config}
 use Rattle.zone_blocks.specs.Config.{IsValidConfig}
 use Rattle.group_charge.specs.Charges.{AreCharges}
@@ -39,36 +40,36 @@ pub record CountsItsRun (table : KnownTable) (machine : KnownMachine) : Type 0 w
 
 -- While the lock is free, no visit is open, and the machine is what the zone's past left, with what that past counts. The
 -- sizes are in their ranges, and the tables have these sizes.
-pub record IsQuiet (table : KnownTable) (locked : KnownLocked) : Type 0 where
+pub record IsQuiet (table : KnownTable) (stock_table : KnownStockTable) (locked : KnownLocked) : Type 0 where
   pub shut : AllShut locked.machine
   pub rests : Rests table locked.machine
   pub counted : CountsItsRun table locked.machine
   pub valid : IsValidConfig locked.sizes
-  pub sized : IsSizedAs locked.sizes table
+  pub sized : IsSizedAs locked.sizes table stock_table
 
 -- What a call finds behind the lock, and leaves there. No visit is open, the machine is consistent, and the groups make
 -- up a tree, each with its account.
-pub record IsSound (table : KnownTable) (locked : KnownLocked) : Type 0 where
-  pub quiet : IsQuiet table locked
-  pub consistent : IsConsistent table locked.machine
+pub record IsSound (table : KnownTable) (stock_table : KnownStockTable) (locked : KnownLocked) : Type 0 where
+  pub quiet : IsQuiet table stock_table locked
+  pub consistent : IsConsistent table stock_table locked.machine
   pub charges : AreCharges locked.machine.ledger
 
 -- `IsSo` holds of some sound value that was behind the lock while the lock was free. No clause can name that value,
 -- because no clause can look through the lock.
-pub record BehindLock (table : KnownTable) (IsSo : KnownLocked → Type 0) : Type 0 where
+pub record BehindLock (table : KnownTable) (stock_table : KnownStockTable) (IsSo : KnownLocked → Type 0) : Type 0 where
   pub locked : KnownLocked
-  pub sound : IsSound table locked
+  pub sound : IsSound table stock_table locked
   pub so : IsSo locked
 
 -- `IsSo` holds of some sound value that was behind the lock while the lock was free, and the CPU has then seen the run that
 -- led to it. The CPU made no step: its past has grown by others' steps alone.
-pub record SeenBehindLock (table : KnownTable) (IsSo : KnownLocked → Type 0)
+pub record SeenBehindLock (table : KnownTable) (stock_table : KnownStockTable) (IsSo : KnownLocked → Type 0)
     (before after : CpuInRun) : Type 0 where
   pub locked : KnownLocked
-  pub sound : IsSound table locked
+  pub sound : IsSound table stock_table locked
   pub part : after.part ≡ before.part
-  pub sees : SeesMore (own_past before.past.seat) (own_past after.past.seat)
-  pub same : (own_past locked.machine.run.past).seen ≡ (own_past after.past.seat).seen
+  pub sees : SeesMore (own_past before.past) (own_past after.past)
+  pub same : (own_past locked.machine.run.past).seen ≡ (own_past after.past).seen
   pub so : IsSo locked
 
 -- a vector for the CPUs' seats: it is empty, and has room for those of each CPU

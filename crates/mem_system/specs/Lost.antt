@@ -4,6 +4,7 @@ use Rattle.frame_word.specs.Totals.{SameTotals}
 use Rattle.frame_word.specs.declared.view.FrameView.{FrameView}
 use Rattle.frame_word.specs.ReferenceRule.{ReferenceRule}
 use Rattle.frame_word.specs.Seats.{KnownTable}
+use Rattle.stock_word.specs.Stock.{KnownStockTable}
 use Rattle.step_rules.specs.State.{times}
 use Rattle.cpu_part.specs.Cpus.{KnownCpu, IsTied}
 use Rattle.step_rules.specs.declared.phase.ChargedUnit.{ChargedUnit}
@@ -42,20 +43,20 @@ pub record NoUnitIsLost (machine : KnownMachine) (cpus : List KnownCpu) : Type 0
 
 -- The frames' words keep the reference rule. The views of all seats are that of the machine's seat and those of these
 -- CPUs' seats, however seats are joined. Each CPU's lists and pins are what its seats know.
-pub record AreAllSeats (table : KnownTable) (machine : KnownMachine)
+pub record AreAllSeats (table : KnownTable) (stock_table : KnownStockTable) (machine : KnownMachine)
     (cpus : List KnownCpu) : Type 0 where
   pub words : List ℕ
   pub seats : List (List FrameView)
   pub rule : ReferenceRule table.frames table.cpus words seats
   pub views : SameTotals ((machine.frame_seat.view ∷ map (λ cpu. cpu.frame_seat.view) cpus) ∷ []) seats
-  pub tied : (index : ℕ) (cpu : KnownCpu) → slice_get cpus index ≡ Some cpu → IsTied table cpu
+  pub tied : (index : ℕ) (cpu : KnownCpu) → slice_get cpus index ≡ Some cpu → IsTied table stock_table cpu
 
 -- no unit of the machine is lost, whatever the CPUs are that have all other seats
-abbrev pub LosesNoUnit : KnownTable → KnownMachine → Type 0
-LosesNoUnit table machine =
-    (cpus : List KnownCpu) → AreAllSeats table machine cpus → NoUnitIsLost machine cpus
+abbrev pub LosesNoUnit : KnownTable → KnownStockTable → KnownMachine → Type 0
+LosesNoUnit table stock_table machine =
+    (cpus : List KnownCpu) → AreAllSeats table stock_table machine cpus → NoUnitIsLost machine cpus
 
 -- a consistent machine without an open visit has lost no unit
 abbrev pub ConsistentMachinesLoseNoUnit : Type 0
-ConsistentMachinesLoseNoUnit = (table : KnownTable) (machine : KnownMachine)
-    → IsConsistent table machine → AllShut machine → LosesNoUnit table machine
+ConsistentMachinesLoseNoUnit = (table : KnownTable) (stock_table : KnownStockTable) (machine : KnownMachine)
+    → IsConsistent table stock_table machine → AllShut machine → LosesNoUnit table stock_table machine

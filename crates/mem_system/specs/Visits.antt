@@ -2,6 +2,7 @@
 use Rattle.std.specs.Prelude.{◌≡◌, ℕ, false, Some, List, [], ◌++◌}
 use Rattle.std.specs.Borrow.{Bor}
 use Rattle.frame_word.specs.Seats.{KnownTable, LentIsBorrowed, NothingPasses, seat_with_visit}
+use Rattle.stock_word.specs.Stock.{KnownStockTable}
 use Rattle.zone_blocks.specs.declared.config.Config.{Config}
 use Rattle.group_tree.specs.Groups.{number_at}
 use Rattle.step_rules.specs.After.{Run}
@@ -110,12 +111,12 @@ pub record EndsVisit (table : KnownTable) (before after : LockedState) : Type 0 
 
 -- What a visit through the lock says. Some sound value was behind the lock, with these sizes. The CPU was served with
 -- it, and a sound value was left. The frames lent to the CPU after it are those that its seat has borrowed.
-pub record IsVisited (table : KnownTable) (sizes : Config)
+pub record IsVisited (table : KnownTable) (stock_table : KnownStockTable) (sizes : Config)
     (Served : LockedState → LockedState → Type 0) (before after : CpuInRun) : Type 0 where
   pub found : KnownLocked
   pub left : KnownLocked
   pub sizes_are : found.sizes ≡ sizes
-  pub sound_before : IsSound table found
+  pub sound_before : IsSound table stock_table found
   pub served : Served (locked_state found before) (locked_state left after)
-  pub sound_after : IsSound table left
+  pub sound_after : IsSound table stock_table left
   pub lent : LentIsBorrowed table left.machine.frame_seat after.part.frame_seat

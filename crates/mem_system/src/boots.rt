@@ -71,11 +71,11 @@ impl Boot {
     ) -> Result<(Locked<N>, Tables<N>, Vec<Cpu<N>>), AllocError>
         requires frames { self.frames ≡ N.frames }
         requires stocks { self.stocks ≡ N.stocks }
-        ensures machine { IfOk result (λ parts. IsFirst N.frames parts.0.machine) }
+        ensures machine { IfOk result (λ parts. IsFirst N.frames N.stocks parts.0.machine) }
         ensures sizes { IfOk result (λ parts. parts.0.sizes ≡ self.sizes) }
-        ensures cpus { IfOk result (λ parts. parts_of parts.2.items ≡ first_cpus N.frames 1 self.sizes.cpus) }
+        ensures cpus { IfOk result (λ parts. parts_of parts.2.items ≡ first_cpus N.frames N.stocks 1 self.sizes.cpus) }
         ensures count { IfOk result (λ parts. length parts.2.items ≡ N.frames.cpus) }
-        ensures sized { IfOk result (λ _. IsSizedAs self.sizes N.frames) }
+        ensures sized { IfOk result (λ _. IsSizedAs self.sizes N.frames N.stocks) }
         ensures so_far { IfOk result (λ parts.
             IsRunSoFar [] (own_past parts.0.machine.run.past) (pasts_of parts.2.items)) }
     {
@@ -104,7 +104,7 @@ impl Boot {
         requires stocks { self.stocks ≡ N.stocks }
         ensures sizes { IfOk result (λ started. started.0.sizes ≡ self.sizes) }
         ensures cpus { IfOk result (λ started.
-            parts_of started.1.items ≡ first_cpus N.frames 1 self.sizes.cpus) }
+            parts_of started.1.items ≡ first_cpus N.frames N.stocks 1 self.sizes.cpus) }
         ensures count { IfOk result (λ started. length started.1.items ≡ N.frames.cpus) }
     {
         let (locked, tables, cpus) = self.into_parts(alloc)?;
@@ -121,9 +121,9 @@ fn new_locked<N: BootName>(
     zone: OwnSeats,
 ) -> Result<Locked<N>, AllocError>
     requires valid { IsValidConfig sizes }
-    requires sized { IsSizedAs sizes N.frames }
+    requires sized { IsSizedAs sizes N.frames N.stocks }
     requires zone { zone ≡ zone_seats N.frames.table N.frames.frames }
-    ensures machine { IfOk result (λ locked. IsFirst N.frames locked.machine) }
+    ensures machine { IfOk result (λ locked. IsFirst N.frames N.stocks locked.machine) }
     ensures sizes { IfOk result (λ locked. locked.sizes ≡ sizes) }
     ensures past { IfOk result (λ locked. locked.machine.run.past ≡ zone.past) }
 {
@@ -146,7 +146,7 @@ fn make_cpus<N: BootName>(
     requires stocks { N.stocks.table ≡ N.frames.table }
     requires cpus { cpus ≡ N.frames.cpus }
     requires stock_cpus { cpus ≡ N.stocks.cpus }
-    ensures parts { IfOk result (λ made. parts_of made.items ≡ first_cpus N.frames 1 cpus) }
+    ensures parts { IfOk result (λ made. parts_of made.items ≡ first_cpus N.frames N.stocks 1 cpus) }
     ensures pasts { IfOk result (λ made. pasts_of made.items ≡ first_pasts 1 cpus) }
 {
     let mut made = Vec::with_capacity(alloc, cpus as usize)?;

@@ -48,7 +48,7 @@ impl<N: BootName> Cpu<N> {
         requires seats { AreFirstSeats N.frames (seat_number seats.frames) seats }
         requires stocks { N.stocks.table ≡ N.frames.table }
         requires cpus { N.stocks.cpus ≡ N.frames.cpus }
-        ensures part { IfOk result (λ c. c.part ≡ part_at_first N.frames (seat_number seats.frames)) }
+        ensures part { IfOk result (λ c. c.part ≡ part_at_first N.frames N.stocks (seat_number seats.frames)) }
         ensures past { IfOk result (λ c. c.past ≡ seats.past) }
     {
         let OwnSeats {
@@ -83,9 +83,9 @@ impl<N: BootName> Cpu<N> {
         requires { group < 64 }
         ensures answer { FastAnswers group result self.old.part self.new.part }
         ensures frame { IfGot result (λ f. f < N.frames.frames) }
-        ensures run { GrewByAll (own_past self.old.past.seat)
+        ensures run { GrewByAll (own_past self.old.past)
             (steps_of_fast self.old.part.number group result self.old.part.stock_seat.view.last)
-            (own_past self.new.past.seat) }
+            (own_past self.new.past) }
     {
         self.part.alloc_fast(tables, &mut self.past, group)
     }
@@ -96,9 +96,9 @@ impl<N: BootName> Cpu<N> {
     pub fn drop_fresh(&mut self, tables: &Tables<N>, frame: Frame) -> Dropped
         requires { 1 ≤ times frame self.old.part.fresh }
         ensures answer { DropAnswers frame result self.old.part self.new.part }
-        ensures run { GrewByAll (own_past self.old.past.seat)
+        ensures run { GrewByAll (own_past self.old.past)
             (steps_of_drop self.old.part.number frame result self.old.part.stock_seat.view.last)
-            (own_past self.new.past.seat) }
+            (own_past self.new.past) }
     {
         self.part.drop_fresh(tables, &mut self.past, frame)
     }
@@ -114,8 +114,8 @@ impl<N: BootName> Cpu<N> {
             × (self.new.part ≡ self.old.part)) }
         ensures never_zero { 1 ≤ times frame self.old.part.pins → result ≢ Ok Zero }
         ensures in_no_hand { IfOk result (λ answer. answer ≢ Zero → IsInNoHand self.old.part.frame_seat frame) }
-        ensures run { GrewByAll (own_past self.old.past.seat) (steps_of_get self.old.part.number frame result)
-            (own_past self.new.past.seat) }
+        ensures run { GrewByAll (own_past self.old.past) (steps_of_get self.old.part.number frame result)
+            (own_past self.new.past) }
     {
         self.part.get(tables, &mut self.past, frame)
     }
@@ -125,8 +125,8 @@ impl<N: BootName> Cpu<N> {
         requires { 1 ≤ times frame self.old.part.pins }
         ensures answer { UnpinAnswers frame result self.old.part self.new.part }
         ensures in_no_hand { IsInNoHand self.old.part.frame_seat frame }
-        ensures run { GrewByAll (own_past self.old.past.seat) (steps_of_put self.old.part.number frame result)
-            (own_past self.new.past.seat) }
+        ensures run { GrewByAll (own_past self.old.past) (steps_of_put self.old.part.number frame result)
+            (own_past self.new.past) }
     {
         self.part.put(tables, &mut self.past, frame)
     }
@@ -134,7 +134,7 @@ impl<N: BootName> Cpu<N> {
     /// The CPU's number, from 1 up.
     pub fn number(&self) -> u32
         ensures number { result ≡ self.now.part.number }
-        ensures tied { IsTied N.frames self.now.part }
+        ensures tied { IsTied N.frames N.stocks self.now.part }
         ensures in_run { (own_past self.now.past).number ≡ self.now.part.number }
     {
         self.part.number()

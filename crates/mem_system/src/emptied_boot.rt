@@ -40,7 +40,7 @@ impl<N: BootName> Model for EmptiedBoot<N> {
 
     ghost view = { λ s. record { machine = s.machine; cpus = s.cpus.items; drops = s.drops } };
 
-    ghost invariant = { λ s. NothingIsLeft N.frames
+    ghost invariant = { λ s. NothingIsLeft N.frames N.stocks
         (record { machine = s.machine; cpus = s.cpus.items; drops = s.drops })
         × IsEmptyWithRoom N.frames.cpus (length s.seats.items) (vec_capacity s.seats) };
 }
@@ -55,7 +55,7 @@ impl<N: BootName> EmptiedBoot<N> {
 
     /// Closes the table and returns what was counted.
     pub fn close(self) -> Audit
-        ensures { Closes N.frames self result }
+        ensures { Closes N.frames N.stocks self result }
     {
         let EmptiedBoot {
             machine,
@@ -93,7 +93,7 @@ fn close_tables<N: BootName>(machine: Machine<N>, tables: Tables<N>, seats: Vec<
     requires rests { Rests N.frames machine }
     requires seats { AllOf (AreAt N.frames.table) seats.items }
     requires count { length seats.items ≡ N.frames.cpus }
-    ensures { IsClosed N.frames machine (frame_seats seats.items) (stock_seats seats.items)
+    ensures { IsClosed N.frames N.stocks machine (frame_seats seats.items) (stock_seats seats.items)
         (all_pasts_in seats.items) }
 {
     let words = tables.into_words();

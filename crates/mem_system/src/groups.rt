@@ -1,7 +1,7 @@
 //! Making and removing groups.
 
 ghost use Rattle.std.specs.Prelude.{◌≡◌, ◌<◌, [], MatchResult};
-ghost use Rattle.mem_machine.specs.Local.{KeepsVisit, Visits};
+ghost use Rattle.mem_machine.specs.Local.{KeepsVisit, SomeSeenByRun, Visits};
 ghost use Rattle.mem_system.specs.Leaves.{IsLeafAt, HasNoLeaf};
 ghost use Rattle.mem_system.specs.Outcomes.{ComesTo, ComesToForAny, HasItsGroups};
 ghost use Rattle.mem_system.specs.Groups.{MakesGroup, Removes};
@@ -22,7 +22,7 @@ pub(crate) fn make_group<N: BootName>(
     tables: &Tables<N>,
     path: &[u8],
 ) -> Outcome
-    requires held { IsHeld N.frames machine.old.run.past }
+    requires shown { SomeSeenByRun N.frames machine.old }
     ensures made { ComesToForAny N.frames result (MakesGroup path.now) machine.old machine.new }
     ensures groups { HasItsGroups machine.new.ledger result }
     ensures seat { machine.new.frame_seat ≡ machine.old.frame_seat }

@@ -20,7 +20,7 @@ fn settle_cpu<N: BootName>(machine: &mut Machine<N>, tables: &Tables<N>, cpu: &m
     requires shut { AllShut machine.old }
     requires shown { IsSeenByRun N.frames (visit_state machine.old cpu.old) }
     requires no_pin { cpu.old.pins ≡ [] }
-    ensures settles { BySteps VisitMakes N.frames SettlesInVisit (visit_state machine.old cpu.old)
+    ensures settles { BySteps Makes N.frames SettlesInVisit (visit_state machine.old cpu.old)
         (visit_state machine.new cpu.new) }
     ensures shut { AllShut machine.new }
     ensures shown { IsSeenByRun N.frames (visit_state machine.new cpu.new) }
@@ -36,11 +36,11 @@ fn empty_cpu<N: BootName>(machine: &mut Machine<N>, tables: &Tables<N>, cpu: &mu
     requires shut { AllShut machine.old }
     requires shown { IsSeenByRun N.frames (visit_state machine.old cpu.old) }
     requires settled { IsSettledUnpinned cpu.old }
-    ensures empties { BySteps VisitMakes N.frames Empties (visit_state machine.old cpu.old)
+    ensures empties { BySteps Makes N.frames Empties (visit_state machine.old cpu.old)
         (visit_state machine.new cpu.new) }
     ensures shut { AllShut machine.new }
     ensures shown { IsSeenByRun N.frames (visit_state machine.new cpu.new) }
-    ensures emptied { IsEmptied N.frames machine.new cpu.new }
+    ensures emptied { IsEmptied N.frames N.stocks machine.new cpu.new }
     ensures others { LendsAndFillsNone machine.old machine.new }
 {
     machine.open(tables, cpu);
@@ -79,7 +79,7 @@ fn empty_under_lock<N: BootName>(machine: &mut Machine<N>, tables: &Tables<N>, c
         (machine_and_cpu machine.old cpu.old) (machine_and_cpu machine.new cpu.new) }
     ensures shut { AllShut machine.new }
     ensures rests { Rests N.frames machine.new }
-    ensures emptied { IsEmptied N.frames machine.new cpu.new.part }
+    ensures emptied { IsEmptied N.frames N.stocks machine.new cpu.new.part }
     ensures others { LendsAndFillsNone machine.old machine.new }
 {
     let cpu_number = cpu.number();
@@ -122,7 +122,7 @@ pub(crate) fn empty_all<N: BootName>(
     ensures empties { ForEachCpu (VisitsUnderLock N.frames Empties) machine.old cpus.old machine.new cpus.new }
     ensures shut { AllShut machine.new }
     ensures rests { Rests N.frames machine.new }
-    ensures emptied { All (λ cpu. IsEmptied N.frames machine.new cpu) (parts_of cpus.new) }
+    ensures emptied { All (λ cpu. IsEmptied N.frames N.stocks machine.new cpu) (parts_of cpus.new) }
 {
     for cpu in cpus.iter_mut() {
         empty_under_lock(machine, tables, cpu);

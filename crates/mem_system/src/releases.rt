@@ -40,7 +40,7 @@ fn cut_list<N: BootName>(
 )
     requires visit { Visits N.frames (visit_state machine.old cpu.old) }
     requires sizes { IsValidConfig sizes }
-    ensures cuts { BySteps VisitMakes N.frames (CutsList sizes) (visit_state machine.old cpu.old)
+    ensures cuts { BySteps Makes N.frames (CutsList sizes) (visit_state machine.old cpu.old)
         (visit_state machine.new cpu.new) }
     ensures visit { Visits N.frames (visit_state machine.new cpu.new) }
     ensures room { length cpu.new.list < 256 }
@@ -64,7 +64,7 @@ fn list_frame<N: BootName>(
     requires frame { frame < N.frames.frames }
     requires free { frame_state_at machine.old.frame_states frame ≡ Free }
     requires none_fresh { cpu.old.fresh ≡ [] }
-    ensures lists { BySteps VisitMakes N.frames (ListsFrame sizes frame) (visit_state machine.old cpu.old)
+    ensures lists { BySteps Makes N.frames (ListsFrame sizes frame) (visit_state machine.old cpu.old)
         (visit_state machine.new cpu.new) }
     ensures stays { KeepsVisit N.frames (visit_state machine.old cpu.old) (visit_state machine.new cpu.new) }
     ensures fresh { cpu.new.fresh ≡ cpu.old.fresh }

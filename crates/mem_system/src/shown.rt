@@ -85,7 +85,7 @@ impl<N: BootName> System<N> {
         cpu: &mut Cpu<N>,
         text: &mut String,
     ) -> Result<(), AllocError>
-        ensures text { ReadsAfterSettling N.frames (λ settled machine.
+        ensures text { ReadsAfterSettling N.frames N.stocks (λ settled machine.
             (IfOk result (λ _. string_bytes text.new
             ≡ string_bytes text.old ++ stock_line_text (visit_state_of settled)))
             × (machine ≡ with_look settled.locked.machine)) cpu.old cpu.new }
@@ -110,7 +110,7 @@ impl<N: BootName> System<N> {
         path: &[u8],
         text: &mut String,
     ) -> Result<bool, AllocError>
-        ensures text { ReadsAfterSettling N.frames (λ settled machine.
+        ensures text { ReadsAfterSettling N.frames N.stocks (λ settled machine.
             UnitsAt (number_at settled.locked.machine.ledger.groups path.now)
             ((result ≡ Ok false) × (text.new ≡ text.old))
             (λ shown. IfOk result (λ is_there. (is_there ≡ true)

@@ -37,7 +37,7 @@ pub fn serve_outcome<N: BootName>(
     ensures groups { HasItsGroups locked.new.machine.ledger result }
     ensures settled { IsSettledAfter cmd.now (reply_of locked.new.machine.ledger result) cpu.new.part }
     ensures ends { EndsVisit N.frames (locked_state locked.old cpu.old) (locked_state locked.new cpu.new) }
-    ensures lost { LosesNoUnit N.frames locked.new.machine }
+    ensures lost { LosesNoUnit N.frames N.stocks locked.new.machine }
 {
     locked.machine.lock(tables, &cpu.part, &mut cpu.past);
     locked.machine.forget_notes();
@@ -111,7 +111,7 @@ pub fn serve_frame_outcome<N: BootName>(
     ensures fresh { FreshOf (reply_of locked.new.machine.ledger result) 0 cpu.new.part.fresh }
     ensures back { cpu.new.part.back ≡ [] }
     ensures ends { EndsVisit N.frames (locked_state locked.old cpu.old) (locked_state locked.new cpu.new) }
-    ensures lost { LosesNoUnit N.frames locked.new.machine }
+    ensures lost { LosesNoUnit N.frames N.stocks locked.new.machine }
 {
     let sizes = locked.sizes;
     let machine = &mut locked.machine;
