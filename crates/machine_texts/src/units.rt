@@ -3,6 +3,7 @@
 ghost use Rattle.std.specs.Prelude.{◌≡◌, ◌<◌, [], false, true, IfOk, IsOk, length};
 ghost use Rattle.boot_words.specs.Pasts.{IsHeld};
 ghost use Rattle.control_files.specs.Strings.{AddsBytes};
+ghost use Rattle.mem_machine.specs.Resting.{Rests};
 ghost use Rattle.mem_machine.specs.Showing.{listed, units_in};
 ghost use Rattle.machine_texts.specs.Units.{ReadsLines, ReadsUnits, list_text, order_at, pins_text, rest_text};
 ghost use Rattle.machine_texts.specs.Units.{text_if, unit_text};

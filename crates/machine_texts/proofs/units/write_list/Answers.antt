@@ -1,7 +1,10 @@
-use Rattle.std.proofs.Common.{◌≡◌, ◌++◌, ℕ, ◌<◌, ◌≤◌, IfOk, append-nil, ap, arith, rules, subst, sym, ◌∙◌}
+use Rattle.std.proofs.Common.{◌≡◌, ◌++◌, ◌+◌, ℕ, ◌<◌, ◌≤◌, IfOk, append-nil, ap, arith, rules, subst, sym, ◌∙◌}
 use Rattle.std.proofs.lemmas.Option.{none-some}
 use Rattle.std.specs.String.{string_bytes}
 use Rattle.frame_word.specs.Seats.{KnownTable}
+use Rattle.boot_words.specs.Looking.{LoadsReferences}
+use Rattle.boot_words.specs.Pasts.{own_past}
+use Rattle.boot_words.specs.Seats.{zone_of_boot}
 use Rattle.lru_lists.specs.Lists.{entry_after}
 use Rattle.boot_words.specs.Pasts.{IsHeld}
 use Rattle.mem_machine.specs.Machines.{KnownMachine, home_of}
