@@ -24,7 +24,8 @@ pub record HandsOver (frame : ℕ) (before after : KnownCpu) : Type 0 where
   pub cpu : after ≡ record before { fresh = after.fresh }
 
 -- The oldest fresh frame becomes a kept unit of one frame, of this group. It is in use, has one reference of the zone,
--- and is on the group's inactive list. Its page stays charged, now for the frame, and is no longer booked to the stock.
+-- and is on the group's inactive list. Its page stays charged, now for the frame: by the steps it is no longer booked to
+-- the stock.
 pub record KeepsFresh (group frame : ℕ) (before after : VisitState) : Type 0 where
   pub listed : ListsUnit group frame before.machine after.machine
   pub machine : after.machine ≡ record before.machine {
@@ -35,7 +36,8 @@ pub record KeepsFresh (group frame : ℕ) (before after : VisitState) : Type 0 w
   }
   pub cpu : HandsOver frame before.cpu after.cpu
 
--- a drop: the oldest fresh frame is free again, and its page is no longer booked to the stock, nor charged to the group
+-- a drop: the oldest fresh frame is free again, and its page is no longer charged to the group, nor by the steps booked to
+-- the stock
 pub record DropsFresh (group frame : ℕ) (before after : VisitState) : Type 0 where
   pub frees : FreesFrames frame 1 before.machine.frame_states after.machine.frame_states
   pub areas : AreMaximalBlocks (free_of after.machine.frame_states) after.machine.blocks
