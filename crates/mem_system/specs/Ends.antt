@@ -12,7 +12,7 @@ use Rattle.stock_word.specs.Stock.{word_of, stock_pages_of}
 use Rattle.stock_word.specs.StockRule.{stock_index, report_index}
 use Rattle.group_tree.specs.Room.{max_count}
 use Rattle.boot_words.specs.Seats.{zone_of_boot}
-use Rattle.boot_words.specs.Pasts.{own_past}
+use Rattle.boot_words.specs.Pasts.{cpu_past, own_past}
 use Rattle.boot_words.specs.Hidden.{hide}
 use Rattle.boot_words.specs.Rule.{words_in}
 use Rattle.boot_words.specs.Closed.{IsClosedRun, IsEndOfRun, pasts_of_cpus}
@@ -80,6 +80,7 @@ pub record VisitsUnderLock (table : KnownTable) (Does : Transition VisitState �
     : Type 0 where
   pub found : KnownRun
   pub left : KnownMachine
+  pub holder : (cpu_past found.past).number ≡ before.cpu.part.number
   pub lock : Watches before.machine.run.watch (cpu_makes before.cpu.part.number Lock Done ∷ []) found.watch
   pub visit : BySteps VisitMakes table Does (visit_state (with_run before.machine found) before.cpu.part)
       (visit_state left after.cpu.part)

@@ -3,6 +3,7 @@ use Rattle.std.specs.Prelude.{◌≡◌, ℕ, false, Some, List, [], ◌++◌}
 use Rattle.std.specs.Borrow.{Bor}
 use Rattle.frame_word.specs.Seats.{KnownTable}
 use Rattle.zone_blocks.specs.declared.config.Config.{Config}
+use Rattle.boot_words.specs.Pasts.{cpu_past}
 use Rattle.group_tree.specs.Groups.{number_at}
 use Rattle.step_rules.specs.After.{Run}
 use Rattle.mem_machine.specs.Machines.{KnownMachine, with_run, without_notes}
@@ -71,12 +72,16 @@ pub record Serves (cmd : Cmd) (reply : Reply) (call : Transition LockedState) : 
   pub sizes : call.after.locked.sizes ≡ call.before.locked.sizes
   pub steps_are : call.steps ≡ visit_steps call.table (visit_state_of call.before) inner
 
--- A command was served under the lock with this reply: these steps lead from one locked state to the other, and the
--- machine's counts follow them. The CPU took the lock in the run before them, and released it after them.
+-- A command was served under the lock with this reply: these steps lead from the machine with the run that the CPU found
+-- when it took the lock to the machine with the run that it left then, and the machine's counts follow them. The CPU took
+-- the lock in the run before them, and released it after them.
 pub record IsServed (table : KnownTable) (cmd : Cmd) (reply : Reply) (before after : LockedState) : Type 0 where
   pub steps : Run
   pub serves : Serves cmd reply (transition table before steps after)
-  pub makes : Makes table before.locked.machine steps after.locked.machine
+  pub found : KnownRun
+  pub left : KnownRun
+  pub holder : (cpu_past found.past).number ≡ before.cpu.part.number
+  pub makes : Makes table (with_run before.locked.machine found) steps (with_run after.locked.machine left)
   pub run : VisitsInRun before.cpu.part.number steps before.locked.machine.run.past before.cpu.past
       after.locked.machine.run.past after.cpu.past
 
