@@ -19,7 +19,7 @@ use Rattle.step_rules.specs.Legal.{is_of_group}
 use Rattle.group_charge.specs.declared.note.Note.{Note}
 use Rattle.group_charge.specs.Notes.{noted}
 use Rattle.mem_machine.specs.Machines.{KnownMachine, is_killed, visit_state, with_note}
-use Rattle.mem_machine.specs.Local.{MakesForAny}
+use Rattle.mem_machine.specs.Local.{Makes}
 use Rattle.mem_machine.specs.Steps.{kill_steps, note_group_kill_steps}
 use Rattle.mem_machine.specs.Stocks.{AreOwnDrained}
 use Rattle.mem_machine.proofs.Followed.{makes_both, makes_none}
@@ -73,14 +73,14 @@ these_both first last a b c one two p q = record {
 
 -- ---- what is so of each group that was killed, and stays so
 
-own_still : (g k : ℕ) (b n : KnownMachine) → AreOwnDrained g k b → OnlyDrains b n → AreOwnDrained g k n
+own_still : (g k : ℕ) (b n : KnownMachine) → AreOwnDrained t g b → OnlyDrains t b n → AreOwnDrained t g n
 own_still g k b n drained stocks = λ q some few of.
     stocks.drained q (drained q some few (ap (λ (o : Option ℕ). is_of_group o g) (sym (stocks.of q)) ∙ of))
 
 none_still : (g : ℕ) (b n : KnownMachine) → HasNoKeptUnit g b → OnlyLeave b n → HasNoKeptUnit g n
 none_still g b n none leaves = λ f h home. none f h (leaves f h home)
 
-drains_both : (a b c : KnownMachine) → OnlyDrains a b → OnlyDrains b c → OnlyDrains a c
+drains_both : (a b c : KnownMachine) → OnlyDrains t a b → OnlyDrains t b c → OnlyDrains t a c
 drains_both a b c p q = record { of = λ x. q.of x ∙ p.of x; drained = λ x is. q.drained x (p.drained x is) }
 
 pub all_one : (P : ℕ → Type 0) (g : ℕ) → P g → All P (g ∷ [])
@@ -92,8 +92,8 @@ all_one P g here = All-cons P g [] here (All-nil P)
 pub record KilledSo (t : KnownTable) (groups : List ℕ) (Kills : KnownMachine → Run → KnownMachine → Type 0) (m n : KnownMachine) : Type 0 where
   pub kills : KillsGroupsBySteps t groups Kills m n
   pub marked : n.killed ≡ with_all_killed m.killed groups
-  pub drained : All (λ g. AreOwnDrained g t.cpus n) groups
-  pub stocks : OnlyDrains m n
+  pub drained : All (λ g. AreOwnDrained t g n) groups
+  pub stocks : OnlyDrains t m n
   pub none_kept : All (λ g. HasNoKeptUnit g n) groups
   pub keeps : OnlyReleases t m n
 
@@ -126,8 +126,8 @@ lets_after_note t m n first k = record {
 pub record OneKilled (t : KnownTable) (limited g : ℕ) (m n : KnownMachine) : Type 0 where
   pub kills : KillsGroupsBySteps t (g ∷ []) (KillsGroupNoted t limited g) m n
   pub marked : n.killed ≡ slice_set m.killed g true
-  pub drained : AreOwnDrained g t.cpus n
-  pub stocks : OnlyDrains m n
+  pub drained : AreOwnDrained t g n
+  pub stocks : OnlyDrains t m n
   pub none_kept : HasNoKeptUnit g n
   pub keeps : OnlyReleases t m n
 
@@ -135,14 +135,14 @@ pub one_so : (t : KnownTable) (limited g : ℕ) (m n : KnownMachine) → OneKill
 one_so t limited g m n one = record {
   kills = one.kills;
   marked = one.marked;
-  drained = all_one (λ (x : ℕ). AreOwnDrained x t.cpus n) g one.drained;
+  drained = all_one (λ (x : ℕ). AreOwnDrained t x n) g one.drained;
   stocks = one.stocks;
   none_kept = all_one (λ (x : ℕ). HasNoKeptUnit x n) g one.none_kept;
   keeps = one.keeps;
 }
 
 pub one_killed : (t : KnownTable) (limited g : ℕ) (m b n : KnownMachine) (had : CountsBeforeKill) → had ≡ counts_before_kill m g → KillsGroupBySteps t g m b
-    → b.killed ≡ slice_set m.killed g true → AreOwnDrained g t.cpus b → OnlyDrains m b → HasNoKeptUnit g b → OnlyReleases t m b
+    → b.killed ≡ slice_set m.killed g true → AreOwnDrained t g b → OnlyDrains t m b → HasNoKeptUnit g b → OnlyReleases t m b
     → n ≡ with_note b (killed_note limited g had b) → OneKilled t limited g m n
 one_killed t limited g m b n had had_is kills marked drained stocks none_kept keeps noted_had =
     let last : Note = killed_note limited g (counts_before_kill m g) b in
@@ -201,7 +201,7 @@ set_none : (t : KnownTable) (limited : ℕ) (m : KnownMachine) → KilledSo t []
 set_none t limited m = record {
   kills = record { steps = []; kills = (refl, refl); runs = λ c. makes_none t c.number (visit_state m c); these = these_none m };
   marked = refl;
-  drained = All-nil (λ (g : ℕ). AreOwnDrained g t.cpus m);
+  drained = All-nil (λ (g : ℕ). AreOwnDrained t g m);
   stocks = record { of = λ p. refl; drained = λ p is. is };
   none_kept = All-nil (λ (g : ℕ). HasNoKeptUnit g m);
   keeps = only_lets_none t m;
@@ -220,7 +220,7 @@ set_more t limited groups g m b n so one = record {
   };
   marked = one.marked ∙ ap (λ (k : List Bool). with_all_killed k (g ∷ [])) so.marked
       ∙ sym (fold-append (λ (old : List Bool) (x : ℕ). slice_set old x true) m.killed groups (g ∷ []));
-  drained = All-append (λ (x : ℕ). AreOwnDrained x t.cpus n) groups (g ∷ [])
+  drained = All-append (λ (x : ℕ). AreOwnDrained t x n) groups (g ∷ [])
       (λ k d lt. own_still _ t.cpus b n (so.drained k d lt) one.stocks) one.drained;
   stocks = drains_both m b n so.stocks one.stocks;
   none_kept = All-append (λ (x : ℕ). HasNoKeptUnit x n) groups (g ∷ []) (λ k d lt. none_still _ b n (so.none_kept k d lt) one.keeps.leaves)
@@ -278,7 +278,7 @@ below_all t limited root m k now s all = subst (λ (x : ℕ). KilledSo t (alive_
 pub subtree_killed : (t : KnownTable) (limited root : ℕ) (m a b n : KnownMachine) → a ≡ with_note m (group_kill_note m root)
     → KilledSo t (alive_in_subtree a root) (KillsGroups t limited (alive_in_subtree a root)) a b
     → n ≡ record b { ledger = with_group_kill_noted b.ledger root; run = n.run } → ((g : ℕ) → current_of n.ledger g ≡ current_of b.ledger g)
-    → MakesForAny t b (note_group_kill_steps root) n → KilledSo t (alive_in_subtree m root) (KillsSubtree t limited root) m n
+    → Makes t b (note_group_kill_steps root) n → KilledSo t (alive_in_subtree m root) (KillsSubtree t limited root) m n
 subtree_killed t limited root m a b n noted so_a counted usage runs =
     let note : Note = group_kill_note m root in
     let so : KilledSo t (alive_in_subtree m root) (KillsGroups t limited (alive_in_subtree m root)) (with_note m note) b =
@@ -308,9 +308,9 @@ subtree_killed t limited root m a b n noted so_a counted usage runs =
         };
       };
       marked = ap (λ (x : KnownMachine). x.killed) counted ∙ so.marked;
-      drained = subst (λ (x : KnownMachine). All (λ (g : ℕ). AreOwnDrained g t.cpus x) (alive_in_subtree m root)) (sym counted)
+      drained = subst (λ (x : KnownMachine). All (λ (g : ℕ). AreOwnDrained t g x) (alive_in_subtree m root)) (sym counted)
           (λ k d lt. so.drained k d lt);
-      stocks = subst (λ (x : KnownMachine). OnlyDrains m x) (sym counted) (record { of = so.stocks.of; drained = so.stocks.drained });
+      stocks = subst (λ (x : KnownMachine). OnlyDrains t m x) (sym counted) (record { of = so.stocks.of; drained = so.stocks.drained });
       none_kept = subst (λ (x : KnownMachine). All (λ (g : ℕ). HasNoKeptUnit g x) (alive_in_subtree m root)) (sym counted)
           (λ k d lt. so.none_kept k d lt);
       keeps = only_lets_both t m b n (lets_after_note t m b note so.keeps)
@@ -327,8 +327,8 @@ set_if flag machine killed = cond flag (alive_in_subtree machine killed.killed_r
 pub record VictimKilled (t : KnownTable) (limited : ℕ) (killed : Killed) (m n : KnownMachine) : Type 0 where
   pub kills : IsKilledBy t limited killed m n
   pub marked : n.killed ≡ with_all_killed m.killed (kill_set m killed)
-  pub drained : All (λ g. AreOwnDrained g t.cpus n) (kill_set m killed)
-  pub stocks : OnlyDrains m n
+  pub drained : All (λ g. AreOwnDrained t g n) (kill_set m killed)
+  pub stocks : OnlyDrains t m n
   pub none_kept : All (λ g. HasNoKeptUnit g n) (kill_set m killed)
   pub keeps : OnlyReleases t m n
 

@@ -24,7 +24,7 @@ use Rattle.mem_machine.specs.declared.releasing.Released.{Released}
 use Rattle.mem_machine.specs.declared.releasing.Released.TheVariants.{Left, Returned}
 use Rattle.mem_machine.specs.Machines.{KnownMachine, IsConsistent, home_of, visit_state, lists_of, with_run}
 use Rattle.mem_machine.specs.Local.{Visits}
-use Rattle.mem_machine.specs.Local.{MakesForAny}
+use Rattle.mem_machine.specs.Local.{Makes}
 use Rattle.mem_machine.specs.Ageing.{entries_in}
 use Rattle.mem_machine.specs.Lists.{LeavesList}
 use Rattle.mem_machine.specs.Releasing.{Releases, release_steps}
@@ -82,7 +82,7 @@ only_lets_both t a b c p q = record {
 
 -- the links and the zone's seat at the frames stay
 pub only_lets_same : (t : KnownTable) (m n : KnownMachine) → n.ledger.groups ≡ m.ledger.groups
-    → ((g : ℕ) → current_of n.ledger g ≤ current_of m.ledger g) → n.frame_seat ≡ m.frame_seat → n.links ≡ m.links → (steps : Run) → MakesForAny t m steps n
+    → ((g : ℕ) → current_of n.ledger g ≤ current_of m.ledger g) → n.frame_seat ≡ m.frame_seat → n.links ≡ m.links → (steps : Run) → Makes t m steps n
     → OnlyReleases t m n
 only_lets_same t m n groups usage seat links steps runs = record {
   groups = groups;
@@ -106,7 +106,7 @@ misses_put seat f g change keeps = elim (cases_eq g f) [
 ]
 
 off_list : (t : KnownTable) (m n : KnownMachine) (f : ℕ) → LeavesList f (lists_of m) (lists_of n) → n.ledger.groups ≡ m.ledger.groups
-    → ((g : ℕ) → current_of n.ledger g ≤ current_of m.ledger g) → n.frame_seat.view.opened ≡ m.frame_seat.view.opened → ((g : ℕ) → misses_of n.frame_seat g ≡ misses_of m.frame_seat g)
+    → ((g : ℕ) → current_of n.ledger g ≤ current_of m.ledger g) → n.frame_seat.view.opened ≡ m.frame_seat.view.opened → ((g : ℕ) → misses_of n g ≡ misses_of m g)
     → ((c : KnownCpu) → Visits t (visit_state m c) → Visits t (visit_state n c)) → OnlyReleases t m n
 off_list t m n f list groups usage opened misses visit =
     let gone : home_of n.links f ≡ None = ap (λ (k : Link). k.home) list.forgotten in
@@ -128,16 +128,16 @@ pub release_lets : (t : KnownTable) (m n : KnownMachine) (f : ℕ) (left : Relea
 release_lets t m n f (Left left) is visit = off_list t m n f is.list (ap (λ (x : KnownMachine). x.ledger.groups) is.machine)
     (λ g. let e = ap (λ (x : KnownMachine). current_of x.ledger g) is.machine in omega (arith, e))
     (ap (λ (x : KnownMachine). x.frame_seat.view.opened) is.machine)
-    (λ g. ap (λ (x : KnownMachine). misses_of x.frame_seat g) is.machine ∙ misses_put m.frame_seat f g (put_left left) (λ k. refl)) visit
+    (λ g. ap (λ (x : KnownMachine). misses_of x g) is.machine ∙ misses_put m.frame_seat f g (put_left left) (λ k. refl)) visit
 release_lets t m n f Returned is visit = off_list t m n f is.list (ap (λ (x : KnownMachine). x.ledger.groups) is.machine)
     (λ g.
     let e = ap (λ (x : KnownMachine). current_of x.ledger g) is.machine in
     let low = current_falls m.ledger (Some is.unit.group) (2 ^ is.unit.order) g in
     omega (arith, e, low))
     (ap (λ (x : KnownMachine). x.frame_seat.view.opened) is.machine)
-    (λ g. ap (λ (x : KnownMachine). misses_of x.frame_seat g) is.machine ∙ misses_put m.frame_seat f g put_last (λ k. refl)) visit
+    (λ g. ap (λ (x : KnownMachine). misses_of x g) is.machine ∙ misses_put m.frame_seat f g put_last (λ k. refl)) visit
 
-release_stocks : (m n : KnownMachine) (f : ℕ) (left : Released) → Releases f left m n → KeepsStocks m n
+release_stocks : (m n : KnownMachine) (f : ℕ) (left : Released) → Releases f left m n → KeepsStocks t m n
 release_stocks m n f (Left left) is = record { stock_seat = ap (λ (x : KnownMachine). x.stock_seat) is.machine; killed = ap (λ (x : KnownMachine). x.killed) is.machine }
 release_stocks m n f Returned is = record { stock_seat = ap (λ (x : KnownMachine). x.stock_seat) is.machine; killed = ap (λ (x : KnownMachine). x.killed) is.machine }
 
@@ -162,10 +162,10 @@ off_entries m n g f Active is home =
 pub record LetGoSoFar (t : KnownTable) (g : ℕ) (list : LruList) (m : KnownMachine) (i : ℕ) (now : KnownMachine) : Type 0 where
   pub steps : Run
   pub whole : (rest : Run) (n : KnownMachine) → ReleasesUnits (entries_in now g list) now rest n → ReleasesUnits (entries_in m g list) m (steps ++ rest) n
-  pub runs : MakesForAny t m steps now
+  pub runs : Makes t m steps now
   pub left : length (entries_in now g list) + i ≡ length (entries_in m g list)
   pub keeps : OnlyReleases t m now
-  pub stocks : KeepsStocks m now
+  pub stocks : KeepsStocks t m now
 
 pub let_go_first : (t : KnownTable) (g : ℕ) (list : LruList) (m : KnownMachine) → LetGoSoFar t g list m 0 m
 let_go_first t g list m = record {
@@ -191,17 +191,17 @@ first_is (e ∷ es) u is = (es, ap (λ (x : Entry). x ∷ es) (same e u (sym is)
     same : (a b : Entry) → Some a ≡ Some b → a ≡ b
     same a b e = cc
 
-pub oldest_is : (t : KnownTable) (w : KnownStockTable) (g : ℕ) → g < 64 → (list : LruList) (now : KnownMachine) → IsConsistent t w now → (u : Entry)
+pub oldest_is : (t : KnownTable) (g : ℕ) → g < 64 → (list : LruList) (now : KnownMachine) → IsConsistent t now → (u : Entry)
     → (oldest : Option Entry) → oldest ≡ first_entry (entries_in now g list) → oldest ≡ Some u → Oldest t g list now u
-oldest_is t w g fits list now ok u oldest first some =
+oldest_is t g fits list now ok u oldest first some =
     let e = first_is (entries_in now g list) u (sym some ∙ first) in
-    let listed = listed_is t w now ok g fits list in
+    let listed = listed_is t now ok g fits list in
     let home = listed.homes u.number (ap (has_unit u.number) e.1 ∙ has_mid [] e.0 u u.number refl) in
     record {
       rest = e.0;
       entries = e.1;
       home = home;
-      inside = home_inside t w now ok u.number (record { owner = g; list = list }) home;
+      inside = home_inside t now ok u.number (record { owner = g; list = list }) home;
     }
 
 without_first : (u : Entry) (rest : List Entry) → entries_without u.number (u ∷ rest) ≡ rest
@@ -209,10 +209,10 @@ without_first u rest = let t : (u.number == u.number) ≡ true = eq-eqb u.number
 
 pub let_go_more : (t : KnownTable) (g : ℕ) (list : LruList) (m : KnownMachine) (i : ℕ) (now : KnownMachine) → LetGoSoFar t g list m i now
     → (u : Entry) → Oldest t g list now u → (f : ℕ) → f ≡ u.number → (left : Released) (then : KnownMachine) → Releases f left now then
-    → ((c : KnownCpu) → Visits t (visit_state now c) → Visits t (visit_state then c)) → MakesForAny t now (release_steps f left) then → LetGoSoFar t g list m (i + 1) then
+    → ((c : KnownCpu) → Visits t (visit_state now c) → Visits t (visit_state then c)) → Makes t now (release_steps f left) then → LetGoSoFar t g list m (i + 1) then
 let_go_more t g list m i now s u o f at left then releases_f visit runs_f =
     let releases : Releases u.number left now then = subst (λ (x : ℕ). Releases x left now then) at releases_f in
-    let runs : MakesForAny t now (release_steps u.number left) then = subst (λ (x : ℕ). MakesForAny t now (release_steps x left) then) at runs_f in
+    let runs : Makes t now (release_steps u.number left) then = subst (λ (x : ℕ). Makes t now (release_steps x left) then) at runs_f in
     let tail : entries_in then g list ≡ o.rest =
     off_entries now then g u.number list (release_list now then u.number left releases) o.home ∙ ap (entries_without u.number) o.entries
     ∙ without_first u o.rest in
@@ -270,7 +270,7 @@ pub record LeavesUnits (before after : KnownMachine) : Type 0 where
   pub killed : after.killed ≡ before.killed
   pub counts : after.counts ≡ before.counts
   pub usage : (g : ℕ) → current_of after.ledger g ≤ current_of before.ledger g
-  pub stocks : OnlyDrains before after
+  pub stocks : OnlyDrains t before after
 
 leaves_units_none : (m : KnownMachine) → LeavesUnits m m
 leaves_units_none m = record {
@@ -302,7 +302,7 @@ filled_after test q m n (drain ∷ []) h is =
     ap (λ (x : KnownMachine). (account_of x.stock_seat.view q).filled) h.1.drains.drains.machine ∙ ap (λ (a : StockAccount). a.filled) (drained_at m.stock_seat.view q drain.pages)
 filled_after test q m n (one ∷ two ∷ more) h is = absurd h
 
-one_drains : (test : List Group → Option ℕ → Bool) (q : ℕ) (m n : KnownMachine) (drains : List Drain) → DrainsIf test q drains m n → OnlyDrains m n
+one_drains : (test : List Group → Option ℕ → Bool) (q : ℕ) (m n : KnownMachine) (drains : List Drain) → DrainsIf test q drains m n → OnlyDrains t m n
 one_drains test q m n drains h = record {
   of = λ p. elim (cases_eq p q) [
     | inl e ↦ subst (λ (x : ℕ). stock_group n x ≡ stock_group m x) (sym e) (below_group test q m n drains h)
@@ -316,7 +316,7 @@ one_drains test q m n drains h = record {
   ];
 }
 
-drain_leaves : (m n : KnownMachine) (steps q pages : ℕ) → DrainsNoted steps q pages m n → OnlyDrains m n → LeavesUnits m n
+drain_leaves : (m n : KnownMachine) (steps q pages : ℕ) → DrainsNoted steps q pages m n → OnlyDrains t m n → LeavesUnits m n
 drain_leaves m n steps q pages d stocks = record {
   groups = ap (λ (x : KnownMachine). x.ledger.groups) d.drains.machine ∙ groups_stay m.ledger (stock_group m q) pages;
   frame_seat = ap (λ (x : KnownMachine). x.frame_seat) d.drains.machine;
@@ -409,29 +409,29 @@ last_puts_rise v m a d b n is drained drains first last one two =
 pub record AllKilled (t : KnownTable) (v : ℕ) (m n : KnownMachine) : Type 0 where
   pub kills : KillsGroupBySteps t v m n
   pub marked : n.killed ≡ slice_set m.killed v true
-  pub drained : AreOwnDrained v t.cpus n
+  pub drained : AreOwnDrained t v n
   pub none_kept : HasNoKeptUnit v n
   pub keeps : OnlyReleases t m n
-  pub stocks : OnlyDrains m n
+  pub stocks : OnlyDrains t m n
 
 -- no unit is on an empty list
-none_listed : (t : KnownTable) (w : KnownStockTable) (m : KnownMachine) → IsConsistent t w m → (v : ℕ) → v < 64 → (list : LruList) → entries_in m v list ≡ []
+none_listed : (t : KnownTable) (m : KnownMachine) → IsConsistent t m → (v : ℕ) → v < 64 → (list : LruList) → entries_in m v list ≡ []
     → (f : ℕ) → home_of m.links f ≡ Some (record { owner = v; list = list }) → ⊥
-none_listed t w m ok v fits list empty f home =
-    false≢true (sym (ap (has_unit f) empty) ∙ (listed_is t w m ok v fits list).at_home f home)
+none_listed t m ok v fits list empty f home =
+    false≢true (sym (ap (has_unit f) empty) ∙ (listed_is t m ok v fits list).at_home f home)
 
-keeps_none_of : (t : KnownTable) (w : KnownStockTable) (b n : KnownMachine) → IsConsistent t w b → IsConsistent t w n → (v : ℕ) → v < 64
+keeps_none_of : (t : KnownTable) (b n : KnownMachine) → IsConsistent t b → IsConsistent t n → (v : ℕ) → v < 64
     → entries_in b v Inactive ≡ [] → entries_in n v Active ≡ [] → OnlyLeave b n → (f : ℕ) (list : LruList)
     → home_of n.links f ≡ Some (record { owner = v; list = list }) → ⊥
-keeps_none_of t w b n ok_b ok_n v fits first last leaves f Inactive home = none_listed t w b ok_b v fits Inactive first f (leaves f _ home)
-keeps_none_of t w b n ok_b ok_n v fits first last leaves f Active home = none_listed t w n ok_n v fits Active last f home
+keeps_none_of t b n ok_b ok_n v fits first last leaves f Inactive home = none_listed t b ok_b v fits Inactive first f (leaves f _ home)
+keeps_none_of t b n ok_b ok_n v fits first last leaves f Active home = none_listed t n ok_n v fits Active last f home
 
-pub all_killed : (t : KnownTable) (w : KnownStockTable) (v : ℕ) → v < 64 → (m a d b n : KnownMachine) → a ≡ with_run (with_killed m v) a.run
-    → ((g : ℕ) → current_of a.ledger g ≡ current_of m.ledger g) → MakesForAny t m (kill_steps v) a
-    → (pages : ℕ) → DrainsGroup t v pages a d → AreOwnDrained v t.cpus d
-    → ReleasesUnitsBySteps t (entries_in d v Inactive) d b → entries_in b v Inactive ≡ [] → OnlyReleases t d b → KeepsStocks d b → IsConsistent t w b
-    → ReleasesUnitsBySteps t (entries_in b v Active) b n → entries_in n v Active ≡ [] → OnlyReleases t b n → KeepsStocks b n → IsConsistent t w n → AllKilled t v m n
-all_killed t w v fits m a d b n is usage killed pages drains drained first first_empty first_keeps first_stocks ok_b last last_empty last_keeps last_stocks ok_n =
+pub all_killed : (t : KnownTable) (v : ℕ) → v < 64 → (m a d b n : KnownMachine) → a ≡ with_run (with_killed m v) a.run
+    → ((g : ℕ) → current_of a.ledger g ≡ current_of m.ledger g) → Makes t m (kill_steps v) a
+    → (pages : ℕ) → DrainsGroup t v pages a d → AreOwnDrained t v d
+    → ReleasesUnitsBySteps t (entries_in d v Inactive) d b → entries_in b v Inactive ≡ [] → OnlyReleases t d b → KeepsStocks t d b → IsConsistent t b
+    → ReleasesUnitsBySteps t (entries_in b v Active) b n → entries_in n v Active ≡ [] → OnlyReleases t b n → KeepsStocks t b n → IsConsistent t n → AllKilled t v m n
+all_killed t v fits m a d b n is usage killed pages drains drained first first_empty first_keeps first_stocks ok_b last last_empty last_keeps last_stocks ok_n =
     let unit = drains_leave (of_group v) t.cpus a d drains.drains drains.all in
     let stock : n.stock_seat ≡ d.stock_seat = last_stocks.stock_seat ∙ first_stocks.stock_seat in
     let groups : n.ledger.groups ≡ d.ledger.groups = last_keeps.groups ∙ first_keeps.groups in
@@ -453,7 +453,7 @@ all_killed t w v fits m a d b n is usage killed pages drains drained first first
           first = first.steps;
           last = last.steps;
           seen = a.run;
-          stocks = subst (λ (x : KnownMachine). DrainsAllIf (of_group v) t.cpus drains.drains x d) is drains.all;
+          stocks = subst (λ (x : KnownMachine). DrainsAllIf t (of_group v) t.cpus drains.drains x d) is drains.all;
           inactive = first.releases;
           active = last.releases;
           steps_are = refl;
@@ -476,7 +476,7 @@ all_killed t w v fits m a d b n is usage killed pages drains drained first first
           ap (λ (s : KnownStockSeat). (account_of s.view q).filled) stock
           ∙ drained q some few ((λ i. of_group v (sym groups i) (account_of (sym stock i).view q).group) ∙ of);
       none_kept = λ f h home owner.
-          keeps_none_of t w b n ok_b ok_n v fits first_empty last_empty last_keeps.leaves f h.list
+          keeps_none_of t b n ok_b ok_n v fits first_empty last_empty last_keeps.leaves f h.list
           (home ∙ (λ i. Some (record { owner = owner i; list = h.list })));
       keeps = only_lets_both t m a n at_first (only_lets_both t a d n at_drain (only_lets_both t d b n first_keeps last_keeps));
       stocks = record {

@@ -15,7 +15,7 @@ use Rattle.lru_lists.specs.Queue.{link_at}
 use Rattle.lru_lists.specs.Lists.{entries_without, entry_of, marked}
 use Rattle.step_rules.specs.After.{Run}
 use Rattle.mem_machine.specs.Machines.{KnownMachine, home_of}
-use Rattle.mem_machine.specs.Local.{MakesForAny}
+use Rattle.mem_machine.specs.Local.{Makes}
 use Rattle.mem_machine.specs.Ageing.{RenewsUnit, entries_in}
 use Rattle.mem_machine.specs.Evicting.{EvictsUnit, Evicts, evict_steps}
 use Rattle.mem_reclaim.specs.Wanted.{progress}
@@ -37,7 +37,7 @@ meets_dirty t spares_marked g e m dirty = record {
 
 pub meets_spared : (t : KnownTable) (spares_marked : Bool) (g f : ℕ) (e : Entry) (m n : KnownMachine) → e.is_dirty ≡ false
     → (spares_marked && e.is_marked) ≡ true
-    → e.number ≡ f → RenewsUnit g f m n → MakesForAny t m [] n → FreesBySteps t 0 m n (TriesReclaim spares_marked g e 1)
+    → e.number ≡ f → RenewsUnit g f m n → Makes t m [] n → FreesBySteps t 0 m n (TriesReclaim spares_marked g e 1)
 meets_spared t spares_marked g f e m n clean spared is renews runs = record {
   steps = [];
   does = subst (λ (x : Bool × Bool × ℕ). TriesReclaimAs x.0 x.1 g x.2 (progress 0 m [] n)) (λ i. (sym clean i, sym spared i, sym is i))
@@ -46,7 +46,7 @@ meets_spared t spares_marked g f e m n clean spared is renews runs = record {
 }
 
 pub meets_tried : (t : KnownTable) (spares_marked : Bool) (g f : ℕ) (e : Entry) (m n : KnownMachine) (answer : Option ℕ) (freed : ℕ) → e.is_dirty ≡ false
-    → (spares_marked && e.is_marked) ≡ false → e.number ≡ f → Evicts f answer m n → MakesForAny t m (evict_steps f answer) n → freed ≡ unwrap_or answer 0
+    → (spares_marked && e.is_marked) ≡ false → e.number ≡ f → Evicts f answer m n → Makes t m (evict_steps f answer) n → freed ≡ unwrap_or answer 0
     → FreesBySteps t freed m n (TriesReclaim spares_marked g e 1)
 meets_tried t spares_marked g f e m n answer freed clean spared is evicts runs pages =
     subst (λ (p : ℕ). FreesBySteps t p m n (TriesReclaim spares_marked g e 1)) (sym pages) (record {
