@@ -18,6 +18,7 @@ pub mod Takes
 pub mod Draining
 pub mod Drained
 pub mod DrainingAll
+pub mod StocksKept
 pub mod Choosing
 pub mod Prepaying
 pub mod Listed
@@ -59,3 +60,4 @@ pub mod Sight
 pub mod Hiding
 pub mod Staying
 pub mod ZoneSteps
+pub mod LentTo
