@@ -13,14 +13,22 @@ use Rattle.mem_alloc.proofs.charging.fill_one.Goals as goal
 pub returns-in_default-clause-charges : goal.returns-in_default-clause-charges
 returns-in_default-clause-charges g c =
     so_far_fills g.N.BootName.frames c.args.group 1 c.args.cpu.now c.args.machine.now c.tries.machine c.tries.invariant.0 c.tries.cpu c.tries.invariant.1
-    c.fill_stock.new.self c.fill_stock.new.cpu c.in_default.ensures.fills c.in_default.ensures.steps
+    c.fill_stock.new.self c.in_default.ensures.fills c.in_default.ensures.steps
 
 pub fill_stock-requires-clause-visit : goal.fill_stock-requires-clause-visit
 fill_stock-requires-clause-visit g c =
     subst (λ (k : KnownCpu). Visits g.N.BootName.frames (visit_state c.tries.machine k)) (sym c.tries.invariant.1) (c.tries.invariant.0.visit c.requires.visit)
 
-pub make_room-requires-clause-shown : goal.make_room-requires-clause-shown
-make_room-requires-clause-shown g c = record { cpu = c.fill_stock.new.cpu; is = c.in-Err.ensures.visit.shown }
+pub fill_stock-requires-clause-none_fresh : goal.fill_stock-requires-clause-none_fresh
+fill_stock-requires-clause-none_fresh g c = ap (λ (k : KnownCpu). k.fresh) c.tries.invariant.1 ∙ c.requires.none_fresh
+
+pub fill_stock-requires-clause-drained : goal.fill_stock-requires-clause-drained
+fill_stock-requires-clause-drained g c =
+    subst (λ (k : KnownCpu). IsDrained g.N.BootName.frames c.tries.machine k.number) (sym c.tries.invariant.1)
+    (c.tries.invariant.2 c.requires.visit.held c.args.cpu.now.number c.requires.drained)
+
+pub make_room-requires-clause-held : goal.make_room-requires-clause-held
+make_room-requires-clause-held g c = c.fill_stock.ensures.visit.held
 
 pub make_room-requires-clause-there : goal.make_room-requires-clause-there
 make_room-requires-clause-there g c =
