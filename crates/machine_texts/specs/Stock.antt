@@ -2,6 +2,7 @@
 use Rattle.std.specs.Prelude.{ℕ, List, ◌++◌, codes, length, ◌*◌}
 use Rattle.std.specs.Option.{option_map_or}
 use Rattle.std.specs.Fmt.{decimal}
+use Rattle.frame_word.specs.Seats.{KnownTable}
 use Rattle.group_tree.specs.declared.group.Group.{Group}
 use Rattle.group_tree.specs.Groups.{path_of}
 use Rattle.stock_word.specs.declared.view.Stock.{Stock}
@@ -36,5 +37,5 @@ cpu_text groups cpu stock =
     ++ (stock_text groups stock ++ (counts_text cpu ++ codes "\n"))
 
 -- what is written for `stock`: the line about the CPU with its stock as it is now
-abbrev pub stock_line_text : VisitState → List ℕ
-stock_line_text now = cpu_text now.machine.ledger.groups now.cpu (stock_now now)
+abbrev pub stock_line_text : KnownTable → VisitState → List ℕ
+stock_line_text table now = cpu_text now.machine.ledger.groups now.cpu (stock_now table now)

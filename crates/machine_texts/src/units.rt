@@ -1,6 +1,7 @@
 //! The kept units of a group.
 
 ghost use Rattle.std.specs.Prelude.{◌≡◌, ◌<◌, [], false, true, IfOk, IsOk, length};
+ghost use Rattle.boot_words.specs.Pasts.{IsHeld};
 ghost use Rattle.control_files.specs.Strings.{AddsBytes};
 ghost use Rattle.mem_machine.specs.Showing.{listed, units_in};
 ghost use Rattle.machine_texts.specs.Units.{ReadsLines, ReadsUnits, list_text, order_at, pins_text, rest_text};
@@ -23,8 +24,10 @@ pub fn write_units<N: BootName>(
     group: GroupId,
     text: &mut String,
 ) -> Result<(), AllocError>
-    ensures units { ReadsUnits group
-        (λ shown. AddsBytes result text.old text.new shown) machine.old machine.new }
+    requires held { IsHeld N.frames machine.old.run.past }
+    ensures units { ReadsUnits N.frames group
+        (λ shown. AddsBytes result text.old text.new shown) machine.old }
+    ensures machine { machine.new ≡ machine.old }
 {
     if keeps_none(machine, group) {
         return text.push_str("none\n");
@@ -53,8 +56,10 @@ fn write_list<N: BootName>(
     list: LruList,
     text: &mut String,
 ) -> Result<(), AllocError>
-    ensures lines { ReadsLines group list
-        (λ shown. AddsBytes result text.old text.new shown) machine.old machine.new }
+    requires held { IsHeld N.frames machine.old.run.past }
+    ensures lines { ReadsLines N.frames group list
+        (λ shown. AddsBytes result text.old text.new shown) machine.old }
+    ensures machine { machine.new ≡ machine.old }
 {
     let count = machine.list_len(group, list);
     let mut next = machine.oldest(group, list);

@@ -1,23 +1,27 @@
 -- What drains leave of the stocks; and the stocks of a subtree, or of a group, are drained, one CPU after the other. Serves
 -- `drain_each`, and the crates above.
-use Rattle.std.proofs.Common.{◌≡◌, ◌≢◌, ℕ, ◌+◌, ◌-◌, ◌*◌, ◌<◌, ◌≤◌, ◌↔◌, Bool, true, false, Option, Some, None, List, [], ◌∷◌, ◌++◌, zero, suc, refl}
-use Rattle.std.proofs.Common.{sym, ap, ◌∙◌, subst, inl, inr, arith}
+use Rattle.std.proofs.Common.{◌≡◌, ◌≢◌, ℕ, ◌+◌, ◌-◌, ◌*◌, ◌<◌, ◌≤◌, ◌==◌, ◌↔◌, Bool, true, false, Option, Some, None, List, [], ◌∷◌, ◌++◌, zero, suc, refl}
+use Rattle.std.proofs.Common.{map, cond, sym, ap, ◌∙◌, subst, inl, inr, arith}
 use Rattle.std.specs.Int.{bit_at}
 use Rattle.std.specs.Prelude.{is_some}
 use Rattle.std.proofs.lemmas.List.{append-nil}
-use Rattle.std.proofs.lemmas.List.Sums.{sum_by-append}
+use Rattle.std.proofs.lemmas.List.Sums.{sum_by-append, sum_by-cons}
 use Rattle.std.proofs.lemmas.Grind.{flat_map-append}
-use Rattle.std.proofs.lemmas.Bool.{cases_eq, cases_lt, false_from_ne_true, false≢true}
+use Rattle.std.proofs.lemmas.Bool.{cases_eq, cases_lt, cond_both, false_from_ne_true, false≢true}
 use Rattle.std.proofs.lemmas.Nat.Bits.{bit_at-zero}
 use Rattle.frame_word.specs.Seats.{KnownTable}
 use Rattle.group_tree.specs.declared.group.Group.{Group}
+use Rattle.group_tree.specs.Groups.{in_subtree}
+use Rattle.group_charge.specs.declared.account.Account as charge
+use Rattle.group_charge.specs.Charges.{Ledger, current_of, taken, usage_charged}
+use Rattle.group_charge.proofs.SumLemmas.{share}
 use Rattle.step_rules.specs.State.{Part, State}
 use Rattle.step_rules.specs.After.{Run, drained}
 use Rattle.step_rules.proofs.Basics.{at_other, at_same}
 use Rattle.mem_machine.specs.Machines.{KnownMachine, part_at, stock_group}
 use Rattle.mem_machine.specs.Local.{Makes, StaysVisited}
 use Rattle.mem_machine.specs.Steps.{Drain, drain_steps, drain_stocks_steps, pages_drained}
-use Rattle.mem_machine.specs.Stocks.{AreChosen, AreChosenBySome, AreDrainedIf, Drains, DrainsAllIf, DrainsBySteps, DrainsIf, DrainsNoted, HasDrained, IsDrained, StockTest}
+use Rattle.mem_machine.specs.Stocks.{AreChosen, AreChosenBySome, AreDrainedIf, Drains, DrainsAllIf, DrainsBySteps, DrainsIf, DrainsNoted, HasDrained, IsDrained, StockTest, uncharged}
 use Rattle.mem_machine.proofs.Draining.{groups_stay}
 use Rattle.mem_machine.proofs.Followed.{makes_both, makes_none}
 
@@ -57,6 +61,27 @@ module _ (t : KnownTable) (q n : ℕ) (x y : KnownMachine) (d : Drains t q n x y
 
   pub drained_trees : y.ledger.groups ≡ x.ledger.groups
   drained_trees = ap (λ (k : KnownMachine). k.ledger.groups) d.machine ∙ groups_stay x.ledger (stock_group t x q) n
+
+-- ---- the usage
+
+less_if : (b : Bool) (p n : ℕ) → cond b (p - n) 0 ≤ cond b p 0
+less_if true p n = omega arith
+less_if false p n = omega arith
+
+usage_falls : (groups : List Group) (xs : List charge.Account) (g n m : ℕ) → usage_charged groups (map (taken g n) xs) m ≤ usage_charged groups xs m
+unfolding usage_charged
+usage_falls groups [] g n m = omega arith
+usage_falls groups (x ∷ xs) g n m =
+    let here : share groups m (taken g n x) ≤ share groups m x = cond_both (x.group == g) (record x { pages = x.pages - n }) x
+    (λ (y : charge.Account). share groups m y ≤ share groups m x) (λ _. less_if (in_subtree groups m x.group) x.pages n) (λ _. omega arith) in
+    let rest = usage_falls groups xs g n m in
+    let a = sum_by-cons (share groups m) (taken g n x) (map (taken g n) xs) in
+    let b = sum_by-cons (share groups m) x xs in
+    omega (arith, here, rest, a, b)
+
+pub current_falls : (l : Ledger) (o : Option ℕ) (n m : ℕ) → current_of (uncharged l o n) m ≤ current_of l m
+current_falls l None n m = omega arith
+current_falls l (Some g) n m = usage_falls l.groups l.accounts g n m
 
 -- ---- the drains of one CPU's stock, if it is chosen
 

@@ -3,14 +3,11 @@ pub mod NoneLent
 pub mod Reaching
 pub mod Followed
 pub mod Noted
-pub mod Reached
 pub mod Agreeing
 pub mod AtTable
-pub mod Watched
 pub mod Counted
 pub mod LedgerMoves
 pub mod Holds
-pub mod Holder
 pub mod Collecting
 pub mod First
 pub mod GroupSteps
@@ -22,6 +19,7 @@ pub mod Falling
 pub mod Draining
 pub mod Drained
 pub mod DrainingAll
+pub mod StocksKept
 pub mod Choosing
 pub mod Prepaying
 pub mod Listed
@@ -44,19 +42,15 @@ pub mod Evicts
 pub mod OneGroup
 pub mod Booking
 pub mod ChargedFrames
-pub mod GivenFrames
 pub mod OwnFrames
 pub mod HandOvers
 pub mod Moved
-pub mod Absorbs
-pub mod Shown
 pub mod Fresh
 pub mod Back
 pub mod Settled
 pub mod Keepers
 pub mod Fronts
 pub mod Depths
-pub mod Looks
 pub mod Listing
 pub mod Seen
 pub mod Locks
@@ -67,3 +61,4 @@ pub mod Sight
 pub mod Hiding
 pub mod Staying
 pub mod ZoneSteps
+pub mod LentTo

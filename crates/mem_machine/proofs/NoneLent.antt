@@ -23,6 +23,8 @@ use Rattle.mem_machine.specs.FrameStates.{frame_state_at, is_free_state, frame_s
 use Rattle.mem_machine.specs.Local.{Holds, group_of_fresh, local_of, phase_of, visit_state}
 use Rattle.mem_machine.specs.Machines.{KnownMachine, IsConsistent}
 use Rattle.mem_machine.specs.Places.{frames_free, frames_in_groups, NoneLentTo}
+-- who a frame is lent to is one of the CPUs
+pub use Rattle.mem_machine.proofs.LentTo.{lent_to_cpu}
 use Rattle.mem_machine.proofs.Seen.{phase_seen}
 
 unlisted : (b : Bool) (g p : ℕ) → has_as ListFrame p (cond (b && nat_le 1 0) (phase.Head (record { group = g; order = 0 }) (FreshAt p)) (phase.Lent p OnList)) ≡ (p == p)

@@ -11,9 +11,11 @@ use Rattle.step_rules.specs.State.{Part, State}
 use Rattle.step_rules.specs.After.{Run}
 use Rattle.boot_words.specs.Hidden.{hide}
 use Rattle.boot_words.specs.Pasts.{IsHeld}
+use Rattle.mem_machine.specs.declared.machine.Machine.TheInside.{Inside}
 use Rattle.mem_machine.specs.Booked.{AreBooked, AreOwners}
+use Rattle.mem_machine.specs.Kept.{IsSoundMachine, machine_of}
 use Rattle.mem_machine.specs.Local.{local_of}
-use Rattle.mem_machine.specs.Machines.{KnownMachine, IsConsistent, frames_charged, left_by, pages_booked}
+use Rattle.mem_machine.specs.Machines.{KnownMachine, IsConsistent, IsShownBy, frames_charged, left_by, pages_booked}
 use Rattle.mem_machine.specs.Noted.{KnownRun, Notes, after_made}
 use Rattle.mem_machine.proofs.Booking.{books_same, sums_same}
 use Rattle.mem_machine.proofs.Draining.{charged_there}
@@ -88,3 +90,34 @@ frames_none t m now same ok charges g gone = elim (cases_lt 0 (pages_of m.ledger
       let here : ◌≡◌ {A = ℕ} 0 (frames_charged m.frame_states g) = omega (arith, all, none) in
       here ∙ ap (λ (x : KnownMachine). frames_charged x.frame_states g) same
 ]
+
+-- ---- a run that leaves the same
+
+-- the fields stay, and what the run leaves
+pub sound_same : {N : Type 0} (t : KnownTable) (fields : Inside N) → IsSoundMachine t fields → (run : KnownRun) → left_by t run.past ≡ left_by t fields.past
+    → IsSoundMachine {N = N} t (record fields { past = run.past; watch = run.watch })
+sound_same {N} t fields ok run left =
+    let was = ok.consistent in
+    let shown = was.shown in record {
+      consistent = record {
+        sizes = record { frame_states = was.sizes.frame_states; links = was.sizes.links; lists = was.sizes.lists; killed = was.sizes.killed };
+        areas = was.areas;
+        frame_states = was.frame_states;
+        units = was.units;
+        lists = was.lists;
+        balances = was.balances;
+        shown = subst (IsShownBy t (machine_of {N = N} (record fields { past = run.past; watch = run.watch }))) (sym left) (record {
+          groups = shown.groups;
+          killed = shown.killed;
+          phases = shown.phases;
+          references = shown.references;
+          settled = shown.settled;
+          absorbed = shown.absorbed;
+          bounded = shown.bounded;
+          charged = shown.charged;
+        });
+      };
+      free = ok.free;
+      sums = subst (λ (s : State). AreBooked t.cpus s.parts fields.sums) (sym left) ok.sums;
+      owners = subst (λ (s : State). AreOwners t.cpus s.parts fields.owners) (sym left) ok.owners;
+    }

@@ -58,10 +58,12 @@ fn collect_fresh<N: BootName>(
     ensures notes { Notes N.frames (record { past = past.old; watch = watch.old })
         (collect_steps cpu.old.number result) (record { past = past.new; watch = watch.new }) }
 {
+    let cpu_number = cpu.number();
     let Some(frame) = cpu.give_back_fresh(tables, past) else {
         unreachable!()
     };
-    watch_collected(watch, cpu.number(), frame.number());
+    let at = frame.number();
+    watch_collected(watch, cpu_number, at);
     sums[group.number() as usize] -= 1;
     frame
 }
