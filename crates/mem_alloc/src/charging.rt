@@ -19,7 +19,7 @@ use mem_machine::Machine;
 use stock_word::Stock;
 use zone_blocks::config::Config;
 
-// Whether the CPU's stock has a page of the group, as one look shows.
+// Whether the CPU's stock has a page of the group.
 fn holds_page<N: BootName>(
     machine: &mut Machine<N>,
     tables: &Tables<N>,

@@ -1,20 +1,18 @@
 -- A back frame's unit is freed. Serves `return_one`.
-use Rattle.std.proofs.Common.{true, false, ◌≡◌, ℕ, ◌+◌, ◌^◌, ◌<◌, ◌≤◌, ◌==◌, Bool, Option, Some, None, List, [], ◌∷◌, ◌++◌, length, get_or, refl, sym, ap, ◌∙◌, subst, arith}
+use Rattle.std.proofs.Common.{true, false, ◌≡◌, ℕ, ◌^◌, ◌<◌, ◌==◌, Bool, Option, None, List, [], ◌∷◌, length, get_or, refl, sym, ap, ◌∙◌, subst, arith}
 use Rattle.std.proofs.lemmas.List.{get_or_default}
-use Rattle.std.proofs.lemmas.Option.{none-some}
 use Rattle.zone_blocks.specs.declared.block.Block.{Block}
 use Rattle.zone_blocks.specs.Areas.{AreMaximalBlocks}
-use Rattle.zone_blocks.specs.Zone.{GivesFrames, IsInUse}
+use Rattle.zone_blocks.specs.Zone.{GivesFrames}
 use Rattle.frame_word.specs.Seats.{KnownTable}
-use Rattle.group_charge.specs.Charges.{Ledger, pages_of, with_uncharge}
+use Rattle.group_charge.specs.Charges.{Ledger, with_uncharge}
 use Rattle.group_charge.proofs.CallerLemmas.{uncharge_peaks, uncharge_events}
 use Rattle.boot_words.specs.Hidden.{hide, hide_phase}
 use Rattle.boot_words.specs.Pasts.{IsHeld, IsHolder, MakesStep, MayMake}
 use Rattle.cpu_part.specs.Calls.{PassesBackUnit}
 use Rattle.cpu_part.specs.Cpus.{KnownCpu}
 use Rattle.step_rules.specs.declared.phase.ChargedUnit.{ChargedUnit}
-use Rattle.step_rules.specs.declared.phase.Stage.TheVariants.{AwaitsReturn, BackAt, Live}
-use Rattle.step_rules.specs.declared.phase.Phase.{Phase}
+use Rattle.step_rules.specs.declared.phase.Stage.TheVariants.{AwaitsReturn, BackAt}
 use Rattle.step_rules.specs.declared.phase.Phase.TheVariants as phase
 use Rattle.step_rules.specs.declared.step.Action.TheVariants.{PassBack, Collect, Return}
 use Rattle.step_rules.specs.declared.step.Answer.TheVariants.{Done}
@@ -40,7 +38,7 @@ use Rattle.mem_machine.specs.Counts.{with_last_put}
 use Rattle.mem_machine.proofs.Balances.{balanced_last_put}
 use Rattle.mem_machine.proofs.Counted.{comes_back}
 use Rattle.mem_machine.proofs.Followed.{follows_still}
-use Rattle.mem_machine.proofs.Freeing.{free_block_given, homes_fit, pages_freed, unit_charged, unit_in_use, units_freed}
+use Rattle.mem_machine.proofs.Freeing.{free_block_given, homes_fit, pages_freed, units_freed}
 use Rattle.mem_machine.proofs.HandOvers.{IsVisited, handed_back, returned_state, return_run}
 use Rattle.mem_machine.proofs.Made.{visits_here, zone_seen}
 use Rattle.mem_machine.proofs.Moved.{AllMoved, back_here, books_stay, head_record, headed, is_visited, left_moved, makes_moved, may_next, no_home, number_range, own_moved, owners_moved, phases_freed, shown_moved, sums_moved, visit_moved}

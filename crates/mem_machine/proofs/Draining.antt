@@ -14,7 +14,7 @@ use Rattle.step_rules.specs.declared.step.Answer.TheVariants.{Done, Pages}
 use Rattle.step_rules.specs.State.{Part, State, Zone, is_cpu, with_at}
 use Rattle.step_rules.specs.Legal.{is_legal}
 use Rattle.step_rules.specs.Laws.{IsLocalStep}
-use Rattle.step_rules.specs.After.{Run, after, drained, with_more, with_part}
+use Rattle.step_rules.specs.After.{after, drained, with_more, with_part}
 use Rattle.step_rules.specs.Reaches.{IsLocalRun}
 use Rattle.step_rules.specs.Views.{other_part_seen}
 use Rattle.step_rules.proofs.Basics.{at_each, at_other, at_same}

@@ -157,14 +157,13 @@ module _ (t : KnownTable) (m : KnownMachine) (ok : IsConsistent t m) (held : IsH
           machine = refl;
         };
         visit = zone_visited t m evicted_machine steps noted refl refl (λ p some. at_other s.references 0 _ p some);
-        steps = makes t m evicted_machine steps held noted
-            (
-              zone_step s (cpu_past m.run.past).number (Freeze f 1) answer.Done refl (may_freeze t m ok held f inside kept) tt,
-              (
-                zone_step _ (cpu_past m.run.past).number (Return f) answer.Done refl (may_return t m ok held f inside kept unit heads) tt,
-                refl,
-              ),
-            )
+        steps = makes t m evicted_machine steps held noted (
+          zone_step s (cpu_past m.run.past).number (Freeze f 1) answer.Done refl (may_freeze t m ok held f inside kept) tt,
+          (
+            zone_step _ (cpu_past m.run.past).number (Return f) answer.Done refl (may_return t m ok held f inside kept unit heads) tt,
+            refl,
+          ),
+        )
             (follows_still _ m.ledger steps _ refl (uncharge_peaks m.ledger unit.group (2 ^ unit.order)) (uncharge_events m.ledger unit.group (2 ^ unit.order)))
             (sym (returned_ended s f (one_more_freeze m.counts)));
       }

@@ -14,21 +14,19 @@ use Rattle.group_charge.proofs.CallerLemmas.{uncharge_pages, uncharge_peaks, unc
 use Rattle.group_tree.specs.Bounds.{most_groups}
 use Rattle.lru_lists.specs.declared.record.Home.{Home}
 use Rattle.lru_lists.specs.declared.record.Link.{Link}
-use Rattle.lru_lists.specs.declared.record.LruList.TheVariants.{Inactive}
 use Rattle.lru_lists.specs.declared.lru.Lru.{Lru}
 use Rattle.boot_words.specs.Composed.{AreLegal}
 use Rattle.boot_words.specs.Hidden.{hide, hide_phase}
-use Rattle.boot_words.specs.Pasts.{KnownPasts, IsHeld, MakesStep, MayMake, local_by_pasts}
+use Rattle.boot_words.specs.Pasts.{MakesStep, MayMake}
 use Rattle.cpu_part.specs.Cpus.{KnownCpu}
 use Rattle.step_rules.specs.declared.phase.ChargedUnit.{ChargedUnit}
 use Rattle.step_rules.specs.declared.phase.Stage.TheVariants.{FreshAt, Collected, Live}
-use Rattle.step_rules.specs.declared.phase.Phase.{Phase}
 use Rattle.step_rules.specs.declared.phase.Phase.TheVariants as phase
 use Rattle.step_rules.specs.declared.step.Action.TheVariants.{Unfreeze, Publish, Return}
 use Rattle.step_rules.specs.declared.step.Answer.TheVariants.{Done}
 use Rattle.step_rules.specs.Invariant.{told_pages}
 use Rattle.step_rules.specs.State.{Part, State, Zone, one_if, times, with_at}
-use Rattle.step_rules.specs.After.{is_within, without_unit, Run}
+use Rattle.step_rules.specs.After.{without_unit}
 use Rattle.step_rules.specs.Reaches.{IsLocalRun}
 use Rattle.step_rules.proofs.Basics.{at_other, at_same}
 use Rattle.step_rules.proofs.SoundSteps.{below_frames}
@@ -39,13 +37,12 @@ use Rattle.mem_machine.specs.declared.frame_state.FrameState.TheVariants.{Free, 
 use Rattle.mem_machine.specs.declared.counts.Counts.{Counts}
 use Rattle.mem_machine.specs.Booked.{AreBooked, AreOwners}
 use Rattle.mem_machine.specs.FrameStates.{frame_state_at, is_free_state, free_of, frame_state_group, AreUnits}
-use Rattle.mem_machine.specs.Machines.{KnownMachine, VisitState, FitsFrameState, IsConsistent, IsShownBy, BalancesCounts, frames_charged, home_of, is_killed, left_by, pages_booked, stock_group}
-use Rattle.mem_machine.specs.Local.{Visits, Makes, local_of, visit_state}
+use Rattle.mem_machine.specs.Machines.{KnownMachine, FitsFrameState, IsConsistent, IsShownBy, BalancesCounts, frames_charged, home_of, is_killed, left_by, pages_booked, stock_group}
+use Rattle.mem_machine.specs.Local.{Visits, local_of, visit_state}
 use Rattle.mem_machine.specs.Noted.{AreLocal, KnownRun, MayTake, Notes}
 use Rattle.mem_machine.specs.Steps.{zone_makes}
 use Rattle.mem_machine.specs.Blocks.{PlacesUnit}
 use Rattle.mem_machine.specs.Counts.{with_killed_fresh}
-use Rattle.mem_machine.specs.Counting.{counts_along}
 use Rattle.mem_machine.specs.Freeing.{FreesFrames}
 use Rattle.mem_machine.specs.Settling.{HandsOver, KeepsFresh, DropsFresh, collect_steps, keep_steps, drop_steps}
 use Rattle.mem_machine.proofs.Balances.{balanced_killed_fresh}
@@ -60,7 +57,7 @@ use Rattle.mem_machine.proofs.Made.{visits_here, zone_seen}
 use Rattle.mem_machine.proofs.Noted.{local_legal, notes_both, notes_one, run_steps}
 use Rattle.mem_machine.proofs.OwnFrames.{HasFrame}
 use Rattle.mem_machine.proofs.PlacesUnits.{head_of_block, off_block}
-use Rattle.mem_machine.proofs.Records.{free_at, free_set, length_free, units_stay, charges_stay}
+use Rattle.mem_machine.proofs.Records.{free_at, free_set, units_stay, charges_stay}
 use Rattle.mem_machine.proofs.Sight.{left_seen, shown_seen}
 use Rattle.mem_machine.proofs.Units.{units_placed}
 

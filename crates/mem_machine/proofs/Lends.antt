@@ -1,8 +1,8 @@
 -- A free frame goes to the list of the visited CPU, or the front of its list is free again. Serves `lend_one`, `lend` and
 -- `unlist_one`.
-use Rattle.std.proofs.Common.{◌≡◌, ℕ, ◌+◌, ◌<◌, ◌≤◌, ◌==◌, Bool, true, false, Option, Some, None, List, [], ◌∷◌, ◌++◌, length, get_or, refl, sym, ap, ◌∙◌, subst, inl, inr, arith, eq-eqb}
+use Rattle.std.proofs.Common.{◌≡◌, ℕ, ◌<◌, ◌≤◌, Bool, true, false, Option, Some, None, List, [], ◌∷◌, ◌++◌, length, get_or, refl, sym, ap, ◌∙◌, subst, inl, inr, arith, eq-eqb}
 use Rattle.std.specs.List.{fold}
-use Rattle.std.specs.Prelude.{IfSome, slice_set}
+use Rattle.std.specs.Prelude.{slice_set}
 use Rattle.std.proofs.lemmas.Bool.{and_from, cases_eq, lt-ltb}
 use Rattle.std.proofs.lemmas.List.{get_or-set_other, get_or-set_same, length-set}
 use Rattle.std.proofs.lemmas.Option.{none-some}
@@ -18,19 +18,17 @@ use Rattle.step_rules.specs.declared.step.Action.TheVariants.{PassOut, TakeIn}
 use Rattle.step_rules.specs.declared.step.Answer.TheVariants.{Done}
 use Rattle.step_rules.specs.Phases as phases
 use Rattle.step_rules.specs.Invariant.{told_pages}
-use Rattle.step_rules.specs.State.{Part, State, Zone, is_cpu, is_frame, with_at}
+use Rattle.step_rules.specs.State.{Part, State, Zone, is_frame, with_at}
 use Rattle.step_rules.specs.Legal.{is_legal}
 use Rattle.step_rules.specs.After.{Run, after, with_listed}
 use Rattle.step_rules.specs.Reaches.{IsLocalRun}
 use Rattle.step_rules.proofs.Basics.{at_other, at_same}
 use Rattle.boot_words.specs.Composed.{AreLegal, MakesInTurn}
 use Rattle.boot_words.specs.Hidden.{hide, hide_phase}
-use Rattle.boot_words.specs.Pasts.{KnownPasts, IsHeld, MakesStep, local_by_pasts}
-use Rattle.boot_words.specs.Seats.{zone_of_boot}
+use Rattle.boot_words.specs.Pasts.{KnownPasts, IsHeld, MakesStep}
 use Rattle.cpu_part.specs.Cpus.{KnownCpu}
 use Rattle.cpu_part.proofs.CallerLemmas.{makes_each}
 use Rattle.step_watch.specs.Watched.{KnownWatch, Watches}
-use Rattle.mem_machine.specs.declared.counts.Counts.{Counts}
 use Rattle.mem_machine.specs.declared.frame_state.FrameState.{FrameState}
 use Rattle.mem_machine.specs.declared.frame_state.FrameState.TheVariants.{Free, Lent, Head, Tail}
 use Rattle.mem_machine.specs.Booked.{AreBooked, AreOwners}
@@ -46,7 +44,7 @@ use Rattle.mem_machine.proofs.HandOvers.{IsVisited}
 use Rattle.mem_machine.proofs.Hiding.{is_free_seen}
 use Rattle.mem_machine.proofs.Made.{visits_here, zone_seen}
 use Rattle.mem_machine.proofs.Moved.{AllMoved, books_stay, is_visited, left_moved, makes_moved, number_range, own_moved, owners_moved, shown_moved, sums_moved, visit_moved}
-use Rattle.mem_machine.proofs.Noted.{local_legal, notes_both, notes_one, run_steps}
+use Rattle.mem_machine.proofs.Noted.{local_legal, notes_both, notes_one}
 use Rattle.mem_machine.proofs.Reaching.{cpu_step, zone_step}
 use Rattle.mem_machine.proofs.Records.{charges_stay, covers_one, free_at, free_inside, free_is, free_taken, units_stay}
 use Rattle.mem_machine.proofs.Sight.{left_seen, shown_seen}

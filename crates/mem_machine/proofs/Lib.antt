@@ -15,6 +15,7 @@ pub mod Records
 pub mod Lends
 pub mod Many
 pub mod Takes
+pub mod Falling
 pub mod Draining
 pub mod Drained
 pub mod DrainingAll

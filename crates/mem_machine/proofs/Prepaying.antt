@@ -127,89 +127,89 @@ module _ (t : KnownTable) (m : KnownMachine) (c : KnownCpu) (ok : IsConsistent t
       omega (arith, booked, empty)
 
   module _ (g k : ℕ) (there : has_group m.ledger.groups g ≡ true) (alive : is_killed m.killed g ≡ false) (has : room.PathHasRoom m.ledger.groups (current_of m.ledger) g k)
-      where
-    -- the steps are legal, and lead there
-    pub fill_leads : IsLocalRun c.number (local_of t m) (fill_steps c.number g k) (fill_state (local_of t m) c.number g k)
-    fill_leads =
-        let s = local_of t m in
-        let p = c.number in
-        let now = with_granted t m ok facts visit.held p g there k in
-        let may : takes_fill (s.parts p) g ≡ true =
-        and_from _ _ (eq-eqb _ 0 no_page) (ap (λ (b : Bool). b || is_of_group (s.parts p).stock.group g) (eq-eqb _ 0 nothing_booked)) in
-        let enough = le-leb k (now.pending g) (let all = pending_is t m ok facts visit.held p g there k in omega (arith, all)) in
-        let legal : is_legal now 0 (Fill p g k) ≡ true =
-        and_from _ _ (and_from _ _ (and_from _ _ (and_from _ _ (zone_acts t m.run.past visit.held) visit.is_open)
-        (ap (λ (groups : List Group). has_group groups g) shown.groups ∙ there)) may) enough in (
-          is_granted t m ok facts visit.held p g there alive k has,
-          (
-            zone_step now p (Fill p g k) Done refl legal tt,
-            λ i. record (fill_state s p g k) { pending = λ h. (none_pends t m ok facts visit.held p g there k h ∙ sym (shown.settled h)) i },
-          ),
-        )
+    where
+      -- the steps are legal, and lead there
+      pub fill_leads : IsLocalRun c.number (local_of t m) (fill_steps c.number g k) (fill_state (local_of t m) c.number g k)
+      fill_leads =
+          let s = local_of t m in
+          let p = c.number in
+          let now = with_granted t m ok facts visit.held p g there k in
+          let may : takes_fill (s.parts p) g ≡ true =
+          and_from _ _ (eq-eqb _ 0 no_page) (ap (λ (b : Bool). b || is_of_group (s.parts p).stock.group g) (eq-eqb _ 0 nothing_booked)) in
+          let enough = le-leb k (now.pending g) (let all = pending_is t m ok facts visit.held p g there k in omega (arith, all)) in
+          let legal : is_legal now 0 (Fill p g k) ≡ true =
+          and_from _ _ (and_from _ _ (and_from _ _ (and_from _ _ (zone_acts t m.run.past visit.held) visit.is_open)
+          (ap (λ (groups : List Group). has_group groups g) shown.groups ∙ there)) may) enough in (
+            is_granted t m ok facts visit.held p g there alive k has,
+            (
+              zone_step now p (Fill p g k) Done refl legal tt,
+              λ i. record (fill_state s p g k) { pending = λ h. (none_pends t m ok facts visit.held p g there k h ∙ sym (shown.settled h)) i },
+            ),
+          )
 
-    fill_follows : FollowsSteps (local_of t m) m.ledger (fill_steps c.number g k) (with_charge m.ledger g k)
-    fill_follows = follows_grant (local_of t m) m.ledger shown.groups facts (usage_is t m ok facts visit.held) g k there (zone_makes (Fill c.number g k) Done ∷ []) refl
-        (with_charge m.ledger g k) (λ h. refl) (same_events (with_charge m.ledger g k))
+      fill_follows : FollowsSteps (local_of t m) m.ledger (fill_steps c.number g k) (with_charge m.ledger g k)
+      fill_follows = follows_grant (local_of t m) m.ledger shown.groups facts (usage_is t m ok facts visit.held) g k there (zone_makes (Fill c.number g k) Done ∷ []) refl
+          (with_charge m.ledger g k) (λ h. refl) (same_events (with_charge m.ledger g k))
 
-    fill_lists : (p : ℕ) → HasSameLists p (local_of t m) (fill_state (local_of t m) c.number g k)
-    fill_lists p =
-        let s = local_of t m in
-        let same : (h : Part → List ℕ) → ((part : Part) → h (filled part g k) ≡ h part) → h (with_at s.parts c.number (filled (s.parts c.number) g k) p) ≡ h (s.parts p) =
-        λ h stays. at_each s.parts c.number (filled (s.parts c.number) g k) (λ j x. h x ≡ h (s.parts j)) (stays (s.parts c.number)) (λ j ne. refl) p in
-        record {
-          list = same (λ x. x.list) (λ x. refl);
-          fresh = same (λ x. x.fresh) (λ x. refl);
-          back = same (λ x. x.back) (λ x. refl);
-          references = refl;
-        }
+      fill_lists : (p : ℕ) → HasSameLists p (local_of t m) (fill_state (local_of t m) c.number g k)
+      fill_lists p =
+          let s = local_of t m in
+          let same : (h : Part → List ℕ) → ((part : Part) → h (filled part g k) ≡ h part) → h (with_at s.parts c.number (filled (s.parts c.number) g k) p) ≡ h (s.parts p) =
+          λ h stays. at_each s.parts c.number (filled (s.parts c.number) g k) (λ j x. h x ≡ h (s.parts j)) (stays (s.parts c.number)) (λ j ne. refl) p in
+          record {
+            list = same (λ x. x.list) (λ x. refl);
+            fresh = same (λ x. x.fresh) (λ x. refl);
+            back = same (λ x. x.back) (λ x. refl);
+            references = refl;
+          }
 
-    -- the grant may be taken, and behind it the fill
-    pub fill_may : MayTakeAll t m.run.past (fill_steps c.number g k)
-    fill_may = may_all t m.run.past c.number (local_of t m) (fill_steps c.number g k) visit.who refl
-        (run_steps c.number (local_of t m) (fill_steps c.number g k) (fill_state (local_of t m) c.number g k) fill_leads)
+      -- the grant may be taken, and behind it the fill
+      pub fill_may : MayTakeAll t m.run.past (fill_steps c.number g k)
+      fill_may = may_all t m.run.past c.number (local_of t m) (fill_steps c.number g k) visit.who refl
+          (run_steps c.number (local_of t m) (fill_steps c.number g k) (fill_state (local_of t m) c.number g k) fill_leads)
 
-    module _ (run : KnownRun) (noted : Notes t m.run (fill_steps c.number g k) run) where
-      ends : fold after_made (local_of t m) (fill_steps c.number g k) ≡ fill_state (local_of t m) c.number g k
-      ends = run_ends c.number (local_of t m) (fill_steps c.number g k) (fill_state (local_of t m) c.number g k) fill_leads
+      module _ (run : KnownRun) (noted : Notes t m.run (fill_steps c.number g k) run) where
+        ends : fold after_made (local_of t m) (fill_steps c.number g k) ≡ fill_state (local_of t m) c.number g k
+        ends = run_ends c.number (local_of t m) (fill_steps c.number g k) (fill_state (local_of t m) c.number g k) fill_leads
 
-      fill_left : left_by t run.past ≡ fill_state (left_by t m.run.past) c.number g k
-      fill_left =
-          left_then t m (fill_steps c.number g k) run visit.held noted ∙ ap hide ends
-          ∙ fill_hidden (local_of t m) c.number g k (visit.own.fresh ∙ none)
-          ∙ ap (λ (s : State). fill_state s c.number g k) (sym seen)
+        fill_left : left_by t run.past ≡ fill_state (left_by t m.run.past) c.number g k
+        fill_left =
+            left_then t m (fill_steps c.number g k) run visit.held noted ∙ ap hide ends
+            ∙ fill_hidden (local_of t m) c.number g k (visit.own.fresh ∙ none)
+            ∙ ap (λ (s : State). fill_state s c.number g k) (sym seen)
 
-      pub filled_consistent : k < 65536 → (l : Ledger) → l ≡ with_charge m.ledger g k → IsConsistent t (record m { ledger = l; run = run })
-      filled_consistent small l charged = subst (λ (x : Ledger). IsConsistent t (record m { ledger = x; run = run })) (sym charged) (record {
-        sizes = record { frame_states = ok.sizes.frame_states; links = ok.sizes.links; lists = ok.sizes.lists; killed = ok.sizes.killed };
-        areas = ok.areas;
-        frame_states = ok.frame_states;
-        units = ok.units;
-        lists = ok.lists;
-        balances = ok.balances;
-        shown = subst (IsShownBy t (record m { ledger = with_charge m.ledger g k; run = run })) (sym fill_left)
-            (fill_shown t m (left_by t m.run.past) ok.shown c.number g k filler_is.1 booked_left facts there small run);
-      })
+        pub filled_consistent : k < 65536 → (l : Ledger) → l ≡ with_charge m.ledger g k → IsConsistent t (record m { ledger = l; run = run })
+        filled_consistent small l charged = subst (λ (x : Ledger). IsConsistent t (record m { ledger = x; run = run })) (sym charged) (record {
+          sizes = record { frame_states = ok.sizes.frame_states; links = ok.sizes.links; lists = ok.sizes.lists; killed = ok.sizes.killed };
+          areas = ok.areas;
+          frame_states = ok.frame_states;
+          units = ok.units;
+          lists = ok.lists;
+          balances = ok.balances;
+          shown = subst (IsShownBy t (record m { ledger = with_charge m.ledger g k; run = run })) (sym fill_left)
+              (fill_shown t m (left_by t m.run.past) ok.shown c.number g k filler_is.1 booked_left facts there small run);
+        })
 
-      pub filled_sums : (sums : List ℕ) → AreBooked t.cpus (left_by t m.run.past).parts sums → g < 64
-          → AreBooked t.cpus (left_by t run.past).parts (slice_set sums g (get_or sums g 0 + k))
-      filled_sums sums are fits = subst (λ (s : State). AreBooked t.cpus s.parts (slice_set sums g (get_or sums g 0 + k))) (sym fill_left)
-          (fill_sums t m (left_by t m.run.past) ok.shown c.number g k filler_is.1 booked_left sums are fits)
+        pub filled_sums : (sums : List ℕ) → AreBooked t.cpus (left_by t m.run.past).parts sums → g < 64
+            → AreBooked t.cpus (left_by t run.past).parts (slice_set sums g (get_or sums g 0 + k))
+        filled_sums sums are fits = subst (λ (s : State). AreBooked t.cpus s.parts (slice_set sums g (get_or sums g 0 + k))) (sym fill_left)
+            (fill_sums t m (left_by t m.run.past) ok.shown c.number g k filler_is.1 booked_left sums are fits)
 
-      pub filled_owners : (owners : List (Option ℕ)) → AreOwners t.cpus (left_by t m.run.past).parts owners
-          → AreOwners t.cpus (left_by t run.past).parts (slice_set owners (c.number - 1) (Some g))
-      filled_owners owners are = subst (λ (s : State). AreOwners t.cpus s.parts (slice_set owners (c.number - 1) (Some g))) (sym fill_left)
-          (owners_set t.cpus (left_by t m.run.past).parts owners are c.number (filled ((left_by t m.run.past).parts c.number) g k) g filler_is.0 filler_is.1 refl)
+        pub filled_owners : (owners : List (Option ℕ)) → AreOwners t.cpus (left_by t m.run.past).parts owners
+            → AreOwners t.cpus (left_by t run.past).parts (slice_set owners (c.number - 1) (Some g))
+        filled_owners owners are = subst (λ (s : State). AreOwners t.cpus s.parts (slice_set owners (c.number - 1) (Some g))) (sym fill_left)
+            (owners_set t.cpus (left_by t m.run.past).parts owners are c.number (filled ((left_by t m.run.past).parts c.number) g k) g filler_is.0 filler_is.1 refl)
 
-      pub fills_here : Fills t c.number g k m (record m { ledger = with_charge m.ledger g k; run = run })
-      fills_here = record { room = has; machine = refl; left = fill_left }
+        pub fills_here : Fills t c.number g k m (record m { ledger = with_charge m.ledger g k; run = run })
+        fills_here = record { room = has; machine = refl; left = fill_left }
 
-      pub fill_makes : Makes t m (fill_steps c.number g k) (record m { ledger = with_charge m.ledger g k; run = run })
-      fill_makes = makes_as t m (record m { ledger = with_charge m.ledger g k; run = run }) c.number (fill_steps c.number g k) visit.held visit.who noted
-          (subst (IsLocalRun c.number (local_of t m) (fill_steps c.number g k)) (sym ends) fill_leads) fill_follows refl
+        pub fill_makes : Makes t m (fill_steps c.number g k) (record m { ledger = with_charge m.ledger g k; run = run })
+        fill_makes = makes_as t m (record m { ledger = with_charge m.ledger g k; run = run }) c.number (fill_steps c.number g k) visit.held visit.who noted
+            (subst (IsLocalRun c.number (local_of t m) (fill_steps c.number g k)) (sym ends) fill_leads) fill_follows refl
 
-      pub fill_visit : Visits t (visit_state (record m { ledger = with_charge m.ledger g k; run = run }) c)
-      fill_visit = stays_visited t m (record m { ledger = with_charge m.ledger g k; run = run }) (fill_steps c.number g k) noted
-          (ap (λ (s : State). s.hold) ends) (λ p. subst (HasSameLists p (local_of t m)) (sym ends) (fill_lists p)) c visit
+        pub fill_visit : Visits t (visit_state (record m { ledger = with_charge m.ledger g k; run = run }) c)
+        fill_visit = stays_visited t m (record m { ledger = with_charge m.ledger g k; run = run }) (fill_steps c.number g k) noted
+            (ap (λ (s : State). s.hold) ends) (λ p. subst (HasSameLists p (local_of t m)) (sym ends) (fill_lists p)) c visit
 
 -- ---- a refusal
 

@@ -341,11 +341,10 @@ module _ (t : KnownTable) (m : KnownMachine) (ok : IsConsistent t m) (held : IsH
         free_is = free_is;
         releases = record { unit = unit; heads = heads; list = leaves; frees = frees; areas = areas; machine = refl };
         visit = zone_visited t m n steps noted refl refl (λ p some. at_other (local_of t m).references 0 _ p some);
-        steps = makes t m n steps held noted
-            (
-              zone_step (local_of t m) (holder_of m) (Put f) answer.Last refl (may_put t m ok held f inside kept) tt,
-              (zone_step _ (holder_of m) (Return f) answer.Done refl (may_return t m ok held f inside kept unit heads) tt, refl),
-            )
+        steps = makes t m n steps held noted (
+          zone_step (local_of t m) (holder_of m) (Put f) answer.Last refl (may_put t m ok held f inside kept) tt,
+          (zone_step _ (holder_of m) (Return f) answer.Done refl (may_return t m ok held f inside kept unit heads) tt, refl),
+        )
             (follows_still _ m.ledger steps _ refl (uncharge_peaks m.ledger unit.group (2 ^ unit.order)) (uncharge_events m.ledger unit.group (2 ^ unit.order)))
             (sym (returned_ended (local_of t m) f (one_more_last_put m.counts)));
       }

@@ -1,8 +1,6 @@
 -- The front of the visited CPU's list is returned to the free areas. Serves `unlist_one`.
-use Rattle.std.proofs.Common.{◌≡◌, ℕ, ◌+◌, ◌<◌, ◌≤◌, ◌==◌, Bool, false, Option, List, [], ◌∷◌, length, get_or, refl, sym, ap, ◌∙◌, subst, inl, inr, arith, eq-eqb}
+use Rattle.std.proofs.Common.{◌≡◌, ℕ, ◌<◌, ◌==◌, Bool, Option, List, [], ◌∷◌, length, refl, sym, ap, ◌∙◌, subst, arith, eq-eqb}
 use Rattle.std.specs.Prelude.{slice_set}
-use Rattle.std.proofs.lemmas.Bool.{cases_eq, false≢true}
-use Rattle.std.proofs.lemmas.List.{get_or-set_other, get_or-set_same}
 use Rattle.zone_blocks.specs.declared.block.Block.{Block}
 use Rattle.zone_blocks.specs.Areas.{AreMaximalBlocks}
 use Rattle.zone_blocks.specs.Zone.{GivesFrames, IsInUse}
@@ -14,20 +12,16 @@ use Rattle.step_rules.specs.declared.phase.Phase.TheVariants as phase
 use Rattle.step_rules.specs.declared.step.Action.TheVariants.{PassBack, Collect}
 use Rattle.step_rules.specs.declared.step.Answer.TheVariants.{Done}
 use Rattle.step_rules.specs.Invariant.{told_pages}
-use Rattle.step_rules.specs.State.{Part, State, Zone, front_of, one_if, times, with_at}
-use Rattle.step_rules.specs.After.{state_of}
+use Rattle.step_rules.specs.State.{Part, Zone, front_of, one_if, times, with_at}
 use Rattle.step_rules.specs.Reaches.{IsLocalRun}
-use Rattle.step_rules.proofs.Basics.{at_other, at_same}
 use Rattle.step_rules.proofs.Lists.{times_same, without_front, without_none}
 use Rattle.step_rules.proofs.SoundSteps.{below_frames}
-use Rattle.boot_words.specs.Hidden.{hide, hide_phase}
-use Rattle.boot_words.specs.Pasts.{KnownPasts, MakesStep, MayMake, cpu_past}
-use Rattle.boot_words.specs.Seats.{zone_of_boot}
+use Rattle.boot_words.specs.Hidden.{hide_phase}
+use Rattle.boot_words.specs.Pasts.{KnownPasts, MakesStep, MayMake}
 use Rattle.step_watch.specs.Watched.{KnownWatch, Watches}
-use Rattle.mem_machine.specs.declared.frame_state.FrameState.{FrameState}
 use Rattle.mem_machine.specs.declared.frame_state.FrameState.TheVariants.{Free, Lent}
 use Rattle.mem_machine.specs.Booked.{AreBooked, AreOwners}
-use Rattle.mem_machine.specs.FrameStates.{frame_state_at, frame_state_group, free_of, is_free_state, phase_hidden}
+use Rattle.mem_machine.specs.FrameStates.{frame_state_at, frame_state_group, free_of, is_free_state}
 use Rattle.mem_machine.specs.Lending.{UnlistsOne}
 use Rattle.mem_machine.specs.Local.{Visits, local_of, visit_state}
 use Rattle.mem_machine.specs.Machines.{KnownMachine, IsConsistent, left_by}
@@ -39,8 +33,8 @@ use Rattle.mem_machine.proofs.Lends.{all_moved}
 use Rattle.mem_machine.proofs.Made.{visits_here, zone_seen}
 use Rattle.mem_machine.proofs.Moved.{AllMoved, front_here, is_visited, lent_in_use, lent_record, phases_set}
 use Rattle.mem_machine.proofs.Noted.{may_all, notes_both, notes_one, run_steps}
-use Rattle.mem_machine.proofs.OwnFrames.{HasFrame, listed_own}
-use Rattle.mem_machine.proofs.Records.{free_at, free_given, length_free, one_covered}
+use Rattle.mem_machine.proofs.OwnFrames.{HasFrame}
+use Rattle.mem_machine.proofs.Records.{free_given}
 use Rattle.mem_machine.proofs.Sight.{shown_seen}
 
 module _ (t : KnownTable) (m : KnownMachine) (c : KnownCpu) (ok : IsConsistent t m) (visit : Visits t (visit_state m c)) (f : ℕ) (rest : List ℕ) (front : c.list ≡ f ∷ rest) where

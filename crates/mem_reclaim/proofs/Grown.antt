@@ -2,17 +2,15 @@
 use Rattle.std.proofs.Common.{◌≡◌, ℕ, ◌+◌, ◌==◌, ◌&&◌, cond, [], ◌∷◌, ◌++◌, sym, ap, ◌∙◌, subst, arith}
 use Rattle.std.specs.List.{fold}
 use Rattle.std.proofs.lemmas.Bool.{ne_eqb}
-use Rattle.std.proofs.lemmas.List.Sums.{sum_by-append}
+use Rattle.std.proofs.lemmas.List.Sums.{sum_by-append, sum_by-cons}
 use Rattle.frame_word.specs.Seats.{KnownTable}
 use Rattle.group_charge.specs.declared.note.Note.{Note}
-use Rattle.step_rules.specs.declared.phase.Hold.{Hold}
 use Rattle.step_rules.specs.declared.step.Step.{Step}
 use Rattle.step_rules.specs.declared.step.Answer.{Answer}
-use Rattle.step_rules.specs.State.{Part, State}
+use Rattle.step_rules.specs.State.{State}
 use Rattle.step_rules.specs.After.{Run}
 use Rattle.step_rules.specs.Views.{other_part_seen}
 use Rattle.boot_words.specs.Growth.{GrewByAll}
-use Rattle.boot_words.specs.Hidden.{hide}
 use Rattle.boot_words.specs.Pasts.{IsHeld, own_past}
 use Rattle.boot_words.specs.Runs.{HasNoStepOf}
 use Rattle.boot_words.specs.declared.view.Past.{Past}
@@ -32,7 +30,8 @@ missed_none : (f : ℕ) (rest : Run) → HasNoStepOf 0 rest → missed_in f rest
 missed_none f [] none = omega arith
 missed_none f (e ∷ rest) none =
     let here : ◌≡◌ {A = ℕ} (cond (e.0.seat == 0 && is_miss f e.0.action e.1) 1 0) 0 = ap (λ b. cond (b && is_miss f e.0.action e.1) 1 0) (ne_eqb e.0.seat 0 none.0) in
-    let later = missed_none f rest none.1 in omega (arith, here, later)
+    let both = sum_by-cons (λ (x : Step × Answer). cond (x.0.seat == 0 && is_miss f x.0.action x.1) 1 0) e rest in
+    both ∙ (λ i. here i + missed_none f rest none.1 i)
 
 missed_grown : (f : ℕ) (steps : Run) (p q : Past) → p.number ≡ 0 → GrewByAll p steps q → missed_in f q.seen ≡ missed_in f p.seen + missed_in f steps
 missed_grown f [] p q zeroth same = let e = ap (λ (x : Past). missed_in f x.seen) same in omega (arith, e)

@@ -1,5 +1,5 @@
 -- What stays, from one call to the next, and in one call. Serves the clauses on what stays.
-use Rattle.std.proofs.Common.{◌≡◌, ◌≢◌, ℕ, ◌+◌, ◌≤◌, Bool, true, false, Option, Some, None, List, [], refl, sym, ap, ◌∙◌, subst, arith, cond}
+use Rattle.std.proofs.Common.{◌≡◌, ◌≢◌, ℕ, ◌+◌, ◌≤◌, Bool, true, false, Option, Some, None, List, refl, sym, ap, ◌∙◌, subst, arith, cond}
 use Rattle.std.proofs.lemmas.Bool.{true≢false}
 use Rattle.std.proofs.lemmas.Option.{none-some}
 use Rattle.frame_word.specs.Seats.{KnownTable}
@@ -10,14 +10,14 @@ use Rattle.lru_lists.specs.declared.record.Home.{Home}
 use Rattle.lru_lists.specs.Queue.{link_at}
 use Rattle.lru_lists.specs.Lists.{SameOwners, owner_of}
 use Rattle.cpu_part.specs.Cpus.{KnownCpu}
-use Rattle.mem_machine.specs.Machines.{KnownMachine, home_of, visit_state}
+use Rattle.mem_machine.specs.Machines.{KnownMachine, home_of, left_by, visit_state}
 use Rattle.mem_machine.specs.Local.{Makes, Visits}
 use Rattle.boot_words.specs.Pasts.{IsHeld, local_by_pasts, own_past}
 use Rattle.mem_machine.specs.Noted.{KnownRun}
 use Rattle.mem_machine.proofs.Made.{visit_same}
 use Rattle.mem_reclaim.specs.Moves.{missed_in}
 use Rattle.mem_reclaim.proofs.Grown.{hold_after, misses_after, parts_after}
-use Rattle.mem_machine.specs.Evicting.{MissesUnit, EvictsUnit, Evicts}
+use Rattle.mem_machine.specs.Evicting.{evict_steps, MissesUnit, EvictsUnit, Evicts}
 use Rattle.mem_reclaim.specs.Staying.{IsDirtyUnit, Keeps, OnlyLeave, IsMissed}
 
 -- ---- one call after another
@@ -138,4 +138,3 @@ module _ (t : KnownTable) (m n : KnownMachine) (f : ℕ) (visit : (c : KnownCpu)
   pub keeps_try : (answer : Option ℕ) → Evicts f answer m n → Makes t m (evict_steps f answer) n → (link_at m.links f).is_dirty ≡ false → Keeps t m n
   keeps_try None is runs clean = keeps_missed is runs
   keeps_try (Some pages) is runs clean = keeps_evicted pages is runs clean
-

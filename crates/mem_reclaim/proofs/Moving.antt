@@ -1,9 +1,7 @@
 -- Steps of reclaim, put together; and those of one try. Serves the clauses on steps of all calls.
-use Rattle.std.proofs.Common.{◌≡◌, ℕ, ◌+◌, ◌^◌, ◌==◌, ◌||◌, Bool, true, false, Option, Some, None, [], ◌∷◌, ◌++◌, refl, sym, ap, ◌∙◌, subst, inl, inr, arith, cond, eq-eqb}
-use Rattle.std.specs.Prelude.{unwrap_or, nat_le}
-use Rattle.std.proofs.lemmas.Bool.{cases_eq, ne_eqb}
+use Rattle.std.proofs.Common.{◌≡◌, ℕ, ◌+◌, ◌^◌, ◌==◌, ◌||◌, Bool, false, Option, Some, None, [], ◌∷◌, ◌++◌, refl, sym, ap, ◌∙◌, subst, arith, cond}
+use Rattle.std.specs.Prelude.{unwrap_or}
 use Rattle.std.proofs.lemmas.List.Folds.{list_any-append}
-use Rattle.std.proofs.lemmas.List.Sums.{sum_by-append}
 use Rattle.frame_word.specs.Seats.{KnownTable}
 use Rattle.step_rules.specs.declared.phase.ChargedUnit.{ChargedUnit}
 use Rattle.step_rules.specs.declared.phase.Stage.{Stage}
@@ -15,10 +13,9 @@ use Rattle.step_rules.specs.declared.step.Action.TheVariants.{Freeze}
 use Rattle.step_rules.specs.declared.step.Answer.{Answer}
 use Rattle.step_rules.specs.declared.step.Answer.TheVariants.{Done, Missed}
 use Rattle.step_rules.specs.Phases.{at_stage, unit_of}
-use Rattle.step_rules.specs.State.{State, times}
+use Rattle.step_rules.specs.State.{State}
 use Rattle.step_rules.specs.After.{Run, after, unit_size}
 use Rattle.step_rules.proofs.Basics.{at_same}
-use Rattle.mem_machine.specs.declared.frame_state.FrameState.{FrameState}
 use Rattle.mem_machine.specs.declared.frame_state.FrameState.TheVariants.{Head}
 use Rattle.boot_words.specs.Hidden.{hide_phase, hide_stage}
 use Rattle.boot_words.specs.Pasts.{IsHeld, own_past}
@@ -32,7 +29,7 @@ use Rattle.mem_machine.specs.Evicting.{Evicts, evict_steps}
 use Rattle.mem_machine.specs.Steps.{zone_makes}
 use Rattle.mem_machine.specs.declared.counts.Counts.{Counts}
 use Rattle.mem_reclaim.specs.Moves.{FreesPages, Rises, all_missed_in, pages_freed_by, pages_returned, returned_in}
-use Rattle.mem_reclaim.specs.Moves.{is_miss, missed_in, is_kill, has_kill}
+use Rattle.mem_reclaim.specs.Moves.{missed_in, is_kill, has_kill}
 use Rattle.mem_reclaim.proofs.Rising.{missed_both, returned_both, rises_both, rises_none, rises_one}
 use Rattle.mem_machine.proofs.Followed.{makes_both, makes_none}
 

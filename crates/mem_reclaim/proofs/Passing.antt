@@ -39,11 +39,11 @@ aged_leads t m aged n g want freed ages runs scans =
       does = record { aged = aged; ages = ages; scans = scans.does };
       moves = subst (λ (x : ℕ). FreesPages t m x scans.steps n) e
           (moves_both t m aged n 0 freed [] scans.steps
-          (moves_none t m aged runs (ap (λ (x : KnownMachine). x.frame_seat) ages.machine) (ap (λ (x : KnownMachine). x.counts) ages.machine)) scans.moves);
+          (moves_none t m aged runs (ap (λ (x : KnownMachine). x.run) ages.machine) (ap (λ (x : KnownMachine). x.counts) ages.machine)) scans.moves);
     }
 
-pub aged_keeps : (t : KnownTable) (m aged : KnownMachine) (g : ℕ) → AgesGroup g m aged → Makes t m [] aged → Keeps t m aged
-aged_keeps t m aged g ages runs = keeps_owners t m aged ages.machine ages.owners runs
+pub aged_keeps : (t : KnownTable) (m aged : KnownMachine) (g : ℕ) → AgesGroup g m aged → Keeps t m aged
+aged_keeps t m aged g ages = keeps_owners t m aged ages.machine ages.owners
 
 -- usage falls by both parts
 pub usage_both : (t : KnownTable) (a b c : KnownMachine) (g x some more : ℕ) → Keeps t a b
@@ -147,8 +147,8 @@ module _ (t : KnownTable) (first : Bool) (g want : ℕ) (m : KnownMachine) (rest
     missed = λ off less. absurd (omega (arith, less, enough));
   }
 
-  pub pass_done : → IsConsistent t now → rest ≡ 0 → PassEnds t first g want m freed now
-  pass_done w ok all =
+  pub pass_done : IsConsistent t now → rest ≡ 0 → PassEnds t first g want m freed now
+  pass_done ok all =
       let none : (i : ℕ) → bit_at rest i ≡ 0 = λ i. ap (λ (x : ℕ). bit_at x i) all ∙ bit_at-zero i in
       record {
         passes = as_pass t first g want freed m now (so_far_done t (PassesGroup first) (subtree_of m.ledger.groups g) want m freed now

@@ -15,7 +15,7 @@ use Rattle.lru_lists.specs.Queue.{link_at}
 use Rattle.lru_lists.specs.Lists.{entry_after, first_entry, entry_of, entries_without}
 use Rattle.mem_machine.specs.Machines.{KnownMachine, IsConsistent, home_of}
 use Rattle.mem_machine.specs.Ageing.{entries_in}
-use Rattle.mem_reclaim.specs.Moves.{FreesBySteps}
+use Rattle.mem_reclaim.specs.Moves.{misses_of, FreesBySteps}
 use Rattle.mem_reclaim.specs.Wanted.{WhileWanted, progress}
 use Rattle.mem_reclaim.specs.Units.{TriesReclaim, ScansList}
 use Rattle.mem_reclaim.specs.Staying.{Keeps, OnlyLeave, IsMissed}
@@ -149,7 +149,7 @@ module _ (t : KnownTable) (spares_marked : Bool) (g : ℕ) (fits : g < 64) (list
             | inl e ↦
                 let dirt : (link_at now.links u.number).is_dirty ≡ u.is_dirty = sym (ap (λ (x : Entry). x.is_dirty) here.read) in
                 let rose = subst (λ (x : ℕ). IsMissed now then x (record { owner = g; list = list })) e
-                (met_misses now then g 1 r u leads.steps does dirt (record { owner = g; list = list })) home clean in
+                (met_misses now then g 1 r u leads.steps does (leads.moves.misses u.number) dirt (record { owner = g; list = list })) home clean in
                 inr (omega (arith, a, rose))
             | inr ne ↦
                 let out : (u.number == f) ≡ false = ne_eqb u.number f ne in

@@ -49,5 +49,6 @@ pub(crate) fn try_reclaim<N: BootName>(
         machine.renew(group, frame);
         return 0;
     }
+    machine.prove_consistent();
     machine.evict(tables, frame).unwrap_or(0)
 }

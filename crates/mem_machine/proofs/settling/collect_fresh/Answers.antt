@@ -1,6 +1,5 @@
 use Rattle.std.proofs.Common.{rules}
 use Rattle.mem_machine.proofs.Collecting.{collect_notes, hands_over}
-use Rattle.mem_machine.proofs.Moved.{AllMoved}
 use Rattle.mem_machine.proofs.settling.collect_fresh.Goals as goal
 
 pub returns : goal.returns

@@ -24,5 +24,6 @@ returns g c =
     record { kills = e.kills; marked = e.marked; drained = e.drained; stocks = e.stocks; none_kept = e.none_kept; keeps = e.keeps } in
     let so = subtree_killed t c.args.limited c.args.killed_root c.args.machine.now c.note_subtree.new.machine c.kill_below.new.machine
     c.note_group_kill.new.self
-    c.note_subtree.ensures below c.note_group_kill.ensures.machine c.note_group_kill.ensures.usage c.note_group_kill.ensures.steps in
+    c.note_subtree.ensures below c.note_group_kill.ensures.machine c.note_group_kill.ensures.usage c.note_group_kill.ensures.steps
+    c.note_group_kill.ensures.visit c.requires.held in
     record { kills = so.kills; marked = so.marked; drained = so.drained; stocks = so.stocks; none_kept = so.none_kept; keeps = so.keeps }

@@ -39,6 +39,7 @@ loop-unit-preserved g c =
     c.in-Some.unit c.oldest.result c.oldest.ensures c.in-Some.is in
     let_go_more g.N.BootName.frames c.args.group c.args.list c.args.machine.now c.loop-unit._unit c.loop-unit.machine c.loop-unit.invariant c.in-Some.unit o
     c.in-Some-frame.frame c.in-Some-frame.ensures.0 c.put_zone_reference.result c.put_zone_reference.new.self c.put_zone_reference.ensures.releases c.put_zone_reference.ensures.visit c.put_zone_reference.ensures.steps
+    c.requires.held
 
 pub returns-clause-releases : goal.returns-clause-releases
 returns-clause-releases g c =

@@ -14,7 +14,7 @@ returns-clause-passes g c =
 pub returns-clause-keeps : goal.returns-clause-keeps
 returns-clause-keeps g c =
     keeps_both g.N.BootName.frames c.args.machine.now c.age.new.self c.scan.new.machine
-    (aged_keeps g.N.BootName.frames c.args.machine.now c.age.new.self c.args.group c.age.ensures.ages c.age.ensures.steps) c.scan.ensures.keeps
+    (aged_keeps g.N.BootName.frames c.args.machine.now c.age.new.self c.args.group c.age.ensures.ages) c.scan.ensures.keeps
 
 pub returns-clause-usage : goal.returns-clause-usage
 returns-clause-usage g c x = aged_usage g.N.BootName.frames c.args.machine.now c.age.new.self c.scan.new.machine c.args.group x c.scan.result c.age.ensures.ages (c.scan.ensures.usage x)

@@ -25,7 +25,7 @@ pub reclaim_round-pages-requires : goal.reclaim_round-pages-requires
 reclaim_round-pages-requires g c =
     let so = c.loop-round.invariant in record {
       there = ap (λ l. has_group l c.args.group) so.keeps.groups ∙ c.requires.there;
-      shown = held_after g.N.BootName.frames c.args.machine.now so.steps c.loop-round.machine so.moves.runs c.requires.held;
+      held = held_after g.N.BootName.frames c.args.machine.now so.steps c.loop-round.machine so.moves.runs c.requires.held;
     }
 
 pub overflow_add-freed : goal.overflow_add-freed

@@ -1,4 +1,4 @@
-use Rattle.std.proofs.Common.{◌<◌, rules, sym, arith}
+use Rattle.std.proofs.Common.{◌<◌, rules, sym}
 use Rattle.mem_machine.specs.Kept.{machine_of}
 use Rattle.mem_machine.proofs.Fresh.{collect_legal, drop_all, drop_charged, drop_in_use, dropped_notes, may_return, none_reported_here, sum_some, unit_inside}
 use Rattle.mem_machine.proofs.Made.{visits_here}

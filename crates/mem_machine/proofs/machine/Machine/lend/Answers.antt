@@ -1,4 +1,4 @@
-use Rattle.std.proofs.Common.{◌≡◌, ◌<◌, ◌≤◌, ap, sym, subst, ◌∙◌, arith, rules}
+use Rattle.std.proofs.Common.{◌<◌, sym, arith, rules}
 use Rattle.mem_machine.specs.Kept.{machine_of}
 use Rattle.mem_machine.proofs.Lends.{given_free, lent_all, lent_notes, may_lend, number_low}
 use Rattle.mem_machine.proofs.Made.{visits_here}

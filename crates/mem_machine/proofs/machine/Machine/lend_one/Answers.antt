@@ -1,4 +1,4 @@
-use Rattle.std.proofs.Common.{◌≡◌, ◌<◌, ◌≤◌, ap, sym, subst, ◌∙◌, arith, rules}
+use Rattle.std.proofs.Common.{◌<◌, ◌≤◌, ap, sym, subst, arith, rules}
 use Rattle.zone_blocks.specs.Zone.{BuddyZone}
 use Rattle.frame_word.specs.Seats.{KnownTable}
 use Rattle.mem_machine.specs.Kept.{machine_of}
@@ -15,7 +15,7 @@ borrow-requires g c =
       held = visit.held;
       holder = sym visit.who;
       legal = may_lend_first t m _ c.self.view_is c.args.cpu.now c.requires.visit c.self.invariant.consistent
-    _ _ c.single_order.result c.in-Some.block c.in-Some-frame.frame c.self.invariant.free c.single_order.ensures c.in-Some.ensures.taken c.in-Some.ensures.frames c.in-Some-frame.ensures.0;
+          _ _ c.single_order.result c.in-Some.block c.in-Some-frame.frame c.self.invariant.free c.single_order.ensures c.in-Some.ensures.taken c.in-Some.ensures.frames c.in-Some-frame.ensures.0;
       room = search rules;
     }
 

@@ -1,5 +1,4 @@
-use Rattle.std.proofs.Common.{◌≡◌, ◌<◌, rules, refl, sym, subst, ◌∙◌, arith}
-use Rattle.frame_word.specs.Seats.{KnownTable}
+use Rattle.std.proofs.Common.{rules, refl, sym, ◌∙◌, arith}
 use Rattle.step_rules.specs.declared.step.Action.TheVariants.{Collect}
 use Rattle.step_rules.specs.declared.step.Answer.TheVariants.{Done}
 use Rattle.mem_machine.specs.Kept.{machine_of}
