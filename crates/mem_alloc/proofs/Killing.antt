@@ -13,12 +13,12 @@ use Rattle.group_charge.specs.Charges.{AreCharges, current_of, usage_charged, wi
 use Rattle.group_charge.proofs.CallerLemmas.{sum-map_same}
 use Rattle.group_charge.proofs.KeptLemmas.{number_below}
 use Rattle.group_charge.proofs.SumLemmas.{share}
+use Rattle.boot_words.specs.Pasts.{IsHeld}
 use Rattle.step_rules.specs.State.{sum_to}
 use Rattle.step_rules.specs.After.{Run}
 use Rattle.group_charge.specs.declared.note.Note.TheVariants as notes
 use Rattle.group_charge.specs.Notes.{noted}
 use Rattle.mem_machine.specs.Machines.{IsConsistent, KnownMachine, is_killed, with_run, with_note}
-use Rattle.boot_words.specs.Pasts.{IsHeld}
 use Rattle.mem_machine.specs.Local.{Makes, StaysVisited}
 use Rattle.mem_machine.specs.Steps.{note_oom_steps}
 use Rattle.mem_reclaim.specs.declared.sets.Killed.{Killed}
@@ -33,6 +33,7 @@ use Rattle.mem_alloc.specs.Room.{KillsForFewPages, RelievesLimit}
 use Rattle.mem_alloc.proofs.Lowering.{Lowers, lowers_none, lowers_both, clears_lower, keeps_lower, sum_less}
 use Rattle.mem_machine.proofs.Followed.{makes_both, makes_none}
 use Rattle.mem_machine.proofs.Made.{visit_same}
+use Rattle.mem_reclaim.proofs.Grown.{held_after}
 use Rattle.mem_machine.specs.Noted.{KnownRun}
 
 -- ---- what is kept
@@ -49,7 +50,8 @@ all_stay_marked : (groups : List ℕ) (marks : List Bool) (j : ℕ) → is_kille
 all_stay_marked [] marks j dead = dead
 all_stay_marked (v ∷ groups) marks j dead = all_stay_marked groups (slice_set marks v true) j (stays_marked marks v j dead)
 
-pub one_lowers : (t : KnownTable) (groups : List ℕ) (m n : KnownMachine) → n.killed ≡ with_all_killed m.killed groups → OnlyReleases t m n → Lowers t m n
+pub one_lowers : (t : KnownTable) (groups : List ℕ) (m n : KnownMachine) → n.killed ≡ with_all_killed m.killed groups → OnlyReleases t m n
+    → Lowers t m n
 one_lowers t groups m n marked keeps = record {
   groups = keeps.groups;
   killed = λ j dead. ap (λ (k : List Bool). is_killed k j) marked ∙ all_stay_marked groups m.killed j dead;
@@ -230,9 +232,11 @@ so_far_killed r t g pages killed m x n so_far needs_room whole charges chosen ki
   visit = λ c v. keeps.visit c (so_far.visit c v);
 }
 
--- the lock is held then
+-- who holds the lock then
 pub so_far_held : (r : Option ℕ) (t : KnownTable) (g pages : ℕ) (m n : KnownMachine) → KillsSoFar r t g pages m n → IsHeld t m.run.past → IsHeld t n.run.past
-so_far_held r t g pages m n so_far held = so_far.runs.noted.grew.held (so_far.notes.noted.grew.held held)
+so_far_held r t g pages m n so_far held =
+    let x = with_run (with_oom_noted_at m g) so_far.seen in
+    held_after t x so_far.killing n so_far.runs (held_after t m (note_oom_steps g) x so_far.notes held)
 
 pub so_far_there : (r : Option ℕ) (t : KnownTable) (g pages : ℕ) (m n : KnownMachine) → KillsSoFar r t g pages m n → has_group m.ledger.groups g ≡ true
     → has_group n.ledger.groups g ≡ true

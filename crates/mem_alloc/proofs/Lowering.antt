@@ -17,9 +17,8 @@ use Rattle.step_rules.specs.After.{Run}
 use Rattle.mem_machine.specs.Machines.{KnownMachine, is_killed, with_run}
 use Rattle.mem_machine.specs.Paying.{HasRoomFor}
 use Rattle.mem_machine.specs.Steps.{Drain}
-use Rattle.mem_machine.specs.Stocks.{Drains, DrainsBelow, DrainsAllBelow, stock_group, uncharged}
-use Rattle.mem_machine.proofs.Draining.{groups_stay}
-use Rattle.mem_machine.proofs.DrainingAll.{current_falls}
+use Rattle.mem_machine.specs.Stocks.{DrainsAllBelow, of_subtree}
+use Rattle.mem_reclaim.proofs.LettingGo.{drains_leave}
 use Rattle.mem_reclaim.specs.Staying.{Keeps}
 use Rattle.mem_machine.specs.Transitions.{transition}
 use Rattle.mem_alloc.specs.Room.{ClearsBelow, has_room_at, with_max_noted_at}
@@ -45,25 +44,10 @@ lowers_both t m x n a b = record {
   falls = λ h. let u = a.falls h in let v = b.falls h in omega (arith, u, v);
 }
 
-pub drain_lowers : (t : KnownTable) (m n : KnownMachine) (q k : ℕ) → Drains t q k m n → Lowers t m n
-drain_lowers t m n q k d = record {
-  killed = λ v dead. ap (λ (y : KnownMachine). is_killed y.killed v) d.machine ∙ dead;
-  groups = ap (λ (y : KnownMachine). y.ledger.groups) d.machine ∙ groups_stay m.ledger (stock_group t m q) k;
-  falls = λ h.
-      let a : current_of n.ledger h ≡ current_of (uncharged m.ledger (stock_group t m q) k) h = ap (λ (y : KnownMachine). current_of y.ledger h) d.machine in
-      let b = current_falls m.ledger (stock_group t m q) k h in
-      omega (arith, a, b);
-}
-
-below_lowers : (t : KnownTable) (g q : ℕ) (m n : KnownMachine) (drains : List Drain) → DrainsBelow t g q drains m n → Lowers t m n
-below_lowers t g q m n [] h = subst (λ (x : KnownMachine). Lowers t m x) (sym h.1) (lowers_none t m)
-below_lowers t g q m n (drain ∷ []) h =
-    let l = drain_lowers t m (record n { notes = m.notes }) q drain.pages h.1.drains.drains in search rules
-below_lowers t g q m n (one ∷ two ∷ more) h = absurd h
-
 pub all_lower : (t : KnownTable) (g k : ℕ) (m n : KnownMachine) (drains : List Drain) → DrainsAllBelow t g k drains m n → Lowers t m n
-all_lower t g zero m n drains h = subst (λ (x : KnownMachine). Lowers t m x) (sym h.1) (lowers_none t m)
-all_lower t g (suc k) m n drains h = lowers_both t m h.between n (all_lower t g k m h.between h.first h.makes_first) (below_lowers t g (suc k) h.between n h.last h.makes_last)
+all_lower t g k m n drains h =
+    let l = drains_leave t (of_subtree g) k m n drains h in
+    record { groups = l.groups; killed = λ v dead. ap (λ (y : List Bool). is_killed y v) l.killed ∙ dead; falls = l.usage }
 
 usage_noted : (groups : List Group) (xs : List charge.Account) (g m : ℕ) → usage_charged groups (map (max_noted groups g) xs) m ≡ usage_charged groups xs m
 unfolding usage_charged

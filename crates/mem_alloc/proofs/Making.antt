@@ -4,14 +4,14 @@ use Rattle.std.specs.Prelude.{Result, Ok, Err, IsErr, IfErr, IfOk, MatchResult}
 use Rattle.std.proofs.lemmas.Bool.{false≢true}
 use Rattle.std.proofs.lemmas.List.{append_assoc, append-nil}
 use Rattle.frame_word.specs.Seats.{KnownTable}
+use Rattle.boot_words.specs.Pasts.{IsHeld}
 use Rattle.group_tree.specs.Groups.{limit_of}
 use Rattle.group_tree.specs.Room.{IsLowestOver, fits_limit}
 use Rattle.group_charge.specs.Charges.{current_of, with_max_noted}
 use Rattle.cpu_part.specs.Cpus.{KnownCpu}
 use Rattle.step_rules.specs.After.{Run}
 use Rattle.mem_machine.specs.Machines.{KnownMachine, is_killed, with_run}
-use Rattle.boot_words.specs.Pasts.{IsHeld}
-use Rattle.mem_machine.specs.Local.{StaysVisited, Visits, VisitState, visit_state, Makes, VisitMakes}
+use Rattle.mem_machine.specs.Local.{Makes, StaysVisited, VisitMakes, Visits, VisitState, visit_state}
 use Rattle.mem_machine.specs.Steps.{over_steps, note_max_steps, drain_stocks_steps, fill_steps}
 use Rattle.mem_machine.specs.Stocks.{Fills, DrainsSubtree, DrainsAllBelow, AreDrained}
 use Rattle.mem_machine.specs.Transitions.{BySteps, Transition, transition}
@@ -36,11 +36,6 @@ limit_visits t g pages m x is =
 pub limit_held : (t : KnownTable) (g pages : ℕ) (m x : KnownMachine) → x ≡ with_limit_noted m g pages → IsHeld t m.run.past → IsHeld t x.run.past
 limit_held t g pages m x is held = subst (λ (y : KnownMachine). IsHeld t y.run.past) (sym is) held
 
-note_then_drains : (t : KnownTable) (g pages : ℕ) (m x n : KnownMachine) → Makes t m (note_max_steps g) x → (drains : DrainsSubtree t g pages x n)
-    → Makes t m (note_max_steps g ++ drain_stocks_steps drains.drains) n
-note_then_drains t g pages m x n noting drains =
-    makes_both t (note_max_steps g) (drain_stocks_steps drains.drains) m x n noting drains.steps
-
 -- the notes, and then the drains. Serves `make_room`
 pub clears_by : (t : KnownTable) (g pages back : ℕ) (m y x n : KnownMachine) → y ≡ with_limit_noted m g pages → x ≡ record y { ledger = with_max_noted y.ledger g; run = x.run }
     → Makes t y (note_max_steps g) x → DrainsSubtree t g back x n → AreDrained t g n → BySteps Makes t (ClearsBelow g pages) m n
@@ -49,17 +44,20 @@ clears_by t g pages back m y x n told noted noting_y drains drained =
     noted ∙ ap (λ (k : KnownMachine). record k { ledger = with_max_noted k.ledger g; run = x.run }) told in
     let noting_told : Makes t (with_limit_noted m g pages) (note_max_steps g) x =
     subst (λ (k : KnownMachine). Makes t k (note_max_steps g) x) told noting_y in
-    let noting : Makes t m (note_max_steps g) x = record { holder = noting_told.holder; leads = noting_told.leads; follows = noting_told.follows; counts = noting_told.counts; noted = noting_told.noted } in record {
+    let noting : Makes t m (note_max_steps g) x =
+    record { holder = noting_told.holder; leads = noting_told.leads; follows = noting_told.follows; counts = noting_told.counts; noted = noting_told.noted } in
+    let both_made = makes_both t (note_max_steps g) (drain_stocks_steps drains.drains) m x n noting drains.steps in record {
       steps = note_max_steps g ++ drain_stocks_steps drains.drains;
       does = record {
         drains = drains.drains;
         seen = x.run;
+        notes = subst (Makes t m (note_max_steps g)) both noting;
         all = subst (λ (k : KnownMachine). DrainsAllBelow t g t.cpus drains.drains k n) both drains.all;
         drained = drained;
         steps_are = refl;
-        runs = note_then_drains t g back m x n noting drains;
+        runs = both_made;
       };
-      makes = note_then_drains t g back m x n noting drains;
+      makes = both_made;
     }
 
 -- and then the rounds, and the kills
@@ -135,7 +133,7 @@ so_far_none t g pages c m alive = record {
 
 module _ (t : KnownTable) (g pages : ℕ) (c : KnownCpu) (m x : KnownMachine) (so_far : RoomSoFar t g pages c m x) where
   -- one more charge was refused, by its steps
-  module _ (y z n : KnownMachine) (d : KnownCpu) (over : ℕ) (same : y ≡ with_run x y.run) (mine : d ≡ c)
+  module _ (y z n : KnownMachine) (d e : KnownCpu) (over : ℕ) (same : y ≡ with_run x y.run) (mine : d ≡ c) (mine_after : e ≡ c)
       (low : IsLowestOver z.ledger.groups (current_of z.ledger) g pages over) (before_it : z ≡ x)
       (refusing : Makes t z (over_steps g pages over) y) (relieves : BySteps Makes t (RelievesLimit g over pages) y n) where
     refused : (answer : Result (Unit {0}) AllocFault) → IsRoomAnswer g over pages answer n
@@ -144,6 +142,7 @@ module _ (t : KnownTable) (g pages : ℕ) (c : KnownCpu) (m x : KnownMachine) (s
       lowest = subst (λ (k : KnownMachine). IsLowestOver k.ledger.groups (current_of k.ledger) g pages over) before_it low;
       relieving = relieves.steps;
       seen = y.run;
+      refuses = subst (λ (k : KnownMachine × KnownMachine). Makes t k.0 (over_steps g pages over) k.1) (λ i. (before_it i, same i)) refusing;
       relieves = subst (λ (k : KnownMachine). RelievesLimit g over pages (transition t k relieves.steps n)) same relieves.does;
       room = room;
       steps_are = refl;
@@ -158,14 +157,14 @@ module _ (t : KnownTable) (g pages : ℕ) (c : KnownCpu) (m x : KnownMachine) (s
         (subst (λ (k : KnownMachine). Makes t k (over_steps g pages over) y) before_it refusing) relieves.makes)
 
     -- and its group has room now
-    pub so_far_more : HasMadeRoom g over pages n → Visits t (visit_state n d) → RoomSoFar t g pages c m n
+    pub so_far_more : HasMadeRoom g over pages n → Visits t (visit_state n e) → RoomSoFar t g pages c m n
     so_far_more room visit = record {
       refused_at = so_far.refused_at ++ over ∷ [];
       making = so_far.making ++ (over_steps g pages over ++ relieves.steps);
       makes = room_more t g pages over so_far.refused_at m x n so_far.making
           (over_steps g pages over ++ relieves.steps) so_far.makes (refused (Ok tt) room);
       runs = runs_on;
-      visit = λ v. subst (λ (k : KnownCpu). Visits t (visit_state n k)) mine visit;
+      visit = λ v. subst (λ (k : KnownCpu). Visits t (visit_state n k)) mine_after visit;
       lowers = lowers_both t m x n so_far.lowers lowered;
       alive = room.alive;
     }
@@ -204,12 +203,11 @@ module _ (t : KnownTable) (g pages : ℕ) (c : KnownCpu) (m x : KnownMachine) (s
   }
 
   -- the pages are granted, and fill the stock
-  pub so_far_fills : (y : KnownCpu) → y ≡ c → (n : KnownMachine) → Fills t y.number g pages x n → Makes t x (fill_steps y.number g pages) n
-      → BySteps VisitMakes t (AfterRoom g pages (FillsStock g pages)) (visit_state m c) (visit_state n y)
-  so_far_fills y mine n fills steps =
-      let there : BySteps VisitMakes t (FillsStock g pages) (visit_state x y) (visit_state n y) =
-      record { steps = fill_steps y.number g pages; does = record { fills = fills; cpu = refl; steps_are = refl }; makes = steps } in
-      so_far_does (FillsStock g pages) n y (subst (λ (k : KnownCpu). BySteps VisitMakes t (FillsStock g pages) (visit_state x k) (visit_state n y)) mine there)
+  pub so_far_fills : (n : KnownMachine) → Fills t c.number g pages x n → Makes t x (fill_steps c.number g pages) n
+      → BySteps VisitMakes t (AfterRoom g pages (FillsStock g pages)) (visit_state m c) (visit_state n c)
+  so_far_fills n fills steps =
+      so_far_does (FillsStock g pages) n c
+      (record { steps = fill_steps c.number g pages; does = record { fills = fills; cpu = refl; steps_are = refl }; makes = steps })
 
 -- an answer that is a refusal, of this cause
 pub refused_with : {T E : Type 0} (r : Result T E) (x : E) (P : T → Type 0) (Q : E → Type 0) → IsErr r → IfErr r (λ e. e ≡ x)

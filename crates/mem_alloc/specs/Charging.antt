@@ -6,7 +6,7 @@ use Rattle.mem_machine.specs.Machines.{LacksRoom, with_run}
 use Rattle.mem_machine.specs.Stocks.{Drains, Fills, stock_group}
 use Rattle.mem_machine.specs.Steps.{drain_steps, fill_steps, over_steps}
 use Rattle.mem_machine.specs.Paying.{HoldsPage}
-use Rattle.mem_machine.specs.Local.{VisitMakes, VisitState, visit_state}
+use Rattle.mem_machine.specs.Local.{Makes, VisitState, visit_state}
 use Rattle.mem_alloc.specs.declared.faults.AllocFault.{AllocFault}
 use Rattle.mem_machine.specs.Transitions.{Finds, InTurn, Stays, Transition, transition}
 use Rattle.mem_alloc.specs.Room.{AfterRoom, IsRefusedFor}
@@ -32,6 +32,8 @@ pub record AfterBatchRefused (sizes : Config) (group : ℕ) (Does : Transition V
   pub batch : LacksRoom call.before.machine group sizes.stock over
   pub later : Run
   pub seen : KnownRun
+  pub refuses : Makes call.table call.before.machine (over_steps group sizes.stock over)
+      (with_run call.before.machine seen)
   pub does : Does
       (transition call.table (visit_state (with_run call.before.machine seen) call.before.cpu) later call.after)
   pub steps_are : call.steps ≡ over_steps group sizes.stock over ++ later
@@ -48,7 +50,7 @@ pub record DrainsStock (call : Transition VisitState) : Type 0 where
   pub drained : ℕ
   pub drains : Drains call.table call.before.cpu.number drained call.before.machine call.after.machine
   pub cpu : call.after.cpu ≡ call.before.cpu
-  pub runs : VisitMakes call.table call.before call.steps call.after
+  pub runs : Makes call.table call.before.machine call.steps call.after.machine
   pub steps_are : call.steps
       ≡ drain_steps call.before.cpu.number (stock_group call.table call.before.machine call.before.cpu.number) drained
 

@@ -9,7 +9,7 @@ ghost use Rattle.mem_machine.specs.Transitions.{BySteps};
 ghost use Rattle.mem_machine.specs.Settling.{IsSettled};
 ghost use Rattle.mem_alloc.specs.Blocks.{AllocatesBlock, ChargesBlock, MayHaveBlock};
 ghost use Rattle.mem_alloc.specs.Blocks.{MakesTakeRounds, TakesAfterDrain};
-ghost use Rattle.mem_machine.specs.Local.{visit_state, VisitMakes};
+ghost use Rattle.mem_machine.specs.Local.{VisitMakes, visit_state};
 
 use crate::faults::AllocFault;
 use crate::reclaims::reclaim_anywhere;

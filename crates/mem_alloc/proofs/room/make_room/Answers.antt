@@ -6,6 +6,8 @@ use Rattle.mem_machine.specs.Machines.{KnownMachine}
 use Rattle.mem_alloc.specs.Kills.{has_room_at}
 use Rattle.mem_alloc.proofs.Lowering.{Lowers, lowers_both, note_lowers, all_lower, lowered_there}
 use Rattle.mem_alloc.proofs.Killing.{few_lower}
+use Rattle.mem_machine.specs.Steps.{drain_stocks_steps, note_max_steps}
+use Rattle.mem_reclaim.proofs.Grown.{held_after}
 use Rattle.mem_alloc.proofs.Making.{clears_by, limit_held, limit_visits, relieves_by}
 use Rattle.mem_alloc.proofs.room.make_room.Goals as goal
 
@@ -15,19 +17,26 @@ note_max-requires-clause-held g c =
 
 pub drain_stocks-requires-clause-held : goal.drain_stocks-requires-clause-held
 drain_stocks-requires-clause-held g c =
-    c.note_max.ensures.steps.noted.grew.held
+    held_after g.N.BootName.frames c.note_limit.new.machine (note_max_steps c.args.limited) c.note_max.new.self c.note_max.ensures.steps
     (limit_held g.N.BootName.frames c.args.limited c.args.pages c.args.machine.now c.note_limit.new.machine c.note_limit.ensures c.requires.held)
 
 pub reclaim_for-requires-clause-held : goal.reclaim_for-requires-clause-held
 reclaim_for-requires-clause-held g c =
-    c.drain_stocks.ensures.drains.steps.noted.grew.held (c.note_max.ensures.steps.noted.grew.held
-    (limit_held g.N.BootName.frames c.args.limited c.args.pages c.args.machine.now c.note_limit.new.machine c.note_limit.ensures c.requires.held))
+    let t = g.N.BootName.frames in
+    let drains = c.drain_stocks.ensures.drains in
+    held_after t c.note_max.new.self (drain_stocks_steps drains.drains) c.drain_stocks.new.self drains.steps
+    (held_after t c.note_limit.new.machine (note_max_steps c.args.limited) c.note_max.new.self c.note_max.ensures.steps
+    (limit_held t c.args.limited c.args.pages c.args.machine.now c.note_limit.new.machine c.note_limit.ensures c.requires.held))
 
 pub kill_for_few_pages-requires-clause-held : goal.kill_for_few_pages-requires-clause-held
 kill_for_few_pages-requires-clause-held g c =
-    c.reclaim_for.ensures.reclaims.makes.noted.grew.held
-    (c.drain_stocks.ensures.drains.steps.noted.grew.held (c.note_max.ensures.steps.noted.grew.held
-    (limit_held g.N.BootName.frames c.args.limited c.args.pages c.args.machine.now c.note_limit.new.machine c.note_limit.ensures c.requires.held)))
+    let t = g.N.BootName.frames in
+    let drains = c.drain_stocks.ensures.drains in
+    let reclaims = c.reclaim_for.ensures.reclaims in
+    held_after t c.drain_stocks.new.self reclaims.steps c.reclaim_for.new.machine reclaims.makes
+    (held_after t c.note_max.new.self (drain_stocks_steps drains.drains) c.drain_stocks.new.self drains.steps
+    (held_after t c.note_limit.new.machine (note_max_steps c.args.limited) c.note_max.new.self c.note_max.ensures.steps
+    (limit_held t c.args.limited c.args.pages c.args.machine.now c.note_limit.new.machine c.note_limit.ensures c.requires.held)))
 
 pub reclaim_for-requires-clause-there : goal.reclaim_for-requires-clause-there
 reclaim_for-requires-clause-there g c =
