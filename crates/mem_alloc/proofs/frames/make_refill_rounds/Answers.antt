@@ -47,17 +47,18 @@ loop-round-preserved g c =
     let t = g.N.BootName.frames in
     let done = c.refill.ensures in
     let none = lent_none t c.refill.result c.args.batch _ _ _ _ done.refills c.if-refill-gt0.false done.fewer_only_at_the_end
-    c.requires.some in
-    (rounds_more t 1 LendsNoFrame (λ _. LendsBatch c.args.batch) c.args.machine.now c.args.cpu.now c.loop-round.round
-    c.loop-round.machine c.loop-round.cpu c.loop-round.invariant.0 c.loop-round-test.true c.reclaim_anywhere-freed.result
-    c.reclaim_anywhere-freed.new.machine c.reclaim_anywhere-freed.ensures.reclaims c.reclaim_anywhere-freed.ensures.missed
-    c.reclaim_anywhere-freed.ensures.keeps
-    c.refill.new.self c.refill.new.cpu none.steps none.makes none.does c.if-freed-eq0.false
-    (no_frame_spares t _ _ _ _ none.steps none.does) done.visit,
+    c.requires.some in (
+      rounds_more t 1 LendsNoFrame (λ _. LendsBatch c.args.batch) c.args.machine.now c.args.cpu.now c.loop-round.round
+          c.loop-round.machine c.loop-round.cpu c.loop-round.invariant.0 c.loop-round-test.true c.reclaim_anywhere-freed.result
+          c.reclaim_anywhere-freed.new.machine c.reclaim_anywhere-freed.ensures.reclaims c.reclaim_anywhere-freed.ensures.missed
+          c.reclaim_anywhere-freed.ensures.keeps
+          c.refill.new.self c.refill.new.cpu none.steps none.makes none.does c.if-freed-eq0.false
+          (no_frame_spares t _ _ _ _ none.steps none.does) done.visit,
       lent_stock t done.refills.frames _ _ _ _ (c.reclaim_anywhere-freed.ensures.keeps.visit c.loop-round.cpu (c.loop-round.invariant.0.visit c.requires.visit)).held
           done.refills.steps done.refills.lends
           ∙ spared_stock t _ _ c.loop-round.cpu (c.loop-round.invariant.0.visit c.requires.visit) c.reclaim_anywhere-freed.ensures.keeps
-          (ap (λ (e : KnownCpu). e.fresh) c.loop-round.invariant.0.spares.cpu ∙ c.requires.none_fresh) ∙ c.loop-round.invariant.1)
+          (ap (λ (e : KnownCpu). e.fresh) c.loop-round.invariant.0.spares.cpu ∙ c.requires.none_fresh) ∙ c.loop-round.invariant.1,
+    )
 
 pub returns-clause-refills : goal.returns-clause-refills
 returns-clause-refills g c =
