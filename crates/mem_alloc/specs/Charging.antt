@@ -32,6 +32,8 @@ pub record AfterBatchRefused (sizes : Config) (group : ℕ) (Does : Transition V
   pub batch : LacksRoom call.before.machine group sizes.stock over
   pub later : Run
   pub seen : KnownRun
+  pub refuses : Makes call.table call.before.machine (over_steps group sizes.stock over)
+      (with_run call.before.machine seen)
   pub does : Does
       (transition call.table (visit_state (with_run call.before.machine seen) call.before.cpu) later call.after)
   pub steps_are : call.steps ≡ over_steps group sizes.stock over ++ later

@@ -44,6 +44,8 @@ with_max_noted_at machine group pages = record machine {
 pub record ClearsBelow (limited pages : ℕ) (call : Transition KnownMachine) : Type 0 where
   pub drains : List Drain
   pub seen : KnownRun
+  pub notes : Makes call.table call.before (note_max_steps limited)
+      (with_run (with_max_noted_at call.before limited pages) seen)
   pub all : DrainsAllBelow call.table limited call.table.cpus drains
       (with_run (with_max_noted_at call.before limited pages) seen) call.after
   pub drained : AreDrained call.table limited call.after
@@ -101,6 +103,7 @@ pub record IsRefusedAt (requester limited pages : ℕ) (answer : Result (Unit {0
   pub lowest : LacksRoom call.before requester pages limited
   pub relieving : Run
   pub seen : KnownRun
+  pub refuses : Makes call.table call.before (over_steps requester pages limited) (with_run call.before seen)
   pub relieves : RelievesLimit requester limited pages
       (transition call.table (with_run call.before seen) relieving call.after)
   pub room : IsRoomAnswer requester limited pages answer call.after

@@ -41,16 +41,16 @@ fn holds_page<N: BootName>(
 fn fill_one<N: BootName>(
     machine: &mut Machine<N>,
     tables: &Tables<N>,
-    cpu: &mut Cpu<N>,
+    cpu: &Cpu<N>,
     group: GroupId,
 ) -> Result<(), AllocFault>
-    requires visit { Visits N.frames (visit_state machine.old cpu.old) }
+    requires visit { Visits N.frames (visit_state machine.old cpu.now) }
     requires may_charge { MayCharge machine.old group 1 }
-    requires none_fresh { cpu.old.fresh ≡ [] }
-    requires drained { IsDrained N.frames machine.old cpu.old.number }
+    requires none_fresh { cpu.now.fresh ≡ [] }
+    requires drained { IsDrained N.frames machine.old cpu.now.number }
     ensures charges { BySteps VisitMakes N.frames (ChargesOne group result)
-        (visit_state machine.old cpu.old) (visit_state machine.new cpu.new) }
-    ensures visit { Visits N.frames (visit_state machine.new cpu.new) }
+        (visit_state machine.old cpu.now) (visit_state machine.new cpu.now) }
+    ensures visit { Visits N.frames (visit_state machine.new cpu.now) }
 {
     'tries: loop {
         let Err(over) = machine.fill_stock(tables, cpu, group, 1) else {
@@ -65,20 +65,20 @@ fn fill_one<N: BootName>(
 fn fill_drained_stock<N: BootName>(
     machine: &mut Machine<N>,
     tables: &Tables<N>,
-    cpu: &mut Cpu<N>,
+    cpu: &Cpu<N>,
     sizes: Config,
     group: GroupId,
 ) -> Result<(), AllocFault>
-    requires visit { Visits N.frames (visit_state machine.old cpu.old) }
+    requires visit { Visits N.frames (visit_state machine.old cpu.now) }
     requires size { IsOfSize N.frames }
     requires sizes { IsValidConfig sizes }
     requires there { IsTrue (has_group machine.old.ledger.groups group) }
     requires alive { is_killed machine.old.killed group ≡ false }
-    requires none_fresh { cpu.old.fresh ≡ [] }
-    requires drained { IsDrained N.frames machine.old cpu.old.number }
+    requires none_fresh { cpu.now.fresh ≡ [] }
+    requires drained { IsDrained N.frames machine.old cpu.now.number }
     ensures charges { BySteps VisitMakes N.frames (FillsDrainedStock sizes group result)
-        (visit_state machine.old cpu.old) (visit_state machine.new cpu.new) }
-    ensures visit { Visits N.frames (visit_state machine.new cpu.new) }
+        (visit_state machine.old cpu.now) (visit_state machine.new cpu.now) }
+    ensures visit { Visits N.frames (visit_state machine.new cpu.now) }
 {
     machine.prove_room();
     let Err(_batch) = machine.fill_stock(tables, cpu, group, sizes.stock) else {
@@ -91,20 +91,20 @@ fn fill_drained_stock<N: BootName>(
 pub(crate) fn pay_for_frame<N: BootName>(
     machine: &mut Machine<N>,
     tables: &Tables<N>,
-    cpu: &mut Cpu<N>,
+    cpu: &Cpu<N>,
     sizes: Config,
     group: GroupId,
 ) -> Result<(), AllocFault>
-    requires visit { Visits N.frames (visit_state machine.old cpu.old) }
+    requires visit { Visits N.frames (visit_state machine.old cpu.now) }
     requires size { IsOfSize N.frames }
     requires sizes { IsValidConfig sizes }
     requires there { IsTrue (has_group machine.old.ledger.groups group) }
     requires alive { is_killed machine.old.killed group ≡ false }
-    requires none_fresh { cpu.old.fresh ≡ [] }
+    requires none_fresh { cpu.now.fresh ≡ [] }
     ensures pays { BySteps VisitMakes N.frames (PaysForFrame sizes group result)
-        (visit_state machine.old cpu.old) (visit_state machine.new cpu.new) }
-    ensures visit { Visits N.frames (visit_state machine.new cpu.new) }
-    ensures page { OnOk result (HoldsPage N.frames (visit_state machine.new cpu.new) group) }
+        (visit_state machine.old cpu.now) (visit_state machine.new cpu.now) }
+    ensures visit { Visits N.frames (visit_state machine.new cpu.now) }
+    ensures page { OnOk result (HoldsPage N.frames (visit_state machine.new cpu.now) group) }
 {
     if holds_page(machine, tables, cpu, group) {
         return Ok(());

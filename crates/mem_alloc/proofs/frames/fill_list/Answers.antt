@@ -1,6 +1,5 @@
 use Rattle.std.proofs.Common.{[], length, inl, inr, ap, refl, ◌∙◌, arith, length-append, rules}
 use Rattle.std.proofs.lemmas.List.{nil_from_length}
-use Rattle.mem_machine.specs.Local.{visit_state}
 use Rattle.mem_machine.specs.Steps.{refill_steps}
 use Rattle.mem_machine.proofs.Followed.{makes_none}
 use Rattle.mem_alloc.proofs.Filling.{lent_part, lent_page, lent_none, lent_batch, no_frame, reclaims_for, reclaimed_page, reclaimed_front}
@@ -21,13 +20,15 @@ returns-then-refill-gt0-clause-fills g c =
     }
 
 pub returns-then-refill-gt0-clause-page : goal.returns-then-refill-gt0-clause-page
-returns-then-refill-gt0-clause-page g c = lent_page _ c.args.group _ _ _ _ c.refill.ensures.refills.lends c.requires.page
+returns-then-refill-gt0-clause-page g c =
+    let done = c.refill.ensures.refills in
+    lent_page g.N.BootName.frames done.frames c.args.group _ _ c.requires.visit.held done.lends done.steps c.requires.page
 
 pub returns-then-refill-gt0-clause-front : goal.returns-then-refill-gt0-clause-front
 returns-then-refill-gt0-clause-front g c =
     let done = c.refill.ensures in
     let all = done.refills.all in
-    let l = lent_part _ _ _ _ _ done.refills.lends in
+    let l = lent_part _ _ _ done.refills.lends in
     let a = ap length l.list ∙ length-append c.args.cpu.now.list done.refills.frames in
     omega (arith, all, a)
 
@@ -48,10 +49,16 @@ returns-then-refill_in_rounds g c =
       };
       visit = search rules;
       page = reclaimed_page t c.args.sizes c.args.machine.now c.refill_in_rounds.new.machine c.args.cpu.now c.refill_in_rounds.new.cpu
-          reclaims.steps reclaims.does c.args.group c.requires.page;
+          reclaims.steps reclaims.does c.args.group c.requires.visit c.requires.none_fresh c.requires.page;
       front = reclaimed_front t c.args.sizes c.args.machine.now c.refill_in_rounds.new.machine c.args.cpu.now c.refill_in_rounds.new.cpu
           reclaims.steps reclaims.does;
     }
+
+pub drain_stock-requires-clause-cpu : goal.drain_stock-requires-clause-cpu
+drain_stock-requires-clause-cpu g c = c.number-cpu_number.ensures.within
+
+pub drain_stock-requires-clause-held : goal.drain_stock-requires-clause-held
+drain_stock-requires-clause-held g c = c.if-refill_in_rounds.ensures.visit.held
 
 pub returns-clause-fills : goal.returns-clause-fills
 returns-clause-fills g c =
@@ -73,5 +80,5 @@ returns-then-list_len-gt0-clause-fills g c =
         is = omega (arith, many, c.list_len.ensures.count);
         does = record { machine = refl; cpu = refl; steps_are = refl };
       });
-      makes = makes_none g.N.BootName.frames c.args.cpu.now.number (visit_state c.args.machine.now c.args.cpu.now);
+      makes = makes_none g.N.BootName.frames c.args.machine.now;
     }

@@ -11,7 +11,7 @@ loop-round-init g c =
 
 pub reclaim_anywhere-freed-requires : goal.reclaim_anywhere-freed-requires
 reclaim_anywhere-freed-requires g c =
-    record { shown = record { cpu = c.loop-round.cpu; is = (c.loop-round.invariant.visit c.requires.visit).shown } }
+    record { held = (c.loop-round.invariant.visit c.requires.visit).held }
 
 pub refill-requires-clause-visit : goal.refill-requires-clause-visit
 refill-requires-clause-visit g c =
