@@ -23,8 +23,8 @@ use Rattle.boot_words.specs.Sight.{HasSameLists}
 use Rattle.boot_words.specs.Pasts.{MayDo, own_past}
 use Rattle.boot_words.specs.Seats.{zone_of_boot}
 use Rattle.boot_words.proofs.OwnParts.{own_part_follows}
-use Rattle.run_words.specs.Calls.{CpuMakes, GetsReference}
-use Rattle.run_words.specs.Cpus.{Exchanges, IsAwayCpu, KnownCpuSeat, state_left}
+use Rattle.boot_words.specs.Calls.{CpuMakes, GetsReference}
+use Rattle.boot_words.specs.Cpus.{Exchanges, IsAwayCpu, KnownCpuSeat, state_left}
 use Rattle.cpu_part.specs.Cpus.{KnownCpu}
 use Rattle.cpu_part.specs.Known.{HasOwn, KnowsItsPart}
 use Rattle.cpu_part.proofs.Legal.{fresh_once, legal_consume, legal_credit, legal_get, legal_put, list_inside, listed_once, pin_inside}

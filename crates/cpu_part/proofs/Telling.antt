@@ -9,12 +9,12 @@ use Rattle.stock_word.specs.Stock.{drained_of, is_held}
 use Rattle.step_rules.specs.declared.step.Action.{Action}
 use Rattle.step_rules.specs.declared.step.Answer.{Answer}
 use Rattle.step_rules.specs.declared.step.Answer.TheVariants.{Drained}
-use Rattle.boot_words.specs.Allowed.{GrewBy}
+use Rattle.boot_words.specs.Runs.{GrewBy}
 use Rattle.boot_words.specs.Growth.{GrewByAll}
 use Rattle.boot_words.specs.Pasts.{KnownPasts, own_past}
 use Rattle.boot_words.specs.Seats.{zone_of_boot}
-use Rattle.run_words.specs.Calls.{CpuMakes, GetsReference, RacesAt}
-use Rattle.run_words.specs.Cpus.{Exchanges, KnownCpuSeat}
+use Rattle.boot_words.specs.Calls.{CpuMakes, GetsReference, RacesAt}
+use Rattle.boot_words.specs.Cpus.{Exchanges, KnownCpuSeat}
 use Rattle.cpu_part.specs.Calls.{IfRaced, PinAnswers}
 use Rattle.cpu_part.specs.Cpus.{KnownCpu}
 use Rattle.cpu_part.specs.Known.{KnowsItsPart}

@@ -30,9 +30,9 @@ use Rattle.boot_words.specs.Seats.{zone_of_boot}
 use Rattle.boot_words.specs.Words.{frame_word, word_in_phase}
 use Rattle.boot_words.proofs.Holding.{allowed_at, take_length}
 use Rattle.boot_words.proofs.Owning.{lists_are_own}
-use Rattle.run_words.specs.Calls.{CpuMakes, GetsReference}
-use Rattle.run_words.specs.Cpus.{KnownCpuSeat, state_left}
-use Rattle.run_words.proofs.Counts.{never_zero}
+use Rattle.boot_words.specs.Calls.{CpuMakes, GetsReference}
+use Rattle.boot_words.specs.Cpus.{KnownCpuSeat, state_left}
+use Rattle.boot_words.proofs.Counts.{never_zero}
 use Rattle.cpu_part.specs.Cpus.{IsUnlisted, KnownCpu}
 use Rattle.cpu_part.specs.Known.{KnowsItsPart}
 use Rattle.cpu_part.proofs.Knowing.{not_the_zone}

@@ -2,7 +2,7 @@
 use Rattle.std.specs.Prelude.{◌≡◌, ℕ}
 use Rattle.frame_word.specs.Seats.{KnownTable}
 use Rattle.step_rules.specs.State.{State, times}
-use Rattle.run_words.specs.Cpus.{IsAwayCpu, KnownCpuSeat, state_left}
+use Rattle.boot_words.specs.Cpus.{IsAwayCpu, KnownCpuSeat, state_left}
 use Rattle.cpu_part.specs.Cpus.{KnownCpu}
 
 -- the state has the CPU's lists, and a reference of the CPU for each of its pins

@@ -1,7 +1,7 @@
 //! Which boot a CPU's part and the table of words belong to.
 ghost use Rattle.std.specs.Prelude.{◌≡◌};
 
-use run_words::RunWords;
+use boot_words::BootWords;
 use std::marker::{Brand, PhantomData};
 
 /// The name of a boot. Only contracts see what it names: the boot's table.
@@ -20,14 +20,14 @@ impl BootName for Brand {
 /// The table of a boot's words, which all its CPUs share by `&`.
 #[derive(Drop)]
 pub struct Tables<N: BootName> {
-    pub words: RunWords,
+    pub words: BootWords,
     of: PhantomData<N>,
     pub ghost frames_are: { words ≡ N.frames },
 }
 
 impl<N: BootName> Tables<N> {
     /// The table of the boot that N names.
-    pub fn new(words: RunWords) -> Tables<N>
+    pub fn new(words: BootWords) -> Tables<N>
         requires { words ≡ N.frames }
         ensures { result.words ≡ N.frames }
     {
@@ -38,7 +38,7 @@ impl<N: BootName> Tables<N> {
     }
 
     /// The table, when the boot ends.
-    pub fn into_words(self) -> RunWords
+    pub fn into_words(self) -> BootWords
         ensures { result ≡ N.frames }
     {
         let Tables { words, of: _ } = self;

@@ -12,7 +12,7 @@ use crate::boot_name::{BootName, Tables};
 use crate::cpu::{Cpu, MAX_FRESH};
 use crate::moves::{freshen, relist};
 use frame_word::Frame;
-use run_words::CpuSeat;
+use boot_words::CpuSeat;
 use stock_word::{Consume, Credit};
 
 impl<N: BootName> Cpu<N> {

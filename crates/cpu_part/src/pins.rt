@@ -5,7 +5,7 @@ ghost use Rattle.group_tree.specs.declared.fault.Fault.TheVariants.{PinsFull};
 ghost use Rattle.boot_words.specs.Growth.{GrewByAll};
 ghost use Rattle.boot_words.specs.Pasts.{own_past};
 ghost use Rattle.boot_words.specs.Seats.{zone_of_boot};
-ghost use Rattle.run_words.specs.Calls.{RacesAt};
+ghost use Rattle.boot_words.specs.Calls.{RacesAt};
 ghost use Rattle.step_rules.specs.State.{times};
 ghost use Rattle.cpu_part.specs.Cpus.{most_pins, IsUnlisted};
 ghost use Rattle.cpu_part.specs.Calls.{IfRaced, PinAnswers, UnpinAnswers};
@@ -17,7 +17,7 @@ use crate::cpu::{Cpu, MAX_PINS};
 use crate::moves::unpin;
 use frame_word::{Frame, Get, Put};
 use group_tree::fault::Fault;
-use run_words::CpuSeat;
+use boot_words::CpuSeat;
 
 impl<N: BootName> Cpu<N> {
     /// Pins the frame if some seat has a reference on it. If pins and back frames are 256 together, that is refused

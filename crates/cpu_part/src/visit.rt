@@ -1,7 +1,6 @@
 //! The hand-over of frames between a CPU and the zone, while the CPU holds the lock.
 ghost use Rattle.std.specs.Prelude.{◌≡◌, ◌+◌, ◌<◌, ◌≤◌, ℕ, List, [], ◌∷◌, ◌++◌, length, IfSome, MatchOption};
-ghost use Rattle.boot_words.specs.Composed.{lend_run, AreLegal, MakesInTurn};
-ghost use Rattle.boot_words.specs.TakenBack.{take_back_run};
+ghost use Rattle.boot_words.specs.Composed.{lend_run, AreLegal, MakesInTurn, take_back_run};
 ghost use Rattle.boot_words.specs.Pasts.{local_by_pasts, IsHeld, IsHolder, MakesStep, MayMake};
 ghost use Rattle.step_rules.specs.Legal.{IsAnswer};
 ghost use Rattle.step_rules.specs.declared.step.Action.TheVariants as step;
@@ -14,7 +13,7 @@ use crate::boot_name::{BootName, Tables};
 use crate::cpu::Cpu;
 use crate::moves::freshen;
 use frame_word::Frame;
-use run_words::PastSeat;
+use boot_words::PastSeat;
 
 impl<N: BootName> Cpu<N> {
     /// Borrows a free frame of the zone, at the end of the list. The zone passes it out and the CPU takes it in: two steps

@@ -7,7 +7,6 @@ use Rattle.std.specs.Io.Buffered.{reader_buffer, reader_capacity, reader_inner, 
 use Rattle.std.specs.Io.KnownBytes.{prepend_known}
 use Rattle.std.specs.declared.io.buffered.BufReader.{BufReader}
 use Rattle.frame_word.specs.Seats.{KnownTable}
-use Rattle.stock_word.specs.Stock.{KnownStockTable}
 use Rattle.zone_blocks.specs.declared.config.Config.{Config}
 use Rattle.script_replay.specs.Lines.{SystemState}
 use Rattle.line_server.specs.declared.fault.ServeFault.{ServeFault}
@@ -54,7 +53,7 @@ module _ (on : SessionTerms) (sizes : Config) (count : ℕ) (input left : Option
   holds so_far = record {
     reads = so_far.reads;
     answers = so_far.answers;
-    replays = turns_replayed on.form on.frames on.stocks sizes so_far.turns before between so_far.answers;
+    replays = turns_replayed on.form on.frames sizes so_far.turns before between so_far.answers;
     written = so_far.written;
   }
 

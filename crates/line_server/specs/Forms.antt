@@ -1,7 +1,6 @@
 -- What a session writes for a line.
 use Rattle.std.specs.Prelude.{ℕ, List, ◌++◌, codes}
 use Rattle.frame_word.specs.Seats.{KnownTable}
-use Rattle.stock_word.specs.Stock.{KnownStockTable}
 use Rattle.line_server.specs.declared.form.SessionForm.{SessionForm}
 use Rattle.line_server.specs.declared.form.SessionForm.TheVariants.{Answers, Steps}
 use Rattle.line_server.specs.Logs.{comment}
@@ -13,7 +12,7 @@ pub record SessionTerms : Type 0 where
   pub form : SessionForm
 
 -- the terms with these tables and this form
-abbrev pub session_terms : KnownTable → KnownStockTable → SessionForm → SessionTerms
+abbrev pub session_terms : KnownTable → SessionForm → SessionTerms
 session_terms frames stocks form = record { frames = frames; stocks = stocks; form = form }
 
 -- the line that says why a line is bad: in a log it is a comment

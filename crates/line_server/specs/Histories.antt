@@ -1,7 +1,6 @@
 -- The history of a session's turns: what their steps are, and what holds after each line that was served.
 use Rattle.std.specs.Prelude.{◌≡◌, ℕ, true, List, [], ◌∷◌, ◌++◌, Option, None, Some, unwrap_or}
 use Rattle.frame_word.specs.Seats.{KnownTable}
-use Rattle.stock_word.specs.Stock.{KnownStockTable}
 use Rattle.step_rules.specs.After.{Run, IsLegalRun}
 use Rattle.mem_machine.specs.Interleaving.{zone_of}
 use Rattle.mem_history.specs.Whole.{ShowsAll}
@@ -78,7 +77,7 @@ steps_of_logged terms (turn ∷ turns) past after history =
     history
 
 -- the history of turns in either form
-abbrev pub HasTurnsHistory : SessionForm → KnownTable → KnownStockTable → List Turn → Past → (after : SystemState)
+abbrev pub HasTurnsHistory : SessionForm → KnownTable → List Turn → Past → (after : SystemState)
     → Type 0
 HasTurnsHistory (Answers is_explained) frames stocks turns past after =
     HasHistory (terms frames stocks is_explained) (lines_of turns) past after (answers_of turns)
@@ -93,7 +92,7 @@ steps_of_turns Steps frames stocks turns past after history =
     steps_of_logged (terms frames stocks true) turns past after history
 
 -- the turns have a history from each run that shows the state before them, if the parts agree with their seats
-abbrev pub ReplaysTurns : SessionForm → KnownTable → KnownStockTable → List Turn → (before after : SystemState)
+abbrev pub ReplaysTurns : SessionForm → KnownTable → List Turn → (before after : SystemState)
     → Type 0
 ReplaysTurns (Answers is_explained) frames stocks turns before after =
     Replays (terms frames stocks is_explained) (lines_of turns) before after (answers_of turns)

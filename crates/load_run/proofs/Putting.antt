@@ -3,7 +3,6 @@ use Rattle.std.proofs.Common.{◌≡◌, ℕ, ◌<◌, Some, List, [], ◌∷◌
 use Rattle.std.specs.Prelude.{slice_get, slice_set}
 use Rattle.std.proofs.lemmas.List.Sums.{sum_by-append}
 use Rattle.frame_word.specs.Seats.{KnownTable}
-use Rattle.stock_word.specs.Stock.{KnownStockTable}
 use Rattle.frame_word.specs.declared.answers.Put.{Put}
 use Rattle.frame_word.specs.declared.answers.Put.TheVariants.{Left, Last}
 use Rattle.boot_words.specs.declared.view.Past.{Past}
@@ -181,11 +180,11 @@ puts_go_on done m (c ∷ cpus) n (d ∷ left) puts earlier so_far =
 
 -- ---- nothing is left
 
-pub leaves_nothing : (t : KnownTable) (w : KnownStockTable) (before : SystemState) (held : ℕ) (emptied : KnownEmptiedBoot) (locked : KnownLocked)
+pub leaves_nothing : (t : KnownTable) (before : SystemState) (held : ℕ) (emptied : KnownEmptiedBoot) (locked : KnownLocked)
     (cpus : List CpuInRun)
     → held ≡ pins_of_all (parts_of before.cpus) → ForEachCpu PutsAllPins before.locked.machine before.cpus locked.machine cpus → locked.sizes ≡ before.locked.sizes
-    → (held ≡ 0 → system_state locked cpus ≡ before) → MakesLastVisits t w locked cpus emptied → LeavesNothing t w before held emptied
-leaves_nothing t w before held emptied locked cpus held_are puts sizes free visits =
+    → (held ≡ 0 → system_state locked cpus ≡ before) → MakesLastVisits t locked cpus emptied → LeavesNothing t before held emptied
+leaves_nothing t before held emptied locked cpus held_are puts sizes free visits =
     let putting = steps_of_all_puts before.locked.machine before.cpus locked.machine cpus puts in
     record {
       held_are = held_are;
@@ -205,9 +204,9 @@ leaves_nothing t w before held emptied locked cpus held_are puts sizes free visi
     }
 
 -- no pin was held
-pub leaves_free : (t : KnownTable) (w : KnownStockTable) (before : SystemState) (emptied : KnownEmptiedBoot)
-    → MakesLastVisits t w before.locked before.cpus emptied
-    → LeavesNothing t w before 0 emptied
-leaves_free t w before emptied visits =
-    leaves_nothing t w before 0 emptied before.locked before.cpus (sym visits.no_pin) (none_put before.locked.machine before.cpus visits.no_pin) refl
+pub leaves_free : (t : KnownTable) (before : SystemState) (emptied : KnownEmptiedBoot)
+    → MakesLastVisits t before.locked before.cpus emptied
+    → LeavesNothing t before 0 emptied
+leaves_free t before emptied visits =
+    leaves_nothing t before 0 emptied before.locked before.cpus (sym visits.no_pin) (none_put before.locked.machine before.cpus visits.no_pin) refl
     (λ none. refl) visits

@@ -257,7 +257,7 @@ own_between cpu steps all =
     ∙ ap (λ (t : Bool). steps ++ cond t unlock []) mine)
 
 pub runs_show_visits : RunsShowVisits
-runs_show_visits table stock_table cmd reply before after run sound served left begins =
+runs_show_visits table cmd reply before after run sound served left begins =
     let zone = zone_of table in
     let cpu = before.cpu.part.number in
     let visit = served.run in
@@ -280,7 +280,7 @@ runs_show_visits table stock_table cmd reply before after run sound served left 
     }
 
 pub runs_show_finds : RunsShowFinds
-runs_show_finds table stock_table found after run sound same begins = record {
+runs_show_finds table found after run sound same begins = record {
   before = (own_past found.machine.run.past).seen;
   after = begins.rest;
   is = begins.is ∙ ap (λ (l : Run). l ++ begins.rest) (sym same);

@@ -3,7 +3,6 @@
 use Rattle.std.proofs.Common.{◌∙◌, ℕ, List, [], ◌∷◌, ◌++◌, subst, sym}
 use Rattle.std.proofs.lemmas.List.{length-map}
 use Rattle.frame_word.specs.Seats.{KnownTable}
-use Rattle.stock_word.specs.Stock.{KnownStockTable}
 use Rattle.boot_words.specs.Pasts.{own_past}
 use Rattle.boot_words.specs.Words.{AreFrameWords, AreStockWords}
 use Rattle.boot_words.proofs.Gaining.{the_run_so_far_is_legal}
@@ -27,9 +26,9 @@ kept_goes_on on (line ∷ lines) before last text keeps has =
     kept_goes_on on lines (past_line before keeps.steps keeps.between) last keeps.rest keeps.keeps (keeps.goes_on before.run has)
 
 -- if a run led to the end, it and the steps of the end are one legal run, which led to the words that were closed
-pub whole_run : (t : KnownTable) (w : KnownStockTable) (run : Run) (end : SystemState) (ended : BootEnd) → HasRun run end → (ends : EndsHeld t w end ended)
+pub whole_run : (t : KnownTable) (run : Run) (end : SystemState) (ended : BootEnd) → HasRun run end → (ends : EndsHeld t end ended)
     → IsWholeRun (zone_of t) (last_words ends.closes) (run ++ ends.leaves.steps)
-whole_run t w run end ended has ends =
+whole_run t run end ended has ends =
     let closes = ends.closes in
     let cpus = ends.emptied.cpus in
     let whole : Run = run ++ ends.leaves.steps in

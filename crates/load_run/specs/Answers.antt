@@ -3,7 +3,6 @@ use Rattle.std.specs.Prelude.{◌≡◌, ℕ, suc, ◌+◌, Bool, false, true, �
 use Rattle.std.specs.Prelude.{codes, decimal, drop, length, slice_get, take}
 use Rattle.std.specs.Io.KnownBytes.{Appends}
 use Rattle.frame_word.specs.Seats.{KnownTable}
-use Rattle.stock_word.specs.Stock.{KnownStockTable}
 use Rattle.zone_blocks.specs.declared.config.Config.{Config}
 use Rattle.zone_blocks.specs.Config.{IsValidConfig}
 use Rattle.step_rules.specs.After.{Run as StepRun}
@@ -72,7 +71,7 @@ pub record AreCheckedAnswers (sizes : Config) (form : Form) (is_audited : Bool) 
   pub text_is : text ≡ shown ++ checked_text (length replay.whole)
 
 -- no visit is open behind the lock, and there are as many parts as CPUs
-pub record IsQuietSystem (frames : KnownTable) (stock_table : KnownStockTable) (now : SystemState) : Type 0 where
+pub record IsQuietSystem (frames : KnownTable) (now : SystemState) : Type 0 where
   pub quiet : IsQuiet frames stock_table now.locked
   pub count : length now.cpus ≡ frames.cpus
 

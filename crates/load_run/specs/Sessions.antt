@@ -2,7 +2,6 @@
 use Rattle.std.specs.Prelude.{◌≡◌, ◌⊎◌, ℕ, ◌≤◌, Bool, List, [], ◌++◌, Option, Some, ⊤}
 use Rattle.std.specs.Io.KnownBytes.{Appends}
 use Rattle.frame_word.specs.Seats.{KnownTable}
-use Rattle.stock_word.specs.Stock.{KnownStockTable}
 use Rattle.zone_blocks.specs.declared.config.Config.{Config}
 use Rattle.zone_blocks.specs.Config.{IsValidConfig}
 use Rattle.boot_words.specs.Words.{Words}
@@ -30,7 +29,7 @@ use Rattle.load_run.specs.Logs.{LogsEnd, log_head_text}
 use Rattle.line_server.specs.Writing.{AppendsBeginning}
 
 -- a boot ended from this state after a session of this form, and this is what is written about that
-abbrev pub EndsInForm : SessionForm → KnownTable → KnownStockTable → (is_audited : Bool) → (before : SystemState)
+abbrev pub EndsInForm : SessionForm → KnownTable → (is_audited : Bool) → (before : SystemState)
     → (text : List ℕ) → Type 0
 EndsInForm (Answers is_explained) frames stocks is_audited before text = WritesEnd frames stocks is_audited before text
 EndsInForm Steps frames stocks is_audited before text = LogsEnd frames stocks before text

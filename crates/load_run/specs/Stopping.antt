@@ -1,7 +1,6 @@
 -- Why a boot whose steps are checked gives no answers.
 use Rattle.std.specs.Prelude.{◌≡◌, ℕ, Bool, true, false, List, ⊤}
 use Rattle.frame_word.specs.Seats.{KnownTable}
-use Rattle.stock_word.specs.Stock.{KnownStockTable}
 use Rattle.zone_blocks.specs.declared.config.Config.{Config}
 use Rattle.step_watch.specs.Watched.{IsNewWatch, has_legal_steps}
 use Rattle.mem_machine.specs.Interleaving.{zone_of}
@@ -21,9 +20,9 @@ use Rattle.load_run.specs.Ending.{EndsHeld}
 use Rattle.load_run.specs.Starting.{IsNewBootState}
 
 -- the state after a boot with these sizes whose watch checks each step from the first on
-pub record IsNewWatchedState (sizes : Config) (table : KnownTable) (stock_table : KnownStockTable)
+pub record IsNewWatchedState (sizes : Config) (table : KnownTable)
     (start : SystemState) : Type 0 where
-  pub first : IsNewBootState sizes table stock_table start
+  pub first : IsNewBootState sizes table start
   pub watched : IsNewWatch (zone_of table) start.locked.machine.run.watch
 
 -- A boot with these sizes served the lines up to one with a step that the watch didn't allow, and no line after it.

@@ -1,7 +1,6 @@
 -- The steps of all threads as one legal run, and what it shows of each visit and of what was found.
 use Rattle.std.specs.Prelude.{◌≡◌, ℕ, ◌++◌}
 use Rattle.frame_word.specs.Seats.{KnownTable}
-use Rattle.stock_word.specs.Stock.{KnownStockTable}
 use Rattle.step_rules.specs.After.{Run, state_of}
 use Rattle.step_rules.specs.Reaches.{own_steps}
 use Rattle.boot_words.specs.Hidden.{hide}
@@ -36,9 +35,9 @@ pub record ShowsVisit (table : KnownTable) (run : Run) (cpu : ℕ) (steps : Run)
 
 -- If a command was served in a visit, and the CPU's past after it is a beginning of a run, then this run shows the visit.
 abbrev pub RunsShowVisits : Type 0
-RunsShowVisits = (table : KnownTable) (stock_table : KnownStockTable) (cmd : Cmd) (reply : Reply)
-    (before after : LockedState) (run : Run) → IsSound table stock_table before.locked
-    → (served : IsServed table cmd reply before after) → IsSound table stock_table after.locked
+RunsShowVisits = (table : KnownTable) (cmd : Cmd) (reply : Reply)
+    (before after : LockedState) (run : Run) → IsSound table before.locked
+    → (served : IsServed table cmd reply before after) → IsSound table after.locked
     → IsBeginning (own_past after.cpu.past).seen run
     → ShowsVisit table run before.cpu.part.number served.steps before.locked.machine after.locked.machine
 
@@ -52,8 +51,8 @@ pub record ShowsFound (table : KnownTable) (run : Run) (found : KnownMachine) : 
 -- If a CPU has seen the run that led to what was found behind the lock, which is sound (`SeenBehindLock`), and the CPU's
 -- past then is a beginning of a run, then this run shows what was found, such as its groups.
 abbrev pub RunsShowFinds : Type 0
-RunsShowFinds = (table : KnownTable) (stock_table : KnownStockTable) (found : KnownLocked) (after : CpuInRun) (run : Run)
-    → IsSound table stock_table found → (own_past found.machine.run.past).seen ≡ (own_past after.past).seen
+RunsShowFinds = (table : KnownTable) (found : KnownLocked) (after : CpuInRun) (run : Run)
+    → IsSound table found → (own_past found.machine.run.past).seen ≡ (own_past after.past).seen
     → IsBeginning (own_past after.past).seen run → ShowsFound table run found.machine
 
 -- A CPU's past is a beginning of its past after more steps.

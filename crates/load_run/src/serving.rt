@@ -131,7 +131,7 @@ fn end_session<N: BootName>(
 ) -> Result<Vec<u8>, AllocError>
     requires count { length cpus.items ≡ N.frames.cpus }
     ensures ended { GivesAnswer result
-        (EndsInForm form N.frames N.stocks is_audited (system_state locked cpus.items)) }
+        (EndsInForm form N.frames is_audited (system_state locked cpus.items)) }
 {
     match form {
         SessionForm::Answers { .. } => {

@@ -1,16 +1,19 @@
--- The lines of kept units, one after the other, and the loads of their words. Serves `write_list` and `write_units`.
-use Rattle.std.proofs.Common.{◌≡◌, ℕ, suc, ◌+◌, ◌<◌, Option, Some, None, List, [], ◌∷◌, ◌++◌, length, map, refl, sym, ap, ◌∙◌, subst, arith}
+-- The lines of kept units, one after the other, and the looks at their words. Serves `write_list` and `write_units`.
+use Rattle.std.proofs.Common.{◌≡◌, ℕ, ◌+◌, ◌<◌, Option, Some, None, List, [], ◌∷◌, ◌++◌, length, map, refl, sym, ap, ◌∙◌, subst, arith}
 use Rattle.std.proofs.Common.{Result, Ok, Err, IfOk, IsOk}
 use Rattle.std.proofs.lemmas.List.{append-nil, append_assoc, length-append, map-append}
+use Rattle.frame_word.specs.ReferenceRule.{most_references}
 use Rattle.frame_word.specs.Seats.{KnownTable}
-use Rattle.boot_words.specs.Pasts.{KnownPasts}
+use Rattle.boot_words.specs.Looking.{LoadsReferences}
+use Rattle.boot_words.specs.Pasts.{own_past}
+use Rattle.boot_words.specs.Seats.{zone_of_boot}
 use Rattle.lru_lists.specs.declared.record.Entry.{Entry}
 use Rattle.lru_lists.specs.declared.record.LruList.{LruList}
 use Rattle.lru_lists.specs.Lists.{entry_after, first_entry}
 use Rattle.mem_machine.specs.Machines.{KnownMachine, IsConsistent, home_of}
 use Rattle.mem_machine.specs.Showing.{ListedUnit, entries_in, listed, units_in}
 use Rattle.mem_machine.proofs.Listing.{IsListed, apart_mid, after_mid, has_mid, home_inside, listed_is}
-use Rattle.machine_texts.specs.Units.{LoadsAllPins, LoadsPins, ReadsLines, ReadsUnits, lines_text, order_at, unit_text, units_text}
+use Rattle.machine_texts.specs.Units.{ArePinsOf, ReadsLines, ReadsUnits, lines_text, order_at, unit_text, units_text}
 use Rattle.lru_lists.specs.declared.record.LruList.TheVariants.{Inactive, Active}
 
 -- ---- some units and then others
@@ -25,19 +28,18 @@ lines_append m (u ∷ us) vs (p ∷ ps) qs same =
     let s : length (p ∷ ps) ≡ length (u ∷ us) = same in
     ap (λ (t : List ℕ). line ++ t) (lines_append m us vs ps qs (omega (arith, s))) ∙ sym (append_assoc line (lines_text m us ps) (lines_text m vs qs))
 
-pub loads_both : (t : KnownTable) (past : KnownPasts) (us vs : List ListedUnit) (ps qs : List ℕ) → LoadsAllPins t past us ps → LoadsAllPins t past vs qs
-    → LoadsAllPins t past (us ++ vs) (ps ++ qs)
-loads_both t past [] vs [] qs first second = second
-loads_both t past [] vs (p ∷ ps) qs first second = absurd first
-loads_both t past (u ∷ us) vs [] qs first second = absurd first
-loads_both t past (u ∷ us) vs (p ∷ ps) qs first second = (first.0, loads_both t past us vs ps qs first.1 second)
+pub pins_both : (t : KnownTable) (m : KnownMachine) (us vs : List ListedUnit) (ps qs : List ℕ) → ArePinsOf t m us ps → ArePinsOf t m vs qs
+    → ArePinsOf t m (us ++ vs) (ps ++ qs)
+pins_both t m [] vs [] qs first second = second
+pins_both t m [] vs (p ∷ ps) qs first second = absurd first
+pins_both t m (u ∷ us) vs [] qs first second = absurd first
+pins_both t m (u ∷ us) vs (p ∷ ps) qs first second = (first.0, first.1, pins_both t m us vs ps qs first.2 second)
 
--- as many as the units
-loads_count : (t : KnownTable) (past : KnownPasts) (us : List ListedUnit) (ps : List ℕ) → LoadsAllPins t past us ps → length ps ≡ length us
-loads_count t past [] [] loads = refl
-loads_count t past [] (p ∷ ps) loads = absurd loads
-loads_count t past (u ∷ us) [] loads = absurd loads
-loads_count t past (u ∷ us) (p ∷ ps) loads = ap suc (loads_count t past us ps loads.1)
+pub pins_count : (t : KnownTable) (m : KnownMachine) (us : List ListedUnit) (ps : List ℕ) → ArePinsOf t m us ps → length ps ≡ length us
+pins_count t m [] [] are = refl
+pins_count t m [] (p ∷ ps) are = absurd are
+pins_count t m (u ∷ us) [] are = absurd are
+pins_count t m (u ∷ us) (p ∷ ps) are = let more = pins_count t m us ps are.2 in omega (arith, more)
 
 -- ---- the walk over one list
 
@@ -50,7 +52,7 @@ pub record MetSoFar (t : KnownTable) (g : ℕ) (list : LruList) (before : KnownM
   pub count : length met ≡ i
   pub next_is : next ≡ first_entry todo
   pub pins : List ℕ
-  pub loads : LoadsAllPins t before.run.past (map (listed list) met) pins
+  pub looks : ArePinsOf t before (map (listed list) met) pins
   pub same : now ≡ before
   pub told : tells (lines_text before (map (listed list) met) pins)
 
@@ -63,7 +65,7 @@ met_none t g list m next tells is none = record {
   count = refl;
   next_is = is;
   pins = [];
-  loads = tt;
+  looks = tt;
   same = refl;
   told = none;
 }
@@ -102,22 +104,23 @@ module _ (t : KnownTable) (g : ℕ) (fits : g < 64) (list : LruList) (before : K
         newer = ap (λ (l : List Entry). entry_after u.number l) are ∙ after_mid s.met a.0 u (apart_mid s.met a.0 u is.apart);
       }
 
-  pub met_more : (u : Entry) (some : next ≡ Some u) (newer : Option Entry) → newer ≡ entry_after u.number (entries_in now g list) → (pins : ℕ) → LoadsPins t now.run.past u.number pins
-      → (n : KnownMachine) → n ≡ now → (more : List ℕ → Type 0)
+  pub met_more : (u : Entry) (some : next ≡ Some u) (newer : Option Entry) → newer ≡ entry_after u.number (entries_in now g list) → (pins : ℕ) → pins < most_references
+      → LoadsReferences (zone_of_boot t) (own_past now.run.past) u.number (pins + 1) → (n : KnownMachine) → n ≡ now → (more : List ℕ → Type 0)
       → ((text : List ℕ) → tells text → more (text ++ unit_text (order_at now u.number) (listed list u) pins)) → MetSoFar t g list before (i + 1) newer n more
-  met_more u some newer is pins found n stays more line =
+  met_more u some newer is pins few loads n kept more line =
       let h = is_met u some in
       let units : List ListedUnit = map (listed list) s.met in
       let both : map (listed list) (s.met ++ u ∷ []) ≡ units ++ listed list u ∷ [] = map-append (listed list) s.met (u ∷ []) in
-      let here : LoadsPins t before.run.past u.number pins = subst (λ (x : KnownMachine). LoadsPins t x.run.past u.number pins) s.same found in
-      let loads : LoadsAllPins t before.run.past (units ++ listed list u ∷ []) (s.pins ++ pins ∷ []) =
-      loads_both t before.run.past units (listed list u ∷ []) s.pins (pins ∷ []) s.loads (here, tt) in
+      let one : LoadsReferences (zone_of_boot t) (own_past before.run.past) u.number (pins + 1)
+      = subst (λ (x : KnownMachine). LoadsReferences (zone_of_boot t) (own_past x.run.past) u.number (pins + 1)) s.same loads in
+      let looks : ArePinsOf t before (units ++ listed list u ∷ []) (s.pins ++ pins ∷ []) =
+      pins_both t before units (listed list u ∷ []) s.pins (pins ∷ []) s.looks (few, one, tt) in
       let order : order_at now u.number ≡ order_at before u.number = ap (λ (x : KnownMachine). order_at x u.number) s.same in
       let lines : lines_text before units s.pins ++ unit_text (order_at now u.number) (listed list u) pins
       ≡ lines_text before (units ++ listed list u ∷ []) (s.pins ++ pins ∷ []) =
       ap (λ (k : ℕ). lines_text before units s.pins ++ unit_text k (listed list u) pins) order
       ∙ ap (λ (l : List ℕ). lines_text before units s.pins ++ l) (sym (append-nil (unit_text (order_at before u.number) (listed list u) pins)))
-      ∙ sym (lines_append before units (listed list u ∷ []) s.pins (pins ∷ []) (loads_count t before.run.past units s.pins s.loads)) in
+      ∙ sym (lines_append before units (listed list u ∷ []) s.pins (pins ∷ []) (pins_count t before units s.pins s.looks)) in
       record {
         met = s.met ++ u ∷ [];
         todo = h.rest;
@@ -125,8 +128,8 @@ module _ (t : KnownTable) (g : ℕ) (fits : g < 64) (list : LruList) (before : K
         count = let c = s.count in let l = length-append s.met (u ∷ []) in omega (arith, c, l);
         next_is = is ∙ h.newer;
         pins = s.pins ++ pins ∷ [];
-        loads = subst (λ (l : List ListedUnit). LoadsAllPins t before.run.past l (s.pins ++ pins ∷ [])) (sym both) loads;
-        same = stays ∙ s.same;
+        looks = subst (λ (l : List ListedUnit). ArePinsOf t before l (s.pins ++ pins ∷ [])) (sym both) looks;
+        same = kept ∙ s.same;
         told = subst (λ (l : List ListedUnit). more (lines_text before l (s.pins ++ pins ∷ []))) (sym both)
             (subst more lines (line (lines_text before units s.pins) s.told));
       }
@@ -149,17 +152,22 @@ has_lines m [] ps some = absurd (omega (arith, some))
 has_lines m (u ∷ us) ps some = refl
 
 -- the lines of the inactive units and then those of the active ones
-pub both_lists : (t : KnownTable) (g : ℕ) (m between : KnownMachine) (first second all : List ℕ → Type 0) → 0 < length (units_in m g) → ReadsLines t g Inactive first m
-    → between ≡ m → ReadsLines t g Active second between → ((one other : List ℕ) → first one → second other → all (one ++ other)) → ReadsUnits t g all m
-both_lists t g m between first second all some inactive same active_then together =
+pub both_lists : (t : KnownTable) (g : ℕ) (m between n : KnownMachine) (first second all : List ℕ → Type 0) → 0 < length (units_in m g)
+    → ReadsLines t g Inactive first m between → ReadsLines t g Active second between n
+    → ((one other : List ℕ) → first one → second other → all (one ++ other)) → ReadsUnits t g all m n
+both_lists t g m between n first second all some inactive active together =
     let one : List ListedUnit = map (listed Inactive) (entries_in m g Inactive) in
     let other : List ListedUnit = map (listed Active) (entries_in m g Active) in
-    let active : ReadsLines t g Active second m = subst (ReadsLines t g Active second) same active_then in
+    let looks : ArePinsOf t m other active.pins
+    = subst (λ (x : KnownMachine). ArePinsOf t x (map (listed Active) (entries_in x g Active)) active.pins) inactive.same active.looks in
+    let told : second (lines_text m other active.pins)
+    = subst (λ (x : KnownMachine). second (lines_text x (map (listed Active) (entries_in x g Active)) active.pins)) inactive.same active.told in
     record {
       pins = inactive.pins ++ active.pins;
-      loads = loads_both t m.run.past one other inactive.pins active.pins inactive.loads active.loads;
-      told = subst all (sym (lines_append m one other inactive.pins active.pins (loads_count t m.run.past one inactive.pins inactive.loads))
-          ∙ sym (has_lines m (one ++ other) (inactive.pins ++ active.pins) some)) (together _ _ inactive.told active.told);
+      looks = pins_both t m one other inactive.pins active.pins inactive.looks looks;
+      told = subst all (sym (lines_append m one other inactive.pins active.pins (pins_count t m one inactive.pins inactive.looks))
+          ∙ sym (has_lines m (one ++ other) (inactive.pins ++ active.pins) some)) (together _ _ inactive.told told);
+      same = active.same ∙ inactive.same;
     }
 
 -- two texts, one behind the other

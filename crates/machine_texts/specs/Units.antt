@@ -1,12 +1,13 @@
 -- The text of the kept units of a group.
-use Rattle.std.specs.Prelude.{ℕ, ◌+◌, ◌<◌, ◌==◌, Bool, List, [], ◌∷◌, ◌++◌, codes, map}
+use Rattle.std.specs.Prelude.{◌≡◌, ℕ, ◌+◌, ◌<◌, ◌==◌, Bool, List, [], ◌∷◌, ◌++◌, codes, map}
 use Rattle.std.specs.Prelude.{if◌then◌else◌}
 use Rattle.std.specs.Option.{option_map_or}
 use Rattle.std.specs.Fmt.{decimal}
 use Rattle.frame_word.specs.ReferenceRule.{most_references}
 use Rattle.frame_word.specs.Seats.{KnownTable}
-use Rattle.boot_words.specs.Pasts.{KnownPasts}
-use Rattle.run_words.specs.Looking.{LoadsReferences}
+use Rattle.boot_words.specs.Looking.{LoadsReferences}
+use Rattle.boot_words.specs.Pasts.{own_past}
+use Rattle.boot_words.specs.Seats.{zone_of_boot}
 use Rattle.lru_lists.specs.declared.record.Entry.{Entry}
 use Rattle.lru_lists.specs.declared.record.LruList.{LruList}
 use Rattle.lru_lists.specs.declared.record.LruList.TheVariants.{Inactive, Active}
@@ -54,29 +55,26 @@ abbrev pub units_text : KnownMachine → List ListedUnit → List ℕ → List �
 units_text machine [] pins = codes "none\n"
 units_text machine (unit ∷ units) pins = lines_text machine (unit ∷ units) pins
 
--- a load of the unit's word, which CPUs' gets and puts may change meanwhile, found the zone's reference and this many pins
-pub record LoadsPins (table : KnownTable) (past : KnownPasts) (frame pins : ℕ) : Type 0 where
-  pub loads : LoadsReferences table past frame (pins + 1)
-  pub most : pins < most_references
+-- each of these units had this number of pins at a load of its word
+abbrev pub ArePinsOf : KnownTable → KnownMachine → List ListedUnit → List ℕ → Type 0
+ArePinsOf table machine [] [] = Unit {0}
+ArePinsOf table machine (unit ∷ units) (found ∷ pins) = (found < most_references)
+    × LoadsReferences (zone_of_boot table) (own_past machine.run.past) unit.entry.number (found + 1)
+    × ArePinsOf table machine units pins
+ArePinsOf table machine units pins = ⊥
 
--- a load of the word of each of these units found these numbers of pins
-abbrev pub LoadsAllPins : KnownTable → KnownPasts → List ListedUnit → List ℕ → Type 0
-LoadsAllPins table past [] [] = Unit {0}
-LoadsAllPins table past (unit ∷ units) (found ∷ pins) =
-    LoadsPins table past unit.entry.number found × LoadsAllPins table past units pins
-LoadsAllPins table past units pins = ⊥
-
--- The word of each kept unit of the group was loaded, in order. `tells` holds of the text of these units, with the
--- numbers of pins that the loads found.
-pub record ReadsUnits (table : KnownTable) (group : ℕ) (tells : List ℕ → Type 0) (machine : KnownMachine) : Type 0 where
+-- The word of each kept unit of the group was loaded once, in order. `tells` holds of the text of these units, with the
+-- numbers of pins that the loads found. Nothing changed.
+pub record ReadsUnits (table : KnownTable) (group : ℕ) (tells : List ℕ → Type 0) (before after : KnownMachine) : Type 0 where
   pub pins : List ℕ
-  pub loads : LoadsAllPins table machine.run.past (units_in machine group) pins
-  pub told : tells (units_text machine (units_in machine group) pins)
+  pub looks : ArePinsOf table before (units_in before group) pins
+  pub told : tells (units_text before (units_in before group) pins)
+  pub same : after ≡ before
 
--- The word of each unit of one of the group's lists was loaded, in order. `tells` holds of the lines of these units,
--- with the numbers of pins that the loads found.
+-- The same of one of the group's lists alone.
 pub record ReadsLines (table : KnownTable) (group : ℕ) (list : LruList) (tells : List ℕ → Type 0)
-    (machine : KnownMachine) : Type 0 where
+    (before after : KnownMachine) : Type 0 where
   pub pins : List ℕ
-  pub loads : LoadsAllPins table machine.run.past (map (listed list) (entries_in machine group list)) pins
-  pub told : tells (lines_text machine (map (listed list) (entries_in machine group list)) pins)
+  pub looks : ArePinsOf table before (map (listed list) (entries_in before group list)) pins
+  pub told : tells (lines_text before (map (listed list) (entries_in before group list)) pins)
+  pub same : after ≡ before

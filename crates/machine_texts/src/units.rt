@@ -1,8 +1,8 @@
 //! The kept units of a group.
 
 ghost use Rattle.std.specs.Prelude.{◌≡◌, ◌<◌, [], false, true, IfOk, IsOk, length};
-ghost use Rattle.boot_words.specs.Pasts.{IsHeld};
 ghost use Rattle.control_files.specs.Strings.{AddsBytes};
+ghost use Rattle.mem_machine.specs.Resting.{Rests};
 ghost use Rattle.mem_machine.specs.Showing.{listed, units_in};
 ghost use Rattle.machine_texts.specs.Units.{ReadsLines, ReadsUnits, list_text, order_at, pins_text, rest_text};
 ghost use Rattle.machine_texts.specs.Units.{text_if, unit_text};
@@ -24,10 +24,9 @@ pub fn write_units<N: BootName>(
     group: GroupId,
     text: &mut String,
 ) -> Result<(), AllocError>
-    requires held { IsHeld N.frames machine.old.run.past }
+    requires rests { Rests N.frames machine.old }
     ensures units { ReadsUnits N.frames group
-        (λ shown. AddsBytes result text.old text.new shown) machine.old }
-    ensures machine { machine.new ≡ machine.old }
+        (λ shown. AddsBytes result text.old text.new shown) machine.old machine.new }
 {
     if keeps_none(machine, group) {
         return text.push_str("none\n");
@@ -56,10 +55,9 @@ fn write_list<N: BootName>(
     list: LruList,
     text: &mut String,
 ) -> Result<(), AllocError>
-    requires held { IsHeld N.frames machine.old.run.past }
+    requires rests { Rests N.frames machine.old }
     ensures lines { ReadsLines N.frames group list
-        (λ shown. AddsBytes result text.old text.new shown) machine.old }
-    ensures machine { machine.new ≡ machine.old }
+        (λ shown. AddsBytes result text.old text.new shown) machine.old machine.new }
 {
     let count = machine.list_len(group, list);
     let mut next = machine.oldest(group, list);

@@ -5,8 +5,7 @@ use Rattle.frame_word.specs.Seats.{KnownTable}
 use Rattle.boot_words.specs.Pasts.{IsHeld}
 use Rattle.step_rules.specs.After.{Run}
 use Rattle.mem_machine.specs.Machines.{KnownMachine, with_run}
-use Rattle.mem_machine.specs.Stocks.{Drains, HasDrained, IsDrained, of_subtree}
-use Rattle.mem_machine.proofs.DrainingAll.{drained_now}
+use Rattle.mem_machine.specs.Stocks.{HasDrained, IsDrained, of_subtree}
 use Rattle.mem_machine.specs.Steps.{note_max_steps, note_oom_steps}
 use Rattle.mem_machine.specs.Transitions.{MachineStays, transition}
 use Rattle.mem_machine.proofs.StocksKept.{drained_kept}
@@ -61,7 +60,3 @@ relieves_drained t r g pages m n steps held h p was =
     let held_y = held_after t x next.earlier y next.first.moves.runs held_x in
     few t r g pages y n next.later held_y next.second p
     (subst HasDrained (sym (next.first.keeps.stocks p)) (clears t g pages m x h.earlier held h.first p was))
-
--- the stock that was just drained is drained
-pub drained_here : (t : KnownTable) (m n : KnownMachine) (q k : ℕ) → Drains t q k m n → (p : ℕ) → q ≡ p → IsDrained t n p
-drained_here t m n q k d p named = subst (IsDrained t n) named (drained_now t q k m n d)

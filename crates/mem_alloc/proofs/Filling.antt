@@ -8,7 +8,6 @@ use Rattle.zone_blocks.specs.Areas.{HasNoneFrom}
 use Rattle.frame_word.specs.Seats.{KnownTable}
 use Rattle.group_tree.specs.Room.{IsLowestOver}
 use Rattle.group_charge.specs.Charges.{current_of}
-use Rattle.boot_words.specs.Pasts.{IsHeld}
 use Rattle.stock_word.specs.declared.view.Stock.TheVariants.{HeldBy}
 use Rattle.cpu_part.specs.Cpus.{KnownCpu}
 use Rattle.zone_blocks.specs.declared.config.Config.{Config}
@@ -16,29 +15,53 @@ use Rattle.zone_blocks.specs.Config.{IsValidConfig}
 use Rattle.step_rules.specs.After.{Run}
 use Rattle.group_charge.specs.declared.note.Note.TheVariants.{Zone}
 use Rattle.mem_machine.specs.Machines.{KnownMachine, is_killed, with_note, with_run}
-use Rattle.mem_machine.specs.Local.{Visits}
-use Rattle.mem_machine.specs.Local.{Makes, VisitMakes, VisitState, visit_state}
+use Rattle.boot_words.specs.Pasts.{IsHeld}
+use Rattle.mem_machine.specs.Local.{Makes, VisitMakes, Visits, VisitState, visit_state}
 use Rattle.mem_machine.specs.Lending.{LendsMany, Refills}
 use Rattle.mem_machine.specs.Paying.{HoldsPage, PaysForFront}
+use Rattle.mem_machine.specs.Showing.{stock_now}
 use Rattle.mem_machine.specs.Stocks.{Drains, Fills, stock_group}
-use Rattle.mem_machine.specs.Showing.{stock_in, stock_now}
 use Rattle.mem_machine.specs.Steps.{drain_steps, fill_steps, over_steps, refill_steps, take_front_steps}
 use Rattle.mem_machine.proofs.StocksKept.{filled_stock, has_stock_step, stock_kept, stock_left}
+use Rattle.boot_words.specs.Words.{stock_in}
 use Rattle.mem_reclaim.specs.Staying.{Keeps}
 use Rattle.mem_alloc.specs.declared.faults.AllocFault.{AllocFault}
 use Rattle.mem_alloc.specs.declared.faults.AllocFault.TheVariants.{Over, NoFrames, RequesterKilled}
 use Rattle.mem_machine.specs.Transitions.{BySteps, Finds, InTurn, OfMachineAlone, Transition, transition}
 use Rattle.mem_alloc.specs.Room.{AfterRoom, IsRefusedAt, IsRefusedFor, IsRefusedAtSome, MakesRoom}
 use Rattle.mem_alloc.specs.Charging.{ChargesAfterDrain, FillsDrainedStock, ChargesOne, DrainsStock, FillsStock, AfterBatchRefused, PaysForFrame}
-use Rattle.mem_alloc.specs.Rounds.{FailsInRounds, SucceedsInRounds}
+use Rattle.mem_alloc.specs.Rounds.{FailsInRounds}
 use Rattle.mem_alloc.specs.Frames.{AllocatesFrame, FillsList, HasNoFreeFrame, LendsBatch, LendsNoFrame, RefillsInRounds, RefillsList}
 use Rattle.mem_alloc.proofs.Making.{answer_is}
-use Rattle.mem_alloc.proofs.Lowering.{Lowers, lowers_both, run_lowers}
+use Rattle.mem_alloc.proofs.Lowering.{Lowers, lowers_none, lowers_both, run_lowers}
 use Rattle.mem_alloc.proofs.Killing.{relieves_lower}
-use Rattle.mem_alloc.proofs.Rounding.{FailureSpares, InTheEnd, spares_same, noted_fails_spare, noted_in_the_end, noted_visit}
+use Rattle.mem_alloc.proofs.Rounding.{FailureSpares, InTheEnd, spares_same, noted_fails_spare, noted_in_the_end}
 use Rattle.mem_machine.proofs.Followed.{makes_both, makes_none}
 
 -- ---- what is kept
+
+-- the CPU's number and lists
+pub record KeepsPart (c d : KnownCpu) : Type 0 where
+  pub number : d.number ≡ c.number
+  pub list : d.list ≡ c.list
+  pub fresh : d.fresh ≡ c.fresh
+  pub back : d.back ≡ c.back
+
+pub keeps_both : (c y d : KnownCpu) → KeepsPart c y → KeepsPart y d → KeepsPart c d
+keeps_both c y d a b = record {
+  number = b.number ∙ a.number;
+  list = b.list ∙ a.list;
+  fresh = b.fresh ∙ a.fresh;
+  back = b.back ∙ a.back;
+}
+
+same_keeps : (c d : KnownCpu) → d ≡ c → KeepsPart c d
+same_keeps c d same = record {
+  number = ap (λ (e : KnownCpu). e.number) same;
+  list = ap (λ (e : KnownCpu). e.list) same;
+  fresh = ap (λ (e : KnownCpu). e.fresh) same;
+  back = ap (λ (e : KnownCpu). e.back) same;
+}
 
 pub refused_lowers : (t : KnownTable) (g pages over : ℕ) (answer : Result (Unit {0}) AllocFault) (m n : KnownMachine) (steps : Run)
     → IsRefusedAt g over pages answer (transition t m steps n) → Lowers t m n
@@ -46,152 +69,153 @@ refused_lowers t g pages over answer m n steps r =
     let x = with_run m r.seen in
     lowers_both t m x n (run_lowers t m r.seen) (relieves_lower t g over pages x n r.relieving r.relieves)
 
--- charges leave the CPU's part
-one_cpu : (t : KnownTable) (g : ℕ) (r : Result (Unit {0}) AllocFault) (a b : VisitState) (steps : Run) → ChargesOne g r (transition t a steps b) → b.cpu ≡ a.cpu
-one_cpu t g (Ok v) a b steps h = h.does.cpu
-one_cpu t g (Err e) a b steps h = h.does.cpu
+pub makes_lower : (t : KnownTable) (g pages : ℕ) (before : List ℕ) (m n : KnownMachine) (steps : Run) → MakesRoom g before pages (transition t m steps n) → Lowers t m n
+makes_lower t g pages [] m n steps h = subst (λ (x : KnownMachine). Lowers t m x) (sym h.machine) (lowers_none t m)
+makes_lower t g pages (over ∷ later) m n steps h =
+    lowers_both t m h.between n (refused_lowers t g pages over (Ok tt) m h.between h.earlier h.first)
+    (makes_lower t g pages later h.between n h.later h.second)
 
-charges_cpu : (t : KnownTable) (sizes : Config) (g : ℕ) (r : Result (Unit {0}) AllocFault) (a b : VisitState) (steps : Run)
-    → FillsDrainedStock sizes g r (transition t a steps b) → b.cpu ≡ a.cpu
-charges_cpu t sizes g (Ok v) a b steps (inl h) = h.cpu
-charges_cpu t sizes g (Ok v) a b steps (inr h) = one_cpu t g (Ok v) (visit_state (with_run a.machine h.seen) a.cpu) b h.later h.does
-charges_cpu t sizes g (Err e) a b steps h = one_cpu t g (Err e) (visit_state (with_run a.machine h.seen) a.cpu) b h.later h.does
+refusal_keeps : (t : KnownTable) (g pages : ℕ) (cause : AllocFault) (m n : KnownMachine) (c d : KnownCpu) (steps : Run)
+    → IsRefusedFor g pages cause (transition t (visit_state m c) steps (visit_state n d)) → KeepsPart c d
+refusal_keeps t g pages cause m n c d steps h = same_keeps c d h.does.cpu
 
-anew_cpu : (t : KnownTable) (sizes : Config) (g : ℕ) (r : Result (Unit {0}) AllocFault) (a b : VisitState) (steps : Run)
-    → ChargesAfterDrain sizes g r (transition t a steps b) → b.cpu ≡ a.cpu
-anew_cpu t sizes g r a b steps h = charges_cpu t sizes g r h.does.between b h.does.later h.does.second ∙ h.does.first.cpu
+one_keeps : (t : KnownTable) (g : ℕ) (r : Result (Unit {0}) AllocFault) (m n : KnownMachine) (c d : KnownCpu) (steps : Run)
+    → ChargesOne g r (transition t (visit_state m c) steps (visit_state n d)) → KeepsPart c d
+one_keeps t g (Ok v) m n c d steps h = same_keeps c d h.does.cpu
+one_keeps t g (Err e) m n c d steps h = refusal_keeps t g 1 e m n c d steps h
 
-pub pays_cpu : (t : KnownTable) (sizes : Config) (g : ℕ) (r : Result (Unit {0}) AllocFault) (a b : VisitState) (steps : Run)
-    → PaysForFrame sizes g r (transition t a steps b) → b.cpu ≡ a.cpu
-pays_cpu t sizes g (Ok v) a b steps (inl h) = h.does.cpu
-pays_cpu t sizes g (Ok v) a b steps (inr h) = anew_cpu t sizes g (Ok v) a b steps h
-pays_cpu t sizes g (Err e) a b steps h = anew_cpu t sizes g (Err e) a b steps h
+charges_keep : (t : KnownTable) (sizes : Config) (g : ℕ) (r : Result (Unit {0}) AllocFault) (m n : KnownMachine) (c d : KnownCpu) (steps : Run)
+    → FillsDrainedStock sizes g r (transition t (visit_state m c) steps (visit_state n d)) → KeepsPart c d
+charges_keep t sizes g (Ok v) m n c d steps (inl h) = same_keeps c d h.cpu
+charges_keep t sizes g (Ok v) m n c d steps (inr h) = one_keeps t g (Ok v) (with_run m h.seen) n c d h.later h.does
+charges_keep t sizes g (Err e) m n c d steps h = one_keeps t g (Err e) (with_run m h.seen) n c d h.later h.does
+
+own_drain_keeps : (t : KnownTable) (m n : KnownMachine) (c d : KnownCpu) (steps : Run) → DrainsStock (transition t (visit_state m c) steps (visit_state n d)) → KeepsPart c d
+own_drain_keeps t m n c d steps h = same_keeps c d h.cpu
+
+drain_charges_keep : (t : KnownTable) (sizes : Config) (g : ℕ) (r : Result (Unit {0}) AllocFault) (m n : KnownMachine) (c d : KnownCpu) (steps : Run)
+    → ChargesAfterDrain sizes g r (transition t (visit_state m c) steps (visit_state n d)) → KeepsPart c d
+drain_charges_keep t sizes g r m n c d steps h =
+    let x = h.does.between in
+    keeps_both c x.cpu d (own_drain_keeps t m x.machine c x.cpu h.does.earlier h.does.first)
+    (charges_keep t sizes g r x.machine n x.cpu d h.does.later h.does.second)
+
+pub pays_keep : (t : KnownTable) (sizes : Config) (g : ℕ) (r : Result (Unit {0}) AllocFault) (m n : KnownMachine) (c d : KnownCpu) (steps : Run)
+    → PaysForFrame sizes g r (transition t (visit_state m c) steps (visit_state n d)) → KeepsPart c d
+pays_keep t sizes g (Ok v) m n c d steps (inl h) = same_keeps c d h.does.cpu
+pays_keep t sizes g (Ok v) m n c d steps (inr h) = drain_charges_keep t sizes g (Ok v) m n c d steps h
+pays_keep t sizes g (Err e) m n c d steps h = drain_charges_keep t sizes g (Err e) m n c d steps h
 
 -- ---- the stock holds a page
 
-has_page : (t : KnownTable) (a : VisitState) (g k : ℕ) → 1 ≤ k → stock_now t a ≡ HeldBy g k → HoldsPage t a g
-has_page t a g k some is = (k - 1, is ∙ ap (λ (n : ℕ). HeldBy g n) (let e : k ≡ k - 1 + 1 = omega (arith, some) in e))
+filled_page : (t : KnownTable) (g k : ℕ) (m n : KnownMachine) (c d : KnownCpu) (steps : Run) → Visits t (visit_state n d)
+    → FillsStock g k (transition t (visit_state m c) steps (visit_state n d)) → 1 ≤ k → c.fresh ≡ [] → HoldsPage t (visit_state n d) g
+filled_page t g k m n c d steps visit f some none =
+    let number = ap (λ (e : KnownCpu). e.number) f.cpu in
+    let fills : Fills t d.number g k m n = subst (λ (p : ℕ). Fills t p g k m n) (sym number) f.fills in
+    let all : k - 1 + 1 ≡ k = omega (arith, some) in
+    (k - 1, filled_stock t m n d g k visit (ap (λ (e : KnownCpu). e.fresh) f.cpu ∙ none) fills ∙ ap (HeldBy g) (sym all))
 
-pub charged_page : (t : KnownTable) (sizes : Config) (g : ℕ) (r : Result (Unit {0}) AllocFault) (m n : KnownMachine) (c : KnownCpu) (steps : Run)
-    → IsValidConfig sizes → FillsDrainedStock sizes g r (transition t (visit_state m c) steps (visit_state n c)) → c.fresh ≡ [] → Visits t (visit_state n c)
-    → OnOk r (HoldsPage t (visit_state n c) g)
-charged_page t sizes g (Ok v) m n c steps valid (inl h) none visit =
-    has_page t (visit_state n c) g sizes.stock valid.stock_low (filled_stock t m n c g sizes.stock visit none h.fills)
-charged_page t sizes g (Ok v) m n c steps valid (inr h) none visit =
-    has_page t (visit_state n c) g 1 (omega arith) (filled_stock t h.does.cleared n c g 1 visit none h.does.does.fills)
-charged_page t sizes g (Err e) m n c steps valid h none visit = tt
+pub charged_page : (t : KnownTable) (sizes : Config) (g : ℕ) (r : Result (Unit {0}) AllocFault) (m n : KnownMachine) (c d : KnownCpu) (steps : Run)
+    → IsValidConfig sizes → Visits t (visit_state n d) → FillsDrainedStock sizes g r (transition t (visit_state m c) steps (visit_state n d)) → c.fresh ≡ []
+    → OnOk r (HoldsPage t (visit_state n d) g)
+charged_page t sizes g (Ok v) m n c d steps valid visit (inl h) none = filled_page t g sizes.stock m n c d steps visit h valid.stock_low none
+charged_page t sizes g (Ok v) m n c d steps valid visit (inr h) none =
+    filled_page t g 1 h.does.cleared n c d h.does.later visit h.does.does (omega arith) none
+charged_page t sizes g (Err e) m n c d steps valid visit h none = tt
+
+-- ---- the own stock has a page
 
 -- it had one before
-pub pays_none : (t : KnownTable) (m n : KnownMachine) (c : KnownCpu) (sizes : Config) (g : ℕ) → n ≡ m → HoldsPage t (visit_state m c) g
+pub pays_none : (t : KnownTable) (m n : KnownMachine) (c : KnownCpu) → n ≡ m → (sizes : Config) (g : ℕ) → HoldsPage t (visit_state m c) g
     → BySteps VisitMakes t (PaysForFrame sizes g (Ok tt)) (visit_state m c) (visit_state n c)
-pays_none t m n c sizes g same page = record {
+pays_none t m n c same sizes g page = record {
   steps = [];
   does = inl (record { is = page; does = record { machine = same; cpu = refl; steps_are = refl } });
-  makes = subst (λ (x : KnownMachine). Makes t m [] x) (sym same) (makes_none t m);
+  makes = subst (λ (z : KnownMachine). Makes t m [] z) (sym same) (makes_none t m);
 }
 
 -- ---- frames that are lent
 
-pub record LentPart (frames : List ℕ) (c d : KnownCpu) : Type 0 where
+pub record LentPart (frames : List ℕ) (m : KnownMachine) (c : KnownCpu) (n : KnownMachine) (d : KnownCpu) : Type 0 where
   pub number : d.number ≡ c.number
   pub list : d.list ≡ c.list ++ frames
   pub fresh : d.fresh ≡ c.fresh
   pub back : d.back ≡ c.back
 
-pub lent_part : (frames : List ℕ) (a b : VisitState) → LendsMany frames a b → LentPart frames a.cpu b.cpu
-lent_part [] a b h = record {
+pub lent_part : (frames : List ℕ) (m n : KnownMachine) (c d : KnownCpu) → LendsMany frames (visit_state m c) (visit_state n d) → LentPart frames m c n d
+lent_part [] m n c d h = record {
   number = ap (λ (e : KnownCpu). e.number) h.cpu;
-  list = ap (λ (e : KnownCpu). e.list) h.cpu ∙ sym (append-nil a.cpu.list);
+  list = ap (λ (e : KnownCpu). e.list) h.cpu ∙ sym (append-nil c.list);
   fresh = ap (λ (e : KnownCpu). e.fresh) h.cpu;
   back = ap (λ (e : KnownCpu). e.back) h.cpu;
 }
-lent_part (f ∷ frames) a b h =
+lent_part (f ∷ frames) m n c d h =
     let one = h.first.lends in
-    let more = lent_part frames h.between b h.rest in
+    let more = lent_part frames h.between.machine n h.between.cpu d h.rest in
     record {
       number = more.number ∙ ap (λ (e : KnownCpu). e.number) one.cpu;
-      list = more.list ∙ ap (λ (e : KnownCpu). e.list ++ frames) one.cpu ∙ append_assoc a.cpu.list (f ∷ []) frames;
+      list = more.list ∙ ap (λ (e : KnownCpu). e.list ++ frames) one.cpu ∙ append_assoc c.list (f ∷ []) frames;
       fresh = more.fresh ∙ ap (λ (e : KnownCpu). e.fresh) one.cpu;
       back = more.back ∙ ap (λ (e : KnownCpu). e.back) one.cpu;
     }
 
-lends_no_stock : (p : ℕ) (frames : List ℕ) → has_stock_step (refill_steps p frames) ≡ false
-lends_no_stock p [] = refl
-lends_no_stock p (f ∷ frames) = lends_no_stock p frames
+lent_calm : (p : ℕ) (frames : List ℕ) → has_stock_step (refill_steps p frames) ≡ false
+lent_calm p [] = refl
+lent_calm p (f ∷ frames) = lent_calm p frames
 
-pub lent_page : (t : KnownTable) (frames : List ℕ) (g : ℕ) (a b : VisitState) → IsHeld t a.machine.run.past → LendsMany frames a b
-    → VisitMakes t a (refill_steps a.cpu.number frames) b → HoldsPage t a g → HoldsPage t b g
-lent_page t frames g a b held lends makes page =
-    (page.0, stock_kept t a.machine b.machine (refill_steps a.cpu.number frames) held makes (lends_no_stock a.cpu.number frames) a.cpu b.cpu
-    (lent_part frames a b lends).number ∙ page.1)
+-- the stock has the same pages
+pub lent_stock : (t : KnownTable) (frames : List ℕ) (m n : KnownMachine) (c d : KnownCpu) → IsHeld t m.run.past → Makes t m (refill_steps c.number frames) n
+    → LendsMany frames (visit_state m c) (visit_state n d) → stock_now t (visit_state n d) ≡ stock_now t (visit_state m c)
+lent_stock t frames m n c d held makes lends =
+    stock_kept t m n (refill_steps c.number frames) held makes (lent_calm c.number frames) c d (lent_part frames m n c d lends).number
 
--- a reclaim leaves the stock's page
-kept_page : (t : KnownTable) (g : ℕ) (m n : KnownMachine) (c : KnownCpu) → Keeps t m n → Visits t (visit_state m c) → c.fresh ≡ []
-    → HoldsPage t (visit_state m c) g → HoldsPage t (visit_state n c) g
-kept_page t g m n c keeps visit none page =
-    let after = keeps.visit c visit in
-    (page.0, stock_left t n c after.held after.own none ∙ ap stock_in (keeps.stocks c.number) ∙ sym (stock_left t m c visit.held visit.own none) ∙ page.1)
-
-rounds_page : (t : KnownTable) (g batch rounds : ℕ) (a b : VisitState) (steps : Run) → SucceedsInRounds rounds 1 (LendsBatch batch) LendsNoFrame (transition t a steps b)
-    → Visits t a → a.cpu.fresh ≡ [] → HoldsPage t a g → HoldsPage t b g
-rounds_page t g batch zero a b steps h visit none page = absurd h
-rounds_page t g batch (suc more) a b steps (inl h) visit none page =
-    let round = h.1 in
-    let x = visit_state round.reclaimed a.cpu in
-    let lends = round.tries in
-    lent_page t lends.frames g x b (round.keeps.visit a.cpu visit).held lends.lends (subst (λ (k : Run). VisitMakes t x k b) lends.steps_are lends.makes)
-    (kept_page t g a.machine round.reclaimed a.cpu round.keeps visit none page)
-rounds_page t g batch (suc more) a b steps (inr h) visit none page =
-    let round = h.first.round in
-    let same = round.tries.does in
-    let x = visit_state round.reclaimed a.cpu in
-    let at : h.between ≡ x = λ i. visit_state (same.machine i) (same.cpu i) in
-    rounds_page t g batch more h.between b h.later h.second (subst (Visits t) (sym at) (round.keeps.visit a.cpu visit))
-    (ap (λ (e : KnownCpu). e.fresh) same.cpu ∙ none)
-    (subst (λ (z : VisitState). HoldsPage t z g) (sym at) (kept_page t g a.machine round.reclaimed a.cpu round.keeps visit none page))
+-- a reclaim leaves its pages
+pub spared_stock : (t : KnownTable) (m n : KnownMachine) (c : KnownCpu) → Visits t (visit_state m c) → Keeps t m n → c.fresh ≡ []
+    → stock_now t (visit_state n c) ≡ stock_now t (visit_state m c)
+spared_stock t m n c visit keeps none =
+    let later = keeps.visit c visit in
+    stock_left t n c later.held later.own none ∙ ap stock_in (keeps.stocks c.number) ∙ sym (stock_left t m c visit.held visit.own none)
 
 -- ---- the parts put together
 
 -- the batch fits
 pub batch_fits : (t : KnownTable) (sizes : Config) (g : ℕ) (m n : KnownMachine) (c : KnownCpu) → Fills t c.number g sizes.stock m n
     → Makes t m (fill_steps c.number g sizes.stock) n → BySteps VisitMakes t (FillsDrainedStock sizes g (Ok tt)) (visit_state m c) (visit_state n c)
-batch_fits t sizes g m n c fills steps = record {
-  steps = fill_steps c.number g sizes.stock;
-  does = inl (record { fills = fills; cpu = refl; steps_are = refl });
-  makes = steps;
-}
+batch_fits t sizes g m n c fills steps =
+    record { steps = fill_steps c.number g sizes.stock; does = inl (record { fills = fills; cpu = refl; steps_are = refl }); makes = steps }
 
 -- the batch doesn't fit, and then one page is charged, or is refused
-module _ (t : KnownTable) (sizes : Config) (g over : ℕ) (m x n : KnownMachine) (c : KnownCpu) (stays : x ≡ with_run m x.run)
+module _ (t : KnownTable) (sizes : Config) (g over : ℕ) (m x n : KnownMachine) (c d : KnownCpu) (stays : x ≡ with_run m x.run)
     (lowest : IsLowestOver m.ledger.groups (current_of m.ledger) g sizes.stock over) (refused : Makes t m (over_steps g sizes.stock over) x) where
-  lacks : (r : Result (Unit {0}) AllocFault) → BySteps VisitMakes t (ChargesOne g r) (visit_state x c) (visit_state n c)
-      → BySteps VisitMakes t (AfterBatchRefused sizes g (ChargesOne g r)) (visit_state m c) (visit_state n c)
+  lacks : (r : Result (Unit {0}) AllocFault) → BySteps VisitMakes t (ChargesOne g r) (visit_state x c) (visit_state n d)
+      → BySteps VisitMakes t (AfterBatchRefused sizes g (ChargesOne g r)) (visit_state m c) (visit_state n d)
   lacks r b =
-      let here = subst (λ (z : KnownMachine). BySteps VisitMakes t (ChargesOne g r) (visit_state z c) (visit_state n c)) stays b in
-      let refuses = subst (λ (z : KnownMachine). Makes t m (over_steps g sizes.stock over) z) stays refused in record {
+      let here = subst (λ (z : KnownMachine). BySteps VisitMakes t (ChargesOne g r) (visit_state z c) (visit_state n d)) stays b in
+      let first = subst (λ (z : KnownMachine). Makes t m (over_steps g sizes.stock over) z) stays refused in record {
         steps = over_steps g sizes.stock over ++ here.steps;
-        does = record { over = over; batch = lowest; later = here.steps; seen = x.run; refuses = refuses; does = here.does; steps_are = refl };
-        makes = makes_both t (over_steps g sizes.stock over) here.steps m (with_run m x.run) n refuses here.makes;
+        does = record { over = over; batch = lowest; later = here.steps; seen = x.run; refuses = first; does = here.does; steps_are = refl };
+        makes = makes_both t (over_steps g sizes.stock over) here.steps m (with_run m x.run) n first here.makes;
       }
 
-  pub one_charged : (r : Result (Unit {0}) AllocFault) → BySteps VisitMakes t (ChargesOne g r) (visit_state x c) (visit_state n c)
-      → BySteps VisitMakes t (FillsDrainedStock sizes g r) (visit_state m c) (visit_state n c)
+  pub one_charged : (r : Result (Unit {0}) AllocFault) → BySteps VisitMakes t (ChargesOne g r) (visit_state x c) (visit_state n d)
+      → BySteps VisitMakes t (FillsDrainedStock sizes g r) (visit_state m c) (visit_state n d)
   one_charged (Ok v) b = let l = lacks (Ok v) b in record { steps = l.steps; does = inr l.does; makes = l.makes }
   one_charged (Err e) b = lacks (Err e) b
 
 -- the own stock is drained first
-module _ (t : KnownTable) (pages q : ℕ) (m x : KnownMachine) (c : KnownCpu) (named : q ≡ c.number)
-    (drains : Drains t q pages m x) (draining : Makes t m (drain_steps q (stock_group t m q) pages) x) where
+module _ (t : KnownTable) (pages q : ℕ) (m k x : KnownMachine) (c : KnownCpu) (same : k ≡ m) (named : q ≡ c.number)
+    (drains : Drains t q pages k x) (draining : Makes t k (drain_steps q (stock_group t k q) pages) x) where
   abbrev own_steps : Run
   own_steps = drain_steps c.number (stock_group t m c.number) pages
 
   by_drain : Makes t m own_steps x
-  by_drain = subst (λ (k : ℕ). Makes t m (drain_steps k (stock_group t m k) pages) x) named draining
+  by_drain = subst (λ (z : KnownMachine × ℕ). Makes t z.0 (drain_steps z.1 (stock_group t z.0 z.1) pages) x) (λ i. (same i, named i)) draining
 
   drains_own : DrainsStock (transition t (visit_state m c) own_steps (visit_state x c))
   drains_own = record {
     drained = pages;
-    drains = subst (λ (k : ℕ). Drains t k pages m x) named drains;
+    drains = subst (λ (z : KnownMachine × ℕ). Drains t z.1 pages z.0 x) (λ i. (same i, named i)) drains;
     cpu = refl;
     runs = by_drain;
     steps_are = refl;
@@ -201,51 +225,45 @@ module _ (t : KnownTable) (pages q : ℕ) (m x : KnownMachine) (c : KnownCpu) (n
   drained_own = record { steps = own_steps; does = drains_own; makes = by_drain }
 
   -- it had no page of the group
-  module _ (sizes : Config) (g : ℕ) (n : KnownMachine) (lacks : ¬ HoldsPage t (visit_state m c) g) where
-    charges_anew : (r : Result (Unit {0}) AllocFault) → BySteps VisitMakes t (FillsDrainedStock sizes g r) (visit_state x c) (visit_state n c)
-        → BySteps VisitMakes t (ChargesAfterDrain sizes g r) (visit_state m c) (visit_state n c)
-    charges_anew r here = record {
-      steps = own_steps ++ here.steps;
+  module _ (sizes : Config) (g : ℕ) (n : KnownMachine) (d : KnownCpu) (lacks : ¬ HoldsPage t (visit_state m c) g) where
+    charges_anew : (r : Result (Unit {0}) AllocFault) → BySteps VisitMakes t (FillsDrainedStock sizes g r) (visit_state x c) (visit_state n d)
+        → BySteps VisitMakes t (ChargesAfterDrain sizes g r) (visit_state m c) (visit_state n d)
+    charges_anew r b = record {
+      steps = own_steps ++ b.steps;
       does = record {
         is = lacks;
-        does = record {
-          between = visit_state x c;
-          earlier = own_steps;
-          later = here.steps;
-          first = drains_own;
-          second = here.does;
-          steps_are = refl;
-        };
+        does = record { between = visit_state x c; earlier = own_steps; later = b.steps; first = drains_own; second = b.does; steps_are = refl };
       };
-      makes = makes_both t own_steps here.steps m x n by_drain here.makes;
+      makes = makes_both t own_steps b.steps m x n by_drain b.makes;
     }
 
-    pub pays_anew : (r : Result (Unit {0}) AllocFault) → BySteps VisitMakes t (FillsDrainedStock sizes g r) (visit_state x c) (visit_state n c)
-        → BySteps VisitMakes t (PaysForFrame sizes g r) (visit_state m c) (visit_state n c)
+    pub pays_anew : (r : Result (Unit {0}) AllocFault) → BySteps VisitMakes t (FillsDrainedStock sizes g r) (visit_state x c) (visit_state n d)
+        → BySteps VisitMakes t (PaysForFrame sizes g r) (visit_state m c) (visit_state n d)
     pays_anew (Ok v) b = let h = charges_anew (Ok v) b in record { steps = h.steps; does = inr h.does; makes = h.makes }
     pays_anew (Err cause) b = charges_anew (Err cause) b
 
 -- ---- the list
 
-none_lent : (frames : List ℕ) (a b : VisitState) → length frames ≡ 0 → LendsMany frames a b → (b.machine ≡ a.machine) × (b.cpu ≡ a.cpu)
-none_lent [] a b none h = (h.machine, h.cpu)
-none_lent (f ∷ frames) a b none h = absurd (omega (arith, none))
+none_lent : (frames : List ℕ) (m n : KnownMachine) (c d : KnownCpu) → length frames ≡ 0 → LendsMany frames (visit_state m c) (visit_state n d) → (n ≡ m) × (d ≡ c)
+none_lent [] m n c d none h = (h.machine, h.cpu)
+none_lent (f ∷ frames) m n c d none h = absurd (omega (arith, none))
 
 -- no frame was lent, since none is free
-no_steps : (t : KnownTable) (frames : List ℕ) (p : ℕ) (m n : KnownMachine) → length frames ≡ 0 → Makes t m (refill_steps p frames) n → Makes t m [] n
-no_steps t [] p m n none run = run
-no_steps t (f ∷ frames) p m n none run = absurd (omega (arith, none))
+no_steps : (t : KnownTable) (frames : List ℕ) (m n : KnownMachine) (c d : KnownCpu) → length frames ≡ 0
+    → Makes t m (refill_steps c.number frames) n → Makes t m [] n
+no_steps t [] m n c d none run = run
+no_steps t (f ∷ frames) m n c d none run = absurd (omega (arith, none))
 
 pub lent_none : (t : KnownTable) (count batch : ℕ) (m n : KnownMachine) (c d : KnownCpu) → Refills t count (visit_state m c) (visit_state n d)
     → count ≤ 0 → (count < batch → HasNoneFrom n.blocks 0) → 1 ≤ batch → BySteps VisitMakes t LendsNoFrame (visit_state m c) (visit_state n d)
-lent_none t count batch m n c d refills low fewer some =
+lent_none t count batch m n c d refills few fewer some =
     let all = refills.all in
-    let none : length refills.frames ≡ 0 = omega (arith, low, all) in
-    let same = none_lent refills.frames (visit_state m c) (visit_state n d) none refills.lends in
-    let free : HasNoneFrom m.blocks 0 = subst (λ (x : KnownMachine). HasNoneFrom x.blocks 0) same.0 (fewer (omega (arith, low, some))) in record {
+    let none : length refills.frames ≡ 0 = omega (arith, few, all) in
+    let same = none_lent refills.frames m n c d none refills.lends in
+    let free : HasNoneFrom m.blocks 0 = subst (λ (x : KnownMachine). HasNoneFrom x.blocks 0) same.0 (fewer (omega (arith, few, some))) in record {
       steps = [];
       does = record { is = free; does = record { machine = same.0; cpu = same.1; steps_are = refl } };
-      makes = no_steps t refills.frames c.number m n none refills.steps;
+      makes = no_steps t refills.frames m n c d none refills.steps;
     }
 
 -- some were lent
@@ -260,7 +278,6 @@ lent_batch t count batch m n c d refills many low fewer =
       at_most = omega (arith, all, low);
       fewer = λ less. fewer (omega (arith, all, less));
       lends = refills.lends;
-      makes = refills.steps;
       steps_are = refl;
     }
 
@@ -290,7 +307,7 @@ module _ (t : KnownTable) (sizes : Config) (m k x n : KnownMachine) (c e y : Kno
       → Makes t x (drain_steps q (stock_group t x q) pages) n → BySteps VisitMakes t (FillsList sizes (Err NoFrames)) (visit_state m c) (visit_state n y)
   no_frame pages q rounds named drains steps =
       let there = from_first (λ u v. BySteps VisitMakes t (RefillsInRounds sizes.batch false) (visit_state u v) (visit_state x y)) rounds in
-      let last = drained_own t pages q x n y named drains steps in record {
+      let last = drained_own t pages q x x n y refl named drains steps in record {
         steps = there.steps ++ last.steps;
         does = record {
           is = empty;
@@ -319,65 +336,68 @@ module _ (t : KnownTable) (sizes : Config) (m k x n : KnownMachine) (c e y : Kno
         makes = here.makes;
       }
 
-pub no_frame_cpu : (t : KnownTable) (sizes : Config) (cause : AllocFault) (m n : KnownMachine) (c d : KnownCpu) (steps : Run)
-    → FillsList sizes (Err cause) (transition t (visit_state m c) steps (visit_state n d)) → d ≡ c
-no_frame_cpu t sizes (Over over) m n c d steps h = absurd h
-no_frame_cpu t sizes RequesterKilled m n c d steps h = absurd h
-no_frame_cpu t sizes NoFrames m n c d steps h =
+pub no_frame_keeps : (t : KnownTable) (sizes : Config) (cause : AllocFault) (m n : KnownMachine) (c d : KnownCpu) (steps : Run)
+    → FillsList sizes (Err cause) (transition t (visit_state m c) steps (visit_state n d)) → KeepsPart c d
+no_frame_keeps t sizes (Over over) m n c d steps h = absurd h
+no_frame_keeps t sizes RequesterKilled m n c d steps h = absurd h
+no_frame_keeps t sizes NoFrames m n c d steps h =
     let all = h.does.does in
     let x = all.between in
-    all.second.does.cpu ∙ (noted_fails_spare t 1 LendsNoFrame (no_frame_spares t) 0 m x.machine c x.cpu all.earlier all.first).cpu
+    let rounds = noted_fails_spare t 1 LendsNoFrame (no_frame_spares t) 0 m x.machine c x.cpu all.earlier all.first in
+    keeps_both c x.cpu d (same_keeps c x.cpu rounds.cpu)
+    (own_drain_keeps t x.machine n x.cpu d all.later all.second.does)
 
 module _ (t : KnownTable) (sizes : Config) (m n : KnownMachine) (c d : KnownCpu) (steps : Run)
     (h : Finds HasNoFreeFrame (RefillsInRounds sizes.batch true) (transition t (visit_state m c) steps (visit_state n d))) where
   abbrev last : InTheEnd t 1 LendsNoFrame (no_frame_spares t) (LendsBatch sizes.batch) m c (visit_state n d)
   last = noted_in_the_end t 1 LendsNoFrame (no_frame_spares t) 0 (LendsBatch sizes.batch) m c (visit_state n d) steps h.does
 
-  pub reclaimed_page : (g : ℕ) → Visits t (visit_state m c) → c.fresh ≡ [] → HoldsPage t (visit_state m c) g → HoldsPage t (visit_state n d) g
-  reclaimed_page g visit none page =
-      rounds_page t g sizes.batch 16 (visit_state (with_note m (Zone 0)) c) (visit_state n d) steps h.does (noted_visit t m c (Zone 0) visit) none page
-
   pub reclaimed_front : 1 ≤ length d.list
   reclaimed_front =
-      let l = lent_part last.succeeds.frames (visit_state last.before last.cpu) (visit_state n d) last.succeeds.lends in
+      let l = lent_part last.succeeds.frames last.before n last.cpu d last.succeeds.lends in
       let a = ap length l.list ∙ length-append last.cpu.list last.succeeds.frames in
       let some = last.succeeds.some in
       omega (arith, some, a)
 
 -- what a list that has a frame leaves
-pub record FilledPart (sizes : Config) (c d : KnownCpu) : Type 0 where
+pub record FilledPart (sizes : Config) (m : KnownMachine) (c : KnownCpu) (n : KnownMachine) (d : KnownCpu) : Type 0 where
   pub number : d.number ≡ c.number
   pub fresh : d.fresh ≡ c.fresh
   pub back : d.back ≡ c.back
   pub high : length c.list ≤ sizes.high → length d.list ≤ sizes.high
 
-batch_part : (t : KnownTable) (sizes : Config) (a b : VisitState) (steps : Run) → IsValidConfig sizes → a.cpu.list ≡ []
-    → LendsBatch sizes.batch (transition t a steps b) → FilledPart sizes a.cpu b.cpu
-batch_part t sizes a b steps valid empty h =
-    let l = lent_part h.frames a b h.lends in
+batch_part : (t : KnownTable) (sizes : Config) (m n : KnownMachine) (c d : KnownCpu) (steps : Run) → IsValidConfig sizes → c.list ≡ []
+    → LendsBatch sizes.batch (transition t (visit_state m c) steps (visit_state n d)) → FilledPart sizes m c n d
+batch_part t sizes m n c d steps valid empty h =
+    let l = lent_part h.frames m n c d h.lends in
     record {
       number = l.number;
       fresh = l.fresh;
       back = l.back;
       high = λ low.
-          let x : length b.cpu.list ≡ length a.cpu.list + length h.frames = ap length l.list ∙ length-append a.cpu.list h.frames in
-          let y : length a.cpu.list ≡ 0 = ap length empty in
+          let a : length d.list ≡ length c.list + length h.frames = ap length l.list ∙ length-append c.list h.frames in
+          let b : length c.list ≡ 0 = ap length empty in
           let e = h.at_most in
           let v = valid.high_low in
-          omega (arith, x, y, e, v);
+          omega (arith, a, b, e, v);
     }
 
 refilled_part : (t : KnownTable) (sizes : Config) (m n : KnownMachine) (c d : KnownCpu) (steps : Run) → IsValidConfig sizes → c.list ≡ []
-    → RefillsList sizes.batch (transition t (visit_state m c) steps (visit_state n d)) → FilledPart sizes c d
-refilled_part t sizes m n c d steps valid empty (inl h) = batch_part t sizes (visit_state m c) (visit_state n d) steps valid empty h
+    → RefillsList sizes.batch (transition t (visit_state m c) steps (visit_state n d)) → FilledPart sizes m c n d
+refilled_part t sizes m n c d steps valid empty (inl h) = batch_part t sizes m n c d steps valid empty h
 refilled_part t sizes m n c d steps valid empty (inr h) =
     let e = noted_in_the_end t 1 LendsNoFrame (no_frame_spares t) 0 (LendsBatch sizes.batch) m c (visit_state n d) steps h.does in
     let cpu = e.spares.cpu in
-    subst (λ (y : KnownCpu). FilledPart sizes y d) cpu
-    (batch_part t sizes (visit_state e.before e.cpu) (visit_state n d) e.trying valid (ap (λ (y : KnownCpu). y.list) cpu ∙ empty) e.succeeds)
+    let b = batch_part t sizes e.before n e.cpu d e.trying valid (ap (λ (y : KnownCpu). y.list) cpu ∙ empty) e.succeeds in
+    record {
+      number = b.number ∙ ap (λ (y : KnownCpu). y.number) cpu;
+      fresh = b.fresh ∙ ap (λ (y : KnownCpu). y.fresh) cpu;
+      back = b.back ∙ ap (λ (y : KnownCpu). y.back) cpu;
+      high = λ low. let a : length e.cpu.list ≡ length c.list = ap (λ (y : KnownCpu). length y.list) cpu in b.high (omega (arith, a, low));
+    }
 
-pub filled_part : (t : KnownTable) (sizes : Config) (m n : KnownMachine) (c d : KnownCpu) (steps : Run) → IsValidConfig sizes
-    → FillsList sizes (Ok tt) (transition t (visit_state m c) steps (visit_state n d)) → FilledPart sizes c d
+pub filled_part : (t : KnownTable) (sizes : Config) (m n : KnownMachine) (c d : KnownCpu) (steps : Run) → IsValidConfig sizes → FillsList sizes (Ok tt) (transition t (visit_state m c) steps (visit_state n d))
+    → FilledPart sizes m c n d
 filled_part t sizes m n c d steps valid (inl h) = record {
   number = ap (λ (e : KnownCpu). e.number) h.does.cpu;
   fresh = ap (λ (e : KnownCpu). e.fresh) h.does.cpu;

@@ -8,8 +8,7 @@ use Rattle.step_rules.specs.After.{Run}
 use Rattle.group_charge.specs.declared.note.Note.{Note}
 use Rattle.group_charge.specs.declared.note.Note.TheVariants.{Zone}
 use Rattle.mem_machine.specs.Machines.{KnownMachine, with_note}
-use Rattle.mem_machine.specs.Local.{Visits}
-use Rattle.mem_machine.specs.Local.{Makes, VisitMakes, VisitState, visit_state}
+use Rattle.mem_machine.specs.Local.{Makes, VisitMakes, Visits, VisitState, visit_state}
 use Rattle.mem_reclaim.specs.Wanted.{progress}
 use Rattle.mem_reclaim.specs.Moves.{FreesBySteps}
 use Rattle.mem_reclaim.specs.Rounds.{ReclaimsRound}

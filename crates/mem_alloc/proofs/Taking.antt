@@ -226,7 +226,8 @@ module _ (t : KnownTable) (g k : ℕ) (m x n : KnownMachine) (c y d : KnownCpu) 
       (vain : Makes t x (unplaced_steps g k) w) where
     in_rounds : (r : Result ℕ AllocFault) → BySteps VisitMakes t (TakesInRounds g k r) (visit_state w z) (visit_state n d) → BySteps VisitMakes t (TakesOrReclaims g k r) (visit_state x y) (visit_state n d)
     in_rounds r there =
-        let rounds = subst (λ (u : KnownCpu). BySteps VisitMakes t (TakesInRounds g k r) (visit_state w u) (visit_state n d)) same there in record {
+        let rounds = subst (λ (u : KnownCpu). BySteps VisitMakes t (TakesInRounds g k r) (visit_state w u) (visit_state n d)) same there in
+        record {
           steps = unplaced_steps g k ++ rounds.steps;
           does = inr (record {
             between = visit_state w y;
@@ -271,10 +272,10 @@ module _ (t : KnownTable) (g k : ℕ) (m : KnownMachine) (c : KnownCpu) (alive :
   by_answer (Err RequesterKilled) n b = absurd (no_kill g k _ b.does.second)
 
   -- no block is free at first, and what comes of the drained list decides
-  pub decides_drained : (r : Result ℕ AllocFault) (cause : AllocFault) (x n : KnownMachine) (y d : KnownCpu) → cause ≡ NoFrames
+  pub decides_drained : (r : Result ℕ AllocFault) (cause : AllocFault) (x n : KnownMachine) (y d : KnownCpu) → cause ≡ NoFrames → y ≡ c
       → BySteps VisitMakes t (ChargesBlock g k (Err cause)) (visit_state m c) (visit_state x y)
       → BySteps VisitMakes t (TakesAfterDrain g k r) (visit_state x y) (visit_state n d) → BySteps VisitMakes t (AllocatesBlock g k r) (visit_state m c) (visit_state n d)
-  decides_drained r cause x n y d named charged drained =
+  decides_drained r cause x n y d named mine charged drained =
       let first = subst (λ (f : AllocFault). BySteps VisitMakes t (ChargesBlock g k (Err f)) (visit_state m c) (visit_state x y)) named charged in
       by_answer r (visit_state n d) (record {
         steps = first.steps ++ drained.steps;

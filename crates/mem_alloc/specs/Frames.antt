@@ -5,7 +5,7 @@ use Rattle.zone_blocks.specs.Areas.{HasNoneFrom}
 use Rattle.zone_blocks.specs.declared.config.Config.{Config}
 use Rattle.step_rules.specs.After.{Run}
 use Rattle.mem_machine.specs.Machines.{is_killed}
-use Rattle.mem_machine.specs.Local.{VisitMakes, VisitState}
+use Rattle.mem_machine.specs.Local.{VisitState}
 use Rattle.mem_machine.specs.Lending.{LendsMany}
 use Rattle.mem_machine.specs.Paying.{PaysForFront}
 use Rattle.mem_machine.specs.Steps.{refill_steps, take_front_steps}
@@ -27,7 +27,6 @@ pub record LendsBatch (batch : ℕ) (call : Transition VisitState) : Type 0 wher
   pub at_most : length frames ≤ batch
   pub fewer : length frames < batch → HasNoFreeFrame call.after
   pub lends : LendsMany frames call.before call.after
-  pub makes : VisitMakes call.table call.before call.steps call.after
   pub steps_are : call.steps ≡ refill_steps call.before.cpu.number frames
 
 -- no frame is free, and nothing changed

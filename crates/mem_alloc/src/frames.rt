@@ -6,11 +6,12 @@ ghost use Rattle.zone_blocks.specs.Config.{IsValidConfig};
 ghost use Rattle.group_tree.specs.Groups.{has_group};
 ghost use Rattle.mem_machine.specs.Local.{KeepsVisit, Visits};
 ghost use Rattle.mem_machine.specs.Paying.{HoldsPage, IsOfSize};
+ghost use Rattle.mem_machine.specs.Showing.{stock_now};
 ghost use Rattle.mem_machine.specs.Transitions.{BySteps};
 ghost use Rattle.mem_machine.specs.Settling.{IsSettled};
 ghost use Rattle.mem_machine.specs.Lending.{HasListRoom};
 ghost use Rattle.mem_alloc.specs.Frames.{AllocatesFrame, FillsList, MakesRefillRounds, RefillsInRounds};
-ghost use Rattle.mem_machine.specs.Local.{VisitMakes, visit_state};
+ghost use Rattle.mem_machine.specs.Local.{visit_state, VisitMakes};
 
 use crate::charging::pay_for_frame;
 use crate::faults::AllocFault;
@@ -34,9 +35,12 @@ fn make_refill_rounds<N: BootName>(
     requires visit { Visits N.frames (visit_state machine.old cpu.old) }
     requires room { HasListRoom cpu.old batch }
     requires some { 1 ≤ batch }
+    requires none_fresh { cpu.old.fresh ≡ [] }
     ensures refills { BySteps VisitMakes N.frames (MakesRefillRounds batch result)
         (visit_state machine.old cpu.old) (visit_state machine.new cpu.new) }
     ensures visit { Visits N.frames (visit_state machine.new cpu.new) }
+    ensures stock { stock_now N.frames (visit_state machine.new cpu.new)
+        ≡ stock_now N.frames (visit_state machine.old cpu.old) }
 {
     for round in 0..MAX_ROUNDS {
         let freed = reclaim_anywhere(machine, tables, round + 1, 1);
@@ -61,9 +65,12 @@ fn refill_in_rounds<N: BootName>(
     requires visit { Visits N.frames (visit_state machine.old cpu.old) }
     requires room { HasListRoom cpu.old batch }
     requires some { 1 ≤ batch }
+    requires none_fresh { cpu.old.fresh ≡ [] }
     ensures refills { BySteps VisitMakes N.frames (RefillsInRounds batch result)
         (visit_state machine.old cpu.old) (visit_state machine.new cpu.new) }
     ensures visit { Visits N.frames (visit_state machine.new cpu.new) }
+    ensures stock { stock_now N.frames (visit_state machine.new cpu.new)
+        ≡ stock_now N.frames (visit_state machine.old cpu.old) }
 {
     machine.note(Note::Zone { order: 0 });
     make_refill_rounds(machine, tables, cpu, batch)

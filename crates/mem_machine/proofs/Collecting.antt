@@ -1,9 +1,8 @@
 -- The steps by which the zone takes over a fresh frame. Serves `collect_fresh`.
 use Rattle.std.proofs.Common.{◌≡◌, ℕ, List, ◌∷◌, sym, ap, ◌∙◌, subst}
 use Rattle.frame_word.specs.Seats.{KnownTable}
-use Rattle.boot_words.specs.Composed.{MakesInTurn}
+use Rattle.boot_words.specs.Composed.{MakesInTurn, take_back_run}
 use Rattle.boot_words.specs.Pasts.{KnownPasts, IsHeld}
-use Rattle.boot_words.specs.TakenBack.{take_back_run}
 use Rattle.cpu_part.specs.Calls.{PassesFresh}
 use Rattle.cpu_part.specs.Cpus.{KnownCpu}
 use Rattle.cpu_part.proofs.CallerLemmas.{makes_each}

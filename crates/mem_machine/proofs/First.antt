@@ -25,7 +25,7 @@ use Rattle.step_rules.specs.State.{State, Zone, at_boot, is_unheld, one_if}
 use Rattle.step_rules.specs.After.{state_of}
 use Rattle.boot_words.specs.Hidden.{hide}
 use Rattle.boot_words.specs.Pasts.{IsZonePast, KnownPasts, own_past}
-use Rattle.run_words.specs.Opening.{seat_at_first}
+use Rattle.boot_words.specs.Opening.{seat_at_first}
 use Rattle.boot_words.specs.Seats.{zone_of_boot}
 use Rattle.mem_machine.specs.Booked.{AreBooked, AreOwners}
 use Rattle.mem_machine.specs.Resting.{Rests}

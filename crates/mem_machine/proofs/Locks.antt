@@ -19,7 +19,7 @@ use Rattle.boot_words.specs.Sight.{HasSameLists}
 use Rattle.boot_words.specs.Pasts.{KnownPasts, IsHeld, IsZonePast, Locks, MayMake, Meets, Unlocks, cpu_past, local_by_pasts, own_past}
 use Rattle.boot_words.specs.Seats.{zone_of_boot}
 use Rattle.boot_words.proofs.Owning.{lists_are_own}
-use Rattle.run_words.specs.Cpus.{IsAwayCpu, KnownCpuSeat, state_left}
+use Rattle.boot_words.specs.Cpus.{IsAwayCpu, KnownCpuSeat, state_left}
 use Rattle.cpu_part.specs.Cpus.{KnownCpu}
 use Rattle.cpu_part.specs.Known.{HasOwn, KnowsItsPart}
 use Rattle.mem_machine.specs.declared.machine.Machine.TheInside.{Inside}

@@ -23,7 +23,7 @@ use Rattle.step_rules.specs.After.{state_of}
 use Rattle.boot_words.specs.Hidden.{hide}
 use Rattle.boot_words.specs.Pasts.{KnownPasts, own_past}
 use Rattle.boot_words.specs.Seats.{zone_of_boot}
-use Rattle.run_words.specs.Opening.{seat_at_first}
+use Rattle.boot_words.specs.Opening.{seat_at_first}
 use Rattle.cpu_part.specs.Cpus.{KnownCpu}
 use Rattle.mem_machine.specs.declared.frame_state.FrameState.{FrameState}
 use Rattle.mem_machine.specs.declared.frame_state.FrameState.TheVariants.{Free}

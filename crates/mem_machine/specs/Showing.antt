@@ -6,6 +6,9 @@ use Rattle.boot_words.specs.Words.{stock_in}
 use Rattle.lru_lists.specs.declared.record.Entry.{Entry}
 use Rattle.lru_lists.specs.declared.record.LruList.{LruList}
 use Rattle.lru_lists.specs.declared.record.LruList.TheVariants.{Inactive, Active}
+use Rattle.step_rules.specs.After.{state_of}
+use Rattle.boot_words.specs.Pasts.{own_past}
+use Rattle.boot_words.specs.Seats.{zone_of_boot}
 use Rattle.mem_machine.specs.Local.{local_of}
 -- the units of one of the group's lists, from the oldest to the newest
 pub use Rattle.mem_machine.specs.Machines.{entries_in}
@@ -29,3 +32,7 @@ units_in machine group = map (listed Inactive) (inactive_in machine group)
 -- the CPU's own stock, as it sees it under the lock
 abbrev pub stock_now : KnownTable → VisitState → Stock
 stock_now table now = stock_in ((local_of table now.machine).parts now.cpu.number)
+
+-- the CPU's stock after the machine's past
+abbrev pub stock_left : KnownTable → KnownMachine → ℕ → Stock
+stock_left table machine cpu = stock_in ((state_of (zone_of_boot table) (own_past machine.run.past).seen).parts cpu)

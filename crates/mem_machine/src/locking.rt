@@ -6,10 +6,11 @@ ghost use Rattle.boot_words.specs.Pasts.{Locks, Meets, Unlocks};
 ghost use Rattle.mem_machine.specs.Local.{Holds, IsShut, visit_state};
 ghost use Rattle.mem_machine.specs.Machines.{with_past};
 ghost use Rattle.mem_machine.specs.Resting.{Rests};
+ghost use Rattle.mem_machine.specs.Showing.{stock_left};
 
 use crate::machine::Machine;
 use cpu_part::{BootName, Cpu, Tables};
-use run_words::CpuSeat;
+use boot_words::CpuSeat;
 
 impl<N: BootName> Machine<N> {
     /// The CPU takes the lock, which is free. Its past, which it gives away, is the machine's until `unlock`. The caller
@@ -27,7 +28,7 @@ impl<N: BootName> Machine<N> {
     }
 
     /// The CPU releases the lock, and has its own past again. Its visit is shut, and it knows its own part as the
-    /// machine's calls left it.
+    /// machine's calls left it, and its stock.
     pub fn unlock(&mut self, tables: &Tables<N>, cpu: &Cpu<N>, past: &mut CpuSeat)
         requires holds { Holds N.frames (visit_state self.old cpu.now) }
         requires shut { IsShut N.frames self.old cpu.now.number }
@@ -35,6 +36,7 @@ impl<N: BootName> Machine<N> {
         ensures machine { self.new ≡ with_past self.old self.new.run.past }
         ensures rests { Rests N.frames self.new }
         ensures knows { KnowsItsPart N.frames past.new cpu.now }
+        ensures last { past.new.last ≡ stock_left N.frames self.new cpu.now.number }
         ensures run { Unlocks N.frames self.old.run.past self.new.run.past past.new.seat }
     {
         tables.words.unlock(&mut self.past, past);

@@ -2,7 +2,7 @@
 
 ghost use Rattle.std.specs.Prelude.{◌≡◌, IfOk};
 ghost use Rattle.step_watch.specs.Watched.{watch_off};
-ghost use Rattle.run_words.specs.Opening.{seat_at_first};
+ghost use Rattle.boot_words.specs.Opening.{seat_at_first};
 ghost use Rattle.mem_machine.specs.Resting.{Rests};
 ghost use Rattle.mem_machine.specs.Machines.{IsConsistent, IsFirst};
 
@@ -17,7 +17,7 @@ use group_charge::notes::Notes;
 use group_tree::group::MAX_GROUPS;
 use lru_lists::links::Links;
 use lru_lists::lru::Lru;
-use run_words::PastSeat;
+use boot_words::PastSeat;
 use std::alloc::{AllocError, Global};
 use std::marker::{Model, PhantomData};
 use step_watch::Watch;

@@ -21,7 +21,7 @@ use crate::stepping;
 use cpu_part::{BootName, Cpu, Tables};
 use frame_word::Frame;
 use group_tree::group::{GroupId, MAX_GROUPS};
-use run_words::PastSeat;
+use boot_words::PastSeat;
 use step_rules::phase::ChargedUnit;
 use step_watch::Watch;
 

@@ -2,9 +2,11 @@
 
 ghost use Rattle.std.specs.Prelude.{◌≡◌, ◌+◌, ◌<◌};
 ghost use Rattle.frame_word.specs.ReferenceRule.{most_references};
-ghost use Rattle.boot_words.specs.Pasts.{IsHeld};
-ghost use Rattle.run_words.specs.Looking.{LoadsReferences};
+ghost use Rattle.boot_words.specs.Pasts.{own_past};
+ghost use Rattle.boot_words.specs.Seats.{zone_of_boot};
+ghost use Rattle.boot_words.specs.Looking.{LoadsReferences};
 ghost use Rattle.mem_machine.specs.Machines.{HeadsKeptUnit, entries_in};
+ghost use Rattle.mem_machine.specs.Resting.{Rests};
 
 use crate::machine::Machine;
 use cpu_part::{BootName, Tables};
@@ -25,10 +27,10 @@ impl<N: BootName> Machine<N> {
     /// moment of that load. CPUs may pin and unpin the unit before and after it. Nothing changes, and no step is made.
     /// `head` is the unit's head.
     pub fn pins_on(&mut self, tables: &Tables<N>, head: Frame) -> u32
-        requires held { IsHeld N.frames self.old.run.past }
+        requires rests { Rests N.frames self.old }
         requires frame { head < N.frames.frames }
         requires kept { HeadsKeptUnit self.old head }
-        ensures pins { LoadsReferences N.frames self.old.run.past head (result + 1) }
+        ensures pins { LoadsReferences (zone_of_boot N.frames) (own_past self.old.run.past) head (result + 1) }
         ensures most { result < most_references }
         ensures machine { self.new ≡ self.old }
     {

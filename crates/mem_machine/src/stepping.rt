@@ -12,7 +12,7 @@ ghost use Rattle.mem_machine.specs.Steps.{zone_makes};
 
 use cpu_part::{BootName, Tables};
 use group_tree::group::GroupId;
-use run_words::PastSeat;
+use boot_words::PastSeat;
 use step_rules::step::{Action, Answer, Step};
 use step_watch::Watch;
 use zone_blocks::block::Block;

@@ -13,7 +13,7 @@ use Rattle.step_rules.specs.Views.{other_part_seen}
 use Rattle.boot_words.specs.Growth.{GrewByAll}
 use Rattle.boot_words.specs.Pasts.{IsHeld, own_past}
 use Rattle.boot_words.specs.Runs.{HasNoStepOf}
-use Rattle.boot_words.specs.declared.view.Past.{Past}
+use Rattle.boot_words.specs.declared.past.Past.{Past}
 use Rattle.mem_machine.specs.Machines.{KnownMachine, part_at, with_note}
 use Rattle.mem_machine.specs.Local.{Makes, local_of}
 use Rattle.mem_machine.specs.Noted.{after_made}

@@ -15,7 +15,7 @@ use Rattle.stock_word.specs.declared.view.Stock.{Stock}
 use Rattle.stock_word.specs.declared.view.Stock.TheVariants.{NoGroup, HeldBy, DrainedOf}
 use Rattle.stock_word.specs.declared.view.StockView.{StockView}
 use Rattle.stock_word.specs.StockRule.{IsStockOf}
-use Rattle.stock_word.specs.Stock.{KnownStockTable, KnownStockSeat, account_of, view_in, stock_pages_of, is_held}
+use Rattle.stock_word.specs.Stock.{KnownStockSeat, account_of, view_in, stock_pages_of, is_held}
 use Rattle.cpu_part.specs.Cpus.{KnownCpu, IsIdle}
 use Rattle.step_rules.specs.State.{one_if, times}
 use Rattle.step_rules.specs.After.{Run}
@@ -52,8 +52,8 @@ written_back k new old long all =
     ap (λ (l : List CpuInRun). take k (new ++ l)) (drop_all (length new) old (omega (arith, long))) ∙ ap (λ (l : List CpuInRun). take k l) (append-nil new)
     ∙ take_all k new (omega (arith, long, all))
 
-pub idle_all : (t : KnownTable) (w : KnownStockTable) (m : KnownMachine) (cpus : List KnownCpu) → All (λ c. IsEmptied t w m c) cpus → All IsIdle cpus
-idle_all t w m cpus all = λ k any inside. (all k any inside).idle
+pub idle_all : (t : KnownTable) (m : KnownMachine) (cpus : List KnownCpu) → All (λ c. IsEmptied t m c) cpus → All IsIdle cpus
+idle_all t m cpus all = λ k any inside. (all k any inside).idle
 
 pub long_frames : (cpus : List KnownCpu) → length (map frame_seat_of cpus) ≡ length cpus
 long_frames [] = refl
@@ -86,9 +86,9 @@ not_held (HeldBy g n) is = absurd (false≢true (sym is))
 not_held (DrainedOf g) is = refl
 
 -- a machine all of whose visits are shut, and CPUs that have nothing left, with their seats at the closed table
-module _ (t : KnownTable) (w : KnownStockTable) (m : KnownMachine) (cpus : List KnownCpu) (pasts : List Past) (shut : AllShut m)
-    (all : All (λ c. IsEmptied t w m c) cpus) (closed : IsClosed t w m (map frame_seat_of cpus) (map stock_seat_of cpus) pasts) where
-  ok : IsConsistent t w m
+module _ (t : KnownTable) (m : KnownMachine) (cpus : List KnownCpu) (pasts : List Past) (shut : AllShut m)
+    (all : All (λ c. IsEmptied t m c) cpus) (closed : IsClosed t m (map frame_seat_of cpus) (map stock_seat_of cpus) pasts) where
+  ok : IsConsistent t m
   ok = closed.consistent
 
   abbrev views : List FrameView
@@ -137,7 +137,7 @@ module _ (t : KnownTable) (w : KnownStockTable) (m : KnownMachine) (cpus : List 
       ]
 
   -- each CPU's part is one of them
-  found : (p : ℕ) → 1 ≤ p → p ≤ t.cpus → (c : KnownCpu) × (c.number ≡ p) × IsEmptied t w m c × HasNoPage m closed.stock_words p
+  found : (p : ℕ) → 1 ≤ p → p ≤ t.cpus → (c : KnownCpu) × (c.number ≡ p) × IsEmptied t m c × HasNoPage m closed.stock_words p
   found p some within =
       let same = ok.sizes.cpus in
       let at = closed.each p some (omega (arith, within, same)) in
@@ -176,7 +176,7 @@ module _ (t : KnownTable) (w : KnownStockTable) (m : KnownMachine) (cpus : List 
 
   none_lent : (p : ℕ) → NoneLentTo p m.frame_states
   none_lent p f is =
-      let cpu = lent_to_cpu t w m ok f p is in
+      let cpu = lent_to_cpu t m ok f p is in
       let its = found p cpu.0 cpu.1 in
       subst (λ (q : ℕ). NoneLentTo q m.frame_states) its.1 its.2.none_lent f is
 
@@ -185,12 +185,12 @@ drops_join : (a b c k most : ℕ) → min (min (a + b + c) most + k) most ≡ mi
 drops_join a b c k most = omega arith
 
 -- the last visits, from their two rounds
-pub all_visits : (t : KnownTable) (w : KnownStockTable) (l : KnownLocked) (cpus : List CpuInRun) (x : KnownMachine) (rested : List CpuInRun)
+pub all_visits : (t : KnownTable) (l : KnownLocked) (cpus : List CpuInRun) (x : KnownMachine) (rested : List CpuInRun)
     (k : KnownEmptiedBoot)
-    → IsQuiet t w l → pins_of_all (parts_of cpus) ≡ 0 → k.drops ≡ min (drops_of (parts_of cpus)) max_count
+    → IsQuiet t l → pins_of_all (parts_of cpus) ≡ 0 → k.drops ≡ min (drops_of (parts_of cpus)) max_count
     → ForEachCpu (VisitsUnderLock t SettlesInVisit) l.machine cpus x rested → ForEachCpu (VisitsUnderLock t Empties) x rested k.machine k.cpus
-    → MakesLastVisits t w l cpus k
-all_visits t w l cpus x rested k quiet no_pin drops rests empties = record {
+    → MakesLastVisits t l cpus k
+all_visits t l cpus x rested k quiet no_pin drops rests empties = record {
   quiet = quiet;
   no_pin = no_pin;
   settled = x;
@@ -212,18 +212,18 @@ all_visits t w l cpus x rested k quiet no_pin drops rests empties = record {
 }
 
 -- the table is closed
-pub all_closes : (t : KnownTable) (w : KnownStockTable) (k : KnownEmptiedBoot) (a : Audit) (frame_seats : List KnownSeat) (stock_seats : List KnownStockSeat)
-    (pasts : List Past) → AllShut k.machine → All (λ c. IsEmptied t w k.machine c) (parts_of k.cpus) → length k.cpus ≡ t.cpus
+pub all_closes : (t : KnownTable) (k : KnownEmptiedBoot) (a : Audit) (frame_seats : List KnownSeat) (stock_seats : List KnownStockSeat)
+    (pasts : List Past) → AllShut k.machine → All (λ c. IsEmptied t k.machine c) (parts_of k.cpus) → length k.cpus ≡ t.cpus
     → Rests t k.machine
     → (((p : ℕ) → NoneLentTo p k.machine.frame_states) → IsAuditOf t k.machine k.drops a)
-    → IsClosed t w k.machine frame_seats stock_seats pasts → frame_seats ≡ map frame_seat_of (parts_of k.cpus)
-    → stock_seats ≡ map stock_seat_of (parts_of k.cpus) → pasts ≡ pasts_of k.cpus → Closes t w k a
-all_closes t w k a frame_seats stock_seats pasts shut all count rests tells_then closing frames stocks passed =
+    → IsClosed t k.machine frame_seats stock_seats pasts → frame_seats ≡ map frame_seat_of (parts_of k.cpus)
+    → stock_seats ≡ map stock_seat_of (parts_of k.cpus) → pasts ≡ pasts_of k.cpus → Closes t k a
+all_closes t k a frame_seats stock_seats pasts shut all count rests tells_then closing frames stocks passed =
     let y = k.machine in
     let parts = parts_of k.cpus in
-    let closed : IsClosed t w y (map frame_seat_of parts) (map stock_seat_of parts) (pasts_of k.cpus) =
-    subst (λ (z : List KnownSeat × List KnownStockSeat × List Past). IsClosed t w y z.0 z.1 z.2) (λ i. (frames i, stocks i, passed i)) closing in
-    let none = none_lent t w y parts (pasts_of k.cpus) shut all closed in
+    let closed : IsClosed t y (map frame_seat_of parts) (map stock_seat_of parts) (pasts_of k.cpus) =
+    subst (λ (z : List KnownSeat × List KnownStockSeat × List Past). IsClosed t y z.0 z.1 z.2) (λ i. (frames i, stocks i, passed i)) closing in
+    let none = none_lent t y parts (pasts_of k.cpus) shut all closed in
     let tells = tells_then (λ p f is. none p f is) in
     let placed = each_is_placed y.frame_states (λ f p is. none p f is) in
     let sized = closed.consistent.sizes.frame_states in
@@ -234,13 +234,13 @@ all_closes t w k a frame_seats stock_seats pasts shut all count rests tells_then
       all_emptied = all;
       count = count;
       none_lent = none;
-      no_page = λ p some within. (found t w y parts (pasts_of k.cpus) shut all closed p some within).3;
+      no_page = λ p some within. (found t y parts (pasts_of k.cpus) shut all closed p some within).3;
       stock_words = closed.stock_words;
-      told = told_each t w y parts (pasts_of k.cpus) shut all closed;
+      told = told_each t y parts (pasts_of k.cpus) shut all closed;
       frame_words = closed.frame_words;
       run = closed.run;
       is = closed.is;
-      last_words = record { rule = closed.rule; references = word_of_frame t w y parts (pasts_of k.cpus) shut all closed };
+      last_words = record { rule = closed.rule; references = word_of_frame t y parts (pasts_of k.cpus) shut all closed };
       zone = rests.past_is.zone_is;
       pasts = closed.beginnings;
       left = zone_rests (zone_of_boot t) closed.run (own_past y.run.past) closed.is.legal closed.beginnings.0 rests.past_is.zone_is rests.free ∙ rests.left;

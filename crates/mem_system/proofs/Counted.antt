@@ -7,7 +7,6 @@ use Rattle.std.proofs.Common.{arith, eq-eqb}
 use Rattle.std.proofs.lemmas.Bool.{cases_Bool, or_left, or_right, true≢false}
 use Rattle.std.proofs.lemmas.List.{append_cancel_left}
 use Rattle.frame_word.specs.Seats.{KnownTable}
-use Rattle.stock_word.specs.Stock.{KnownStockTable}
 use Rattle.group_tree.specs.declared.group.Group.{Group}
 use Rattle.group_tree.specs.Groups.{has_group}
 use Rattle.group_charge.specs.Charges.{Ledger, peak_of}
@@ -295,8 +294,8 @@ visit_counted t m n k c d steps past past' held rests told locks shown makes giv
 
 -- ---- a boot
 
-pub first_counted : (t : KnownTable) (w : KnownStockTable) (m : KnownMachine) → IsFirst t w m → (own_past m.run.past).seen ≡ [] → CountsItsRun t m
-first_counted t w m first none = record {
+pub first_counted : (t : KnownTable) (m : KnownMachine) → IsFirst t m → (own_past m.run.past).seen ≡ [] → CountsItsRun t m
+first_counted t m first none = record {
   agrees = subst (λ (v : Run × Ledger). AgreesWithRun t v.0 v.1) (λ i. (sym none i, sym first.ledger i)) (first_agrees t);
   counts = first.counts ∙ ap (counts_in t) (sym none);
 }
@@ -304,7 +303,7 @@ first_counted t w m first none = record {
 -- ---- from one visit to the next
 
 pub visits_find_counts : VisitsFindCounts
-visits_find_counts t w left found others sound sound_found is none =
+visits_find_counts t left found others sound sound_found is none =
     let here = own_past found.machine.run.past in
     let quiet = sound_found.quiet in
     let m = found.machine in

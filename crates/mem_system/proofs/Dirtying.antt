@@ -5,7 +5,6 @@ use Rattle.std.specs.Borrow.{Bor}
 use Rattle.std.proofs.lemmas.Bool.{cases_lt}
 use Rattle.std.proofs.lemmas.Option.{none-some}
 use Rattle.frame_word.specs.Seats.{KnownTable}
-use Rattle.stock_word.specs.Stock.{KnownStockTable}
 use Rattle.zone_blocks.specs.declared.config.Config.{Config}
 use Rattle.group_tree.specs.declared.fault.Fault.TheVariants.{NotKept}
 use Rattle.step_rules.specs.After.{Run}
@@ -163,8 +162,8 @@ dirty_done t path order f start now steps a fresh back r end more d =
 
 -- ---- the frame is one of the zone
 
-fresh_inside : (t : KnownTable) (w : KnownStockTable) (c : KnownCpu) (f : ℕ) → IsTied t w c → c.fresh ≡ f ∷ [] → f < t.frames
-fresh_inside t w c f tied fresh = elim (cases_lt f t.frames) [
+fresh_inside : (t : KnownTable) (c : KnownCpu) (f : ℕ) → IsTied t c → c.fresh ≡ f ∷ [] → f < t.frames
+fresh_inside t c f tied fresh = elim (cases_lt f t.frames) [
   | inl below ↦ below
   | inr past ↦
       let none = (tied.noted f).in_table past in
@@ -173,11 +172,11 @@ fresh_inside t w c f tied fresh = elim (cases_lt f t.frames) [
       absurd (omega (arith, none, one, is))
 ]
 
-pub given_inside : (t : KnownTable) (w : KnownStockTable) (path : Bor (List ℕ)) (order f : ℕ) (start now : LockedState) (steps : Run)
-    → Serves (Alloc path order) (Frame f) (transition t start steps now) → FreshOf (Frame f) order now.cpu.part.fresh → IsTied t w now.cpu.part
-    → IsConsistent t w now.locked.machine → f < t.frames
-given_inside t w path zero f start now steps a fresh tied ok = fresh_inside t w now.cpu.part f tied fresh
-given_inside t w path (suc less) f start now steps a fresh tied ok =
+pub given_inside : (t : KnownTable) (path : Bor (List ℕ)) (order f : ℕ) (start now : LockedState) (steps : Run)
+    → Serves (Alloc path order) (Frame f) (transition t start steps now) → FreshOf (Frame f) order now.cpu.part.fresh → IsTied t now.cpu.part
+    → IsConsistent t now.locked.machine → f < t.frames
+given_inside t path zero f start now steps a fresh tied ok = fresh_inside t now.cpu.part f tied fresh
+given_inside t path (suc less) f start now steps a fresh tied ok =
     let call = transition t a.settled a.inner (visit_state a.done now.cpu.part) in
     let kept = block_home a.executes.group (suc less) f call (a.executes.allocates.block (λ e. omega (arith, e))) in
-    home_inside t w now.locked.machine ok f kept.0 (ap (λ (x : KnownMachine). home_of x.links f) a.machine ∙ kept.1)
+    home_inside t now.locked.machine ok f kept.0 (ap (λ (x : KnownMachine). home_of x.links f) a.machine ∙ kept.1)

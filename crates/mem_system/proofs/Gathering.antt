@@ -9,7 +9,7 @@ use Rattle.boot_words.specs.Rule.{AllOf, IsPastOf, words_in}
 use Rattle.boot_words.specs.Seats.{zone_of_boot}
 use Rattle.frame_word.specs.ReferenceRule.{ReferenceRule}
 use Rattle.frame_word.specs.Seats.{KnownSeat, KnownTable, view_of}
-use Rattle.stock_word.specs.Stock.{KnownStockSeat, KnownStockTable, view_in}
+use Rattle.stock_word.specs.Stock.{KnownStockSeat, view_in}
 use Rattle.stock_word.specs.StockRule.{IsStockOf}
 use Rattle.cpu_part.specs.Cpus.{KnownCpu}
 use Rattle.mem_machine.specs.Machines.{IsConsistent, KnownMachine}
@@ -71,16 +71,16 @@ long_gathered [] = refl
 long_gathered (x ∷ seats) = ap suc (long_gathered seats)
 
 -- the CPUs' seats are of the table
-pub sit_all : (t : KnownTable) (w : KnownStockTable) (m : KnownMachine) (cpus : List KnownCpu) → w.table ≡ t.table → All (λ c. IsEmptied t w m c) cpus
+pub sit_all : (t : KnownTable) (m : KnownMachine) (cpus : List KnownCpu) → w.table ≡ t.table → All (λ c. IsEmptied t m c) cpus
     → All (SitsAt t.table) cpus
-sit_all t w m cpus same all = λ k any inside. let seats = (all k any inside).tied.seats in
+sit_all t m cpus same all = λ k any inside. let seats = (all k any inside).tied.seats in
     record { frames = seats.frame_table; stocks = seats.stock_table ∙ same }
 
 -- the table is closed, with the machine's seats
-pub closed_from : (t : KnownTable) (w : KnownStockTable) (m : KnownMachine) (k : KnownTable) (words : List ℕ) (zone : OwnSeats) (cpus : List OwnSeats)
-    → k ≡ t → w.cpus ≡ t.cpus → zone.past.pasts ≡ own_past m.run.past ∷ [] → zone.frames ≡ m.frame_seat → zone.stocks ≡ m.stock_seat → IsConsistent t w m
-    → IsClosedTable (zone_of_boot k) words zone cpus → IsClosed t w m (frame_seats cpus) (stock_seats cpus) (all_pasts_in cpus)
-closed_from t w m k words zone cpus same sized past frames stocks ok ends =
+pub closed_from : (t : KnownTable) (m : KnownMachine) (k : KnownTable) (words : List ℕ) (zone : OwnSeats) (cpus : List OwnSeats)
+    → k ≡ t → w.cpus ≡ t.cpus → zone.past.pasts ≡ own_past m.run.past ∷ [] → zone.frames ≡ m.frame_seat → zone.stocks ≡ m.stock_seat → IsConsistent t m
+    → IsClosedTable (zone_of_boot k) words zone cpus → IsClosed t m (frame_seats cpus) (stock_seats cpus) (all_pasts_in cpus)
+closed_from t m k words zone cpus same sized past frames stocks ok ends =
     let here : IsClosedTable (zone_of_boot t) words zone cpus = subst (λ (x : KnownTable). IsClosedTable (zone_of_boot x) words zone cpus) same ends in
     let at = words_in (zone_of_boot t) words in record {
       consistent = ok;

@@ -5,7 +5,6 @@ use Rattle.std.proofs.lemmas.List.{drop_more, take_more_set, drop-set-lt, length
 use Rattle.std.proofs.lemmas.List.Sums.{get_or-le-sum_by, sum_by-cons}
 use Rattle.std.proofs.lemmas.List.Elements.{All-append}
 use Rattle.frame_word.specs.Seats.{KnownTable}
-use Rattle.stock_word.specs.Stock.{KnownStockTable}
 use Rattle.cpu_part.specs.Cpus.{KnownCpu}
 use Rattle.mem_machine.specs.Machines.{KnownMachine}
 use Rattle.mem_system.specs.Cpus.{CpuInRun, parts_of}
@@ -87,8 +86,8 @@ no_pin_at cpus now i any inside long left none =
     let all = sum_parts (λ c. length c.pins) cpus in
     ap (λ (l : List CpuInRun). (get_or l 0 any).part.pins) (same_next i cpus now any within long left) ∙ nothing_left _ (omega (arith, part, all, none))
 
-pub emptied_still : (t : KnownTable) (w : KnownStockTable) (x y : KnownMachine) → LendsAndFillsNone x y → (c : KnownCpu) → IsEmptied t w x c → IsEmptied t w y c
-emptied_still t w x y alone c emptied =
+pub emptied_still : (t : KnownTable) (x y : KnownMachine) → LendsAndFillsNone x y → (c : KnownCpu) → IsEmptied t x c → IsEmptied t y c
+emptied_still t x y alone c emptied =
     record {
       tied = emptied.tied;
       idle = emptied.idle;

@@ -1,7 +1,6 @@
 -- Visits under the lock, and the steps that the watch takes of them. Serves the visits at the end of a system.
 use Rattle.std.proofs.Common.{◌≡◌, ℕ, List, [], ◌∷◌, ◌++◌, sym, ap, ◌∙◌, subst}
 use Rattle.frame_word.specs.Seats.{KnownTable}
-use Rattle.stock_word.specs.Stock.{KnownStockTable}
 use Rattle.cpu_part.specs.Cpus.{KnownCpu}
 use Rattle.boot_words.specs.Pasts.{KnownPasts, Locks, Unlocks, own_past}
 use Rattle.step_rules.specs.declared.step.Action.TheVariants.{Lock, Unlock}

@@ -12,7 +12,6 @@ use Rattle.frame_word.specs.Views.{note_of, lent_count}
 use Rattle.frame_word.specs.ReferenceRule.{mark, mark_base, only, references_in, hands_in, lent_in, borrowed_in, opened_in}
 use Rattle.frame_word.specs.Seats.{KnownTable}
 use Rattle.frame_word.proofs.Notes.{only_here, only_else, marked_else, lent_yes, lent_no}
-use Rattle.stock_word.specs.Stock.{KnownStockTable}
 use Rattle.cpu_part.specs.Cpus.{KnownCpu}
 use Rattle.step_rules.specs.declared.phase.ChargedUnit.{ChargedUnit}
 use Rattle.step_rules.specs.State.{one_if, times}
@@ -54,8 +53,8 @@ some_home (Some h) x g kept group = inl (h, refl, same h.owner g (sym kept.1 ∙
     same : (a b : ℕ) → Some a ≡ Some b → a ≡ b
     same a b e = ap (number_or 0) e
 
-module _ (t : KnownTable) (w : KnownStockTable) (m : KnownMachine) (ok : IsConsistent t w m) (shut : AllShut m)
-    (cpus : List KnownCpu) (all : AreAllSeats t w m cpus) where
+module _ (t : KnownTable) (m : KnownMachine) (ok : IsConsistent t m) (shut : AllShut m)
+    (cpus : List KnownCpu) (all : AreAllSeats t m cpus) where
   abbrev zone : FrameView
   zone = m.frame_seat.view
 
@@ -181,7 +180,7 @@ module _ (t : KnownTable) (w : KnownStockTable) (m : KnownMachine) (ok : IsConsi
 
   lent_found : (f p : ℕ) → frame_state_at m.frame_states f ≡ Lent p → SomeCpu cpus (HasLent p f)
   lent_found f p is =
-      let cpu = lent_to_cpu t w m ok f p is in
+      let cpu = lent_to_cpu t m ok f p is in
       let inside = within f (λ e. none-some p (ap cpu_lent_to (e ∙ is))) in
       let noted = (lent_is (note_of zone f).lent p ((ok.frame_states f inside).lent ∙ ap cpu_lent_to is)).0 in
       let rule = (all.rule.each_frame f inside).each_cpu p cpu.0 cpu.1 in
@@ -211,8 +210,8 @@ module _ (t : KnownTable) (w : KnownStockTable) (m : KnownMachine) (ok : IsConsi
       ]
 
 pub no_unit_is_lost : ConsistentMachinesLoseNoUnit
-no_unit_is_lost t w m ok shut cpus all = record {
-  heads = λ f u is. found t w m ok shut cpus all f u is;
+no_unit_is_lost t m ok shut cpus all = record {
+  heads = λ f u is. found t m ok shut cpus all f u is;
   tails = ok.units.tails;
-  lent = λ f p is. lent_found t w m ok shut cpus all f p is;
+  lent = λ f p is. lent_found t m ok shut cpus all f p is;
 }

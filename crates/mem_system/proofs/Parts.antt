@@ -5,7 +5,7 @@ use Rattle.std.proofs.lemmas.Option.{get_or_from_slice_get}
 use Rattle.std.proofs.lemmas.Bool.{false≢true}
 use Rattle.atomic_table.specs.Seated.{TableId}
 use Rattle.frame_word.specs.Seats.{KnownTable, first_cpu_view, seat_number}
-use Rattle.stock_word.specs.Stock.{KnownStockTable, first_cpu_stock_view}
+use Rattle.stock_word.specs.Stock.{first_cpu_stock_view}
 use Rattle.boot_words.specs.declared.seat.OwnSeats.{OwnSeats}
 use Rattle.boot_words.specs.Opening.{opening_seats, seats_of}
 use Rattle.boot_words.specs.declared.view.Past.{Past}
@@ -33,28 +33,28 @@ pub first_seats_at : (t : KnownTable) (s : OwnSeats) (p : ℕ) → s ≡ seats_a
 first_seats_at t s p is low high = subst (λ (x : OwnSeats). AreFirstSeats t (seat_number x.frames) x) (sym is)
     (record { low = low; high = high; are = refl })
 
-module _ (t : KnownTable) (w : KnownStockTable) where
-  cpus_more : (p n : ℕ) → first_cpus t w p (suc n) ≡ first_cpus t w p n ++ part_at_first t w (p + n) ∷ []
-  cpus_more p zero = ap (λ (m : ℕ). part_at_first t w m ∷ []) (let e : p ≡ p + 0 = omega arith in e)
-  cpus_more p (suc n) = ap (λ l. part_at_first t w p ∷ l)
-      (cpus_more (p + 1) n ∙ ap (λ (m : ℕ). first_cpus t w (p + 1) n ++ part_at_first t w m ∷ []) (let e : (p + 1) + n ≡ p + suc n = omega arith in e))
+module _ (t : KnownTable) where
+  cpus_more : (p n : ℕ) → first_cpus t p (suc n) ≡ first_cpus t p n ++ part_at_first t (p + n) ∷ []
+  cpus_more p zero = ap (λ (m : ℕ). part_at_first t m ∷ []) (let e : p ≡ p + 0 = omega arith in e)
+  cpus_more p (suc n) = ap (λ l. part_at_first t p ∷ l)
+      (cpus_more (p + 1) n ∙ ap (λ (m : ℕ). first_cpus t (p + 1) n ++ part_at_first t m ∷ []) (let e : (p + 1) + n ≡ p + suc n = omega arith in e))
 
   -- one more part
-  pub cpus_next : (i : ℕ) → first_cpus t w 1 (i + 1) ≡ first_cpus t w 1 i ++ part_at_first t w (i + 1) ∷ []
-  cpus_next i = ap (first_cpus t w 1) (let e : i + 1 ≡ suc i = omega arith in e) ∙ cpus_more 1 i
-      ∙ ap (λ (m : ℕ). first_cpus t w 1 i ++ part_at_first t w m ∷ []) (let e : 1 + i ≡ i + 1 = omega arith in e)
+  pub cpus_next : (i : ℕ) → first_cpus t 1 (i + 1) ≡ first_cpus t 1 i ++ part_at_first t (i + 1) ∷ []
+  cpus_next i = ap (first_cpus t 1) (let e : i + 1 ≡ suc i = omega arith in e) ∙ cpus_more 1 i
+      ∙ ap (λ (m : ℕ). first_cpus t 1 i ++ part_at_first t m ∷ []) (let e : 1 + i ≡ i + 1 = omega arith in e)
 
-  idle_at : (p n k : ℕ) (d : KnownCpu) → k < length (first_cpus t w p n) → IsIdle (get_or (first_cpus t w p n) k d)
+  idle_at : (p n k : ℕ) (d : KnownCpu) → k < length (first_cpus t p n) → IsIdle (get_or (first_cpus t p n) k d)
   idle_at p zero k d lt = absurd (omega arith)
   idle_at p (suc n) zero d lt = (refl, refl, refl, refl)
   idle_at p (suc n) (suc k) d lt = idle_at (p + 1) n k d (omega arith)
 
   -- nothing is left in any of them
-  pub cpus_idle : (p n : ℕ) → All IsIdle (first_cpus t w p n)
+  pub cpus_idle : (p n : ℕ) → All IsIdle (first_cpus t p n)
   cpus_idle p n = idle_at p n
 
   -- there are n of them
-  pub cpus_long : (p n : ℕ) → length (first_cpus t w p n) ≡ n
+  pub cpus_long : (p n : ℕ) → length (first_cpus t p n) ≡ n
   cpus_long p zero = refl
   cpus_long p (suc n) = let rest = cpus_long (p + 1) n in omega (arith, rest)
 

@@ -5,7 +5,6 @@ use Rattle.std.proofs.lemmas.List.{map-append, nil_from_length, take_all, take_m
 use Rattle.std.proofs.lemmas.List.Sorted.{IsPermutation-append_right, IsPermutation-refl, IsPermutation-trans}
 use Rattle.std.proofs.lemmas.List.Sums.{sum_by-append, sum_by-cons}
 use Rattle.frame_word.specs.Seats.{KnownTable}
-use Rattle.stock_word.specs.Stock.{KnownStockTable}
 use Rattle.frame_word.specs.declared.answers.Put.{Put}
 use Rattle.frame_word.specs.declared.answers.Put.TheVariants.{Left, Last}
 use Rattle.step_rules.specs.After.{Run}
@@ -160,9 +159,9 @@ zone_grew t Does m (c ∷ cpus) n (d ∷ left) visits =
     (zone_grew t Does visits.between cpus n left visits.rest)
 
 -- an end of this system, whose pins were put before it
-pub puts_and_ends : (t : KnownTable) (w : KnownStockTable) (locked : KnownLocked) (parts left : List CpuInRun) (ended : SystemEnd) → IsSound t w locked
-    → ended.held ≡ pins_of_all (parts_of parts) → EachPuts parts left → Ends t w locked left ended.audit → PutsAndEnds t w locked parts ended
-puts_and_ends t w locked parts left ended sound held puts ends =
+pub puts_and_ends : (t : KnownTable) (locked : KnownLocked) (parts left : List CpuInRun) (ended : SystemEnd) → IsSound t locked
+    → ended.held ≡ pins_of_all (parts_of parts) → EachPuts parts left → Ends t locked left ended.audit → PutsAndEnds t locked parts ended
+puts_and_ends t locked parts left ended sound held puts ends =
     let visits = ends.visits in
     let settling = steps_of_visits t SettlesInVisit locked.machine left visits.settled visits.settled_cpus visits.settles in
     let emptying = steps_of_visits t Empties visits.settled visits.settled_cpus ends.emptied.machine ends.emptied.cpus visits.empties in

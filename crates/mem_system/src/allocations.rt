@@ -42,7 +42,7 @@ fn allocate_as<N: BootName>(
     group: GroupId,
     order: Order,
 ) -> Result<Frame, AllocFault>
-    requires visit { MayExecute N.frames N.stocks sizes (visit_state machine.old cpu.old) }
+    requires visit { MayExecute N.frames sizes (visit_state machine.old cpu.old) }
     requires there { IsTrue (has_group machine.old.ledger.groups group) }
     ensures allocates { BySteps Makes N.frames (AllocatesAs sizes group order result)
         (visit_state machine.old cpu.old) (visit_state machine.new cpu.new) }
@@ -67,7 +67,7 @@ pub(crate) fn allocate<N: BootName>(
     path: &[u8],
     order: u32,
 ) -> Outcome
-    requires visit { MayExecute N.frames N.stocks sizes (visit_state machine.old cpu.old) }
+    requires visit { MayExecute N.frames sizes (visit_state machine.old cpu.old) }
     ensures allocates { ComesTo N.frames result (Allocates sizes path.now order)
         (visit_state machine.old cpu.old) (visit_state machine.new cpu.new) }
     ensures groups { HasItsGroups machine.new.ledger result }

@@ -13,7 +13,7 @@ use Rattle.frame_word.specs.Views.{looked, raced}
 use Rattle.frame_word.specs.Seats.{KnownTable, KnownSeat, seat_references, seat_with}
 use Rattle.stock_word.specs.declared.view.Stock.{Stock}
 use Rattle.stock_word.specs.declared.view.Stock.TheVariants as stock_is
-use Rattle.stock_word.specs.Stock.{KnownStockTable, KnownStockSeat, drained_of, group_of}
+use Rattle.stock_word.specs.Stock.{KnownStockSeat, drained_of, group_of}
 use Rattle.stock_word.specs.Calls.{with_view}
 use Rattle.group_tree.specs.declared.fault.Fault.TheVariants.{NoGroup, PinsFull, NotPinned}
 use Rattle.cpu_part.specs.declared.answers.Fast.{Fast as FastAnswer}
@@ -178,8 +178,8 @@ not_watched before after same = subst (OnlySaw [] before) (sym same) (saw_none b
 
 -- ---- one part of the whole
 
-module _ (t : KnownTable) (w : KnownStockTable) (run : Run) (locked : KnownLocked) (cpus : List KnownCpu) (k : ℕ) (c : CpuInRun)
-    (shows : ShowsAll t run locked.machine cpus) (is_part : slice_get cpus k ≡ Some c.part) (tied : AreTied t w cpus) where
+module _ (t : KnownTable) (run : Run) (locked : KnownLocked) (cpus : List KnownCpu) (k : ℕ) (c : CpuInRun)
+    (shows : ShowsAll t run locked.machine cpus) (is_part : slice_get cpus k ≡ Some c.part) (tied : AreTied t cpus) where
   abbrev m : KnownMachine
   m = locked.machine
 
@@ -281,7 +281,7 @@ module _ (t : KnownTable) (w : KnownStockTable) (run : Run) (locked : KnownLocke
             (fast_lines_agree t run cpus k (visit_state m c.part) action answer (visit_state n after.cpu.part) shows serves told),
       )
 
-  this_part : IsPart t w run m cpus k c.part
+  this_part : IsPart t run m cpus k c.part
   this_part = record { shows = shows; is_part = is_part; tied = (tied k c.part is_part).tied }
 
   -- the steps are those that were made
@@ -292,7 +292,7 @@ module _ (t : KnownTable) (w : KnownStockTable) (run : Run) (locked : KnownLocke
       → IsLegalOn (cpu_makes p (step.Consume g) step_answer.Took ∷ []) → Follows (cpu_makes p (step.Consume g) step_answer.Took ∷ []) after
   got_follows g f after is kept legal =
       step_follows (step.Consume g) step_answer.Took after kept (ap (λ (x : KnownCpu). x.number) is.5) refl (λ e. cc)
-      (fast_calls_lead.got t w run m cpus k c.part after.cpu.part this_part g f is
+      (fast_calls_lead.got t run m cpus k c.part after.cpu.part this_part g f is
       (legal_fast_steps_are_decided t run cpus k m c.part (step.Consume g) step_answer.Took shows is_part refl (λ e. cc) legal)
       after.locked.machine.run kept.watched) legal
 
@@ -307,7 +307,7 @@ module _ (t : KnownTable) (w : KnownStockTable) (run : Run) (locked : KnownLocke
   alone_follows (command.Fast g) (unlocked.Fast (Got f)) after names is kept legal = got_follows g f after is kept legal
   alone_follows (command.Get f) (unlocked.Got Held) after inside is kept legal =
       step_follows (step.Get f) step_answer.Held after kept (ap (λ (x : KnownCpu). x.number) is.1.2) refl (λ e. cc)
-      (fast_calls_lead.held t w run m cpus k c.part after.cpu.part this_part f inside is.0 is.1 after.locked.machine.run kept.watched) legal
+      (fast_calls_lead.held t run m cpus k c.part after.cpu.part this_part f inside is.0 is.1 after.locked.machine.run kept.watched) legal
   alone_follows (command.Get f) (unlocked.Got Zero) after inside is kept legal =
       unseen_follows after kept (unseen_seat t m c.part after.cpu.part is.1.0 f (looked is.1.1.0) is.1.2 is.1.1.2 (λ x. refl))
   alone_follows (command.Get f) (unlocked.Got (Raced found)) after inside is kept legal =
@@ -317,7 +317,7 @@ module _ (t : KnownTable) (w : KnownStockTable) (run : Run) (locked : KnownLocke
   alone_follows (command.Get f) (unlocked.Refused PinsFull) after inside is kept legal = unseen_follows after kept (unseen_same t m c.part after.cpu.part is.1)
   alone_follows (command.Put f) (unlocked.Put putted) after inside is kept legal =
       step_follows (step.Put f) (put_answer putted) after kept (put_number putted is.1) refl (put_made putted)
-      (fast_calls_lead.is_put t w run m cpus k c.part after.cpu.part this_part f putted is.1 after.locked.machine.run kept.watched) legal
+      (fast_calls_lead.is_put t run m cpus k c.part after.cpu.part this_part f putted is.1 after.locked.machine.run kept.watched) legal
     where
       put_number : (x : Putted) → UnpinAnswers f x c.part after.cpu.part → after.cpu.part.number ≡ p
       put_number (put.Left n) a = ap (λ (y : KnownCpu). y.number) a.3
@@ -329,7 +329,7 @@ module _ (t : KnownTable) (w : KnownStockTable) (run : Run) (locked : KnownLocke
   alone_follows (command.Put f) (unlocked.Refused NotPinned) after inside is kept legal = unseen_follows after kept (unseen_same t m c.part after.cpu.part is.1)
   alone_follows (command.Release f) unlocked.Listed after inside is kept legal =
       step_follows (step.Credit f) step_answer.Stocked after kept (ap (λ (x : KnownCpu). x.number) is.listed.5) refl (λ e. cc)
-      (fast_calls_lead.listed t w run m cpus k c.part after.cpu.part this_part f is.fresh is.listed
+      (fast_calls_lead.listed t run m cpus k c.part after.cpu.part this_part f is.fresh is.listed
       (legal_fast_steps_are_decided t run cpus k m c.part (step.Credit f) step_answer.Stocked shows is_part refl (λ e. cc) legal)
       after.locked.machine.run kept.watched) legal
   alone_follows command said after names is kept legal = absurd is

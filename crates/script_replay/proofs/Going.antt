@@ -11,7 +11,7 @@ use Rattle.std.proofs.lemmas.Option.{slice_get_within, slice_get_read, slice_get
 use Rattle.frame_word.specs.Seats.{KnownTable}
 use Rattle.stock_word.specs.declared.view.Stock.{Stock}
 use Rattle.stock_word.specs.declared.view.Stock.TheVariants as stock_is
-use Rattle.stock_word.specs.Stock.{KnownStockTable, group_of}
+use Rattle.stock_word.specs.Stock.{group_of}
 use Rattle.cpu_part.specs.Cpus.{KnownCpu}
 use Rattle.step_rules.specs.After.{Run, IsLegalRun}
 use Rattle.step_watch.specs.Watched.{has_legal_steps}
@@ -58,25 +58,25 @@ parts_set : (cpus : List CpuInRun) (k : ℕ) (d : CpuInRun) → parts_of (slice_
 parts_set cpus k d = map-set (λ (x : CpuInRun). x.part) cpus k d
 
 -- the other parts stay what their seats know
-tied_set : {locked : KnownLocked} (t : KnownTable) (w : KnownStockTable) (cpus : List KnownCpu) (k : ℕ) (c d : KnownCpu) → slice_get cpus k ≡ Some c
-    → HoldsOfPart t w locked d → AreTied t w cpus → AreTied t w (slice_set cpus k d)
-tied_set t w cpus k c d is_part held all j e at = elim (cases_eq j k) [
+tied_set : {locked : KnownLocked} (t : KnownTable) (cpus : List KnownCpu) (k : ℕ) (c d : KnownCpu) → slice_get cpus k ≡ Some c
+    → HoldsOfPart t locked d → AreTied t cpus → AreTied t (slice_set cpus k d)
+tied_set t cpus k c d is_part held all j e at = elim (cases_eq j k) [
   | inl here ↦
       let is : e ≡ d = set_here cpus k d e (slice_get_within cpus k c is_part) (subst (λ (i : ℕ). slice_get (slice_set cpus k d) i ≡ Some e) here at) in
-      subst (IsTiedPart t w) (sym is) (record { tied = held.tied; none_fresh = λ z. ap length (held.none_fresh (no_group d.stock_seat.view.last z)) })
+      subst (IsTiedPart t) (sym is) (record { tied = held.tied; none_fresh = λ z. ap length (held.none_fresh (no_group d.stock_seat.view.last z)) })
   | inr ne ↦ all j e (set_else cpus k j d e ne at)
 ]
 
-pub tied_still : {locked : KnownLocked} (t : KnownTable) (w : KnownStockTable) (cpus : List CpuInRun) (k : ℕ) (c d : CpuInRun) → slice_get cpus k ≡ Some c
-    → HoldsOfPart t w locked d.part → AreTied t w (parts_of cpus) → AreTied t w (parts_of (slice_set cpus k d))
-tied_still t w cpus k c d is_part held all =
-    subst (AreTied t w) (sym (parts_set cpus k d)) (tied_set t w (parts_of cpus) k c.part d.part (part_at cpus k c is_part) held all)
+pub tied_still : {locked : KnownLocked} (t : KnownTable) (cpus : List CpuInRun) (k : ℕ) (c d : CpuInRun) → slice_get cpus k ≡ Some c
+    → HoldsOfPart t locked d.part → AreTied t (parts_of cpus) → AreTied t (parts_of (slice_set cpus k d))
+tied_still t cpus k c d is_part held all =
+    subst (AreTied t) (sym (parts_set cpus k d)) (tied_set t (parts_of cpus) k c.part d.part (part_at cpus k c is_part) held all)
 
 -- a command that was served at the part that was read
 pub part_read : (on : Terms) (before after : KnownLocked) (cpus : List CpuInRun) (line : Line) (cpu : ℕ) (command : Command) (c d : CpuInRun)
     {number : ℕ} {Z U E : Type 0} (r : Result U E) (old new : String Z) → on.is_numbered ≡ false → line ≡ At number cpu command →
     LineInRange on.frames.frames (length cpus) line → c ≡ get_or cpus (cpu - 1) c →
-    AddsText r old new (ServesCommand on command (locked_state before c) (locked_state after d)) → HoldsOfPart on.frames on.stocks after d.part →
+    AddsText r old new (ServesCommand on command (locked_state before c) (locked_state after d)) → HoldsOfPart on.frames after d.part →
     AddsText r old new (ServesAndKeeps on line (system_state before cpus) (system_state after (slice_set cpus (cpu - 1) d)))
 part_read on before after cpus line cpu command c d {number = number} r old new plain is there read answered held =
     let named : LineInRange on.frames.frames (length cpus) (At number cpu command) = subst (LineInRange on.frames.frames (length cpus)) is there in
@@ -98,19 +98,19 @@ part_read on before after cpus line cpu command c d {number = number} r old new 
             });
         keeps = record {
           holds = held.sound;
-          tied = λ all. tied_still on.frames on.stocks cpus (cpu - 1) c d is_part held all;
+          tied = λ all. tied_still on.frames cpus (cpu - 1) c d is_part held all;
         };
       };
       added = answered.added;
     }
 
 -- nothing is done for `go`, and nothing is added
-pub go_keeps : (t : KnownTable) (w : KnownStockTable) (is_explained : Bool) (before : KnownLocked) (cpus : List CpuInRun) {Z U E : Type 0} (r : Result U E)
-    (answers : String Z) (line : Line) → line ≡ Go → IsSound t w before
-    → AddsText r answers answers (ServesAndKeeps (terms t w is_explained) line (system_state before cpus) (system_state before cpus))
-go_keeps t w is_explained before cpus r answers line is holds = record {
+pub go_keeps : (t : KnownTable) (is_explained : Bool) (before : KnownLocked) (cpus : List CpuInRun) {Z U E : Type 0} (r : Result U E)
+    (answers : String Z) (line : Line) → line ≡ Go → IsSound t before
+    → AddsText r answers answers (ServesAndKeeps (terms t is_explained) line (system_state before cpus) (system_state before cpus))
+go_keeps t is_explained before cpus r answers line is holds = record {
   text = [];
-  so = subst (λ (x : Line). ServesAndKeeps (terms t w is_explained) x (system_state before cpus) (system_state before cpus) []) (sym is) (record {
+  so = subst (λ (x : Line). ServesAndKeeps (terms t is_explained) x (system_state before cpus) (system_state before cpus) []) (sym is) (record {
     there = tt;
     serves = record {
       steps = [];
@@ -123,10 +123,10 @@ go_keeps t w is_explained before cpus r answers line is holds = record {
 }
 
 -- the same line with its number
-pub numbered_keeps : (t : KnownTable) (w : KnownStockTable) (is_explained : Bool) (line : Line) (s e : SystemState) (text : List ℕ)
-    → ServesAndKeeps (terms t w is_explained) line s e text
-    → ServesAndKeeps (numbered_terms t w is_explained true) line s e (numbered_text (number_in_script line) text)
-numbered_keeps t w is_explained line s e text keeps = record {
+pub numbered_keeps : (t : KnownTable) (is_explained : Bool) (line : Line) (s e : SystemState) (text : List ℕ)
+    → ServesAndKeeps (terms t is_explained) line s e text
+    → ServesAndKeeps (numbered_terms t is_explained true) line s e (numbered_text (number_in_script line) text)
+numbered_keeps t is_explained line s e text keeps = record {
   there = keeps.there;
   serves = record {
     steps = keeps.serves.steps;
@@ -141,23 +141,23 @@ numbered_keeps t w is_explained line s e text keeps = record {
 }
 
 -- a line that was answered into a text of its own, which is then added with the number, as far as there is memory
-pub number_added : (t : KnownTable) (w : KnownStockTable) (is_explained : Bool) (line : Line) (s e : SystemState) {Z U E : Type 0} (r : Result U E)
-    (old new : String Z) (number : ℕ) (said plain : List ℕ) → ServesAndKeeps (terms t w is_explained) line s e said → plain ≡ said
+pub number_added : (t : KnownTable) (is_explained : Bool) (line : Line) (s e : SystemState) {Z U E : Type 0} (r : Result U E)
+    (old new : String Z) (number : ℕ) (said plain : List ℕ) → ServesAndKeeps (terms t is_explained) line s e said → plain ≡ said
     → number ≡ number_in_script line → IfOk r (λ _. string_bytes new ≡ string_bytes old ++ numbered_text number plain)
-    → AddsText r old new (ServesAndKeeps (numbered_terms t w is_explained true) line s e)
-number_added t w is_explained line s e r old new number said plain keeps is numbers added = record {
+    → AddsText r old new (ServesAndKeeps (numbered_terms t is_explained true) line s e)
+number_added t is_explained line s e r old new number said plain keeps is numbers added = record {
   text = numbered_text (number_in_script line) said;
-  so = numbered_keeps t w is_explained line s e said keeps;
+  so = numbered_keeps t is_explained line s e said keeps;
   added = subst (λ (b : ℕ × List ℕ). IfOk r (λ _. string_bytes new ≡ string_bytes old ++ numbered_text b.0 b.1)) (λ i. (numbers i, is i)) added;
 }
 
 -- an answer in this form, by whether lines are numbered in it
-pub formed : (t : KnownTable) (w : KnownStockTable) (form : Form) (line : Line) (s e : SystemState) {Z U E : Type 0} (r : Result U E) (old new : String Z)
+pub formed : (t : KnownTable) (form : Form) (line : Line) (s e : SystemState) {Z U E : Type 0} (r : Result U E) (old new : String Z)
     (is_numbered : Bool) → form.is_numbered ≡ is_numbered
-    → AddsText r old new (ServesAndKeeps (numbered_terms t w form.is_explained is_numbered) line s e)
-    → AddsText r old new (ServesAndKeeps (form_terms t w form) line s e)
-formed t w form line s e r old new is_numbered is adds =
-    subst (λ (b : Bool). AddsText r old new (ServesAndKeeps (numbered_terms t w form.is_explained b) line s e)) (sym is) adds
+    → AddsText r old new (ServesAndKeeps (numbered_terms t form.is_explained is_numbered) line s e)
+    → AddsText r old new (ServesAndKeeps (form_terms t form) line s e)
+formed t form line s e r old new is_numbered is adds =
+    subst (λ (b : Bool). AddsText r old new (ServesAndKeeps (numbered_terms t form.is_explained b) line s e)) (sym is) adds
 
 -- ---- the lines so far
 
@@ -177,8 +177,8 @@ all_served on (line ∷ lines) s e text all = record {
 
 -- ---- their history
 
-pub some_cpu : (t : KnownTable) (w : KnownStockTable) (locked : KnownLocked) → IsQuiet t w locked → 1 ≤ t.cpus
-some_cpu t w locked quiet = let sized = quiet.sized.cpus in let low = quiet.valid.cpus_low in omega arith
+pub some_cpu : (t : KnownTable) (locked : KnownLocked) → IsQuiet t locked → 1 ≤ t.cpus
+some_cpu t locked quiet = let sized = quiet.sized.cpus in let low = quiet.valid.cpus_low in omega arith
 
 -- a run shows the state; if the ledger before had the peaks and event counts of the run before, the ledger now has
 -- those of this run
@@ -186,7 +186,7 @@ abbrev Follows : KnownTable → Run → SystemState → Run → SystemState → 
 Follows t earlier s run e = ShowsAll t run e.locked.machine (parts_of e.cpus) × (AgreesWithRun t earlier s.locked.machine.ledger → AgreesWithRun t run e.locked.machine.ledger)
 
 pub line_follows : (on : Terms) (run : Run) (line : Line) (s e : SystemState) (text : List ℕ) → ShowsAll on.frames run s.locked.machine (parts_of s.cpus) →
-    AreTied on.frames on.stocks (parts_of s.cpus) → (keeps : ServesAndKeeps on line s e text) →
+    AreTied on.frames (parts_of s.cpus) → (keeps : ServesAndKeeps on line s e text) →
     IsLegalRun (zone_of on.frames) (run ++ keeps.serves.steps) →
     Follows on.frames run s (run ++ keeps.serves.steps) e
 line_follows on run Go s e text shows tied keeps legal =
@@ -199,11 +199,11 @@ line_follows on run (At number cpu command) s e text shows tied keeps legal =
     subst (λ (cpus : List KnownCpu). ShowsAll on.frames (run ++ steps) e.locked.machine cpus
     × (AgreesWithRun on.frames run s.locked.machine.ledger → AgreesWithRun on.frames (run ++ steps) e.locked.machine.ledger))
     (sym (ap parts_of is.cpus ∙ parts_set s.cpus (cpu - 1) is.left))
-    (command_follows on.frames on.stocks run s.locked (parts_of s.cpus) (cpu - 1) is.part shows (part_at s.cpus (cpu - 1) is.part is.is_part) tied on.is_explained command steps (locked_state e.locked is.left) keeps.serves.tells.plain
+    (command_follows on.frames run s.locked (parts_of s.cpus) (cpu - 1) is.part shows (part_at s.cpus (cpu - 1) is.part is.is_part) tied on.is_explained command steps (locked_state e.locked is.left) keeps.serves.tells.plain
     keeps.there.names is.done keeps.keeps.holds.quiet.shut legal)
 
 pub keeps_history : (on : Terms) (lines : List Line) (before : Past) (e : SystemState) (text : List ℕ) →
-    (IsLegalRun (zone_of on.frames) before.run → ShowsAll on.frames before.run before.now.locked.machine (parts_of before.now.cpus)) → AreTied on.frames on.stocks (parts_of before.now.cpus) →
+    (IsLegalRun (zone_of on.frames) before.run → ShowsAll on.frames before.run before.now.locked.machine (parts_of before.now.cpus)) → AreTied on.frames (parts_of before.now.cpus) →
     ServesAllAndKeeps on lines before.now e text → HasHistory on lines before e text
 keeps_history on [] before e text shows tied all = all
 keeps_history on (line ∷ lines) before e text shows tied all =
@@ -213,7 +213,7 @@ keeps_history on (line ∷ lines) before e text shows tied all =
     let next : Run = before.run ++ steps in
     let follows : IsLegalRun (zone_of on.frames) next → Follows on.frames before.run before.now next mid =
     λ legal. line_follows on before.run line before.now mid all.first (shows (legal_front (zone_of on.frames) before.run steps legal)) tied one legal in
-    let tied_then : AreTied on.frames on.stocks (parts_of mid.cpus) = one.keeps.tied tied in record {
+    let tied_then : AreTied on.frames (parts_of mid.cpus) = one.keeps.tied tied in record {
       first = all.first;
       rest = all.rest;
       between = mid;
@@ -223,8 +223,8 @@ keeps_history on (line ∷ lines) before e text shows tied all =
       goes_on = one.serves.goes_on;
       kept_where_legal = λ legal. record {
         tells = (follows legal).1;
-        promise = the_whole_is_promised on.frames on.stocks next mid.locked.machine (parts_of mid.cpus) (follows legal).0 one.keeps.holds.consistent one.keeps.holds.charges tied_then
-            (some_cpu on.frames on.stocks mid.locked one.keeps.holds.quiet);
+        promise = the_whole_is_promised on.frames next mid.locked.machine (parts_of mid.cpus) (follows legal).0 one.keeps.holds.consistent one.keeps.holds.charges tied_then
+            (some_cpu on.frames mid.locked one.keeps.holds.quiet);
       };
       tells = keeps_history on lines (past_line before steps mid) e all.rest (λ legal. (follows legal).0) tied_then all.serves_rest;
       text_is = all.text_is;

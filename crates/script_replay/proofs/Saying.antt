@@ -4,7 +4,6 @@ use Rattle.std.specs.Prelude.{length, slice_set}
 use Rattle.std.specs.List.{slice_get}
 use Rattle.std.proofs.lemmas.Option.{slice_get_read}
 use Rattle.frame_word.specs.Seats.{KnownTable}
-use Rattle.stock_word.specs.Stock.{KnownStockTable}
 use Rattle.mem_system.specs.Cpus.{CpuInRun}
 use Rattle.mem_system.specs.Locked.{KnownLocked}
 use Rattle.mem_system.specs.Visits.{LockedState, Transition, locked_state, transition}
@@ -52,12 +51,12 @@ as_text command call answer has so = record {
 
 -- ---- a command at its part
 
-module _ (table : KnownTable) (stock_table : KnownStockTable) (l m : KnownLocked) (cpus : List CpuInRun) (cpu : ℕ) (command : Command) (c d : CpuInRun) (answer : LineAnswer)
+module _ (table : KnownTable) (l m : KnownLocked) (cpus : List CpuInRun) (cpu : ℕ) (command : Command) (c d : CpuInRun) (answer : LineAnswer)
     (there : CpuCommandInRange table.frames (length cpus) cpu command) (has : HasValueAnswer command) (is_part : slice_get cpus (cpu - 1) ≡ Some c)
-    (says : ServesAnswer (terms table stock_table false) command (locked_state l c) (locked_state m d) answer)
-    (held : HoldsOfPart table stock_table m d.part) where
+    (says : ServesAnswer (terms table false) command (locked_state l c) (locked_state m d) answer)
+    (held : HoldsOfPart table m d.part) where
   abbrev on : Terms
-  on = terms table stock_table false
+  on = terms table false
 
   abbrev before : SystemState
   before = system_state l cpus
@@ -85,11 +84,11 @@ module _ (table : KnownTable) (stock_table : KnownStockTable) (l m : KnownLocked
     };
     keeps = record {
       holds = held.sound;
-      tied = λ all. tied_still table stock_table cpus (cpu - 1) c d is_part held all;
+      tied = λ all. tied_still table cpus (cpu - 1) c d is_part held all;
     };
   }
 
-  pub command_said : SaysCommand table stock_table cpu command before after answer
+  pub command_said : SaysCommand table cpu command before after answer
   command_said = record {
     says = record { part = c; left = d; is_part = is_part; done = says; cpus = refl };
     replays = λ number. all_replayed on (At number cpu command ∷ []) before after (answer_text answer) (record {

@@ -89,8 +89,8 @@ module _ (on : KnownSystem) (command : Command) (c d : CpuInRun) where
 
 -- a text that was written from what a visit left, by looks at most
 pub visit_written : (on : KnownSystem) (command : Command) (l m n : KnownLocked) (c d e : CpuInRun) (answer : LineAnswer) (text : List ℕ)
-    → l.sizes ≡ on.sizes → IsSound on.frames on.stocks l → AnswersLocked on.frames command answer (locked_state l c) (locked_state m d) → IsSound on.frames on.stocks m
-    → LentIsBorrowed on.frames m.machine.frame_seat d.part.frame_seat → IsSound on.frames on.stocks n
+    → l.sizes ≡ on.sizes → IsSound on.frames l → AnswersLocked on.frames command answer (locked_state l c) (locked_state m d) → IsSound on.frames m
+    → LentIsBorrowed on.frames m.machine.frame_seat d.part.frame_seat → IsSound on.frames n
     → WritesAnswer false command answer (locked_state m d) (locked_state n e) text → (steps : Run) × WritesByVisit on command steps c e text
 visit_written on command l m n c d e answer text sized before answers left lent after writes =
     subst (λ (x : CpuInRun). (steps : Run) × WritesByVisit on command steps c x text) (sym writes.cpu) (

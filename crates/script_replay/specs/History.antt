@@ -2,7 +2,6 @@
 use Rattle.std.specs.Prelude.{◌≡◌, ℕ, ◌-◌, true, false, List, [], ◌∷◌, ◌++◌, Result, Vec, IfErr, IfOk, OnErr}
 use Rattle.std.specs.Prelude.{get_or, length, take, ⊤}
 use Rattle.frame_word.specs.Seats.{KnownTable}
-use Rattle.stock_word.specs.Stock.{KnownStockTable}
 use Rattle.stock_word.specs.declared.view.Stock.TheVariants.{NoGroup}
 use Rattle.cpu_part.specs.Cpus.{KnownCpu, IsTied}
 use Rattle.step_rules.specs.After.{Run, IsLegalRun}
@@ -132,7 +131,7 @@ pub record HasLegalHistory (terms : Terms) (lines : List Line) (before after : S
 pub record Replays (terms : Terms) (lines : List Line) (before after : SystemState) (text : List ℕ) : Type 0 where
   pub served : ServesAll terms lines before after text
   pub history : (run : Run) → ShowsAll terms.frames run before.locked.machine (parts_of before.cpus)
-      → AreTied terms.frames terms.stocks (parts_of before.cpus) → HasHistory terms lines (past run before) after text
+      → AreTied terms.frames (parts_of before.cpus) → HasHistory terms lines (past run before) after text
 
 -- The result of a replay. If it succeeds, all lines were served and these are their answers. If memory runs out for the
 -- text of a line, the lines up to that one were served.
@@ -147,7 +146,7 @@ pub record ReplaysLegally (terms : Terms) (lines : List Line) (before after : Sy
     (text : List ℕ) : Type 0 where
   pub served : ServesAll terms lines before after text
   pub history : ShowsAll terms.frames [] before.locked.machine (parts_of before.cpus)
-      → AreTied terms.frames terms.stocks (parts_of before.cpus) → AgreesWithRun terms.frames [] before.locked.machine.ledger
+      → AreTied terms.frames (parts_of before.cpus) → AgreesWithRun terms.frames [] before.locked.machine.ledger
       → IsNewWatch (zone_of terms.frames) before.locked.machine.run.watch
       → HasLegalHistory terms lines before after text
 
@@ -184,20 +183,20 @@ pub record ReplaysCheckedOrStops {Z : Type 0} (terms : Terms) (lines : List Line
 
 -- ---- what else is known of a line
 -- what always holds behind the lock, and of the part of a CPU that is settled or was served
-pub record HoldsOfPart (table : KnownTable) (stock_table : KnownStockTable) (locked : KnownLocked) (part : KnownCpu)
+pub record HoldsOfPart (table : KnownTable) (locked : KnownLocked) (part : KnownCpu)
     : Type 0 where
-  pub sound : IsSound table stock_table locked
-  pub tied : IsTied table stock_table part
+  pub sound : IsSound table locked
+  pub tied : IsTied table part
   pub none_fresh : part.stock_seat.view.last ≡ NoGroup → part.fresh ≡ []
 
 -- the invariants hold behind the lock; if each CPU's part before agreed with its seats, so does each part after
-pub record KeepsInvariants (table : KnownTable) (stock_table : KnownStockTable)
+pub record KeepsInvariants (table : KnownTable)
     (before after : SystemState) : Type 0 where
-  pub holds : IsSound table stock_table after.locked
-  pub tied : AreTied table stock_table (parts_of before.cpus) → AreTied table stock_table (parts_of after.cpus)
+  pub holds : IsSound table after.locked
+  pub tied : AreTied table (parts_of before.cpus) → AreTied table (parts_of after.cpus)
 
 -- what the line names exists, the line is served, and the invariants are kept
 pub record ServesAndKeeps (terms : Terms) (line : Line) (before after : SystemState) (text : List ℕ) : Type 0 where
   pub there : LineInRange terms.frames.frames (length before.cpus) line
   pub serves : ServesLine terms line before after text
-  pub keeps : KeepsInvariants terms.frames terms.stocks before after
+  pub keeps : KeepsInvariants terms.frames before after

@@ -50,10 +50,10 @@ pub record GetsFastBySteps (path : List ℕ) (steps : Run) (before : LockedState
 abbrev pub AnswersWithoutVisit : KnownSystem → Command → (steps : Run) (before after : CpuInRun) → UnlockedAnswer
     → Type 0
 AnswersWithoutVisit tables (Alloc path zero) steps before after (unlocked.Fast (Got frame)) =
-    (met : CpuInRun) × SeenBehindLock tables.frames tables.stocks
+    (met : CpuInRun) × SeenBehindLock tables.frames
     (λ locked. GetsFastBySteps path.now steps (locked_state locked met) after.part frame) before met
 AnswersWithoutVisit tables (Alloc path zero) steps before after (unlocked.Refused NoGroup) =
-    SeenBehindLock tables.frames tables.stocks
+    SeenBehindLock tables.frames
     (λ locked. number_at locked.machine.ledger.groups path.now ≡ None) before after × (steps ≡ [])
 AnswersWithoutVisit tables command steps before after answer =
     AnswersAlone command before.part after.part answer × (steps ≡ steps_alone before.part.number command answer)
@@ -69,7 +69,7 @@ pub record AnswersAloneBySteps (tables : KnownSystem) (command : Command) (befor
 -- frame for it, and left the CPU `seen` by steps that change nothing.
 pub record TriesFrame (tables : KnownSystem) (path : List ℕ) (before seen : CpuInRun) : Type 0 where
   pub met : CpuInRun
-  pub found : SeenBehindLock tables.frames tables.stocks
+  pub found : SeenBehindLock tables.frames
       (λ locked. GetsNoneFast path (locked_state locked met) seen.part) before met
   pub alone : MakesAlone before.part.number [] met.past seen.past
 
@@ -90,11 +90,11 @@ pub record NeedsVisit (tables : KnownSystem) (command : Command) (before seen : 
 pub record WritesByVisit (tables : KnownSystem) (command : Command) (steps : Run) (before after : CpuInRun)
     (text : List ℕ) : Type 0 where
   pub answer : LineAnswer
-  pub visited : IsVisited tables.frames tables.stocks tables.sizes (AnswersLocked tables.frames command answer)
+  pub visited : IsVisited tables.frames tables.sizes (AnswersLocked tables.frames command answer)
       before after
   pub steps_are : steps ≡ between_locks before.part.number visited.served.served.steps
   pub left : KnownLocked
-  pub sound : IsSound tables.frames tables.stocks left
+  pub sound : IsSound tables.frames left
   pub writes : WritesAnswer false command answer (locked_state visited.left after) (locked_state left after) text
 
 -- the text of a command that was answered without a visit

@@ -32,7 +32,7 @@ pub(crate) fn serve_command<N: BootName>(
     is_explained: bool,
 ) -> AnswerValue
     requires in_range { CommandInRange N.frames.frames command.now }
-    ensures answer { ServesAnswer (terms N.frames N.stocks is_explained) command.now
+    ensures answer { ServesAnswer (terms N.frames is_explained) command.now
         (locked_state locked.old cpu.old) (locked_state locked.new cpu.new)
         (answer_of locked.new.machine.ledger result) }
     ensures groups { NamesItsGroups locked.new.machine.ledger result }
@@ -54,7 +54,7 @@ fn serve_other<N: BootName>(
 ) -> AnswerValue
     requires in_range { CommandInRange N.frames.frames command.now }
     requires other { frame_path command.now ≡ None }
-    ensures answer { ServesAnswer (terms N.frames N.stocks is_explained) command.now
+    ensures answer { ServesAnswer (terms N.frames is_explained) command.now
         (locked_state locked.old cpu.old) (locked_state locked.new cpu.new)
         (answer_of locked.new.machine.ledger result) }
     ensures groups { NamesItsGroups locked.new.machine.ledger result }
@@ -75,7 +75,7 @@ fn serve_frame<N: BootName>(
     path: &[u8],
     is_explained: bool,
 ) -> AnswerValue
-    ensures answer { ServesAnswer (terms N.frames N.stocks is_explained) (Alloc path.entry 0)
+    ensures answer { ServesAnswer (terms N.frames is_explained) (Alloc path.entry 0)
         (locked_state locked.old cpu.old) (locked_state locked.new cpu.new)
         (answer_of locked.new.machine.ledger result) }
     ensures groups { NamesItsGroups locked.new.machine.ledger result }
@@ -96,7 +96,7 @@ pub(crate) fn serve_frame_of<N: BootName>(
 ) -> AnswerValue
     requires there { IsTrue (has_group locked.old.machine.ledger.groups group) }
     ensures answer { (path : Bor (List ℕ)) → number_at locked.old.machine.ledger.groups path.now ≡ Some group
-        → ServesAnswer (terms N.frames N.stocks is_explained) (Alloc path 0)
+        → ServesAnswer (terms N.frames is_explained) (Alloc path 0)
         (locked_state locked.old cpu.old) (locked_state locked.new cpu.new)
         (answer_of locked.new.machine.ledger result) }
     ensures groups { NamesItsGroups locked.new.machine.ledger result }

@@ -36,7 +36,7 @@ pub fn serve_value<N: BootName>(
 ) -> AnswerValue
     requires there { CpuCommandInRange N.frames.frames (length cpus.old) cpu command.now }
     requires has_value { HasValueAnswer command.now }
-    ensures answer { SaysCommand N.frames N.stocks cpu command.now
+    ensures answer { SaysCommand N.frames cpu command.now
         (system_state locked.old cpus.old) (system_state locked.new cpus.new)
         (answer_of locked.new.machine.ledger result) }
     ensures groups { NamesItsGroups locked.new.machine.ledger result }
@@ -59,7 +59,7 @@ pub fn alloc_value<N: BootName>(
     requires high { cpu ≤ length cpus.old }
     requires there { IsTrue (has_group locked.old.machine.ledger.groups group) }
     ensures answer { (path : Bor (List ℕ)) → number_at locked.old.machine.ledger.groups path.now ≡ Some group
-        → SaysCommand N.frames N.stocks cpu (Alloc path 0)
+        → SaysCommand N.frames cpu (Alloc path 0)
         (system_state locked.old cpus.old) (system_state locked.new cpus.new)
         (answer_of locked.new.machine.ledger result) }
     ensures groups { NamesItsGroups locked.new.machine.ledger result }
@@ -78,11 +78,11 @@ fn alloc_value_at_cpu<N: BootName>(
 ) -> AnswerValue
     requires there { IsTrue (has_group locked.old.machine.ledger.groups group) }
     ensures answer { (path : Bor (List ℕ)) → number_at locked.old.machine.ledger.groups path.now ≡ Some group
-        → ServesAnswer (terms N.frames N.stocks false) (Alloc path 0)
+        → ServesAnswer (terms N.frames false) (Alloc path 0)
         (locked_state locked.old cpu.old) (locked_state locked.new cpu.new)
         (answer_of locked.new.machine.ledger result) }
     ensures groups { NamesItsGroups locked.new.machine.ledger result }
-    ensures held { HoldsOfPart N.frames N.stocks locked.new cpu.new.part }
+    ensures held { HoldsOfPart N.frames locked.new cpu.new.part }
 {
     let value = serve_frame_of(locked, tables, cpu, group, false);
     prove_held(locked, cpu);
@@ -98,11 +98,11 @@ fn serve_value_at_cpu<N: BootName>(
     command: &Command<'_>,
 ) -> AnswerValue
     requires in_range { CommandInRange N.frames.frames command.now }
-    ensures answer { ServesAnswer (terms N.frames N.stocks false) command.now
+    ensures answer { ServesAnswer (terms N.frames false) command.now
         (locked_state locked.old cpu.old) (locked_state locked.new cpu.new)
         (answer_of locked.new.machine.ledger result) }
     ensures groups { NamesItsGroups locked.new.machine.ledger result }
-    ensures held { HoldsOfPart N.frames N.stocks locked.new cpu.new.part }
+    ensures held { HoldsOfPart N.frames locked.new cpu.new.part }
 {
     let value = serve_command(locked, tables, cpu, command, false);
     prove_held(locked, cpu);

@@ -41,7 +41,7 @@ fn run_system<N: BootName, R: Wait>(
     text: &mut String,
 ) -> Result<SystemEnd>
     requires { (boot.frames ≡ N.frames) × (boot.stocks ≡ N.stocks) }
-    ensures { IfOk result (HasEnded N.frames N.stocks) }
+    ensures { IfOk result (HasEnded N.frames) }
 {
     let (system, mut cpus) = boot.start::<N>(alloc)?;
     let done = run_demo(rt, &system, &mut cpus, text);

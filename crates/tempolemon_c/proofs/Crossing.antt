@@ -3,7 +3,6 @@ use Rattle.std.proofs.Common.{◌∙◌, ℕ, Some, None, ap}
 use Rattle.std.proofs.lemmas.Bool.{false≢true}
 use Rattle.std.specs.Prelude.{IsSome, IsSomeAnd, Option}
 use Rattle.frame_word.specs.Seats.{KnownTable}
-use Rattle.stock_word.specs.Stock.{KnownStockTable}
 use Rattle.control_files.specs.declared.file.File.{File}
 use Rattle.tempolemon_c.specs.HandleCalls.{GroupHasFiles}
 use Rattle.tempolemon_c.specs.Known.{KnownLive}
@@ -12,7 +11,7 @@ use Rattle.tempolemon_c.specs.Calls.{HasFileBehind}
 use Rattle.tempolemon_c.specs.Handles.{OnBoot, boot_of}
 
 -- what was done to the boot that the pointer leads to was done to the boot behind the handle
-pub crossed : (does : KnownTable → KnownStockTable → (from to : KnownLive) → Type 0) (f : KnownTable) (s : KnownStockTable) (o : Option KnownLive)
+pub crossed : (does : KnownTable → (from to : KnownLive) → Type 0) (f : KnownTable) (s : KnownStockTable) (o : Option KnownLive)
     (g : KnownTable) (t : KnownStockTable) (p : Option KnownLive) → OnRaw (does f s) f s o g t p → OnBoot does (boot_of f s o) (boot_of g t p)
 crossed does f s o g t p on = record {
   frames = f;

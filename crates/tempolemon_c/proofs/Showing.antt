@@ -39,7 +39,7 @@ module _ (group : ℕ) (file : File) (shown : FileText) (before after : Option L
     (on : OnBoot (λ frames stocks from to. ShowsFile group file from to shown) before after) where
   -- nothing is done
   pub stays : after ≡ before
-  stays = on.is ∙ (ap (λ (live : KnownLive). Some (live_boot on.frames on.stocks live)) on.done.stays ∙ sym on.was)
+  stays = on.is ∙ (ap (λ (live : KnownLive). Some (live_boot on.frames live)) on.done.stays ∙ sym on.was)
 
   -- the result of what a file shows is that of the reply to a read of it
   pub tells : (status : ℕ) (out : TypedResult) (old new : List ℕ) → ReturnsAnswer (answer.Served (file_reply shown)) status out old new

@@ -1,7 +1,6 @@
 -- What contracts see of a host's handle, and what the calls do to the boot behind it.
 use Rattle.std.specs.Prelude.{◌≡◌, ℕ, Bool, List, [], Option, None, Some}
 use Rattle.frame_word.specs.Seats.{KnownTable}
-use Rattle.stock_word.specs.Stock.{KnownStockTable}
 use Rattle.zone_blocks.specs.declared.config.Config.{Config}
 use Rattle.zone_blocks.specs.Config.{IsValidConfig}
 use Rattle.load_run.specs.Answers.{IsNewBootState}
@@ -18,11 +17,11 @@ pub record LiveBoot : Type 0 where
   pub live : KnownLive
 
 -- the boot with these tables
-abbrev pub live_boot : KnownTable → KnownStockTable → KnownLive → LiveBoot
+abbrev pub live_boot : KnownTable → KnownLive → LiveBoot
 live_boot frames stocks live = record { frames = frames; stocks = stocks; live = live }
 
 -- the boot behind a handle, if there is one; tables without a boot don't matter
-abbrev pub boot_of : KnownTable → KnownStockTable → Option KnownLive → Option LiveBoot
+abbrev pub boot_of : KnownTable → Option KnownLive → Option LiveBoot
 boot_of frames stocks None = None
 boot_of frames stocks (Some live) = Some (live_boot frames stocks live)
 
@@ -31,12 +30,12 @@ pub record BootsNew (sizes : Config) (after : Option LiveBoot) : Type 0 where
   pub boot : LiveBoot
   pub is : after ≡ Some boot
   pub valid : IsValidConfig sizes
-  pub first : IsNewBootState sizes boot.frames boot.stocks boot.live.state
+  pub first : IsNewBootState sizes boot.frames boot.live.state
   pub sizes_are : boot.live.sizes ≡ sizes
   pub none_unread : boot.live.unread_answer ≡ []
 
 -- a boot stands behind the handle before and after a call, and under its tables `does` leads from one to the other
-pub record OnBoot (does : KnownTable → KnownStockTable → (from to : KnownLive) → Type 0)
+pub record OnBoot (does : KnownTable → (from to : KnownLive) → Type 0)
     (before after : Option LiveBoot)
     : Type 0 where
   pub frames : KnownTable
@@ -98,4 +97,4 @@ pub record EndsBoot (before after : Option LiveBoot) (report : Report) : Type 0 
   pub boot : LiveBoot
   pub was : before ≡ Some boot
   pub none_left : after ≡ None
-  pub ends : EndsHeld boot.frames boot.stocks boot.live.state (ended_of report)
+  pub ends : EndsHeld boot.frames boot.live.state (ended_of report)

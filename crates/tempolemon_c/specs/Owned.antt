@@ -12,7 +12,6 @@ use Rattle.core.specs.contracts.marker.Brand as Brand
 use Rattle.std_heap.specs.contracts.GlobalAllocator.TheImpl.{ghosts}
 use Rattle.boot_words.specs.contracts.raw.BootWords as BootWords
 use Rattle.frame_word.specs.Seats.{KnownTable}
-use Rattle.stock_word.specs.Stock.{KnownStockTable}
 use Rattle.tempolemon_c.specs.Known.{KnownLive}
 use Rattle.tempolemon_c.specs.contracts.live.Live as Live
 use Rattle.tempolemon_c.specs.declared.live.Live as Known
@@ -31,7 +30,7 @@ abbrev pub brand : RattleType
 brand = Brand.the_row
 
 -- the parts of a boot of these tables, under a name
-abbrev pub live_row : RattleType → KnownTable → KnownStockTable → RattleType
+abbrev pub live_row : RattleType → KnownTable → RattleType
 live_row name frames stock_table = Live.the_row name (record { frames = frames; stocks = stock_table })
 
 -- how the parts of a boot are stored, if there are any
@@ -39,7 +38,7 @@ abbrev pub known_coded : Coded (Option KnownLive)
 known_coded = coded_option (Known.the_code Brand.the_row.Denot Brand.the_row.coded)
 
 -- a pointer to the parts of a boot owns them as a box does; a pointer to nothing owns nothing
-abbrev pub live_owns : RattleType → KnownTable → KnownStockTable → Global → Ptr → Option KnownLive → Fml
+abbrev pub live_owns : RattleType → KnownTable → Global → Ptr → Option KnownLive → Fml
 live_owns name frames stock_table alloc ptr None = ftrue
 live_owns name frames stock_table alloc ptr (Some live) =
     box_owns (ghosts.dealloc_token alloc) (live_row name frames stock_table) ptr live

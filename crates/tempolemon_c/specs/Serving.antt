@@ -1,7 +1,6 @@
 -- What each request does to a live boot.
 use Rattle.std.specs.Prelude.{◌≡◌, [], Option, None, Some}
 use Rattle.frame_word.specs.Seats.{KnownTable}
-use Rattle.stock_word.specs.Stock.{KnownStockTable}
 use Rattle.zone_blocks.specs.declared.config.Config.{Config}
 use Rattle.load_run.specs.Answers.{IsNewBootState}
 use Rattle.load_run.specs.Ending.{EndsHeld}
@@ -22,7 +21,7 @@ frames_after_request frames (TakeUnread alloc) = frames
 frames_after_request frames (End alloc) = frames
 
 -- the stocks' table after a request
-abbrev pub stocks_after_request : KnownStockTable → Request → KnownStockTable
+abbrev pub stocks_after_request : Request → KnownStockTable
 stocks_after_request stock_table (Start alloc boot sizes) = boot.stocks
 stocks_after_request stock_table (Lines alloc text is_explained) = stock_table
 stocks_after_request stock_table (StoreUnread text) = stock_table
@@ -52,14 +51,14 @@ pub record OnLive (does : (from to : KnownLive) → Type 0) (before after : Opti
 
 -- there is a boot before and after, `does` leads from one to the other, and the tables stay
 pub record OnRaw (does : (from to : KnownLive) → Type 0) (old_frames : KnownTable) (old_stock_table : KnownStockTable)
-    (before : Option KnownLive) (frames : KnownTable) (stock_table : KnownStockTable) (after : Option KnownLive) :
+    (before : Option KnownLive) (frames : KnownTable) (after : Option KnownLive) :
     Type 0 where
   pub frames_are : frames ≡ old_frames
   pub stocks_are : stock_table ≡ old_stock_table
   pub on_live : OnLive does before after
 
 -- a boot of these sizes stands as at first, and no answer is unread
-pub record StartsBoot (frames : KnownTable) (stock_table : KnownStockTable) (sizes : Config)
+pub record StartsBoot (frames : KnownTable) (sizes : Config)
     (after : Option KnownLive) : Type 0 where
   pub live : KnownLive
   pub is : after ≡ Some live
@@ -68,7 +67,7 @@ pub record StartsBoot (frames : KnownTable) (stock_table : KnownStockTable) (siz
   pub none_unread : live.unread_answer ≡ []
 
 -- the boot ended, with this report
-pub record EndsLive (frames : KnownTable) (stock_table : KnownStockTable) (before after : Option KnownLive)
+pub record EndsLive (frames : KnownTable) (before after : Option KnownLive)
     (ended : BootEnd) : Type 0 where
   pub from : KnownLive
   pub was : before ≡ Some from
@@ -76,8 +75,7 @@ pub record EndsLive (frames : KnownTable) (stock_table : KnownStockTable) (befor
   pub ends : EndsHeld frames stock_table from.state ended
 
 -- What a request does under the name of these tables, and what is answered
-abbrev pub ServesRequest : KnownTable → KnownStockTable
-    → (before : Option KnownLive) (request : Request) (after : Option KnownLive)
+abbrev pub ServesRequest : KnownTable → (before : Option KnownLive) (request : Request) (after : Option KnownLive)
     (answer : RequestAnswer) → Type 0
 ServesRequest frames stock_table before (Start alloc boot sizes) after returned.Done =
     StartsBoot frames stock_table sizes after
@@ -99,7 +97,7 @@ ServesRequest frames stock_table before request after answer = ⊥
 -- what a request does, with the tables before and after it
 pub record ServesRaw (old_frames : KnownTable) (old_stock_table : KnownStockTable) (before : Option KnownLive)
     (request : Request)
-    (frames : KnownTable) (stock_table : KnownStockTable) (after : Option KnownLive) (answer : RequestAnswer)
+    (frames : KnownTable) (after : Option KnownLive) (answer : RequestAnswer)
     : Type 0 where
   pub frames_are : frames ≡ frames_after_request old_frames request
   pub stocks_are : stock_table ≡ stocks_after_request old_stock_table request

@@ -2,7 +2,6 @@
 
 ghost use Rattle.std.specs.Prelude.{◌≡◌, IsSome, None, Option, Some};
 ghost use Rattle.frame_word.specs.Seats.{KnownTable};
-ghost use Rattle.stock_word.specs.Stock.{KnownStockTable};
 ghost use Rattle.tempolemon_c.specs.Known.{KnownLive};
 ghost use Rattle.tempolemon_c.specs.Owned.{frames_coded, known_coded, live_owns, stocks_coded};
 
@@ -25,7 +24,7 @@ pub struct LivePointer<B> {
 }
 
 impl<B> Model for LivePointer<B> {
-    ghost also_owns = { λ h. live_owns B.row h.frames h.stocks h.alloc h.ptr h.live };
+    ghost also_owns = { λ h. live_owns B.row h.frames h.alloc h.ptr h.live };
 }
 
 impl<N: BootName> LivePointer<N> {

@@ -2,7 +2,6 @@
 
 ghost use Rattle.std.specs.Prelude.{◌≡◌, IsSome, IsSomeAnd, None, Option};
 ghost use Rattle.frame_word.specs.Seats.{KnownTable};
-ghost use Rattle.stock_word.specs.Stock.{KnownStockTable};
 ghost use Rattle.tempolemon_c.specs.HandleCalls.{CallsLive, GroupHasFiles, IsTypedCall, ShowsFile};
 ghost use Rattle.tempolemon_c.specs.Known.{KnownLive};
 ghost use Rattle.tempolemon_c.specs.Owned.{brand, frames_coded, known_coded, live_owns, stocks_coded};
@@ -30,7 +29,7 @@ pub struct RawBoot {
 }
 
 impl Model for RawBoot {
-    ghost also_owns = { λ r. live_owns brand r.frames r.stocks r.alloc r.ptr r.live };
+    ghost also_owns = { λ r. live_owns brand r.frames r.alloc r.ptr r.live };
 }
 
 unsafe impl Send for RawBoot {}
@@ -69,8 +68,8 @@ impl RawBoot {
 /// Serves a request, as `serve` does, under a name that it picks for the tables.
 pub fn serve_raw(raw: RawBoot, request: Request) -> (RawBoot, RequestAnswer)
     requires fit { IsFit raw.live request }
-    ensures serves { ServesRaw raw.frames raw.stocks raw.live request
-        result.0.frames result.0.stocks result.0.live result.1 }
+    ensures serves { ServesRaw raw.frames raw.live request
+        result.0.frames result.0.live result.1 }
 {
     let (pointer, answer) = serve::<Brand>(raw.into_pointer(), request);
     (RawBoot::of(pointer), answer)
@@ -84,8 +83,8 @@ pub fn serve_raw(raw: RawBoot, request: Request) -> (RawBoot, RequestAnswer)
 pub fn call_raw(raw: RawBoot, cpu: u32, call: &Call<'_>) -> (RawBoot, CallAnswer)
     requires some { IsSome raw.live }
     requires asked { IsTypedCall call.now }
-    ensures serves { OnRaw (λ from to. CallsLive raw.frames raw.stocks cpu call.now from to result.1)
-        raw.frames raw.stocks raw.live result.0.frames result.0.stocks result.0.live }
+    ensures serves { OnRaw (λ from to. CallsLive raw.frames cpu call.now from to result.1)
+        raw.frames raw.live result.0.frames result.0.live }
 {
     let (pointer, answer) = serve_call::<Brand>(raw.into_pointer(), cpu, call);
     (RawBoot::of(pointer), answer)
@@ -95,7 +94,7 @@ pub fn call_raw(raw: RawBoot, cpu: u32, call: &Call<'_>) -> (RawBoot, CallAnswer
 pub fn show_raw(raw: RawBoot, group: GroupId, file: File) -> (RawBoot, FileText)
     requires there { IsSomeAnd raw.live (GroupHasFiles group file) }
     ensures shows { OnRaw (λ from to. ShowsFile group file from to result.1)
-        raw.frames raw.stocks raw.live result.0.frames result.0.stocks result.0.live }
+        raw.frames raw.live result.0.frames result.0.live }
 {
     let (pointer, shown) = show_file::<Brand>(raw.into_pointer(), group, file);
     (RawBoot::of(pointer), shown)

@@ -27,7 +27,7 @@ pub fn serve<N: BootName>(
     requires frames { frames_after_request pointer.frames request ≡ N.frames }
     requires stocks { stocks_after_request pointer.stocks request ≡ N.stocks }
     ensures named { (result.0.frames ≡ N.frames) × (result.0.stocks ≡ N.stocks) }
-    ensures serves { ServesRequest N.frames N.stocks pointer.live request result.0.live result.1 }
+    ensures serves { ServesRequest N.frames pointer.live request result.0.live result.1 }
 {
     match request {
         Request::Start { alloc, boot, sizes } => start(pointer, alloc, boot, sizes),
@@ -53,7 +53,7 @@ pub fn serve_call<N: BootName>(
     requires named { (pointer.frames ≡ N.frames) × (pointer.stocks ≡ N.stocks) }
     requires asked { IsTypedCall call.now }
     ensures named { (result.0.frames ≡ N.frames) × (result.0.stocks ≡ N.stocks) }
-    ensures serves { OnLive (λ from to. CallsLive N.frames N.stocks cpu call.now from to result.1)
+    ensures serves { OnLive (λ from to. CallsLive N.frames cpu call.now from to result.1)
         pointer.live result.0.live }
 {
     let mut live = pointer.into_box_parts().into_box();
@@ -88,7 +88,7 @@ fn start<N: BootName>(
     requires stocks { boot.stocks ≡ N.stocks }
     requires sizes { boot.sizes ≡ sizes }
     ensures named { (result.0.frames ≡ N.frames) × (result.0.stocks ≡ N.stocks) }
-    ensures serves { ServesRequest N.frames N.stocks _pointer.live (Start alloc boot sizes) result.0.live result.1 }
+    ensures serves { ServesRequest N.frames _pointer.live (Start alloc boot sizes) result.0.live result.1 }
 {
     let Ok(live) = Live::<N>::start(alloc, boot, sizes) else {
         return (LivePointer::none(alloc), RequestAnswer::NoMemory);
@@ -108,7 +108,7 @@ fn answer_lines<N: BootName>(
     requires some { IsSome pointer.live }
     requires named { (pointer.frames ≡ N.frames) × (pointer.stocks ≡ N.stocks) }
     ensures named { (result.0.frames ≡ N.frames) × (result.0.stocks ≡ N.stocks) }
-    ensures serves { ServesRequest N.frames N.stocks pointer.live
+    ensures serves { ServesRequest N.frames pointer.live
         (Lines alloc text is_explained) result.0.live result.1 }
 {
     let mut live = pointer.into_box_parts().into_box();
@@ -128,7 +128,7 @@ fn store_unread<N: BootName>(
     requires some { IsSome pointer.live }
     requires named { (pointer.frames ≡ N.frames) × (pointer.stocks ≡ N.stocks) }
     ensures named { (result.0.frames ≡ N.frames) × (result.0.stocks ≡ N.stocks) }
-    ensures serves { ServesRequest N.frames N.stocks pointer.live (StoreUnread text) result.0.live result.1 }
+    ensures serves { ServesRequest N.frames pointer.live (StoreUnread text) result.0.live result.1 }
 {
     let mut live = pointer.into_box_parts().into_box();
     live.store_unread(text);
@@ -142,7 +142,7 @@ fn take_unread<N: BootName>(
     requires some { IsSome pointer.live }
     requires named { (pointer.frames ≡ N.frames) × (pointer.stocks ≡ N.stocks) }
     ensures named { (result.0.frames ≡ N.frames) × (result.0.stocks ≡ N.stocks) }
-    ensures serves { ServesRequest N.frames N.stocks pointer.live (TakeUnread alloc) result.0.live result.1 }
+    ensures serves { ServesRequest N.frames pointer.live (TakeUnread alloc) result.0.live result.1 }
 {
     let mut live = pointer.into_box_parts().into_box();
     let text = live.take_unread(alloc);
@@ -156,7 +156,7 @@ fn finish<N: BootName>(pointer: LivePointer<N>, alloc: Global) -> (LivePointer<N
     requires some { IsSome pointer.live }
     requires named { (pointer.frames ≡ N.frames) × (pointer.stocks ≡ N.stocks) }
     ensures named { (result.0.frames ≡ N.frames) × (result.0.stocks ≡ N.stocks) }
-    ensures serves { ServesRequest N.frames N.stocks pointer.live (End alloc) result.0.live result.1 }
+    ensures serves { ServesRequest N.frames pointer.live (End alloc) result.0.live result.1 }
 {
     let live = Box::into_inner(pointer.into_box_parts().into_box());
     let ended = live.finish();

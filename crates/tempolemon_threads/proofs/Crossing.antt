@@ -9,7 +9,6 @@ use Rattle.mem_system.specs.Cpus.{CpuInRun}
 use Rattle.mem_system.specs.Ending.{HasEnded}
 use Rattle.mem_system.specs.declared.ending.SystemEnd.{SystemEnd}
 use Rattle.frame_word.specs.Seats.{KnownTable}
-use Rattle.stock_word.specs.Stock.{KnownStockTable}
 use Rattle.zone_threads.specs.Homes.{EndsParked, HasCpu, HasNoCpu, IfNotEntered, KnownBehind, KnownHome}
 use Rattle.zone_threads.specs.declared.home.NotEntered.{NotEntered}
 use Rattle.zone_threads.specs.declared.home.NotEntered.TheVariants as not_entered
@@ -23,7 +22,7 @@ use Rattle.tempolemon_threads.specs.Handling.{EndsAs}
 use Rattle.tempolemon_threads.specs.Zones.{IsCpuHandle, OnPart, led, led_of}
 
 -- what was done to the home that the pointer leads to was done behind the handle
-pub crossed : (does : KnownTable → KnownStockTable → (from to : KnownHome) → Type 0) (f : KnownTable) (s : KnownStockTable) (o : Option KnownHome)
+pub crossed : (does : KnownTable → (from to : KnownHome) → Type 0) (f : KnownTable) (s : KnownStockTable) (o : Option KnownHome)
     (g : KnownTable) (t : KnownStockTable) (p : Option KnownHome) → OnRawHome (does f s) f s o g t p → OnPart does (led_of f s o) (led_of g t p)
 crossed does f s o g t p on = record {
   frames = f;

@@ -1,7 +1,6 @@
 -- What is done with what a handle leads to.
 use Rattle.std.specs.Prelude.{◌≡◌, ℕ, Option, None, Some, IsSome}
 use Rattle.frame_word.specs.Seats.{KnownTable}
-use Rattle.stock_word.specs.Stock.{KnownStockTable}
 use Rattle.mem_system.specs.Ending.{HasEnded}
 use Rattle.zone_threads.specs.Homes.{HasNoCpu, IsCpu, KnownHome}
 use Rattle.zone_threads.specs.declared.home.NotEntered.{NotEntered}
@@ -35,10 +34,10 @@ EntersNone number not_entered.HasCpu frames after = ⊥
 EntersNone number other frames after = IsCpu frames.cpus number × (after ≡ None)
 
 -- the zone ended
-pub record EndsLed (before after : Option Led) (ends : KnownTable → KnownStockTable → Type 0) : Type 0 where
+pub record EndsLed (before after : Option Led) (ends : KnownTable → Type 0) : Type 0 where
   pub zone : Led
   pub was : before ≡ Some zone
-  pub done : ends zone.frames zone.stocks
+  pub done : ends zone.frames
   pub is : after ≡ None
 
 -- what an end does

@@ -12,7 +12,6 @@ use Rattle.core.specs.contracts.marker.Brand as Brand
 use Rattle.std_heap.specs.contracts.GlobalAllocator.TheImpl.{ghosts}
 use Rattle.boot_words.specs.contracts.raw.BootWords as BootWords
 use Rattle.frame_word.specs.Seats.{KnownTable}
-use Rattle.stock_word.specs.Stock.{KnownStockTable}
 use Rattle.zone_threads.specs.Homes.{KnownHome}
 use Rattle.zone_threads.specs.contracts.home.Home as Home
 use Rattle.zone_threads.specs.declared.home.Home as Known
@@ -31,7 +30,7 @@ abbrev pub brand : RattleType
 brand = Brand.the_row
 
 -- a home of these tables, under a name
-abbrev pub home_row : RattleType → KnownTable → KnownStockTable → RattleType
+abbrev pub home_row : RattleType → KnownTable → RattleType
 home_row name frames stock_table = Home.the_row name (record { frames = frames; stocks = stock_table })
 
 -- how a home is stored, if there is one
@@ -39,7 +38,7 @@ abbrev pub home_coded : Coded (Option KnownHome)
 home_coded = coded_option (Known.the_code Brand.the_row.Denot Brand.the_row.coded)
 
 -- a pointer to a home owns it as a box does; a pointer to nothing owns nothing
-abbrev pub home_owns : RattleType → KnownTable → KnownStockTable → Global → Ptr → Option KnownHome → Fml
+abbrev pub home_owns : RattleType → KnownTable → Global → Ptr → Option KnownHome → Fml
 home_owns name frames stock_table alloc ptr None = ftrue
 home_owns name frames stock_table alloc ptr (Some home) =
     box_owns (ghosts.dealloc_token alloc) (home_row name frames stock_table) ptr home

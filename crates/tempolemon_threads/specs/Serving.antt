@@ -1,7 +1,6 @@
 -- What each request does to what a handle leads to.
 use Rattle.std.specs.Prelude.{◌≡◌, Option, None, Some, IsSomeAnd}
 use Rattle.frame_word.specs.Seats.{KnownTable}
-use Rattle.stock_word.specs.Stock.{KnownStockTable}
 use Rattle.zone_blocks.specs.declared.config.Config.{Config}
 use Rattle.mem_system.specs.Ending.{HasEnded}
 use Rattle.zone_threads.specs.Homes.{HasCpu, HasNoCpu, IfNotEntered, KnownHome, TakesCpu}
@@ -23,7 +22,7 @@ home_frames_after frames (Text alloc asked) = frames
 home_frames_after frames (End alloc) = frames
 
 -- the stocks' table after a request
-abbrev pub home_stocks_after : KnownStockTable → Request → KnownStockTable
+abbrev pub home_stocks_after : Request → KnownStockTable
 home_stocks_after stock_table (Start alloc boot) = boot.stocks
 home_stocks_after stock_table (Enter number) = stock_table
 home_stocks_after stock_table (Leave alloc) = stock_table
@@ -54,7 +53,7 @@ pub record OnHome (does : (from to : KnownHome) → Type 0) (before after : Opti
 -- the same, and the tables stay
 pub record OnRawHome (does : (from to : KnownHome) → Type 0) (old_frames : KnownTable)
     (old_stock_table : KnownStockTable)
-    (before : Option KnownHome) (frames : KnownTable) (stock_table : KnownStockTable) (after : Option KnownHome) :
+    (before : Option KnownHome) (frames : KnownTable) (after : Option KnownHome) :
     Type 0 where
   pub frames_are : frames ≡ old_frames
   pub stocks_are : stock_table ≡ old_stock_table
@@ -82,7 +81,7 @@ pub record DropsHome (before after : Option KnownHome) : Type 0 where
   pub is : after ≡ None
 
 -- what a request does under the name of these tables, by its answer
-abbrev pub ServesHomeRequest : KnownTable → KnownStockTable → (before : Option KnownHome) (request : Request)
+abbrev pub ServesHomeRequest : KnownTable → (before : Option KnownHome) (request : Request)
     (after : Option KnownHome) (answer : RequestAnswer) → Type 0
 ServesHomeRequest frames stock_table before (Start alloc boot) after returned.Started = StartsHome boot.sizes after
 ServesHomeRequest frames stock_table before (Start alloc boot) after returned.NoMemory = after ≡ None
@@ -108,7 +107,7 @@ ServesHomeRequest frames stock_table before request after answer = ⊥
 
 -- what a request does, with the tables before and after it
 pub record ServesRawHome (old_frames : KnownTable) (old_stock_table : KnownStockTable) (before : Option KnownHome)
-    (request : Request) (frames : KnownTable) (stock_table : KnownStockTable) (after : Option KnownHome)
+    (request : Request) (frames : KnownTable) (after : Option KnownHome)
     (answer : RequestAnswer) : Type 0 where
   pub frames_are : frames ≡ home_frames_after old_frames request
   pub stocks_are : stock_table ≡ home_stocks_after old_stock_table request
@@ -134,7 +133,7 @@ pub record Forks (before first second : Option KnownHome) (answer : Forked) : Ty
 
 -- the same, and both are of the tables
 pub record ForksRaw (old_frames : KnownTable) (old_stock_table : KnownStockTable) (before : Option KnownHome)
-    (frames : KnownTable) (stock_table : KnownStockTable) (first : Option KnownHome) (second_frames : KnownTable)
+    (frames : KnownTable) (first : Option KnownHome) (second_frames : KnownTable)
     (second_stock_table : KnownStockTable) (second : Option KnownHome) (answer : Forked) : Type 0 where
   pub frames_are : frames ≡ old_frames
   pub stocks_are : stock_table ≡ old_stock_table

@@ -1,7 +1,6 @@
 -- What contracts see of a host's handles.
 use Rattle.std.specs.Prelude.{◌≡◌, ◌↔◌, ℕ, Bool, Option, None, Some, IsSome, IsTrue}
 use Rattle.frame_word.specs.Seats.{KnownTable}
-use Rattle.stock_word.specs.Stock.{KnownStockTable}
 use Rattle.zone_blocks.specs.declared.config.Config.{Config}
 use Rattle.mem_system.specs.Boots.{IsSizedAs}
 use Rattle.mem_system.specs.Ending.{HasEnded}
@@ -31,11 +30,11 @@ pub record Led : Type 0 where
   pub home : KnownHome
 
 -- the same, of these parts
-abbrev pub led : KnownTable → KnownStockTable → KnownHome → Led
+abbrev pub led : KnownTable → KnownHome → Led
 led frames stocks home = record { frames = frames; stocks = stocks; home = home }
 
 -- what a handle leads to, if anything; tables without a home don't matter
-abbrev pub led_of : KnownTable → KnownStockTable → Option KnownHome → Option Led
+abbrev pub led_of : KnownTable → Option KnownHome → Option Led
 led_of frames stocks None = None
 led_of frames stocks (Some home) = Some (led frames stocks home)
 
@@ -51,7 +50,7 @@ pub record IsCpuHandle (is_live : Bool) (home : Option KnownHome) : Type 0 where
 
 -- the handle leads to a zone before and after a call, of the same tables, and under them `does` leads from one home to the
 -- other
-pub record OnPart (does : KnownTable → KnownStockTable → (from to : KnownHome) → Type 0) (before after : Option Led)
+pub record OnPart (does : KnownTable → (from to : KnownHome) → Type 0) (before after : Option Led)
     : Type 0 where
   pub frames : KnownTable
   pub stocks : KnownStockTable
@@ -65,7 +64,7 @@ pub record OnPart (does : KnownTable → KnownStockTable → (from to : KnownHom
 pub record BootsZone (sizes : Config) (after : Option Led) : Type 0 where
   pub zone : Led
   pub is : after ≡ Some zone
-  pub sized : IsSizedAs sizes zone.frames zone.stocks
+  pub sized : IsSizedAs sizes zone.frames
   pub sizes_are : zone.home.sizes ≡ sizes
 
 -- the handle leads to this CPU of the zone of these tables and of these sizes, just as the CPU was parked
@@ -80,7 +79,7 @@ pub record CpuIn (number : ℕ) (frames : KnownTable) (stocks : KnownStockTable)
 pub record TakesPart (number : ℕ) (zone part : Option Led) : Type 0 where
   pub zone_led : Led
   pub zone_is : zone ≡ Some zone_led
-  pub cpu_in : CpuIn number zone_led.frames zone_led.stocks zone_led.home.sizes part
+  pub cpu_in : CpuIn number zone_led.frames zone_led.home.sizes part
 
 -- the zone that the handle leads to has no CPU of this number
 pub record HasNoSuchCpu (number : ℕ) (zone : Option Led) : Type 0 where
@@ -105,5 +104,5 @@ pub record ReturnsPart (before after : Option Led) : Type 0 where
 pub record EndsWith (report : Report) (before after : Option Led) : Type 0 where
   pub zone : Led
   pub was : before ≡ Some zone
-  pub ends : HasEnded zone.frames zone.stocks (zone_end_of report)
+  pub ends : HasEnded zone.frames (zone_end_of report)
   pub is : after ≡ None

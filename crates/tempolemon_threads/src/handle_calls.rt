@@ -29,7 +29,7 @@ impl Zone {
     /// Starts this boot. Returns false if memory ran out: nothing is left then.
     pub(crate) fn start(&mut self, alloc: Global, boot: Boot) -> bool
         requires none { zone_behind self.old ≡ None }
-        requires sized { IsSizedAs boot.sizes boot.frames boot.stocks }
+        requires sized { IsSizedAs boot.sizes boot.frames }
         ensures { MatchBool result (BootsZone boot.sizes (zone_behind self.new)) (zone_behind self.new ≡ None) }
     {
         let raw = self.raw.take(alloc);
@@ -44,7 +44,7 @@ impl Zone {
         requires live { IsSome (zone_behind self.old) }
         ensures stays { zone_behind self.new ≡ zone_behind self.old }
         ensures forked { ForksAs result.1 (zone_behind self.old)
-            result.0.frames result.0.stocks result.0.home }
+            result.0.frames result.0.home }
     {
         let raw = self.raw.take(alloc);
         let (raw, other, forked) = fork_raw(raw, alloc);
@@ -84,7 +84,7 @@ impl CpuPart {
         requires no_cpu { IsSomeAnd raw.home HasNoCpu }
         requires none { part_behind self.old ≡ None }
         ensures { MatchResult result
-            (λ _. TakesPart number (led_of raw.frames raw.stocks raw.home) (part_behind self.new))
+            (λ _. TakesPart number (led_of raw.frames raw.home) (part_behind self.new))
             (λ reason. EntersNone number reason raw.frames (part_behind self.new)) }
     {
         let (raw, answer) = serve_raw(raw, Request::Enter { number });

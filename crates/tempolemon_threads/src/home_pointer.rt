@@ -2,7 +2,6 @@
 
 ghost use Rattle.std.specs.Prelude.{◌≡◌, IsSome, None, Option, Some};
 ghost use Rattle.frame_word.specs.Seats.{KnownTable};
-ghost use Rattle.stock_word.specs.Stock.{KnownStockTable};
 ghost use Rattle.zone_threads.specs.Homes.{KnownHome};
 ghost use Rattle.tempolemon_threads.specs.Owned.{frames_coded, home_owns, home_coded, stocks_coded};
 
@@ -24,7 +23,7 @@ pub struct HomePointer<B> {
 }
 
 impl<B> Model for HomePointer<B> {
-    ghost also_owns = { λ h. home_owns B.row h.frames h.stocks h.alloc h.ptr h.home };
+    ghost also_owns = { λ h. home_owns B.row h.frames h.alloc h.ptr h.home };
 }
 
 impl<N: BootName> HomePointer<N> {

@@ -2,7 +2,6 @@
 
 ghost use Rattle.std.specs.Prelude.{◌≡◌, IsSome, IsSomeAnd, None, Option};
 ghost use Rattle.frame_word.specs.Seats.{KnownTable};
-ghost use Rattle.stock_word.specs.Stock.{KnownStockTable};
 ghost use Rattle.zone_threads.specs.Calling.{AnswersRead, Calls};
 ghost use Rattle.zone_threads.specs.Homes.{HasCpu, KnownHome};
 ghost use Rattle.tempolemon_threads.specs.Owned.{brand, frames_coded, home_owns, home_coded, stocks_coded};
@@ -28,7 +27,7 @@ pub struct RawHome {
 }
 
 impl Model for RawHome {
-    ghost also_owns = { λ r. home_owns brand r.frames r.stocks r.alloc r.ptr r.home };
+    ghost also_owns = { λ r. home_owns brand r.frames r.alloc r.ptr r.home };
 }
 
 unsafe impl Send for RawHome {}
@@ -92,8 +91,8 @@ impl RawHome {
 /// Serves a request, as `serve` does, under a name that it picks for the tables.
 pub fn serve_raw(raw: RawHome, request: Request) -> (RawHome, RequestAnswer)
     requires fit { IsFitForHome raw.home request }
-    ensures serves { ServesRawHome raw.frames raw.stocks raw.home request
-        result.0.frames result.0.stocks result.0.home result.1 }
+    ensures serves { ServesRawHome raw.frames raw.home request
+        result.0.frames result.0.home result.1 }
 {
     let (pointer, answer) = serve::<Brand>(raw.into_pointer(), request);
     (RawHome::of(pointer), answer)
@@ -104,8 +103,8 @@ pub fn serve_raw(raw: RawHome, request: Request) -> (RawHome, RequestAnswer)
 #[inline(always)]
 pub fn call_raw(raw: RawHome, call: &Call<'_>) -> (RawHome, CallAnswer)
     requires cpu { IsSomeAnd raw.home HasCpu }
-    ensures serves { OnRawHome (λ from to. Calls raw.frames raw.stocks call.now from to result.1)
-        raw.frames raw.stocks raw.home result.0.frames result.0.stocks result.0.home }
+    ensures serves { OnRawHome (λ from to. Calls raw.frames call.now from to result.1)
+        raw.frames raw.home result.0.frames result.0.home }
 {
     let (pointer, answer) = serve_call::<Brand>(raw.into_pointer(), call);
     (RawHome::of(pointer), answer)
@@ -114,8 +113,8 @@ pub fn call_raw(raw: RawHome, call: &Call<'_>) -> (RawHome, CallAnswer)
 /// Serves a read of a file for the home's CPU, as `serve_read` does, under the name that it picks.
 pub fn read_raw(raw: RawHome, asked: &ReadCall<'_>) -> (RawHome, ReadAnswer)
     requires cpu { IsSomeAnd raw.home HasCpu }
-    ensures serves { OnRawHome (λ from to. AnswersRead raw.frames raw.stocks asked.now from to result.1)
-        raw.frames raw.stocks raw.home result.0.frames result.0.stocks result.0.home }
+    ensures serves { OnRawHome (λ from to. AnswersRead raw.frames asked.now from to result.1)
+        raw.frames raw.home result.0.frames result.0.home }
 {
     let (pointer, answer) = serve_read::<Brand>(raw.into_pointer(), asked);
     (RawHome::of(pointer), answer)
@@ -124,8 +123,8 @@ pub fn read_raw(raw: RawHome, asked: &ReadCall<'_>) -> (RawHome, ReadAnswer)
 /// A second pointer, to another home of the same zone, as `fork` returns it.
 pub fn fork_raw(raw: RawHome, heap: Global) -> (RawHome, RawHome, Forked)
     requires some { IsSome raw.home }
-    ensures forks { ForksRaw raw.frames raw.stocks raw.home result.0.frames result.0.stocks result.0.home
-        result.1.frames result.1.stocks result.1.home result.2 }
+    ensures forks { ForksRaw raw.frames raw.home result.0.frames result.0.home
+        result.1.frames result.1.home result.2 }
 {
     let (first, second, forked) = fork::<Brand>(raw.into_pointer(), heap);
     (RawHome::of(first), RawHome::of(second), forked)

@@ -26,7 +26,7 @@ pub fn serve<N: BootName>(
     requires frames { home_frames_after pointer.frames request ≡ N.frames }
     requires stocks { home_stocks_after pointer.stocks request ≡ N.stocks }
     ensures named { (result.0.frames ≡ N.frames) × (result.0.stocks ≡ N.stocks) }
-    ensures serves { ServesHomeRequest N.frames N.stocks pointer.home request result.0.home result.1 }
+    ensures serves { ServesHomeRequest N.frames pointer.home request result.0.home result.1 }
 {
     match request {
         Request::Start { alloc, boot } => start(pointer, alloc, boot),
@@ -46,7 +46,7 @@ pub fn serve_call<N: BootName>(
     requires cpu { IsSomeAnd pointer.home HasCpu }
     requires named { (pointer.frames ≡ N.frames) × (pointer.stocks ≡ N.stocks) }
     ensures named { (result.0.frames ≡ N.frames) × (result.0.stocks ≡ N.stocks) }
-    ensures serves { OnHome (λ from to. Calls N.frames N.stocks call.now from to result.1)
+    ensures serves { OnHome (λ from to. Calls N.frames call.now from to result.1)
         pointer.home result.0.home }
 {
     let mut home = pointer.into_box_parts().into_box();
@@ -62,7 +62,7 @@ pub fn serve_read<N: BootName>(
     requires cpu { IsSomeAnd pointer.home HasCpu }
     requires named { (pointer.frames ≡ N.frames) × (pointer.stocks ≡ N.stocks) }
     ensures named { (result.0.frames ≡ N.frames) × (result.0.stocks ≡ N.stocks) }
-    ensures serves { OnHome (λ from to. AnswersRead N.frames N.stocks asked.now from to result.1)
+    ensures serves { OnHome (λ from to. AnswersRead N.frames asked.now from to result.1)
         pointer.home result.0.home }
 {
     let mut home = pointer.into_box_parts().into_box();
@@ -102,7 +102,7 @@ fn start<N: BootName>(
     requires frames { boot.frames ≡ N.frames }
     requires stocks { boot.stocks ≡ N.stocks }
     ensures named { (result.0.frames ≡ N.frames) × (result.0.stocks ≡ N.stocks) }
-    ensures serves { ServesHomeRequest N.frames N.stocks pointer.home (Start alloc boot) result.0.home result.1 }
+    ensures serves { ServesHomeRequest N.frames pointer.home (Start alloc boot) result.0.home result.1 }
 {
     pointer.forget();
     let Ok(home) = Home::<N>::start(alloc, boot) else {
@@ -118,7 +118,7 @@ fn enter<N: BootName>(pointer: HomePointer<N>, number: u32) -> (HomePointer<N>, 
     requires some { IsSome pointer.home }
     requires named { (pointer.frames ≡ N.frames) × (pointer.stocks ≡ N.stocks) }
     ensures named { (result.0.frames ≡ N.frames) × (result.0.stocks ≡ N.stocks) }
-    ensures serves { ServesHomeRequest N.frames N.stocks pointer.home (Enter number) result.0.home result.1 }
+    ensures serves { ServesHomeRequest N.frames pointer.home (Enter number) result.0.home result.1 }
 {
     let mut home = pointer.into_box_parts().into_box();
     match home.enter(number) {
@@ -134,7 +134,7 @@ fn leave<N: BootName>(pointer: HomePointer<N>, alloc: Global) -> (HomePointer<N>
     requires some { IsSome pointer.home }
     requires named { (pointer.frames ≡ N.frames) × (pointer.stocks ≡ N.stocks) }
     ensures named { (result.0.frames ≡ N.frames) × (result.0.stocks ≡ N.stocks) }
-    ensures serves { ServesHomeRequest N.frames N.stocks pointer.home (Leave alloc) result.0.home result.1 }
+    ensures serves { ServesHomeRequest N.frames pointer.home (Leave alloc) result.0.home result.1 }
 {
     let mut home = pointer.into_box_parts().into_box();
     let left = home.leave();
@@ -159,7 +159,7 @@ fn text<N: BootName>(
     requires cpu { IsSomeAnd pointer.home HasCpu }
     requires named { (pointer.frames ≡ N.frames) × (pointer.stocks ≡ N.stocks) }
     ensures named { (result.0.frames ≡ N.frames) × (result.0.stocks ≡ N.stocks) }
-    ensures serves { ServesHomeRequest N.frames N.stocks pointer.home (Text alloc asked) result.0.home result.1 }
+    ensures serves { ServesHomeRequest N.frames pointer.home (Text alloc asked) result.0.home result.1 }
 {
     let mut home = pointer.into_box_parts().into_box();
     let text = home.text(alloc, asked);
@@ -175,7 +175,7 @@ fn end<N: BootName>(pointer: HomePointer<N>, alloc: Global) -> (HomePointer<N>, 
     requires some { IsSomeAnd pointer.home HasNoCpu }
     requires named { (pointer.frames ≡ N.frames) × (pointer.stocks ≡ N.stocks) }
     ensures named { (result.0.frames ≡ N.frames) × (result.0.stocks ≡ N.stocks) }
-    ensures serves { ServesHomeRequest N.frames N.stocks pointer.home (End alloc) result.0.home result.1 }
+    ensures serves { ServesHomeRequest N.frames pointer.home (End alloc) result.0.home result.1 }
 {
     let home = Box::into_inner(pointer.into_box_parts().into_box());
     match home.into_zone() {

@@ -4,7 +4,6 @@ use Rattle.std.specs.Borrow.{Bor}
 use Rattle.frame_word.specs.Seats.{KnownTable}
 use Rattle.frame_word.specs.declared.answers.Get.{Get}
 use Rattle.frame_word.specs.declared.answers.Put.{Put}
-use Rattle.stock_word.specs.Stock.{KnownStockTable}
 use Rattle.zone_blocks.specs.declared.config.Config.{Config}
 use Rattle.group_tree.specs.Bounds.{most_groups}
 use Rattle.group_tree.specs.Groups.{has_group, path_of}
@@ -110,7 +109,7 @@ abbrev pub IsMissingIn : List Group → ℕ → Type 0
 IsMissingIn groups number = (most_groups ≤ number) ⊎ (has_group groups number ≡ false)
 
 -- behind the lock, no group had this number: the CPU has seen the run that led to this
-abbrev pub NoGroupBehindLock : KnownTable → KnownStockTable → ℕ → (from to : CpuInRun) → Type 0
+abbrev pub NoGroupBehindLock : KnownTable → ℕ → (from to : CpuInRun) → Type 0
 NoGroupBehindLock frames stock_table group from to =
     SeenBehindLock frames stock_table (λ found. IsMissingIn found.machine.ledger.groups group) from to
 
@@ -130,12 +129,12 @@ CallsPut frames frame (answer.Refused fault) from to =
 CallsPut frames frame returned from to = ⊥
 
 -- what is so, if nothing was allocated under the lock for this reason
-abbrev pub IfMissing : KnownTable → KnownStockTable → (group : ℕ) → Missed → (from to : KnownHome) → Type 0
+abbrev pub IfMissing : KnownTable → (group : ℕ) → Missed → (from to : KnownHome) → Type 0
 IfMissing frames stock_table group missed.NoGroup from to = OnCpu (NoGroupBehindLock frames stock_table group) from to
 IfMissing frames stock_table group missed.Busy from to = to ≡ from
 
 -- a frame was asked for a number that no group has
-abbrev pub MissesGroup : KnownTable → KnownStockTable → (group : ℕ) → (from to : KnownHome) → Type 0
+abbrev pub MissesGroup : KnownTable → (group : ℕ) → (from to : KnownHome) → Type 0
 MissesGroup frames stock_table group from to =
     ((most_groups ≤ group) × (to ≡ from))
     ⊎ OnCpu (Then (MissesFast group) (NoGroupBehindLock frames stock_table group)) from to
@@ -143,7 +142,7 @@ MissesGroup frames stock_table group from to =
 -- What each call does, by its answer. The CPU's past of the run grows by the steps of a fast call, then by those of a
 -- visit (`IsServed.run`), and by no others of its own. Each visit finds the sizes of the zone's boot. Whether the zone has
 -- the frame is looked at first: before the lock is tried, and before the CPU's pins.
-abbrev pub Calls : KnownTable → KnownStockTable → Call → (from to : KnownHome) → CallAnswer → Type 0
+abbrev pub Calls : KnownTable → Call → (from to : KnownHome) → CallAnswer → Type 0
 Calls frames stock_table (call.Visit cmd) from to answer.Busy = IsOfZone frames cmd × (to ≡ from)
 Calls frames stock_table (call.Visit cmd) from to answer.NoFrame = (¬ IsOfZone frames cmd) × (to ≡ from)
 Calls frames stock_table (call.Visit cmd) from to (answer.Served outcome) =
@@ -181,7 +180,7 @@ Calls frames stock_table call.Settle from to answer.Settled =
 Calls frames stock_table asked from to returned = ⊥
 
 -- what a read of a file does under the lock, by its answer
-abbrev pub IsReadUnderLock : KnownTable → KnownStockTable → (sizes : Config) → ReadCall → (from to : CpuInRun)
+abbrev pub IsReadUnderLock : KnownTable → (sizes : Config) → ReadCall → (from to : CpuInRun)
     → ReadAnswer → Type 0
 IsReadUnderLock frames stock_table sizes asked from to read.Busy = ⊥
 IsReadUnderLock frames stock_table sizes asked from to (read.Text text) =
@@ -190,7 +189,7 @@ IsReadUnderLock frames stock_table sizes asked from to (read.Refused fault) =
     IsVisited frames stock_table sizes (IsServed frames (cmd.Read asked.path asked.file) (reply.Refused fault)) from to
 
 -- what a read of a file does, by its answer
-abbrev pub AnswersRead : KnownTable → KnownStockTable → ReadCall → (from to : KnownHome) → ReadAnswer → Type 0
+abbrev pub AnswersRead : KnownTable → ReadCall → (from to : KnownHome) → ReadAnswer → Type 0
 AnswersRead frames stock_table asked from to read.Busy = to ≡ from
 AnswersRead frames stock_table asked from to answer =
     OnCpu (λ cpu left. IsReadUnderLock frames stock_table from.sizes asked cpu left answer) from to

@@ -1,7 +1,6 @@
 -- The texts that a settled CPU gets of the zone.
 use Rattle.std.specs.Prelude.{◌≡◌, ℕ, List, None}
 use Rattle.frame_word.specs.Seats.{KnownTable}
-use Rattle.stock_word.specs.Stock.{KnownStockTable}
 use Rattle.group_tree.specs.Groups.{number_at}
 use Rattle.machine_texts.specs.Blocks.{blocks_text}
 use Rattle.machine_texts.specs.Show.{show_text}
@@ -44,6 +43,6 @@ SaysText asked answer.NoMemory settled machine = Unit {0}
 SaysText asked other settled machine = ⊥
 
 -- what is done for a text
-abbrev pub ReadsText : KnownTable → KnownStockTable → TextCall → TextAnswer → (from to : KnownHome) → Type 0
+abbrev pub ReadsText : KnownTable → TextCall → TextAnswer → (from to : KnownHome) → Type 0
 ReadsText frames stock_table asked answer from to =
     OnCpu (ReadsAfterSettling frames stock_table (SaysText asked answer)) from to

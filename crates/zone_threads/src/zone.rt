@@ -24,7 +24,7 @@ pub struct Zone<N: BootName> {
     // No clause can look through the lock: those of calls speak of these sizes.
     pub(crate) sizes: Config,
     ghost valid: { IsValidConfig sizes },
-    ghost sized: { IsSizedAs sizes N.frames N.stocks },
+    ghost sized: { IsSizedAs sizes N.frames },
 }
 
 impl<N: BootName> Zone<N> {
@@ -70,7 +70,7 @@ impl<N: BootName> Zone<N> {
     /// Ends the zone. Pins that are still held are put first. `None` if the part of a CPU isn't there, which no call
     /// leaves so: the parts stay in memory then.
     pub fn end(self) -> Option<ZoneEnd<N>>
-        ensures { IfSome result (λ end. EndsParked N.frames N.stocks end.found end.ended) }
+        ensures { IfSome result (λ end. EndsParked N.frames end.found end.ended) }
     {
         let Zone {
             tables,

@@ -20,7 +20,7 @@ unreachable-requires g c =
 
 pub returns-in-Ok : goal.returns-in-Ok
 returns-in-Ok g c = record {
-  leaves = leaves_free g.N.BootName.frames g.N.BootName.stocks (system_state c.args.locked c.args.cpus.items) c.in-Ok.emptied c.in-Ok.ensures.visits;
+  leaves = leaves_free g.N.BootName.frames (system_state c.args.locked c.args.cpus.items) c.in-Ok.emptied c.in-Ok.ensures.visits;
 }
 
 pub returns-in-Ok-make_last_visits : goal.returns-in-Ok-make_last_visits

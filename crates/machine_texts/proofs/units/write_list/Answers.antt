@@ -1,12 +1,14 @@
-use Rattle.std.proofs.Common.{◌≡◌, ◌++◌, ℕ, ◌<◌, ◌≤◌, IfOk, append-nil, ap, arith, rules, subst, sym, ◌∙◌}
+use Rattle.std.proofs.Common.{◌≡◌, ◌++◌, ◌+◌, ℕ, ◌<◌, ◌≤◌, IfOk, append-nil, ap, arith, rules, subst, sym, ◌∙◌}
 use Rattle.std.proofs.lemmas.Option.{none-some}
 use Rattle.std.specs.String.{string_bytes}
 use Rattle.frame_word.specs.Seats.{KnownTable}
+use Rattle.boot_words.specs.Looking.{LoadsReferences}
+use Rattle.boot_words.specs.Pasts.{own_past}
+use Rattle.boot_words.specs.Seats.{zone_of_boot}
 use Rattle.lru_lists.specs.Lists.{entry_after}
-use Rattle.boot_words.specs.Pasts.{IsHeld}
-use Rattle.mem_machine.specs.Machines.{KnownMachine, home_of}
+use Rattle.mem_machine.specs.Machines.{home_of}
 use Rattle.mem_machine.specs.Showing.{entries_in, listed}
-use Rattle.machine_texts.specs.Units.{LoadsPins, order_at, unit_text}
+use Rattle.machine_texts.specs.Units.{order_at, unit_text}
 use Rattle.machine_texts.proofs.UnitLines.{is_met, joined, met_more, met_none}
 use Rattle.machine_texts.proofs.units.write_list.Goals as goal
 
@@ -29,9 +31,6 @@ newer-next-requires-clause-home g c =
     ∙ (is_met g.N.BootName.frames c.args.group fits c.args.list c.args.machine.now c.loop-seen._seen c.loop-seen.next c.loop-seen.machine _
     c.prove_consistent.ensures c.loop-seen.invariant c.in-Some.entry c.in-Some.is).home
 
-pub pins_on-pins-requires-clause-held : goal.pins_on-pins-requires-clause-held
-pins_on-pins-requires-clause-held g c = subst (λ (x : KnownMachine). IsHeld g.N.BootName.frames x.run.past) (sym c.loop-seen.invariant.same) c.requires.held
-
 pub pins_on-pins-requires-clause-kept : goal.pins_on-pins-requires-clause-kept
 pins_on-pins-requires-clause-kept g c none =
     let fits : c.args.group < 64 = search rules in
@@ -51,8 +50,8 @@ loop-seen-preserved g c =
     ≡ string_bytes c.loop-seen.text ++ unit_text k (listed c.args.list c.in-Some.entry) pins)) is c.write_unit-line.ensures in
     met_more g.N.BootName.frames c.args.group fits c.args.list c.args.machine.now c.loop-seen._seen c.loop-seen.next now _
     c.prove_consistent.ensures c.loop-seen.invariant c.in-Some.entry c.in-Some.is c.newer-next.result
-    (c.newer-next.ensures ∙ ap (λ (x : ℕ). entry_after x (entries_in now c.args.group c.args.list)) at) pins
-    (subst (λ (x : ℕ). LoadsPins g.N.BootName.frames now.run.past x pins) at (record { loads = c.pins_on-pins.ensures.pins; most = c.pins_on-pins.ensures.most }))
+    (c.newer-next.ensures ∙ ap (λ (x : ℕ). entry_after x (entries_in now c.args.group c.args.list)) at) pins c.pins_on-pins.ensures.most
+    (subst (λ (x : ℕ). LoadsReferences (zone_of_boot g.N.BootName.frames) (own_past now.run.past) x (pins + 1)) at c.pins_on-pins.ensures.pins)
     c.pins_on-pins.new.self c.pins_on-pins.ensures.machine _
     (λ text told. joined c.first_error-written.result c.loop-seen.written c.write_unit-line.result (string_bytes c.args.text.now)
     (string_bytes c.loop-seen.text)

@@ -1,11 +1,11 @@
 use Rattle.std.proofs.Common.{◌≡◌, ℕ, ◌∷◌, ◌++◌, [], length, false, inl, refl, sym, ap, ◌∙◌, subst, arith, rules}
 use Rattle.std.specs.Prelude.{Err, IfErr, Ok, Result}
 use Rattle.std.proofs.lemmas.Result.{err_from_is_err_and}
-use Rattle.mem_machine.specs.Machines.{KnownMachine, is_killed}
+use Rattle.mem_machine.specs.Machines.{is_killed}
 use Rattle.cpu_part.specs.Cpus.{KnownCpu}
 use Rattle.mem_alloc.specs.declared.faults.AllocFault.{AllocFault}
 use Rattle.mem_alloc.proofs.Making.{refused_with, if_ok_none}
-use Rattle.mem_alloc.proofs.Filling.{no_frame_cpu, filled_part, not_paid, not_found, gets_frame}
+use Rattle.mem_alloc.proofs.Filling.{keeps_both, pays_keep, no_frame_keeps, filled_part, not_paid, not_found, gets_frame}
 use Rattle.mem_machine.proofs.Followed.{makes_none}
 use Rattle.mem_alloc.proofs.frames.alloc_frame.Goals as goal
 
@@ -18,11 +18,13 @@ returns-in_err-pay_for_frame g c =
     let not = c.from_residual.ensures.0 in
     let is : IfErr r (λ e. e ≡ x) = search rules in
     let refused = c.in_err-pay_for_frame.ensures.pays in
+    let k = pays_keep t c.args.sizes c.args.group (Err x) _ _ _ _ refused.steps refused.does in
+    let fresh = k.fresh ∙ c.requires.settled.0 in
     record {
       allocates = not_paid t c.args.sizes c.args.group c.args.machine.now c.args.cpu.now alive r x _ _ not is refused;
-      stays = record { visit = c.in_err-pay_for_frame.ensures.visit; number = refl; back = refl };
-      fresh = refused_with r x _ _ not is (λ e same. c.requires.settled.0);
-      at_most_high = λ low. low;
+      stays = record { visit = c.in_err-pay_for_frame.ensures.visit; number = k.number; back = k.back };
+      fresh = refused_with r x _ _ not is (λ e same. fresh);
+      at_most_high = λ low. let a = ap length k.list in let b = ap length k.fresh in omega (arith, a, b, low);
       frame = if_ok_none r _ not;
     }
 
@@ -37,27 +39,24 @@ returns-in_err-fill_list g c =
     let is : IfErr r (λ e. e ≡ x) = subst (λ (z : Result ℕ AllocFault). IfErr z (λ e. e ≡ x)) (sym err.1) err.2 in
     let paid = c.in_ok-pay_for_frame.ensures.pays in
     let none = c.in_err-fill_list.ensures.fills in
-    let cpu = no_frame_cpu t c.args.sizes x _ _ _ _ none.steps none.does in
-    let fresh = ap (λ (e : KnownCpu). e.fresh) cpu ∙ c.requires.settled.0 in
+    let first = pays_keep t c.args.sizes c.args.group (Ok tt) _ _ _ _ paid.steps paid.does in
+    let then = no_frame_keeps g.N.BootName.frames c.args.sizes x _ _ _ _ none.steps none.does in
+    let k = keeps_both _ _ _ first then in
+    let fresh = k.fresh ∙ c.requires.settled.0 in
     record {
       allocates = not_found t c.args.sizes c.args.group c.args.machine.now c.args.cpu.now alive _ _ paid r x _ _ not is none;
-      stays = record {
-        visit = c.in_err-fill_list.ensures.visit;
-        number = ap (λ (e : KnownCpu). e.number) cpu;
-        back = ap (λ (e : KnownCpu). e.back) cpu;
-      };
+      stays = record { visit = c.in_err-fill_list.ensures.visit; number = k.number; back = k.back };
       fresh = refused_with r x _ _ not is (λ e same. fresh);
-      at_most_high = λ low.
-          let a = ap (λ (e : KnownCpu). length e.list) cpu in
-          let b = ap (λ (e : KnownCpu). length e.fresh) cpu in
-          omega (arith, a, b, low);
+      at_most_high = λ low. let a = ap length k.list in let b = ap length k.fresh in omega (arith, a, b, low);
       frame = if_ok_none r _ not;
     }
 
 pub take_front-requires-clause-none_fresh : goal.take_front-requires-clause-none_fresh
 take_front-requires-clause-none_fresh g c =
+    let paid = c.in_ok-pay_for_frame.ensures.pays in
     let fills = c.in_ok-fill_list.ensures.fills in
-    (filled_part g.N.BootName.frames c.args.sizes _ _ _ _ fills.steps c.requires.sizes fills.does).fresh ∙ c.requires.settled.0
+    let first = pays_keep g.N.BootName.frames c.args.sizes c.args.group (Ok tt) _ _ _ _ paid.steps paid.does in
+    (filled_part g.N.BootName.frames c.args.sizes _ _ _ _ fills.steps c.requires.sizes fills.does).fresh ∙ first.fresh ∙ c.requires.settled.0
 
 pub returns : goal.returns
 returns g c =
@@ -65,23 +64,25 @@ returns g c =
     let alive : is_killed c.args.machine.now.killed c.args.group ≡ false = sym c.is_killed.ensures ∙ c.if-is_killed.false in
     let paid = c.in_ok-pay_for_frame.ensures.pays in
     let fills = c.in_ok-fill_list.ensures.fills in
+    let first = pays_keep t c.args.sizes c.args.group (Ok tt) _ _ _ _ paid.steps paid.does in
     let next = filled_part g.N.BootName.frames c.args.sizes _ _ _ _ fills.steps c.requires.sizes fills.does in
     let takes = c.take_front.ensures.pays in
     let cpu = takes.takes.2 in
-    let none = next.fresh ∙ c.requires.settled.0 in
+    let none = next.fresh ∙ first.fresh ∙ c.requires.settled.0 in
     let fresh = ap (λ (e : KnownCpu). e.fresh) cpu ∙ ap (λ l. l ++ c.take_front.result ∷ []) none in
     record {
-      allocates = gets_frame t c.args.sizes c.args.group c.args.machine.now c.args.cpu.now alive _ _ paid c.take_front.result _ _ _ _ next.number
+      allocates = gets_frame t c.args.sizes c.args.group c.args.machine.now c.args.cpu.now alive _ _ paid c.take_front.result _ _ _ _ (next.number ∙ first.number)
           fills takes c.take_front.ensures.steps;
       stays = record {
         visit = c.take_front.ensures.visit;
-        number = ap (λ (e : KnownCpu). e.number) cpu ∙ next.number;
-        back = ap (λ (e : KnownCpu). e.back) cpu ∙ next.back;
+        number = ap (λ (e : KnownCpu). e.number) cpu ∙ next.number ∙ first.number;
+        back = ap (λ (e : KnownCpu). e.back) cpu ∙ next.back ∙ first.back;
       };
       fresh = fresh;
       at_most_high = λ low.
+          let a = ap length first.list in
           let b = ap length c.requires.settled.0 in
-          let full = next.high (omega (arith, b, low)) in
+          let full = next.high (omega (arith, a, b, low)) in
           let d = ap length takes.takes.1 in
           let e = ap (λ (e : KnownCpu). length e.list) cpu in
           let f = ap length fresh in

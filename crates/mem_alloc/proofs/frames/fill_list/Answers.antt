@@ -2,7 +2,7 @@ use Rattle.std.proofs.Common.{[], length, inl, inr, ap, refl, ◌∙◌, arith, 
 use Rattle.std.proofs.lemmas.List.{nil_from_length}
 use Rattle.mem_machine.specs.Steps.{refill_steps}
 use Rattle.mem_machine.proofs.Followed.{makes_none}
-use Rattle.mem_alloc.proofs.Filling.{lent_part, lent_page, lent_none, lent_batch, no_frame, reclaims_for, reclaimed_page, reclaimed_front}
+use Rattle.mem_alloc.proofs.Filling.{lent_part, lent_stock, lent_none, lent_batch, no_frame, reclaims_for, reclaimed_front}
 use Rattle.mem_alloc.proofs.frames.fill_list.Goals as goal
 
 pub returns-then-refill-gt0-clause-fills : goal.returns-then-refill-gt0-clause-fills
@@ -22,13 +22,13 @@ returns-then-refill-gt0-clause-fills g c =
 pub returns-then-refill-gt0-clause-page : goal.returns-then-refill-gt0-clause-page
 returns-then-refill-gt0-clause-page g c =
     let done = c.refill.ensures.refills in
-    lent_page g.N.BootName.frames done.frames c.args.group _ _ c.requires.visit.held done.lends done.steps c.requires.page
+    (c.requires.page.0, lent_stock g.N.BootName.frames done.frames _ _ _ _ c.requires.visit.held done.steps done.lends ∙ c.requires.page.1)
 
 pub returns-then-refill-gt0-clause-front : goal.returns-then-refill-gt0-clause-front
 returns-then-refill-gt0-clause-front g c =
     let done = c.refill.ensures in
     let all = done.refills.all in
-    let l = lent_part _ _ _ done.refills.lends in
+    let l = lent_part _ _ _ _ _ done.refills.lends in
     let a = ap length l.list ∙ length-append c.args.cpu.now.list done.refills.frames in
     omega (arith, all, a)
 
@@ -48,17 +48,14 @@ returns-then-refill_in_rounds g c =
         makes = reclaims.makes;
       };
       visit = search rules;
-      page = reclaimed_page t c.args.sizes c.args.machine.now c.refill_in_rounds.new.machine c.args.cpu.now c.refill_in_rounds.new.cpu
-          reclaims.steps reclaims.does c.args.group c.requires.visit c.requires.none_fresh c.requires.page;
+      page = (
+        c.requires.page.0,
+        c.if-refill_in_rounds.ensures.stock ∙ lent_stock t done.refills.frames _ _ _ _ c.requires.visit.held done.refills.steps done.refills.lends
+            ∙ c.requires.page.1,
+      );
       front = reclaimed_front t c.args.sizes c.args.machine.now c.refill_in_rounds.new.machine c.args.cpu.now c.refill_in_rounds.new.cpu
           reclaims.steps reclaims.does;
     }
-
-pub drain_stock-requires-clause-cpu : goal.drain_stock-requires-clause-cpu
-drain_stock-requires-clause-cpu g c = c.number-cpu_number.ensures.within
-
-pub drain_stock-requires-clause-held : goal.drain_stock-requires-clause-held
-drain_stock-requires-clause-held g c = c.if-refill_in_rounds.ensures.visit.held
 
 pub returns-clause-fills : goal.returns-clause-fills
 returns-clause-fills g c =
@@ -82,3 +79,7 @@ returns-then-list_len-gt0-clause-fills g c =
       });
       makes = makes_none g.N.BootName.frames c.args.machine.now;
     }
+
+pub refill_in_rounds-requires-clause-none_fresh : goal.refill_in_rounds-requires-clause-none_fresh
+refill_in_rounds-requires-clause-none_fresh g c =
+    (lent_part _ _ _ _ _ c.refill.ensures.refills.lends).fresh ∙ c.requires.none_fresh

@@ -33,7 +33,7 @@ new-requires-clause-seats g c =
 
 pub take_apart-requires : goal.take_apart-requires
 take_apart-requires g c =
-    subst (All IsIdle) (sym c.loop-dealt.invariant.parts) (cpus_idle g.N.BootName.frames g.N.BootName.stocks 1 c.loop-dealt._dealt)
+    subst (All IsIdle) (sym c.loop-dealt.invariant.parts) (cpus_idle g.N.BootName.frames 1 c.loop-dealt._dealt)
 
 pub loop-dealt-preserved : goal.loop-dealt-preserved
 loop-dealt-preserved g c =
@@ -57,6 +57,6 @@ loop-dealt-preserved g c =
 pub returns : goal.returns
 returns g c =
     let all : c.loop-dealt._dealt ≡ c.args.cpus = omega arith in record {
-      parts = c.loop-dealt.invariant.parts ∙ ap (first_cpus g.N.BootName.frames g.N.BootName.stocks 1) all;
+      parts = c.loop-dealt.invariant.parts ∙ ap (first_cpus g.N.BootName.frames 1) all;
       pasts = c.loop-dealt.invariant.pasts ∙ ap (first_pasts 1) all;
     }

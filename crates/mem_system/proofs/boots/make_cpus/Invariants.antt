@@ -11,6 +11,6 @@ invariant-loop-dealt g l = record {
   room : l.cpus ≤ vec_capacity l.made;
   size : vec_len l.made ≡ l._dealt;
   seats : l.seats.items ≡ opening_seats g.N.BootName.frames.table (l._dealt + 1) (l.cpus - l._dealt);
-  parts : parts_of l.made.items ≡ first_cpus g.N.BootName.frames g.N.BootName.stocks 1 l._dealt;
+  parts : parts_of l.made.items ≡ first_cpus g.N.BootName.frames 1 l._dealt;
   pasts : pasts_of l.made.items ≡ first_pasts 1 l._dealt;
 }

@@ -12,7 +12,7 @@ invariant_of-result g c =
       quiet = record {
         shut = search rules;
         rests = made.rests;
-        counted = first_counted g.N.BootName.frames g.N.BootName.stocks c.in_ok-machine.machine made.first none;
+        counted = first_counted g.N.BootName.frames c.in_ok-machine.machine made.first none;
         valid = c.requires.valid;
         sized = c.requires.sized;
       };

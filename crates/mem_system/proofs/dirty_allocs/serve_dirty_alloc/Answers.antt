@@ -10,7 +10,7 @@ serve_outcome-done-requires g c =
     let start : LockedState = locked_state c.args.locked.now c.args.cpu.now in
     let now : LockedState = locked_state c.serve_outcome-outcome.new.locked c.serve_outcome-outcome.new.cpu in
     let served = c.in-Frame.ensures.served in
-    given_inside g.N.BootName.frames g.N.BootName.stocks c.args.path c.args.order c.in-Frame.frame start now served.steps served.serves
+    given_inside g.N.BootName.frames c.args.path c.args.order c.in-Frame.frame start now served.steps served.serves
     c.in-Frame.ensures.settled.0 c.number-tied.ensures.tied c.prove_quiet.ensures.consistent
 
 pub returns-clause-served : goal.returns-clause-served

@@ -35,6 +35,6 @@ returns-clause-empties g c =
 pub returns-clause-emptied : goal.returns-clause-emptied
 returns-clause-emptied g c =
     let past : length c.loop-cpu.cpus ≤ c.loop-cpu.cpu-index = search rules in
-    all_parts (IsEmptied g.N.BootName.frames g.N.BootName.stocks c.loop-cpu.machine) c.loop-cpu.cpus
-    (all_taken (λ cpu. IsEmptied g.N.BootName.frames g.N.BootName.stocks c.loop-cpu.machine cpu.part) c.loop-cpu.cpus c.loop-cpu.cpu-index past
+    all_parts (IsEmptied g.N.BootName.frames c.loop-cpu.machine) c.loop-cpu.cpus
+    (all_taken (λ cpu. IsEmptied g.N.BootName.frames c.loop-cpu.machine cpu.part) c.loop-cpu.cpus c.loop-cpu.cpu-index past
     c.loop-cpu.invariant.1)

@@ -8,4 +8,4 @@ use Rattle.mem_system.proofs.last_visits.empty_all.Given as goal
 
 abbrev pub invariant-loop-cpu : goal.invariant-loop-cpu
 invariant-loop-cpu g l = SoFar (VisitsUnderLock g.N.BootName.frames Empties) l.cpu-index l.fn.machine l.fn.cpus l.machine l.cpus
-    × All (λ c. IsEmptied g.N.BootName.frames g.N.BootName.stocks l.machine c.part) (take l.cpu-index l.cpus) × AllShut l.machine × Rests g.N.BootName.frames l.machine
+    × All (λ c. IsEmptied g.N.BootName.frames l.machine c.part) (take l.cpu-index l.cpus) × AllShut l.machine × Rests g.N.BootName.frames l.machine

@@ -30,7 +30,7 @@ returns g c = record {
       c.unlock.ensures.machine c.cpu.inside.past c.unlock.new.past c.cpu.invariant.number c.lock.ensures.run c.unlock.ensures.run);
   shut = shut_seen c.empty_cpu.new.machine c.unlock.new.self _ (run_twice c.empty_cpu.new.machine _ _ _ _ c.take_step-2.ensures.machine c.unlock.ensures.machine) c.empty_cpu.ensures.shut;
   rests = search rules;
-  emptied = emptied_seen g.N.BootName.frames g.N.BootName.stocks c.empty_cpu.new.machine c.unlock.new.self _ c.empty_cpu.new.cpu
+  emptied = emptied_seen g.N.BootName.frames c.empty_cpu.new.machine c.unlock.new.self _ c.empty_cpu.new.cpu
       (run_twice c.empty_cpu.new.machine _ _ _ _ c.take_step-2.ensures.machine c.unlock.ensures.machine) c.empty_cpu.ensures.emptied;
   others = alone_seen c.args.machine.now c.take_step.new.self c.empty_cpu.new.machine c.unlock.new.self _ _
       (run_twice c.args.machine.now _ _ _ _ c.lock.ensures.machine c.take_step.ensures.machine) (run_twice c.empty_cpu.new.machine _ _ _ _ c.take_step-2.ensures.machine c.unlock.ensures.machine)

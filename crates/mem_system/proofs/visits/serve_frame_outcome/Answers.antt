@@ -160,7 +160,7 @@ returns-clause-ends g c =
 pub returns-clause-lost : goal.returns-clause-lost
 returns-clause-lost g c =
     let stays = c.alloc_frame-answer.ensures.stays in
-    no_unit_is_lost g.N.BootName.frames g.N.BootName.stocks c.unlock.new.self c.prove_consistent.ensures
+    no_unit_is_lost g.N.BootName.frames c.unlock.new.self c.prove_consistent.ensures
     (command_shuts c.locked.inside.machine c.open.new.self c.settle.new.self c.alloc_frame-answer.new.machine c.unlock.new.self c.cpu.inside.part
     c.open.new.cpu c.settle.new.cpu c.alloc_frame-answer.new.cpu _ _ c.locked.invariant.quiet.shut
     (opened_so c.locked.inside.machine _ _ _ _ c.lock.new.self.run.past _ c.lock.ensures.machine c.forget_notes.ensures c.open.ensures.machine)

@@ -9,7 +9,7 @@ pub write_answer-written-requires : goal.write_answer-written-requires
 write_answer-written-requires g c = let served = c.serve_command-value in record {
   in_range = c.requires.in_range;
   groups = served.ensures.groups;
-  settles = λ is. value_settles (terms g.N.BootName.frames g.N.BootName.stocks c.args.is_explained) c.args.command.now
+  settles = λ is. value_settles (terms g.N.BootName.frames c.args.is_explained) c.args.command.now
       (locked_state c.args.locked.now c.args.cpu.now) (locked_state served.new.locked served.new.cpu) served.new.locked.machine.ledger served.result
       served.ensures.answer is;
 }

@@ -20,7 +20,7 @@ returns g c =
     let written = c.write_answer-written.ensures.written in record {
       answered = record {
         text = written.text;
-        so = visit_written (boot_tables g.N.BootName.frames g.N.BootName.stocks c.args.visitor.now.system.now.sizes) c.args.command.now c.deref_mut-locked.result.now left
+        so = visit_written (boot_tables g.N.BootName.frames c.args.visitor.now.system.now.sizes) c.args.command.now c.deref_mut-locked.result.now left
             c.write_answer-written.new.locked c.args.cpu.now served.new.cpu c.write_answer-written.new.cpu (answer_of left.machine.ledger served.result)
             written.text (ap (λ (l : KnownLocked). l.sizes) c.deref_mut-locked.ensures.value ∙ c.lock-guard.ensures) c.prove_sound.ensures served.ensures.answers c.prove_sound-2.ensures served.ensures.lent c.prove_sound-3.ensures written.so;
         added = written.added;

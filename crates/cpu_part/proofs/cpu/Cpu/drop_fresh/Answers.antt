@@ -2,7 +2,7 @@ use Rattle.std.proofs.Common.{◌+◌, refl, subst, sym}
 use Rattle.frame_word.specs.Seats.{KnownTable}
 use Rattle.stock_word.specs.declared.words.Credit.TheVariants as credits
 use Rattle.step_rules.specs.declared.step.Action.TheVariants.{Credit}
-use Rattle.run_words.specs.Cpus.{CreditsPage}
+use Rattle.boot_words.specs.Cpus.{CreditsPage}
 use Rattle.cpu_part.specs.Known.{KnowsItsPart}
 use Rattle.cpu_part.proofs.Knowing.{knows_drained, knows_listed, may_credit}
 use Rattle.cpu_part.proofs.Making.{may_do_at}

@@ -1,5 +1,5 @@
 use Rattle.std.proofs.Common.{◌≡◌, ◌<◌, ◌∷◌, length, rules, sym, ap, ◌∙◌}
-use Rattle.boot_words.specs.TakenBack.{take_back_run}
+use Rattle.boot_words.specs.Composed.{take_back_run}
 use Rattle.cpu_part.specs.Cpus.{KnownCpu}
 use Rattle.cpu_part.proofs.Counts.{front_removed}
 use Rattle.cpu_part.proofs.Making.{are_legal_at, made_at}

@@ -4,8 +4,8 @@ use Rattle.frame_word.specs.Seats.{KnownTable}
 use Rattle.step_rules.specs.declared.step.Action.TheVariants.{Put}
 use Rattle.step_rules.specs.declared.step.Answer.TheVariants as said
 use Rattle.step_rules.specs.State.{times}
-use Rattle.run_words.specs.Calls.{CpuMakes}
-use Rattle.run_words.specs.Cpus.{IsAwayCpu}
+use Rattle.boot_words.specs.Calls.{CpuMakes}
+use Rattle.boot_words.specs.Cpus.{IsAwayCpu}
 use Rattle.cpu_part.specs.Cpus.{KnownCpu}
 use Rattle.cpu_part.specs.Known.{KnowsItsPart}
 use Rattle.cpu_part.proofs.Counts.{one_shorter}

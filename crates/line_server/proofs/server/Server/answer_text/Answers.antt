@@ -10,7 +10,7 @@ use Rattle.line_server.proofs.server.Server.answer_text.Goals as goal
 
 pub returns-then-is_skipped-clause-answered : goal.returns-then-is_skipped-clause-answered
 returns-then-is_skipped-clause-answered g c =
-    skipped (terms_of g.N.BootName.frames g.N.BootName.stocks c.args.self.now) c.args.self.now.sizes c.args.number c.args.text.now c.args.self.now.state
+    skipped (terms_of g.N.BootName.frames c.args.self.now) c.args.self.now.sizes c.args.number c.args.text.now c.args.self.now.state
     _ (sym c.is_skipped.ensures ∙ c.if-is_skipped.true) c.new.ensures.items
 
 pub refuse_text-requires-clause-bad : goal.refuse_text-requires-clause-bad

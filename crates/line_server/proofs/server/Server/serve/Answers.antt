@@ -60,5 +60,5 @@ loop-before-preserved g c =
 pub returns-clause-failed : goal.returns-clause-failed
 returns-clause-failed g c =
     let first = c.args.self.now in
-    session_failed (terms_of g.N.BootName.frames g.N.BootName.stocks first) first.sizes c.loop-before.before _ (g.I.Read.remaining c.loop-before.input) _ c.loop-before.self.state _
+    session_failed (terms_of g.N.BootName.frames first) first.sizes c.loop-before.before _ (g.I.Read.remaining c.loop-before.input) _ c.loop-before.self.state _
     (g.O.Write.contents c.loop-before.output) c.loop-before.self.state (g.O.Write.contents c.loop-before.output) Input c.loop-before.invariant.0 (refl, refl)

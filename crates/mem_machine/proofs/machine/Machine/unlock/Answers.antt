@@ -1,9 +1,12 @@
-use Rattle.std.proofs.Common.{◌≡◌, ◌∙◌, sym, subst}
+use Rattle.std.proofs.Common.{◌≡◌, ◌∙◌, ap, sym, subst}
 use Rattle.frame_word.specs.Seats.{KnownTable}
 use Rattle.step_rules.specs.declared.phase.Hold.TheVariants.{Unheld}
 use Rattle.step_rules.specs.declared.step.Action.TheVariants.{Unlock}
 use Rattle.boot_words.specs.Pasts.{IsHeld, MayMake, Unlocks}
-use Rattle.run_words.specs.Cpus.{IsAwayCpu}
+use Rattle.step_rules.specs.After.{Run, state_of}
+use Rattle.boot_words.specs.Seats.{zone_of_boot}
+use Rattle.boot_words.specs.Words.{stock_in}
+use Rattle.boot_words.specs.Cpus.{IsAwayCpu, state_left}
 use Rattle.mem_machine.specs.Kept.{machine_of}
 use Rattle.mem_machine.specs.Local.{IsShut}
 use Rattle.mem_machine.specs.Machines.{KnownMachine}
@@ -52,3 +55,15 @@ pub returns-clause-run : goal.returns-clause-run
 returns-clause-run g c =
     let unlocks = subst (λ (t : KnownTable). Unlocks t c.self.inside.past c.unlock.new.zone c.unlock.new.cpu.seat) c.args.tables.now.frames_are c.unlock.ensures.run in
     subst (λ (k : KnownMachine). Unlocks g.N.BootName.frames k.run.past c.unlock.new.zone c.unlock.new.cpu.seat) c.self.view_is unlocks
+
+pub returns-clause-last : goal.returns-clause-last
+returns-clause-last g c =
+    let table = g.N.BootName.frames in
+    let cpu = c.unlock.new.cpu in
+    let holds = holds_here table (machine_of c.self.inside) _ c.self.view_is c.args.cpu.now c.requires.holds in
+    let unlocks = subst (λ (t : KnownTable). Unlocks t c.self.inside.past c.unlock.new.zone cpu.seat) c.args.tables.now.frames_are c.unlock.ensures.run in
+    let knows = unlocked_knows table (machine_of c.self.inside) c.args.cpu.now c.unlock.new.zone cpu holds unlocks
+    (subst (λ (t : KnownTable). IsAwayCpu t cpu) c.args.tables.now.frames_are c.unlock.ensures.cpu) in
+    subst (λ (t : KnownTable). cpu.last ≡ stock_in ((state_left t cpu).parts cpu.number)) c.args.tables.now.frames_are c.unlock.ensures.last
+    ∙ ap (λ n. stock_in ((state_left table cpu).parts n)) knows.number
+    ∙ ap (λ (r : Run). stock_in ((state_of (zone_of_boot table) r).parts c.args.cpu.now.number)) (sym unlocks.same)

@@ -14,11 +14,11 @@ use Rattle.mem_system.proofs.boots.Boot.into_parts.Goals as goal
 
 pub take_apart-requires : goal.take_apart-requires
 take_apart-requires g c =
-    subst (All IsIdle) (sym c.in_ok-cpus.ensures.parts) (cpus_idle g.N.BootName.frames g.N.BootName.stocks 1 c.self.inside.sizes.cpus)
+    subst (All IsIdle) (sym c.in_ok-cpus.ensures.parts) (cpus_idle g.N.BootName.frames 1 c.self.inside.sizes.cpus)
 
 pub returns-in-Ok-clause-count : goal.returns-in-Ok-clause-count
 returns-in-Ok-clause-count g c =
-    sym (long_parts _) ∙ ap length c.in_ok-cpus.ensures.parts ∙ cpus_long g.N.BootName.frames g.N.BootName.stocks 1 c.self.inside.sizes.cpus
+    sym (long_parts _) ∙ ap length c.in_ok-cpus.ensures.parts ∙ cpus_long g.N.BootName.frames 1 c.self.inside.sizes.cpus
     ∙ sym c.self.invariant.sized.cpus ∙ ap (λ (t : KnownTable). t.cpus) (ap (λ (b : KnownBoot). b.frames) c.self.view_is ∙ c.requires.frames)
 
 pub returns-in-Ok-clause-so_far : goal.returns-in-Ok-clause-so_far

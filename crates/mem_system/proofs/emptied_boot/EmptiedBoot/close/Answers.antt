@@ -1,6 +1,5 @@
 use Rattle.std.proofs.Common.{◌∙◌, length, sym, ap, subst}
 use Rattle.frame_word.specs.Seats.{KnownTable}
-use Rattle.stock_word.specs.Stock.{KnownStockTable}
 use Rattle.mem_system.specs.Cpus.{parts_of}
 use Rattle.mem_system.specs.Ends.{KnownEmptiedBoot, Closes}
 use Rattle.mem_system.proofs.Closing.{idle_all, long_frames, long_parts, all_closes}
@@ -9,11 +8,11 @@ use Rattle.mem_system.proofs.emptied_boot.EmptiedBoot.close.Goals as goal
 
 pub gather_seats-seats-requires-clause-idle : goal.gather_seats-seats-requires-clause-idle
 gather_seats-seats-requires-clause-idle g c =
-    idle_all g.N.BootName.frames g.N.BootName.stocks c.self.inside.machine (parts_of c.self.inside.cpus.items) c.self.invariant.0.all_emptied
+    idle_all g.N.BootName.frames c.self.inside.machine (parts_of c.self.inside.cpus.items) c.self.invariant.0.all_emptied
 
 pub gather_seats-seats-requires-clause-at : goal.gather_seats-seats-requires-clause-at
 gather_seats-seats-requires-clause-at g c =
-    sit_all g.N.BootName.frames g.N.BootName.stocks c.self.inside.machine (parts_of c.self.inside.cpus.items)
+    sit_all g.N.BootName.frames c.self.inside.machine (parts_of c.self.inside.cpus.items)
     (sym (ap (λ (x : KnownStockTable). x.table) c.self.inside.tables.stocks_are) ∙ ap (λ (x : KnownTable). x.table) c.self.inside.tables.frames_are)
     c.self.invariant.0.all_emptied
 
@@ -29,4 +28,4 @@ returns g c =
     (all_closes t w (record { machine = c.self.inside.machine; cpus = c.self.inside.cpus.items; drops = c.self.inside.drops }) c.take_audit-audit.result _ _ _
     c.self.invariant.0.shut c.self.invariant.0.all_emptied c.self.invariant.0.count
     c.self.invariant.0.rests c.take_audit-audit.ensures c.close_tables.ensures
-    c.gather_seats-seats.ensures.frames c.gather_seats-seats.ensures.stocks c.gather_seats-seats.ensures.pasts)
+    c.gather_seats-seats.ensures.frames c.gather_seats-seats.ensures.pasts)

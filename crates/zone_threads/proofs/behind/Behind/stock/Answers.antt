@@ -10,7 +10,7 @@ use Rattle.zone_threads.proofs.behind.Behind.stock.Goals as goal
 
 pub returns-in_default : goal.returns-in_default
 returns-in_default g c =
-    subst (λ (left : CpuInRun). ReadsAfterSettling g.N.BootName.frames g.N.BootName.stocks (SaysText Stock NoMemory) c.args.cpu.now left)
+    subst (λ (left : CpuInRun). ReadsAfterSettling g.N.BootName.frames (SaysText Stock NoMemory) c.args.cpu.now left)
     (sym c.write_own_stock-shown.ensures.cpu)
     (record {
       found = c.self.inside.locked;
@@ -25,7 +25,7 @@ returns-in_default g c =
 
 pub returns : goal.returns
 returns g c =
-    subst (λ (left : CpuInRun). ReadsAfterSettling g.N.BootName.frames g.N.BootName.stocks (SaysText Stock (Text c.into_bytes.result)) c.args.cpu.now left)
+    subst (λ (left : CpuInRun). ReadsAfterSettling g.N.BootName.frames (SaysText Stock (Text c.into_bytes.result)) c.args.cpu.now left)
     (sym c.write_own_stock-shown.ensures.cpu)
     (record {
       found = c.self.inside.locked;
