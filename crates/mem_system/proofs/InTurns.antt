@@ -86,15 +86,9 @@ no_pin_at cpus now i any inside long left none =
     let all = sum_parts (λ c. length c.pins) cpus in
     ap (λ (l : List CpuInRun). (get_or l 0 any).part.pins) (same_next i cpus now any within long left) ∙ nothing_left _ (omega (arith, part, all, none))
 
-pub emptied_still : (t : KnownTable) (x y : KnownMachine) → LendsAndFillsNone x y → (c : KnownCpu) → IsEmptied t x c → IsEmptied t y c
+pub emptied_still : (t : KnownTable) (x y : KnownMachine) → LendsAndFillsNone t x y → (c : KnownCpu) → IsEmptied t x c → IsEmptied t y c
 emptied_still t x y alone c emptied =
-    record {
-      tied = emptied.tied;
-      idle = emptied.idle;
-      none_lent = alone.none_lent c.number emptied.none_lent;
-      drained = alone.drained c.number
-          emptied.drained;
-    }
+    record { idle = emptied.idle; none_lent = alone.none_lent c.number emptied.none_lent; drained = alone.drained c.number emptied.drained }
 
 all_of_one : (P : CpuInRun → Type 0) (d : CpuInRun) → P d → All P (d ∷ [])
 all_of_one P d one zero any inside = one

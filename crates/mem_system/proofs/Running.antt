@@ -8,12 +8,12 @@ use Rattle.step_rules.specs.declared.step.Action.TheVariants.{Lock, Unlock}
 use Rattle.step_rules.specs.declared.step.Answer.TheVariants.{Done}
 use Rattle.step_rules.specs.State.{State}
 use Rattle.step_rules.specs.After.{Run, after}
-use Rattle.boot_words.specs.declared.view.Past.{Past}
+use Rattle.boot_words.specs.declared.past.Past.{Past}
 use Rattle.boot_words.specs.Allowed.{GrewBy}
 use Rattle.boot_words.specs.Rule.{AllOf}
 use Rattle.boot_words.specs.Pasts.{KnownPasts, Locks, Unlocks, cpu_past, own_past}
 use Rattle.boot_words.specs.Growth.{GainsSteps, IsRunSoFar}
-use Rattle.boot_words.proofs.Growing.{all_grew_both}
+use Rattle.boot_words.proofs.Grown.{all_grew_both}
 use Rattle.boot_words.proofs.Holding.{append_none}
 use Rattle.boot_words.proofs.Gaining.{gains_go_on, of_two_seats, visit_gains}
 use Rattle.mem_machine.specs.Machines.{KnownMachine}
@@ -63,7 +63,7 @@ visit_under_lock_gains : (t : KnownTable) (Does : Transition VisitState → Type
 visit_under_lock_gains t Does m c n d v zone =
     let p = c.part.number in
     visit_gains (own_past m.run.past) (own_past c.past) (between_locks p v.visit.steps) (own_past n.run.past) (own_past d.past) v.run.zone_grew v.run.cpu_grew zone
-    (λ other some ne. of_two_seats p (between_locks p v.visit.steps) (inr refl, locked_of_two p _ v.visit.steps _ v.visit.makes.leads) other some
+    (λ other some ne. of_two_seats p (between_locks p v.visit.steps) (inr refl, locked_of_two p _ v.visit.steps _ (subst (λ (q : ℕ). IsLocalRun q _ v.visit.steps _) v.holder v.visit.makes.leads)) other some
     (λ is. ne (is ∙ sym v.run.number)))
 
 -- the first past behind others, and what stands there when it is another

@@ -17,13 +17,11 @@ pub loop-cpu-preserved : goal.loop-cpu-preserved
 loop-cpu-preserved g c =
     let inside : c.loop-cpu.cpu-index < length c.loop-cpu.cpus = search rules in
     let done = c.empty_under_lock.ensures in
-    let t = g.N.BootName.frames in
-    let w = g.N.BootName.stocks in (
+    let t = g.N.BootName.frames in (
       so_far_more (VisitsUnderLock t Empties) _ _ _ _ _ _ c.cpu-item.result _ c.loop-cpu.invariant.0 inside done.empties,
-      all_more (λ cpu. IsEmptied t w c.empty_under_lock.new.machine cpu.part) c.loop-cpu.cpus c.loop-cpu.cpu-index c.empty_under_lock.new.cpu inside
-          (all_still (λ cpu. IsEmptied t w c.loop-cpu.machine cpu.part) (λ cpu. IsEmptied t w c.empty_under_lock.new.machine cpu.part) (take c.loop-cpu.cpu-index c.loop-cpu.cpus)
-          (λ cpu. emptied_still t w c.loop-cpu.machine c.empty_under_lock.new.machine done.others cpu.part) c.loop-cpu.invariant.1) done.emptied,
-      done.shut,
+      all_more (λ cpu. IsEmptied t c.empty_under_lock.new.machine cpu.part) c.loop-cpu.cpus c.loop-cpu.cpu-index c.empty_under_lock.new.cpu inside
+          (all_still (λ cpu. IsEmptied t c.loop-cpu.machine cpu.part) (λ cpu. IsEmptied t c.empty_under_lock.new.machine cpu.part) (take c.loop-cpu.cpu-index c.loop-cpu.cpus)
+          (λ cpu. emptied_still t c.loop-cpu.machine c.empty_under_lock.new.machine done.others cpu.part) c.loop-cpu.invariant.1) done.emptied,
       done.rests,
     )
 

@@ -15,7 +15,6 @@ loop-cpu-preserved g c =
     let done = c.settle_under_lock.ensures in (
       so_far_more (VisitsUnderLock g.N.BootName.frames SettlesInVisit) _ _ _ _ _ _ c.cpu-item.result _ c.loop-cpu.invariant.0 inside done.settles,
       all_more (λ cpu. IsSettledUnpinned cpu.part) c.loop-cpu.cpus c.loop-cpu.cpu-index c.settle_under_lock.new.cpu inside c.loop-cpu.invariant.1 done.settled,
-      done.shut,
       done.rests,
     )
 
