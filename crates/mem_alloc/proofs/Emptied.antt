@@ -30,7 +30,7 @@ clears t g pages m n steps held h p was =
 
 each : (r : Option ℕ) (t : KnownTable) (g pages : ℕ) (victims : List Killed) (m n : KnownMachine) (steps : Run)
     → KillsVictims r g pages victims (transition t m steps n) → StaysDrained t m n
-each r t g pages [] m n steps h = stays t m steps n h
+each r t g pages [] m n steps h p was = stays t m steps n h p was
 each r t g pages (killed ∷ later) m n steps h p was = each r t g pages later h.between n h.later h.second p (h.first.stocks.drained p was)
 
 kills : (r : Option ℕ) (t : KnownTable) (g pages : ℕ) (m n : KnownMachine) (steps : Run) → IsHeld t m.run.past → KillsForRoom r g pages (transition t m steps n)

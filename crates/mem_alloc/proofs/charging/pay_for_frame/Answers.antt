@@ -2,16 +2,18 @@ use Rattle.std.proofs.Common.{◌≡◌, ℕ, sym, ap, ◌∙◌, subst}
 use Rattle.std.proofs.lemmas.Bool.{false≢true}
 use Rattle.group_tree.specs.Groups.{has_group}
 use Rattle.boot_words.specs.Pasts.{IsHeld}
-use Rattle.mem_machine.specs.Machines.{KnownMachine, is_killed}
+use Rattle.mem_machine.specs.Machines.{IsCpuOf, KnownMachine, is_killed}
 use Rattle.mem_machine.specs.Local.{Visits, visit_state}
 use Rattle.mem_machine.specs.Paying.{HoldsPage}
 use Rattle.mem_machine.specs.Stocks.{IsDrained}
 use Rattle.mem_machine.proofs.DrainingAll.{drained_now, drained_trees}
+use Rattle.mem_machine.proofs.Moved.{number_range}
 use Rattle.mem_alloc.proofs.Filling.{charged_page, pays_anew, pays_none}
 use Rattle.mem_alloc.proofs.charging.pay_for_frame.Goals as goal
 
 pub holds_page-requires : goal.holds_page-requires
-holds_page-requires g c = record { held = c.requires.visit.held; who = c.requires.visit.who; own = c.requires.visit.own }
+holds_page-requires g c =
+    record { holds = record { held = c.requires.visit.held; who = c.requires.visit.who; own = c.requires.visit.own } }
 
 pub returns-then-holds_page : goal.returns-then-holds_page
 returns-then-holds_page g c =
@@ -23,6 +25,12 @@ returns-then-holds_page g c =
       visit = subst (λ (m : KnownMachine). Visits t (visit_state m c.args.cpu.now)) (sym looked.machine) c.requires.visit;
       page = subst (λ (m : KnownMachine). HoldsPage t (visit_state m c.args.cpu.now) c.args.group) (sym looked.machine) page;
     }
+
+-- the CPU that holds the lock is one of the boot
+pub drain_stock-requires-clause-cpu : goal.drain_stock-requires-clause-cpu
+drain_stock-requires-clause-cpu g c =
+    let t = g.N.BootName.frames in
+    subst (IsCpuOf t) (sym c.number-cpu_number.ensures.number) (number_range t c.args.machine.now c.args.cpu.now c.requires.visit)
 
 pub drain_stock-requires-clause-held : goal.drain_stock-requires-clause-held
 drain_stock-requires-clause-held g c =

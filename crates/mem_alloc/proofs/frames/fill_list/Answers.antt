@@ -1,7 +1,9 @@
-use Rattle.std.proofs.Common.{[], length, inl, inr, ap, refl, ◌∙◌, arith, length-append, rules}
+use Rattle.std.proofs.Common.{[], length, inl, inr, ap, refl, sym, ◌∙◌, subst, arith, length-append, rules}
 use Rattle.std.proofs.lemmas.List.{nil_from_length}
+use Rattle.mem_machine.specs.Machines.{IsCpuOf}
 use Rattle.mem_machine.specs.Steps.{refill_steps}
 use Rattle.mem_machine.proofs.Followed.{makes_none}
+use Rattle.mem_machine.proofs.Moved.{number_range}
 use Rattle.mem_alloc.proofs.Filling.{lent_part, lent_stock, lent_none, lent_batch, no_frame, reclaims_for, reclaimed_front}
 use Rattle.mem_alloc.proofs.frames.fill_list.Goals as goal
 
@@ -83,3 +85,10 @@ returns-then-list_len-gt0-clause-fills g c =
 pub refill_in_rounds-requires-clause-none_fresh : goal.refill_in_rounds-requires-clause-none_fresh
 refill_in_rounds-requires-clause-none_fresh g c =
     (lent_part _ _ _ _ _ c.refill.ensures.refills.lends).fresh ∙ c.requires.none_fresh
+
+-- the CPU that holds the lock is one of the boot
+pub drain_stock-requires-clause-cpu : goal.drain_stock-requires-clause-cpu
+drain_stock-requires-clause-cpu g c =
+    let t = g.N.BootName.frames in
+    subst (IsCpuOf t) (sym c.number-cpu_number.ensures.number)
+    (number_range t c.refill_in_rounds.new.machine c.refill_in_rounds.new.cpu c.if-refill_in_rounds.ensures.visit)
