@@ -10,6 +10,8 @@ const REFUSALS = { 1: ["NoParent", "the parent group is not there"], 2: ["Exists
   17: ["Again", "fewer pages were given back than asked"], 18: ["Killed", "the group was killed"], 19: ["BadOrder", "the order is above 10"],
   20: ["NotKept", "the frame is not the head of a kept unit"], 21: ["NotPinned", "the CPU holds no reference on the frame"],
   22: ["WriteOnly", "the file cannot be read"] };
+// What the line that explains refusal 12 says beside the sentence.
+const VALUES = "memory.max and memory.reclaim take whole bytes, with K M G T P E, memory.max also max; memory.oom.group takes 0 or 1";
 const refused = (number, path = "") => `refused ${number} ${REFUSALS[number][0]}${path && ` ${path}`}`;
 const FILES = { "memory.current": "r", "memory.max": "rw", "memory.peak": "r", "memory.events": "r", "memory.events.local": "r",
   "memory.oom.group": "rw", "memory.reclaim": "w" };

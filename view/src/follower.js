@@ -573,13 +573,14 @@ class Follower {
       answer.split("\n").map(line => `# = ${line}`.slice(0, MOST_LINE));
     return [...lines, ...this.reason(answer), ...this.notes.map(note => note.slice(0, MOST_LINE))];
   }
-  /** The line that explains a refusal. A frame that isn't kept may be a CPU's. */
+  /** The line that explains a refusal. Of a text that is no limit it says what the files take. A frame that isn't kept may be a CPU's. */
   reason(answer) {
     const [, number] = /^refused (\d+) /.exec(answer ?? "") ?? [], { verb, words, isCut } = this.line;
     if (!Object.hasOwn(REFUSALS, number)) return [];
     if (isCut && number === "20") return [null];
     const isNamed = ["release", "touch", "dirty", "clean"].includes(verb), [, cpu] = number === "20" && isNamed && /^cpu (\d+)$/.exec(ownerOf(this.state, Number(words[0]))) || [];
-    return [`# refused ${number}: ${REFUSALS[number][1]}${cpu ? `; it is on CPU ${cpu}'s list, or fresh there until CPU ${cpu} settles` : ""}`];
+    const more = number === "12" ? `; ${VALUES}` : cpu ? `; it is on CPU ${cpu}'s list, or fresh there until CPU ${cpu} settles` : "";
+    return [`# refused ${number}: ${REFUSALS[number][1]}${more}`];
   }
   /** The answer that the steps and the state make due; null if the steps aren't those of the command. */
   answer() {

@@ -4,6 +4,7 @@ const [SPACE, HASH, DIGIT] = [32, 35, 48];
 
 /** Why a text that is that of no line is none. */
 const noLine = text => text.startsWith("\xef\xbb\xbf") ? "it begins with a UTF-8 byte order mark: a log is plain ASCII"
+  : text.startsWith("\x1f\x8b") ? "it looks like gzip: a log is plain ASCII"
   : text.includes("\0") ? "it looks like UTF-16: a log is plain ASCII"
   : text.endsWith("\r") ? "it ends with a carriage return: the log has Windows line ends" : "it is neither a step nor sizes";
 

@@ -79,6 +79,11 @@ const TEXTS: &str = "\
 22 WriteOnly: the file cannot be read
 ";
 
+// What the line that explains refusal 12 says beside the text.
+const VALUES: &str =
+    "; memory.max and memory.reclaim take whole bytes, with K M G T P E, memory.max also max; \
+    memory.oom.group takes 0 or 1";
+
 // The refusals, by their numbers.
 fn refusals(group: GroupId) -> [Fault; 22] {
     [
@@ -117,7 +122,11 @@ fn each_refusal_has_its_number_name_and_text(rt: HostRuntime) -> Result<(), Fail
         told.push_str(line.as_str())?;
         let mut reason = String::new(rt.alloc());
         write_refused(&fault, None, &mut reason)?;
-        let shown = format!(in rt.alloc(); "# refused {}: {fault}\n", fault.number())?;
+        let values = match fault {
+            Fault::BadLimit => VALUES,
+            _ => "",
+        };
+        let shown = format!(in rt.alloc(); "# refused {}: {fault}{values}\n", fault.number())?;
         expect_true(&rt, reason.as_str() == shown.as_str());
     }
     expect_true(&rt, told.as_str() == TEXTS);

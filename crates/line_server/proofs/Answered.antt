@@ -7,7 +7,7 @@ use Rattle.script_lines.specs.Script.{IsLineText, is_skipped}
 use Rattle.script_lines.specs.declared.line.Line.{Line}
 use Rattle.script_lines.specs.declared.line.Line.TheVariants.{Go, At}
 use Rattle.script_lint.specs.Findings.{IsFoundInText}
-use Rattle.script_lint.specs.Shapes.{IsGoodText}
+use Rattle.script_lint.specs.Lines.{IsGoodText}
 use Rattle.script_lint.specs.Texts.{cause_text}
 use Rattle.script_lint.specs.declared.finding.Finding.{Finding}
 use Rattle.script_replay.specs.Lines.{SystemState}

@@ -4,7 +4,7 @@ ghost use Rattle.std.specs.Prelude.{◌≡◌, IfOk, false, ℕ};
 ghost use Rattle.script_lines.specs.Script.{IsLineText, is_skipped};
 ghost use Rattle.script_lines.specs.Verb.{IsNames};
 ghost use Rattle.script_lines.specs.declared.line.Line.{Line};
-ghost use Rattle.script_lint.specs.Shapes.{HasValidCounts};
+ghost use Rattle.script_lint.specs.Lines.{HasValidCounts};
 ghost use Rattle.line_server.specs.Forms.{bad_line_answer};
 ghost use Rattle.line_server.specs.Lines.{RefusesText};
 

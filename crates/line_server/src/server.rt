@@ -3,7 +3,7 @@
 ghost use Rattle.std.specs.Prelude.{◌≡◌, IfErr, IfOk, OnErr, OnOk, Some, length};
 ghost use Rattle.mem_system.specs.Boots.{IsSizedAs};
 ghost use Rattle.script_lines.specs.Verb.{IsNames};
-ghost use Rattle.script_lint.specs.Shapes.{HasValidCounts};
+ghost use Rattle.script_lint.specs.Lines.{HasValidCounts};
 ghost use Rattle.script_replay.specs.Lines.{system_state};
 ghost use Rattle.line_server.specs.Known.{KeepsTerms, terms_of};
 ghost use Rattle.line_server.specs.Sessions.{EndsTurn, FailsSession, FailsTurn, ServesSession};
@@ -39,7 +39,7 @@ impl<N: BootName> Model for Server<N> {
     ghost use Rattle.std.specs.Prelude.{◌≡◌, length};
     ghost use Rattle.mem_system.specs.Boots.{IsSizedAs};
     ghost use Rattle.script_lines.specs.Verb.{IsNames};
-    ghost use Rattle.script_lint.specs.Shapes.{HasValidCounts};
+    ghost use Rattle.script_lint.specs.Lines.{HasValidCounts};
     ghost use Rattle.script_replay.specs.Lines.{system_state};
     ghost use Rattle.line_server.specs.Known.{KnownServer};
 

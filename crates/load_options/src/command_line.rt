@@ -96,6 +96,17 @@ const SERVE_FLAGS: [(&str, &str); 3] = [
     ("steps", STEPS_HELP),
 ];
 
+// The options without a value, and the subcommands that take them.
+const TAKERS: [(&str, &str); 7] = [
+    ("--audit", "replay, run, serve"),
+    ("--numbered", "replay, run"),
+    ("--strict", "replay, run"),
+    ("--explain", "replay, serve"),
+    ("--check", "replay"),
+    ("--steps", "replay, serve"),
+    ("--all", "check"),
+];
+
 // Why the words are refused though clap takes each of them.
 const STEPS_ALONE: &str =
     "the argument '--steps' cannot be used with '--audit', '--numbered', '--strict', '--explain' \
@@ -157,7 +168,52 @@ fn parse<'a, S: AsStr>(
             drop(found);
             asked
         }
-        Err(error) => Err(fault_of(alloc, &error)),
+        Err(error) => Err(words_fault(alloc, &error, words)),
+    }
+}
+
+// The fault for an error of clap at these words. For an option that other subcommands take, clap knows only the options
+// of this one, and would name one that looks alike.
+fn words_fault<S: AsStr>(alloc: Global, error: &Error, words: &[S]) -> WordsFault
+    ensures { kind_of error.now ≡ ErrorKind.OutOfMemory → IsNoMemory result }
+{
+    if error.kind() != ErrorKind::UnknownArgument {
+        return fault_of(alloc, error);
+    }
+    match words {
+        [name, rest @ ..] => match misplaced(name.as_str(), rest) {
+            Some(option) => bad_words(misplaced_text(alloc, name.as_str(), option)),
+            None => fault_of(alloc, error),
+        },
+        [] => fault_of(alloc, error),
+    }
+}
+
+// The first of the words that is an option of other subcommands than this one, and those.
+fn misplaced<S: AsStr>(name: &str, words: &[S]) -> Option<(&'static str, &'static str)> {
+    for word in words {
+        for (option, takers) in TAKERS {
+            if word.as_str() == option && !takers.split(", ").any(|taker| taker == name) {
+                return Some((option, takers));
+            }
+        }
+    }
+    None
+}
+
+// What is said of an option that only other subcommands take, laid out as by clap.
+fn misplaced_text(alloc: Global, name: &str, option: (&str, &str)) -> Result<String, AllocError> {
+    let (option, takers) = option;
+    format!(in alloc;
+        "error: unexpected argument '{option}' found\n\n  tip: only these take it: {takers}\n\nUsage: memcg {name} [OPTIONS]\n\nFor more information, try '--help'.\n"
+    )
+}
+
+// The fault with this text, if memory was there for it.
+fn bad_words(text: Result<String, AllocError>) -> WordsFault {
+    match text {
+        Ok(text) => WordsFault::BadWords(text),
+        Err(error) => WordsFault::NoMemory(error),
     }
 }
 
@@ -206,10 +262,7 @@ fn fault_of(alloc: Global, error: &Error) -> WordsFault
 {
     match error.kind() {
         ErrorKind::OutOfMemory => WordsFault::NoMemory(AllocError),
-        _ => match format!(in alloc; "{error}") {
-            Ok(text) => WordsFault::BadWords(text),
-            Err(error) => WordsFault::NoMemory(error),
-        },
+        _ => bad_words(format!(in alloc; "{error}")),
     }
 }
 

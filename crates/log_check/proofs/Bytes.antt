@@ -25,9 +25,9 @@ use Rattle.log_check.specs.declared.progress.Taken.{Taken}
 use Rattle.log_check.specs.declared.progress.Taken.TheVariants.{GoesOn, NotLegal, Bad}
 use Rattle.log_check.specs.declared.line_fault.LineFault.{LineFault}
 use Rattle.log_check.specs.declared.line_fault.LineFault.TheVariants.{NoLineFeed, NoSizes, SizesAgain, StepFirst, TooLong}
-use Rattle.log_check.specs.declared.line_fault.LineFault.TheVariants.{ByteOrderMark, WideText, CarriageReturn, NoLine}
+use Rattle.log_check.specs.declared.line_fault.LineFault.TheVariants.{ByteOrderMark, Gzip, WideText, CarriageReturn, NoLine}
 use Rattle.log_check.specs.declared.verdict.IllegalStep.{IllegalStep}
-use Rattle.log_check.specs.Verdicts.{BeginsWith, BreaksRules, IsBadLine, IsLogVerdict, IsMisplaced, IsWhy, IsPromisedLog, NamesLeftOut, fault_of, is_marked, is_returned, is_wide, zone_in}
+use Rattle.log_check.specs.Verdicts.{BeginsWith, BreaksRules, IsBadLine, IsLogVerdict, IsMisplaced, IsWhy, IsPromisedLog, NamesLeftOut, fault_of, begins_as_gzip, is_marked, is_returned, is_wide, zone_in}
 use Rattle.log_check.specs.declared.verdict.LogEnd.{LogEnd}
 use Rattle.log_check.specs.Ends.{IsEnd, free_count}
 use Rattle.log_check.specs.Taking.{AreLeftOut, AreWholeLines, Checked, Concludes, EndsIllegally, HasChecked, HasRead, HasTakenLines, LeadsTo, ReadsOrJudges, TakesAfter}
@@ -173,25 +173,27 @@ why_misplaced NoSizes lines l t rest no_feed is misplaced = absurd misplaced
 why_misplaced NoLineFeed lines l t rest no_feed is misplaced = absurd misplaced
 why_misplaced TooLong lines l t rest no_feed is misplaced = absurd misplaced
 why_misplaced ByteOrderMark lines l t rest no_feed is misplaced = absurd misplaced
+why_misplaced Gzip lines l t rest no_feed is misplaced = absurd misplaced
 why_misplaced WideText lines l t rest no_feed is misplaced = absurd misplaced
 why_misplaced CarriageReturn lines l t rest no_feed is misplaced = absurd misplaced
 why_misplaced NoLine lines l t rest no_feed is misplaced = absurd misplaced
 
 -- a line whose text is that of no line
 why_no_line : (lines : List LogLine) (t rest : List ℕ) → NoFeed t → ((l : LogLine) → ¬ IsLogLineText t l) → IsWhy (fault_of t) lines (t ++ 10 ∷ rest)
-why_no_line lines t rest no_feed none = by (is_marked t) (is_wide t) (is_returned t) refl
+why_no_line lines t rest no_feed none = by (is_marked t) (begins_as_gzip t) (is_wide t) (is_returned t) refl
   where
     begins : BeginsWith t (t ++ 10 ∷ rest)
     begins = record { more = rest; no_feed = no_feed; parts = refl }
 
-    fault_by : (a b c : Bool) → LineFault
-    fault_by a b c = if a then ByteOrderMark else if b then WideText else if c then CarriageReturn else NoLine
+    fault_by : (a b c d : Bool) → LineFault
+    fault_by a b c d = if a then ByteOrderMark else if b then Gzip else if c then WideText else if d then CarriageReturn else NoLine
 
-    by : (a b c : Bool) → fault_by a b c ≡ fault_of t → IsWhy (fault_by a b c) lines (t ++ 10 ∷ rest)
-    by true b c is = (t, begins, none, is)
-    by false true c is = (t, begins, none, is)
-    by false false true is = (t, begins, none, is)
-    by false false false is = (t, begins, none, is)
+    by : (a b c d : Bool) → fault_by a b c d ≡ fault_of t → IsWhy (fault_by a b c d) lines (t ++ 10 ∷ rest)
+    by true b c d is = (t, begins, none, is)
+    by false true c d is = (t, begins, none, is)
+    by false false true d is = (t, begins, none, is)
+    by false false false true is = (t, begins, none, is)
+    by false false false false is = (t, begins, none, is)
 
 -- the line has a text of its own, and may not come here
 line_misplaced : (before rest : List ℕ) (r : LogReader) (line : ℕ) (fault : LineFault) (l : LogLine) (h : HasRead before r) → IsLogLineText r.line.items l

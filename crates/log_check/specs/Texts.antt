@@ -9,7 +9,7 @@ use Rattle.log_check.specs.declared.verdict.LogVerdict.TheVariants.{Legal, NotLe
 use Rattle.log_check.specs.declared.verdict.IllegalStep.{IllegalStep}
 use Rattle.log_check.specs.declared.line_fault.LineFault.{LineFault}
 use Rattle.log_check.specs.declared.line_fault.LineFault.TheVariants.{NoSizes, NoLineFeed, TooLong, SizesAgain, StepFirst}
-use Rattle.log_check.specs.declared.line_fault.LineFault.TheVariants.{ByteOrderMark, WideText, CarriageReturn, NoLine}
+use Rattle.log_check.specs.declared.line_fault.LineFault.TheVariants.{ByteOrderMark, Gzip, WideText, CarriageReturn, NoLine}
 
 -- the line and the number of a step
 abbrev pub step_place_text : (line step : ℕ) → List ℕ
@@ -35,6 +35,7 @@ why_text NoSizes = codes ": the sizes are missing\n"
 why_text NoLineFeed = codes ": it has no line feed\n"
 why_text TooLong = codes ": it has more than 1024 bytes\n"
 why_text ByteOrderMark = codes ": it begins with a UTF-8 byte order mark: a log is plain ASCII\n"
+why_text Gzip = codes ": it looks like gzip: a log is plain ASCII\n"
 why_text WideText = codes ": it looks like UTF-16: a log is plain ASCII\n"
 why_text CarriageReturn = codes ": it ends with a carriage return: the log has Windows line ends\n"
 why_text NoLine = codes ": it is neither a step nor sizes\n"

@@ -17,7 +17,7 @@ use Rattle.log_lines.specs.Line.{IsLogLineText, longest_log_line}
 use Rattle.log_lines.specs.Log.{IsFirstBadLogLine, IsLog, WholeLog, says_something}
 use Rattle.log_check.specs.declared.line_fault.LineFault.{LineFault}
 use Rattle.log_check.specs.declared.line_fault.LineFault.TheVariants.{NoSizes, NoLineFeed, TooLong, SizesAgain, StepFirst}
-use Rattle.log_check.specs.declared.line_fault.LineFault.TheVariants.{ByteOrderMark, WideText, CarriageReturn, NoLine}
+use Rattle.log_check.specs.declared.line_fault.LineFault.TheVariants.{ByteOrderMark, Gzip, WideText, CarriageReturn, NoLine}
 use Rattle.log_check.specs.declared.verdict.IllegalStep.{IllegalStep}
 use Rattle.log_check.specs.declared.verdict.LogEnd.{LogEnd}
 use Rattle.log_check.specs.declared.verdict.LogVerdict.{LogVerdict}
@@ -133,6 +133,10 @@ IsMisplaced fault lines line = ⊥
 abbrev pub is_marked : List ℕ → Bool
 is_marked text = starts_with (λ a b. a == b) text (239 ∷ 187 ∷ 191 ∷ [])
 
+-- the text begins as a file of gzip does (RFC 1952, section 2.3.1)
+abbrev pub begins_as_gzip : List ℕ → Bool
+begins_as_gzip text = starts_with (λ a b. a == b) text (31 ∷ 139 ∷ [])
+
 -- the text has a byte 0, as the letters of UTF-16 have
 abbrev pub is_wide : List ℕ → Bool
 is_wide text = list_any (λ b. b == 0) text
@@ -145,6 +149,7 @@ is_returned text = option_map_or (λ b. b == 13) (slice_get text (length text - 
 abbrev pub fault_of : List ℕ → LineFault
 fault_of text =
     if is_marked text then ByteOrderMark
+    else if begins_as_gzip text then Gzip
     else if is_wide text then WideText
     else if is_returned text then CarriageReturn
     else NoLine
@@ -161,6 +166,7 @@ IsWhy NoLineFeed lines rest = (rest ≢ []) × All (λ b. b ≢ 10) rest
 IsWhy TooLong lines rest = (line : List ℕ) × (more : List ℕ) × (rest ≡ line ++ more) × All (λ b. b ≢ 10) line
     × (longest_log_line < length line)
 IsWhy ByteOrderMark lines rest = IsNoLine ByteOrderMark rest
+IsWhy Gzip lines rest = IsNoLine Gzip rest
 IsWhy WideText lines rest = IsNoLine WideText rest
 IsWhy CarriageReturn lines rest = IsNoLine CarriageReturn rest
 IsWhy NoLine lines rest = IsNoLine NoLine rest

@@ -1,7 +1,7 @@
 //! Why no log continues with a line.
 
 ghost use Rattle.std.specs.Prelude.{◌≡◌};
-ghost use Rattle.log_check.specs.Verdicts.{is_marked, is_returned, is_wide};
+ghost use Rattle.log_check.specs.Verdicts.{begins_as_gzip, is_marked, is_returned, is_wide};
 
 use thiserror::Error;
 
@@ -20,6 +20,9 @@ pub enum LineFault {
     /// The text is that of no line: it begins with the byte order mark of UTF-8.
     #[error("it begins with a UTF-8 byte order mark: a log is plain ASCII")]
     ByteOrderMark,
+    /// The text is that of no line: it begins as a file of gzip does.
+    #[error("it looks like gzip: a log is plain ASCII")]
+    Gzip,
     /// The text is that of no line: it has a byte 0, as UTF-16 has.
     #[error("it looks like UTF-16: a log is plain ASCII")]
     WideText,
@@ -48,6 +51,8 @@ impl LineFault {
     {
         if is_marked(text) {
             LineFault::ByteOrderMark
+        } else if begins_as_gzip(text) {
+            LineFault::Gzip
         } else if is_wide(text) {
             LineFault::WideText
         } else if is_returned(text) {
@@ -68,6 +73,7 @@ impl LineFault {
             LineFault::ByteOrderMark => {
                 ": it begins with a UTF-8 byte order mark: a log is plain ASCII\n"
             }
+            LineFault::Gzip => ": it looks like gzip: a log is plain ASCII\n",
             LineFault::WideText => ": it looks like UTF-16: a log is plain ASCII\n",
             LineFault::CarriageReturn => {
                 ": it ends with a carriage return: the log has Windows line ends\n"
@@ -84,6 +90,13 @@ fn is_marked(text: &[u8]) -> bool
     ensures { result ≡ is_marked text.now }
 {
     text.starts_with(&[0xEF, 0xBB, 0xBF])
+}
+
+// Whether the text begins as a file of gzip does.
+fn begins_as_gzip(text: &[u8]) -> bool
+    ensures { result ≡ begins_as_gzip text.now }
+{
+    text.starts_with(&[0x1F, 0x8B])
 }
 
 // Whether the text has a byte 0, as the letters of UTF-16 have.

@@ -33,13 +33,19 @@ sentence_of NotKept = codes "the frame is not the head of a kept unit"
 sentence_of NotPinned = codes "the CPU holds no reference on the frame"
 sentence_of WriteOnly = codes "the file cannot be read"
 
+-- what the files take, if a text is no value of one
+abbrev pub values_of : Fault → List ℕ
+values_of BadLimit = codes "; memory.max and memory.reclaim take whole bytes, with K M G T P E, memory.max also max; "
+    ++ codes "memory.oom.group takes 0 or 1"
+values_of fault = codes ""
+
 -- where the frame is that the refused command names, if it is lent to a CPU; nothing if it isn't
 unfoldable pub lent_text : (lent : Option ℕ) → List ℕ
 lent_text None = []
 lent_text (Some cpu) = codes "; it is on CPU " ++ decimal cpu ++ codes "'s list, or fresh there until CPU "
     ++ decimal cpu ++ codes " settles"
 
--- the line of a refusal: its number, its sentence, and where a lent frame is
+-- the line of a refusal: its number, its sentence, what the files take, and where a lent frame is
 abbrev pub refused_text : Fault → (lent : Option ℕ) → List ℕ
 refused_text fault lent =
-    codes "# refused " ++ decimal (number_of fault) ++ codes ": " ++ sentence_of fault ++ lent_text lent ++ codes "\n"
+    codes "# refused " ++ decimal (number_of fault) ++ codes ": " ++ sentence_of fault ++ values_of fault ++ lent_text lent ++ codes "\n"

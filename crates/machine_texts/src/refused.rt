@@ -2,22 +2,37 @@
 
 ghost use Rattle.std.specs.Prelude.{◌≡◌};
 ghost use Rattle.control_files.specs.Strings.{AddsBytes};
-ghost use Rattle.machine_texts.specs.Refused.{lent_text, refused_text, sentence_of};
+ghost use Rattle.machine_texts.specs.Refused.{lent_text, refused_text, sentence_of, values_of};
 
 use crate::parts::push_count;
 use group_tree::fault::Fault;
 use std::alloc::AllocError;
 
-/// Adds the line of a refusal: its number and its sentence. If the refused command names a frame that is lent to a CPU,
-/// that CPU is `lent`, and the line names it. It fails only if memory runs out.
+/// Adds the line of a refusal: its number, its sentence, and what the files take if a text is no value of one. If the
+/// refused command names a frame that is lent to a CPU, that CPU is `lent`, and the line names it. It fails only if memory
+/// runs out.
 pub fn write_refused(fault: &Fault, lent: Option<u32>, text: &mut String) -> Result<(), AllocError>
     ensures { AddsBytes result text.old text.new (refused_text fault.now lent) }
 {
     push_count("# refused ", u128::from(fault.number()), text)?;
     text.push_str(": ")?;
     text.push_str(sentence(fault))?;
+    text.push_str(values(fault))?;
     push_lent(lent, text)?;
     text.push_str("\n")
+}
+
+// What the files take, if a text is no value of one.
+fn values(fault: &Fault) -> &'static str
+    ensures { result.now ≡ values_of fault.now }
+{
+    match fault {
+        Fault::BadLimit => {
+            "; memory.max and memory.reclaim take whole bytes, with K M G T P E, memory.max also max; \
+            memory.oom.group takes 0 or 1"
+        }
+        _ => "",
+    }
 }
 
 // Adds where a lent frame is.

@@ -3,7 +3,7 @@
 
 pub mod fault;
 pub mod line;
-mod number;
+pub mod number;
 mod place;
 pub mod script;
 pub mod verb;

@@ -16,7 +16,7 @@ use crate::fault::ScriptFault;
 use crate::line::{Command, Line};
 use crate::number::{first_number, number};
 use crate::place::{near_place, path_end, place_by_one};
-use crate::verb::{Form, Names, Verb, command_names, first_verb_within};
+use crate::verb::{Form, Names, Verb, command_names, first_verb};
 use group_tree::group::MAX_GROUPS;
 use std::alloc::{AllocFailed, Global};
 use zone_blocks::config::Config;
@@ -260,7 +260,7 @@ fn parse_command<'a>(
     ensures { MatchOption result ((command : Command) → ¬ IsCommandText sizes.now command text.entry.now)
         (λ command. IsCommandText sizes.now command text.entry.now) }
 {
-    let (verb, rest) = first_verb_within(names, text, wide)?;
+    let (verb, rest) = first_verb(names, text, wide)?;
     match rest {
         None => match verb {
             Verb::Settle => Some(Command::Settle),

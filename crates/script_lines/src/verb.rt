@@ -214,16 +214,6 @@ fn verb_named(names: &Names, name: Name) -> Option<Verb>
     names.get(&name).copied()
 }
 
-/// The command that the text begins with the name of, and what follows the space behind that. The latter is None if
-/// nothing follows the name.
-pub fn first_verb<'a>(names: &Names, text: &'a [u8]) -> Option<(Verb, Option<&'a [u8]>)>
-    requires { IsNames names.now }
-    ensures { MatchOption result ((verb : Verb) → ¬ BeginsWithName verb text.entry.now)
-        (λ r. IsNamed r.0 r.1 text.entry.now) }
-{
-    first_verb_within(names, text, text)
-}
-
 // Where the first word ends, if that is within the first eight bytes of the wide text. Any greater end says that the
 // word is longer than a name.
 #[inline(always)]
@@ -262,10 +252,11 @@ fn first_name(text: &[u8], wide: &[u8]) -> Option<(Name, usize)>
     Some((Name::of_first(wide, end), end))
 }
 
-/// As `first_verb`, for a text that a wider one begins with: eight bytes of that are read at once, which a short text
+/// The command that the text begins with the name of, and what follows the space behind that. The latter is None if
+/// nothing follows the name. A wider text begins with this one: eight bytes of that are read at once, which a short text
 /// lacks. It is inlined, because each line of a script calls it once, and its result is large.
 #[inline(always)]
-pub(crate) fn first_verb_within<'a>(
+pub(crate) fn first_verb<'a>(
     names: &Names,
     text: &'a [u8],
     wide: &[u8],

@@ -1,11 +1,8 @@
-mod Alike
 mod Causes
-mod Commands
+mod Ends
 mod Judging
-mod KindPlaces
-mod LinePlaces
+mod Pasts
 mod Pieces
 mod Progress
 mod Refusing
-mod Splits
 mod Spots

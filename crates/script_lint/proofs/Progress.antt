@@ -17,12 +17,12 @@ use Rattle.script_lines.proofs.Progress.{IsNext, IsOver, is_good, not_far}
 use Rattle.script_lint.specs.Findings.{AreFindings, IsFinding, IsLinted, IsWithin, Names}
 use Rattle.script_lint.specs.Lines.{IsGoodHere, IsSpot}
 use Rattle.script_lint.specs.Script.{AddsFinding, AddsSpot}
-use Rattle.script_lint.specs.Shapes.{IsGoodText, IsRequest}
+use Rattle.script_lint.specs.Lines.{IsGoodText, IsRequest}
 use Rattle.script_lint.specs.declared.finding.Cause.{Cause}
 use Rattle.script_lint.specs.declared.finding.Cause.TheVariants.{InputTooLong, LineTooLong}
 use Rattle.script_lint.specs.declared.finding.Finding.{Finding}
 use Rattle.script_lint.specs.declared.finding.Spot.{Spot}
-use Rattle.script_lint.proofs.LinePlaces.{go_is, go_text}
+use Rattle.script_lint.proofs.Ends.{go_is, go_text}
 use Rattle.script_lint.proofs.Spots.{spot_to}
 
 -- the first lines of the script were linted, with a `go` or none among them

@@ -1,16 +1,15 @@
 -- How far the refused lines of a script were found.
 use Rattle.std.proofs.Common.{◌≡◌, ◌∙◌, ℕ, ◌+◌, ◌≤◌, List, [], ◌∷◌, ◌++◌, length, take, Bool, true, false, Option, None, Some}
 use Rattle.std.proofs.Common.{sym, ap, subst, arith, inl, inr}
-use Rattle.std.specs.List.{AllZip}
 use Rattle.std.proofs.lemmas.Bool.{cases_lt}
-use Rattle.std.proofs.lemmas.List.{length_push, take_more}
+use Rattle.std.proofs.lemmas.List.{append-nil, append_assoc, length_push, take_more}
 use Rattle.std.proofs.lemmas.Option.{get_or_from_slice_get}
 use Rattle.zone_blocks.specs.declared.config.Config.{Config}
 use Rattle.script_lines.specs.Script.{texts_of}
 use Rattle.script_lines.proofs.Progress.{IsNext, IsOver}
 use Rattle.script_lint.specs.Findings.{IsWithin}
 use Rattle.script_lint.specs.Refusals.{IsJudgedText}
-use Rattle.script_lint.specs.Refused.{AreRefused, numbered}
+use Rattle.script_lint.specs.Refused.{AreJudged, AreRefused, numbered}
 use Rattle.script_lint.specs.declared.refusal.Refusal.{Refusal}
 use Rattle.script_lint.specs.declared.refused.RefusedLine.{RefusedLine}
 use Rattle.script_lint.proofs.Progress.{IsBefore}
@@ -19,15 +18,21 @@ use Rattle.script_lint.proofs.Progress.{IsBefore}
 pub record IsFoundTo (sizes : Config) (script : List ℕ) (count : ℕ) (refused : List RefusedLine) : Type 0 where
   pub judged : List (Option Refusal)
   pub long : length judged ≡ count
-  pub judges : AllZip (IsJudgedText sizes) (take count (texts_of script)) judged
+  pub judges : AreJudged sizes [] (take count (texts_of script)) judged
   pub within : (n : ℕ) → 1 ≤ n → n ≤ count → IsWithin script n
   pub are : refused ≡ numbered 1 judged
 
-zip_push : {A B : Type 0} (R : A → B → Type 0) (xs : List A) (ys : List B) (x : A) (y : B) → AllZip R xs ys → R x y → AllZip R (xs ++ x ∷ []) (ys ++ y ∷ [])
-zip_push R [] [] x y all r = (r, tt)
-zip_push R [] (b ∷ ys) x y all r = absurd all
-zip_push R (a ∷ xs) [] x y all r = absurd all
-zip_push R (a ∷ xs) (b ∷ ys) x y all r = (all.0, zip_push R xs ys x y all.1 r)
+judged_push : (sizes : Config) (before texts : List (List ℕ)) (judged : List (Option Refusal)) (text : List ℕ) (why : Option Refusal)
+    → AreJudged sizes before texts judged → IsJudgedText sizes (before ++ texts) text why
+    → AreJudged sizes before (texts ++ text ∷ []) (judged ++ why ∷ [])
+judged_push sizes before [] [] text why all is = (subst (λ (ts : List (List ℕ)). IsJudgedText sizes ts text why) (append-nil before) is, tt)
+judged_push sizes before [] (j ∷ js) text why all is = absurd all
+judged_push sizes before (t ∷ ts) [] text why all is = absurd all
+judged_push sizes before (t ∷ ts) (j ∷ js) text why all is = (
+  all.0,
+  judged_push sizes (before ++ t ∷ []) ts js text why all.1
+      (subst (λ (all_before : List (List ℕ)). IsJudgedText sizes all_before text why) (sym (append_assoc before (t ∷ []) ts)) is),
+)
 
 -- what is known of one line more has the next number
 numbered_push : (n : ℕ) (judged : List (Option Refusal)) (j : Option Refusal)
@@ -41,7 +46,7 @@ numbered_push n (Some why ∷ rest) j =
     ap (λ (lines : List RefusedLine). record { line = n; refusal = why } ∷ lines)
     (numbered_push (n + 1) rest j ∙ ap (λ (m : ℕ). numbered (n + 1) rest ++ numbered m (j ∷ [])) e)
 
-next_text : (script : List ℕ) (count : ℕ) (text : List ℕ) → IsNext script count count text
+pub next_text : (script : List ℕ) (count : ℕ) (text : List ℕ) → IsNext script count count text
     → take (count + 1) (texts_of script) ≡ take count (texts_of script) ++ text ∷ []
 next_text script count text next =
     let here = get_or_from_slice_get (texts_of script) count text text next.is_text in
@@ -57,7 +62,7 @@ within_of script n (Some first) is_within is_over before is long =
 -- the next line was looked at
 pub next_found : (sizes : Config) (script : List ℕ) (count : ℕ) (text : List ℕ) (over : Option ℕ) (is_within : Bool) (j : Option Refusal)
     (old now : List RefusedLine) → IsFoundTo sizes script count old → IsNext script count count text → IsOver script over
-    → IsBefore is_within (count + 1) over → is_within ≡ true → IsJudgedText sizes text j
+    → IsBefore is_within (count + 1) over → is_within ≡ true → IsJudgedText sizes (take count (texts_of script)) text j
     → now ≡ old ++ numbered (count + 1) (j ∷ []) → IsFoundTo sizes script (count + 1) now
 next_found sizes script count text over is_within j old now so_far next is_over before is known added =
     let long = so_far.long in
@@ -65,8 +70,8 @@ next_found sizes script count text over is_within j old now so_far next is_over 
     record {
       judged = so_far.judged ++ j ∷ [];
       long = length_push so_far.judged j ∙ ap (λ (n : ℕ). n + 1) long;
-      judges = subst (λ (texts : List (List ℕ)). AllZip (IsJudgedText sizes) texts (so_far.judged ++ j ∷ [])) (sym (next_text script count text next))
-          (zip_push (IsJudgedText sizes) (take count (texts_of script)) so_far.judged text j so_far.judges known);
+      judges = subst (λ (texts : List (List ℕ)). AreJudged sizes [] texts (so_far.judged ++ j ∷ [])) (sym (next_text script count text next))
+          (judged_push sizes [] (take count (texts_of script)) so_far.judged text j so_far.judges known);
       within = λ n low high. elim (cases_lt count n) [
         | inl past ↦ let is_last : n ≡ count + 1 = omega arith in rw is_last (within_of script (count + 1) over is_within is_over before is)
         | inr near ↦ so_far.within n low near

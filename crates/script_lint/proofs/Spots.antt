@@ -1,23 +1,33 @@
 -- Where a line goes wrong, from where its text can't be continued.
-use Rattle.std.proofs.Common.{◌≡◌, ℕ, ◌<◌, List, length, Bool, true, false, Option, None, Some, MatchOption, nat_lt, not, ◌==◌, take, arith, refl}
+use Rattle.std.proofs.Common.{◌≡◌, ◌∙◌, ℕ, ◌<◌, ◌≤◌, ◌++◌, List, length, Bool, true, false, Option, None, Some, MatchOption, nat_lt, not, ◌==◌, drop, take, ap, arith, refl, subst, sym}
 use Rattle.std.specs.Prelude.{if◌then◌else◌, ⊤}
 use Rattle.std.proofs.lemmas.Bool.{ltb-false, ltb-true}
-use Rattle.std.proofs.lemmas.List.{length-take-le}
+use Rattle.std.proofs.lemmas.List.{append_assoc, length-take-le, take-append-drop, take-take}
 use Rattle.zone_blocks.specs.declared.config.Config.{Config}
 use Rattle.script_lint.specs.Causes.{byte_at, cause_at, is_between_words, is_double_space, is_printable}
 use Rattle.script_lint.specs.Causes.{is_number_out_of_range, is_unknown_command}
 use Rattle.script_lint.specs.Causes.{is_no_cpu, later_cause_at, is_frame_out_of_zone, is_group_out_of_range}
-use Rattle.script_lint.specs.Causes.{is_cpu_out_of_range, is_late_comment, is_byte_order_mark, is_wide_text}
-use Rattle.script_lint.specs.Continuation.{GoesOn, IsStuck}
-use Rattle.script_lint.specs.Lines.{IsCause, IsGoodHere, IsSpot, spot_past_limit, stuck_spot, whole_spot}
-use Rattle.script_lint.specs.Shapes.{IsGoodText}
+use Rattle.script_lint.specs.Causes.{is_cpu_out_of_range, is_late_comment, is_byte_order_mark, is_gzip, is_wide_text}
+use Rattle.script_lint.specs.Lines.{GoesOn, IsCause, IsGoodHere, IsGoodText, IsSpot, IsStuck, spot_past_limit, stuck_spot, whole_spot}
 use Rattle.script_lint.specs.declared.finding.Cause.{Cause}
-use Rattle.script_lint.specs.declared.finding.Cause.TheVariants.{ByteOrderMark, WideText, LateComment, NoCpu, CpuOutOfRange, UnknownCommand, TooFewWords}
+use Rattle.script_lint.specs.declared.finding.Cause.TheVariants.{ByteOrderMark, WideText, Gzip, LateComment, NoCpu, CpuOutOfRange, UnknownCommand, TooFewWords}
 use Rattle.script_lint.specs.declared.finding.Cause.TheVariants.{TooManyWords, TwoSpaces, SpaceAtEnd, Tab, CarriageReturn}
 use Rattle.script_lint.specs.declared.finding.Cause.TheVariants.{NumberOutOfRange, FrameOutOfZone, GroupOutOfRange, UnprintableByte}
 use Rattle.script_lint.specs.declared.finding.Cause.TheVariants.{InputTooLong, LineTooLong, SecondGo}
 use Rattle.script_lint.specs.declared.finding.Spot.{Spot}
-use Rattle.script_lint.proofs.Splits.{goes_on_sooner, good_goes_on}
+
+-- what goes on behind more of a text goes on behind less of it
+goes_on_sooner : (Form : List ℕ → Type 0) (text : List ℕ) (m n : ℕ) → m ≤ n → GoesOn Form (take n text) → GoesOn Form (take m text)
+goes_on_sooner Form text m n le on =
+    let front : take m (take n text) ≡ take m text = take-take m n text le in
+    let whole : take m text ++ drop m (take n text) ≡ take n text = rw (← front) (take-append-drop m (take n text)) in
+    let same : take m text ++ (drop m (take n text) ++ on.0) ≡ take n text ++ on.0
+    = sym (append_assoc (take m text) (drop m (take n text)) on.0) ∙ ap (λ (t : List ℕ). t ++ on.0) whole in
+    (drop m (take n text) ++ on.0, subst Form (sym same) on.1)
+
+-- every beginning of a text of the form goes on
+good_goes_on : (Form : List ℕ → Type 0) (text : List ℕ) (n : ℕ) → Form text → GoesOn Form (take n text)
+good_goes_on Form text n good = (drop n text, subst Form (sym (take-append-drop n text)) good)
 
 -- a cause that isn't a length
 abbrev IsLocal : Cause → Type 0
@@ -42,23 +52,25 @@ later_local text place =
     later_of (byte_at text place == 32) (byte_at text place == 9) (byte_at text place == 13) (is_number_out_of_range text place)
     (is_frame_out_of_zone text place) (is_group_out_of_range text place) (not (is_printable (byte_at text place)))
 
-first_of : (x y z a b c d e f : Bool) (later : Cause) → IsLocal later
-    → IsLocal (if x then ByteOrderMark else if y then WideText else if z then LateComment else if a then NoCpu else if b then CpuOutOfRange
-    else if c then UnknownCommand else if d then TooFewWords else if e then TooManyWords else if f then TwoSpaces else later)
-first_of true y z a b c d e f later is = tt
-first_of false true z a b c d e f later is = tt
-first_of false false true a b c d e f later is = tt
-first_of false false false true b c d e f later is = tt
-first_of false false false false true c d e f later is = tt
-first_of false false false false false true d e f later is = tt
-first_of false false false false false false true e f later is = tt
-first_of false false false false false false false true f later is = tt
-first_of false false false false false false false false true later is = tt
-first_of false false false false false false false false false later is = is
+first_of : (w x y z a b c d e f : Bool) (later : Cause) → IsLocal later
+    → IsLocal (if w then ByteOrderMark else if x then WideText else if y then Gzip else if z then LateComment else if a then NoCpu
+    else if b then CpuOutOfRange else if c then UnknownCommand else if d then TooFewWords else if e then TooManyWords else if f then TwoSpaces
+    else later)
+first_of true x y z a b c d e f later is = tt
+first_of false true y z a b c d e f later is = tt
+first_of false false true z a b c d e f later is = tt
+first_of false false false true a b c d e f later is = tt
+first_of false false false false true b c d e f later is = tt
+first_of false false false false false true c d e f later is = tt
+first_of false false false false false false true d e f later is = tt
+first_of false false false false false false false true e f later is = tt
+first_of false false false false false false false false true f later is = tt
+first_of false false false false false false false false false true later is = tt
+first_of false false false false false false false false false false later is = is
 
 cause_local : (text : List ℕ) (place : ℕ) → IsLocal (cause_at text place)
 cause_local text place =
-    first_of (is_byte_order_mark text place) (is_wide_text text place) (is_late_comment text place) (is_no_cpu text place)
+    first_of (is_byte_order_mark text place) (is_wide_text text place) (is_gzip text place) (is_late_comment text place) (is_no_cpu text place)
     (is_cpu_out_of_range text place) (is_unknown_command text place) (byte_at text place == 10)
     (is_between_words text place) (is_double_space text place) (later_cause_at text place) (later_local text place)
 

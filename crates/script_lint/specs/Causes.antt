@@ -9,7 +9,7 @@ use Rattle.script_lines.specs.declared.verb.Form.{Form}
 use Rattle.script_lines.specs.declared.verb.Form.TheVariants.{Group, PathOrder}
 use Rattle.script_lines.specs.declared.verb.Verb.{Verb}
 use Rattle.script_lint.specs.declared.finding.Cause.{Cause}
-use Rattle.script_lint.specs.declared.finding.Cause.TheVariants.{ByteOrderMark, WideText}
+use Rattle.script_lint.specs.declared.finding.Cause.TheVariants.{ByteOrderMark, WideText, Gzip}
 use Rattle.script_lint.specs.declared.finding.Cause.TheVariants.{LateComment, NoCpu, CpuOutOfRange, UnknownCommand}
 use Rattle.script_lint.specs.declared.finding.Cause.TheVariants.{TooFewWords, TooManyWords, TwoSpaces, SpaceAtEnd, Tab}
 use Rattle.script_lint.specs.declared.finding.Cause.TheVariants.{CarriageReturn, NumberOutOfRange, FrameOutOfZone}
@@ -84,6 +84,10 @@ is_wide_text text place =
     (byte_at text place == 0)
     || ((place == 0) && (((byte_at text 0 == 255) && (byte_at text 1 == 254))
     || ((byte_at text 0 == 254) && (byte_at text 1 == 255))))
+
+-- the text begins as a file of gzip does (RFC 1952, section 2.3.1)
+abbrev pub is_gzip : List ℕ → ℕ → Bool
+is_gzip text place = (place == 0) && (byte_at text 0 == 31) && (byte_at text 1 == 139)
 
 -- a comment follows, after spaces and tabs or none
 abbrev pub is_late_comment : List ℕ → ℕ → Bool
@@ -184,6 +188,7 @@ abbrev pub cause_at : List ℕ → ℕ → Cause
 cause_at text place =
     if is_byte_order_mark text place then ByteOrderMark
     else if is_wide_text text place then WideText
+    else if is_gzip text place then Gzip
     else if is_late_comment text place then LateComment
     else if is_no_cpu text place then NoCpu
     else if is_cpu_out_of_range text place then CpuOutOfRange

@@ -1,11 +1,11 @@
 pub mod Causes
-pub mod Continuation
+pub mod Doubts
+pub mod Ends
 pub mod Findings
 pub mod Forms
 pub mod Lines
-pub mod Names
+pub mod Pasts
 pub mod Refusals
 pub mod Refused
 pub mod Script
-pub mod Shapes
 pub mod Texts

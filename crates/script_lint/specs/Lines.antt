@@ -1,14 +1,42 @@
 -- Where a line goes wrong, and why.
-use Rattle.std.specs.Prelude.{◌≡◌, ℕ, ◌+◌, ◌<◌, ◌≤◌, Bool, List, Option, None, Some, if◌then◌else◌, length, nat_lt}
-use Rattle.std.specs.Prelude.{take}
+use Rattle.std.specs.Prelude.{◌≡◌, ◌⊎◌, ℕ, ◌+◌, ◌<◌, ◌≤◌, Bool, true, false, List, ◌++◌, Option, None, Some, if◌then◌else◌}
+use Rattle.std.specs.Prelude.{length, nat_lt, take}
 use Rattle.zone_blocks.specs.declared.config.Config.{Config}
-use Rattle.script_lines.specs.Script.{longest_line}
+use Rattle.zone_blocks.specs.Config.{most_cpus, most_frames}
+use Rattle.script_lines.specs.Script.{IsRequestText, is_go, is_skipped, longest_line}
+use Rattle.script_lines.specs.declared.line.Command.{Command}
 use Rattle.script_lint.specs.Causes.{cause_at}
-use Rattle.script_lint.specs.Continuation.{GoesOn, IsStuck}
-use Rattle.script_lint.specs.Shapes.{IsGoodText}
 use Rattle.script_lint.specs.declared.finding.Cause.{Cause}
 use Rattle.script_lint.specs.declared.finding.Cause.TheVariants.{InputTooLong, LineTooLong}
 use Rattle.script_lint.specs.declared.finding.Spot.{Spot}
+
+-- there is a frame and a CPU, and no more of them than a zone may have
+pub record HasValidCounts (sizes : Config) : Type 0 where
+  pub frames_low : 1 ≤ sizes.frames
+  pub frames_high : sizes.frames ≤ most_frames
+  pub cpus_low : 1 ≤ sizes.cpus
+  pub cpus_high : sizes.cpus ≤ most_cpus
+
+-- `P COMMAND`
+abbrev pub IsRequest : Config → List ℕ → Type 0
+IsRequest sizes text = (cpu : ℕ) × (command : Command) × IsRequestText sizes cpu command text
+
+-- the text of a line, however long: it is empty, a comment, `go` or `P COMMAND`, and isn't `go` after a `go`
+pub record IsGoodText (sizes : Config) (had_go : Bool) (text : List ℕ) : Type 0 where
+  pub says : is_skipped text ≡ false → (is_go text ≡ true) ⊎ IsRequest sizes text
+  pub once : had_go ≡ true → is_go text ≡ false
+
+-- a text of this form begins so
+abbrev pub GoesOn : (List ℕ → Type 0) → List ℕ → Type 0
+GoesOn Form front = (rest : List ℕ) × Form (front ++ rest)
+
+-- the text isn't of this form: its first `place` bytes can be continued to one that is, and with one byte more they
+-- can't; or all of its bytes can be continued, and the text ends too early
+pub record IsStuck (Form : List ℕ → Type 0) (text : List ℕ) (place : ℕ) : Type 0 where
+  pub inside : place ≤ length text
+  pub goes_on : GoesOn Form (take place text)
+  pub stuck : place < length text → ¬ GoesOn Form (take (place + 1) text)
+  pub bad : ¬ Form text
 
 -- a good text that is short enough, if the line is within the script (the fact `Within`)
 pub record IsGoodHere (sizes : Config) (had_go : Bool) (Within : Type 0) (text : List ℕ) : Type 0 where

@@ -9,11 +9,16 @@ use Rattle.control_files.specs.Flag.{IsNoFlagText}
 use Rattle.control_files.specs.Limit.{IsNoAmountText, IsNoLimitText, IsTooGreat}
 use Rattle.control_files.specs.declared.file.File.{File}
 use Rattle.control_files.specs.declared.file.File.TheVariants.{Max, OomGroup, Reclaim}
+use Rattle.group_tree.specs.Bounds.{most_names}
+use Rattle.group_tree.specs.Path.{depth_of, is_root, is_well_formed}
 use Rattle.script_lines.specs.Script.{IsRequestText, longest_line}
 use Rattle.script_lines.specs.declared.line.Command.{Command}
-use Rattle.script_lines.specs.declared.line.Command.TheVariants.{Read, Write, Alloc}
+use Rattle.script_lines.specs.declared.line.Command.TheVariants.{Mkdir, Rmdir, Read, Write, Alloc, Units}
+use Rattle.script_lint.specs.Doubts.{IsDoubtful}
+use Rattle.script_lint.specs.Pasts.{IsMissing}
 use Rattle.script_lint.specs.declared.refusal.Refusal.{Refusal}
 use Rattle.script_lint.specs.declared.refusal.Refusal.TheVariants.{OrderTooGreat, NotModelled, NoFile, FileOfRoot, WriteOnly}
+use Rattle.script_lint.specs.declared.refusal.Refusal.TheVariants.{BadPath, PathTooDeep, RootToChange}
 use Rattle.script_lint.specs.declared.refusal.Refusal.TheVariants.{ReadOnly, NoLimit, NoAmount, NoFlag, TooGreat}
 
 -- memory.high, and the protections
@@ -84,11 +89,25 @@ abbrev pub RefusesOrder : ℕ → Refusal → Type 0
 RefusesOrder order OrderTooGreat = 10 < order
 RefusesOrder order other = ⊥
 
+-- why no group has this path, in every tree
+abbrev pub IsNoPath : List ℕ → Refusal → Type 0
+IsNoPath path BadPath = is_well_formed path ≡ false
+IsNoPath path PathTooDeep = (is_well_formed path ≡ true) × (most_names < depth_of path)
+IsNoPath path other = ⊥
+
+-- why no group of this path can be made or removed, in every tree
+abbrev pub CantChange : List ℕ → Refusal → Type 0
+CantChange path RootToChange = is_root path ≡ true
+CantChange path why = IsNoPath path why
+
 -- why the command is refused, in every state
 abbrev pub IsRefused : Command → Refusal → Type 0
-IsRefused (Alloc path order) why = RefusesOrder order why
-IsRefused (Read path file) why = RefusesReadOf path.now file.now why
-IsRefused (Write path file value) why = RefusesWriteOf path.now file.now value.now why
+IsRefused (Mkdir path) why = CantChange path.now why
+IsRefused (Rmdir path) why = CantChange path.now why
+IsRefused (Units path) why = IsNoPath path.now why
+IsRefused (Alloc path order) why = RefusesOrder order why ⊎ IsNoPath path.now why
+IsRefused (Read path file) why = RefusesReadOf path.now file.now why ⊎ IsNoPath path.now why
+IsRefused (Write path file value) why = RefusesWriteOf path.now file.now value.now why ⊎ IsNoPath path.now why
 IsRefused other why = ⊥
 
 -- one of these reasons is known to hold, or that none does
@@ -96,20 +115,24 @@ abbrev pub IsJudged : (Refusal → Type 0) → Option Refusal → Type 0
 IsJudged Refuses (Some why) = Refuses why
 IsJudged Refuses None = (why : Refusal) → ¬ Refuses why
 
--- the text of a line is `P COMMAND`, and this is known of the command
-pub record IsJudgedRequest (sizes : Config) (text : List ℕ) (judged : Option Refusal) : Type 0 where
+-- why the command behind these texts is refused, in every state that they can lead to, or is hardly meant
+abbrev pub IsNamedFor : (texts : List (List ℕ)) → Command → Refusal → Type 0
+IsNamedFor texts command why = (IsRefused command why ⊎ IsMissing texts command why) ⊎ IsDoubtful command why
+
+-- the text of a line is `P COMMAND`, and this is known of the command behind these texts
+pub record IsJudgedRequest (sizes : Config) (texts : List (List ℕ)) (text : List ℕ) (judged : Option Refusal) : Type 0 where
   pub cpu : ℕ
   pub command : Command
   pub is_text : IsRequestText sizes cpu command text
   pub short : length text ≤ longest_line
-  pub judges : IsJudged (IsRefused command) judged
+  pub judges : IsJudged (IsNamedFor texts command) judged
 
 -- the text asks for nothing that a CPU could do: it is no `P COMMAND`, or is too long
 abbrev pub AsksNothing : Config → List ℕ → Type 0
 AsksNothing sizes text =
     (longest_line < length text) ⊎ ((cpu : ℕ) (command : Command) → ¬ IsRequestText sizes cpu command text)
 
--- the text of a line is a command that is refused for this reason; or it isn't
-abbrev pub IsJudgedText : Config → List ℕ → Option Refusal → Type 0
-IsJudgedText sizes text (Some why) = IsJudgedRequest sizes text (Some why)
-IsJudgedText sizes text None = AsksNothing sizes text ⊎ IsJudgedRequest sizes text None
+-- the text of a line behind these is a command that is refused or hardly meant for this reason; or it isn't
+abbrev pub IsJudgedText : Config → (texts : List (List ℕ)) → List ℕ → Option Refusal → Type 0
+IsJudgedText sizes texts text (Some why) = IsJudgedRequest sizes texts text (Some why)
+IsJudgedText sizes texts text None = AsksNothing sizes text ⊎ IsJudgedRequest sizes texts text None

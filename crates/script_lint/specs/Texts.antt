@@ -10,7 +10,7 @@ use Rattle.script_lines.specs.declared.verb.Verb.{Verb}
 use Rattle.script_lint.specs.Causes.{byte_at, is_printable, verb_of, word_at}
 use Rattle.script_lint.specs.Forms.{form_text_of}
 use Rattle.script_lint.specs.declared.finding.Cause.{Cause}
-use Rattle.script_lint.specs.declared.finding.Cause.TheVariants.{ByteOrderMark, WideText}
+use Rattle.script_lint.specs.declared.finding.Cause.TheVariants.{ByteOrderMark, WideText, Gzip}
 use Rattle.script_lint.specs.declared.finding.Cause.TheVariants.{LateComment, NoCpu, CpuOutOfRange, UnknownCommand}
 use Rattle.script_lint.specs.declared.finding.Cause.TheVariants.{TooFewWords, TooManyWords, TwoSpaces, SpaceAtEnd, Tab}
 use Rattle.script_lint.specs.declared.finding.Cause.TheVariants.{CarriageReturn, NumberOutOfRange, FrameOutOfZone}
@@ -60,6 +60,7 @@ zone_range_text frames =
 abbrev pub cause_text : Config → Finding → Cause → List ℕ
 cause_text sizes f ByteOrderMark = codes "a UTF-8 byte order mark: a script is plain ASCII"
 cause_text sizes f WideText = codes "this looks like UTF-16: a script is plain ASCII"
+cause_text sizes f Gzip = codes "this looks like gzip: a script is plain ASCII"
 cause_text sizes f LateComment = codes "a comment is a line that begins with #"
 cause_text sizes f NoCpu = codes "no CPU's number: a line is P COMMAND or go"
 cause_text sizes f CpuOutOfRange = codes "CPU " ++ (shown_word_text f ++ cpus_text sizes.cpus)

@@ -8,7 +8,7 @@ ghost use Rattle.script_lint.specs.Causes.{is_known, is_printable, later_cause_a
 ghost use Rattle.script_lint.specs.Causes.{is_unknown_command, is_number_out_of_range, is_no_cpu, is_frame_out_of_zone};
 ghost use Rattle.script_lint.specs.Causes.{is_group_out_of_range};
 ghost use Rattle.script_lint.specs.Causes.{is_cpu_out_of_range, spaces_before, until_space, word_at, word_behind};
-ghost use Rattle.script_lint.specs.Causes.{is_blank, is_byte_order_mark, is_late_comment, is_wide_text};
+ghost use Rattle.script_lint.specs.Causes.{is_blank, is_byte_order_mark, is_gzip, is_late_comment, is_wide_text};
 
 use crate::finding::Cause;
 use script_lines::script::{first_word, is_go};
@@ -23,6 +23,8 @@ pub(crate) fn cause_of(text: &[u8], place: usize) -> Cause
         Cause::ByteOrderMark
     } else if is_wide_text(text, place) {
         Cause::WideText
+    } else if is_gzip(text, place) {
+        Cause::Gzip
     } else if is_late_comment(text, place) {
         Cause::LateComment
     } else if is_no_cpu(text, place) {
@@ -186,6 +188,13 @@ fn is_wide_text(text: &[u8], place: usize) -> bool
     let (first, second) = (byte_at(text, 0), byte_at(text, 1));
     byte_at(text, place) == 0
         || (place == 0 && ((first == 0xFF && second == 0xFE) || (first == 0xFE && second == 0xFF)))
+}
+
+// Whether the text begins as a file of gzip does.
+fn is_gzip(text: &[u8], place: usize) -> bool
+    ensures { result ≡ is_gzip text.now place }
+{
+    place == 0 && byte_at(text, 0) == 0x1F && byte_at(text, 1) == 0x8B
 }
 
 // Whether a comment follows, after spaces and tabs or none.

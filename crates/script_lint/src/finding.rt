@@ -9,6 +9,8 @@ pub enum Cause {
     ByteOrderMark,
     /// The text is UTF-16: it begins with the byte order mark of UTF-16, or there is a byte 0.
     WideText,
+    /// The text begins as a file of gzip does.
+    Gzip,
     /// A comment doesn't begin the line.
     LateComment,
     /// The line doesn't begin with the number of a CPU, and isn't `go`.

@@ -2,20 +2,16 @@
 //! And which good lines are refused, whatever groups there are.
 #![tactic(auto)]
 
+mod beginning;
 mod cause;
-mod command;
 pub mod finding;
 mod form;
 mod line;
 mod near;
-mod number;
-mod path;
+mod past;
 pub mod refusal;
 pub mod refused;
-mod request;
 mod script;
-pub mod shape;
-mod start;
 mod text;
 
 pub use refused::{refused_lines, write_refused};

@@ -1,53 +1,60 @@
 //! How far the text of a line is good, and why not further.
 
-ghost use Rattle.std.specs.Prelude.{◌≡◌, ◌≤◌, ◌∷◌, List, MatchOption, length, true, ℕ, ⊤};
-ghost use Rattle.zone_blocks.specs.declared.config.Config.{Config};
+ghost use Rattle.std.specs.Prelude.{◌≡◌, ◌≤◌, IfOk, MatchOption, length, true, ⊤};
 ghost use Rattle.script_lines.specs.Verb.{IsNames};
-ghost use Rattle.script_lint.specs.Continuation.{IsStuck};
-ghost use Rattle.script_lint.specs.Lines.{IsGoodHere, IsSpot, spot_past_limit, stuck_spot, whole_spot};
-ghost use Rattle.script_lint.specs.Shapes.{HasValidCounts, IsGoodText};
+ghost use Rattle.script_lint.specs.Lines.{HasValidCounts, IsGoodHere, IsGoodText, IsSpot, IsStuck};
+ghost use Rattle.script_lint.specs.Lines.{spot_past_limit, stuck_spot, whole_spot};
 
+use crate::beginning::{begins_line, is_good};
 use crate::cause::cause_of;
-use crate::command::common;
 use crate::finding::{Cause, Spot};
-use crate::request::request_place;
-use script_lines::script::{MAX_LINE, is_go};
+use script_lines::script::MAX_LINE;
 use script_lines::verb::Names;
+use std::alloc::{AllocError, Global};
 use zone_blocks::config::Config;
 
 // The first place from which on the text doesn't go on to a good line, and why. None if it is good. A `go` has gone
 // before, or not; the line is within the bytes that a script may have, or not.
 pub(crate) fn lint_line(
+    alloc: Global,
     names: &Names,
     text: &[u8],
     had_go: bool,
     is_within: bool,
     sizes: &Config,
-) -> Option<Spot>
+) -> Result<Option<Spot>, AllocError>
     requires names { IsNames names.now }
     requires counts { HasValidCounts sizes.now }
-    ensures { MatchOption result (IsGoodHere sizes.now had_go (is_within ≡ true) text.now)
-        (λ spot. IsSpot sizes.now had_go (is_within ≡ true) text.now spot) }
+    ensures { IfOk result (λ found. MatchOption found (IsGoodHere sizes.now had_go (is_within ≡ true) text.now)
+        (λ spot. IsSpot sizes.now had_go (is_within ≡ true) text.now spot)) }
 {
-    let alone = lint_alone(names, text, had_go, sizes);
+    let alone = lint_alone(alloc, names, text, had_go, sizes)?;
     if is_within {
-        alone
+        Ok(alone)
     } else {
-        Some(spot_past_limit(text, alone))
+        Ok(Some(spot_past_limit(text, alone)))
     }
 }
 
 // The same for a text by itself, wherever it is in a script.
-pub(crate) fn lint_alone(names: &Names, text: &[u8], had_go: bool, sizes: &Config) -> Option<Spot>
+pub(crate) fn lint_alone(
+    alloc: Global,
+    names: &Names,
+    text: &[u8],
+    had_go: bool,
+    sizes: &Config,
+) -> Result<Option<Spot>, AllocError>
     requires names { IsNames names.now }
     requires counts { HasValidCounts sizes.now }
-    ensures { MatchOption result (IsGoodHere sizes.now had_go ⊤ text.now)
-        (λ spot. IsSpot sizes.now had_go ⊤ text.now spot) }
+    ensures { IfOk result (λ found. MatchOption found (IsGoodHere sizes.now had_go ⊤ text.now)
+        (λ spot. IsSpot sizes.now had_go ⊤ text.now spot)) }
 {
-    match line_stuck_at(names, text, had_go, sizes) {
-        Some(place) => Some(stuck_spot(text, place)),
-        None => whole_spot(text),
+    if is_good(names, text, had_go, sizes) {
+        return Ok(whole_spot(text));
     }
+    let mut line = Vec::new(alloc);
+    let place = stuck_at(names, text, had_go, sizes, &mut line)?;
+    Ok(Some(stuck_spot(text, place)))
 }
 
 // Where a text goes wrong with which the script is too long. By itself it goes wrong at this spot, if at any.
@@ -91,33 +98,29 @@ fn whole_spot(text: &[u8]) -> Option<Spot>
     })
 }
 
-// The place from which on the text, however long, doesn't go on to a good one. None if it is one.
-fn line_stuck_at(names: &Names, text: &[u8], had_go: bool, sizes: &Config) -> Option<usize>
+// The place from which on a text that isn't good, however long, doesn't go on to a good one. It is found by halving: up
+// to `right` the text goes on, up to `wrong` it doesn't.
+fn stuck_at(
+    names: &Names,
+    text: &[u8],
+    had_go: bool,
+    sizes: &Config,
+    line: &mut Vec<u8>,
+) -> Result<usize, AllocError>
     requires names { IsNames names.now }
     requires counts { HasValidCounts sizes.now }
-    ensures { MatchOption result (IsGoodText sizes.now had_go text.now)
-        (λ place. IsStuck (IsGoodText sizes.now had_go) text.now place) }
+    requires bad { ¬ IsGoodText sizes.now had_go text.now }
+    ensures { IfOk result (λ place. IsStuck (IsGoodText sizes.now had_go) text.now place) }
 {
-    if text.is_empty() || text[0] == b'#' {
-        return None;
+    let mut right = 0;
+    let mut wrong = text.len() + 1;
+    while right + 1 < wrong {
+        let middle = right + (wrong - right) / 2;
+        if begins_line(names, &text[..middle], had_go, sizes, line)? {
+            right = middle;
+        } else {
+            wrong = middle;
+        }
     }
-    if text[0] == b'g' {
-        return go_place(text, had_go);
-    }
-    request_place(names, text, sizes)
-}
-
-// The same for a text that begins with `g`.
-fn go_place(text: &[u8], had_go: bool) -> Option<usize>
-    requires { (bs : List ℕ) × (text.now ≡ 103 ∷ bs) }
-    ensures { (sizes : Config) → MatchOption result (IsGoodText sizes had_go text.now)
-        (λ place. IsStuck (IsGoodText sizes had_go) text.now place) }
-{
-    if had_go {
-        return Some(0);
-    }
-    if is_go(text) {
-        return None;
-    }
-    Some(common(text, b"go"))
+    Ok(right)
 }

@@ -1,20 +1,23 @@
 //! The lines of a script that are refused, whatever groups there are.
 
-ghost use Rattle.std.specs.Prelude.{◌≡◌, ◌∷◌, ◌++◌, [], IfOk, OnOk};
+ghost use Rattle.std.specs.Prelude.{◌≡◌, ◌∷◌, ◌++◌, [], IfOk, List, OnOk, ℕ};
 ghost use Rattle.std.specs.List.{flat_map};
 ghost use Rattle.control_files.specs.Strings.{AddsBytes};
 ghost use Rattle.script_lines.specs.Verb.{IsNames};
-ghost use Rattle.script_lint.specs.Refusals.{IsJudgedText};
+ghost use Rattle.script_lint.specs.Pasts.{KnowsPast};
+ghost use Rattle.script_lint.specs.Refusals.{IsJudged, IsJudgedText, IsNamedFor};
 ghost use Rattle.script_lint.specs.Refused.{AreRefused, numbered, refused_line_text};
 
-use crate::refusal::{Refusal, refusal_of};
-use script_lines::line::Line;
+use crate::past::Past;
+use crate::refusal::{Refusal, doubt_of, refusal_of};
+use group_tree::tree::Tree;
+use script_lines::line::{Command, Line};
 use script_lines::script::{MAX_LINE, first_line, first_line_past_limit, is_within, parse_line};
 use script_lines::verb::{Names, command_names};
 use std::alloc::{AllocError, Global};
 use zone_blocks::config::Config;
 
-/// A good line that is refused.
+/// A good line that is refused, or hardly meant.
 #[derive(Clone, Copy, PartialEq, Eq)]
 pub struct RefusedLine {
     /// The number of the line, from 1.
@@ -23,7 +26,8 @@ pub struct RefusedLine {
     pub refusal: Refusal,
 }
 
-/// The good lines that are refused whatever groups there are, in order. If the script is too long, the lines from the
+/// The good lines that are refused whatever the script's other lines did, in order: whatever groups there are, or
+/// because no line before made the group. And those that are hardly meant. If the script is too long, the lines from the
 /// one with the byte after the first 1,048,576 on aren't read. It fails only if memory runs out.
 pub fn refused_lines(
     alloc: Global,
@@ -47,6 +51,8 @@ fn find_refused(
     ensures { IfOk result (λ refused. AreRefused sizes.now input.now refused.items) }
 {
     let over = first_line_past_limit(input);
+    let tree = Tree::new(alloc)?;
+    let mut past = Past::new(alloc);
     let mut refused = Vec::new(alloc);
     let mut number = 0;
     let mut rest = Some(input);
@@ -56,8 +62,9 @@ fn find_refused(
         if !is_within(number, over) {
             return Ok(refused);
         }
-        let why = judge_text(names, text, sizes);
+        let why = judge_text(names, text, sizes, &tree, &past);
         add_refusal(number, why, &mut refused)?;
+        past.add(text)?;
         rest = after;
     }
     Ok(refused)
@@ -80,10 +87,16 @@ fn add_refusal(
     }
 }
 
-// Why the text is that of a refused command, if it is.
-fn judge_text(names: &Names, text: &[u8], sizes: &Config) -> Option<Refusal>
+// Why the text is that of a refused command, if it is, behind the lines of this past.
+fn judge_text(
+    names: &Names,
+    text: &[u8],
+    sizes: &Config,
+    tree: &Tree,
+    past: &Past<'_>,
+) -> Option<Refusal>
     requires { IsNames names.now }
-    ensures { IsJudgedText sizes.now text.now result }
+    ensures { (texts : List (List ℕ)) → KnowsPast past.now texts → IsJudgedText sizes.now texts text.now result }
 {
     if MAX_LINE < text.len() {
         return None;
@@ -97,11 +110,21 @@ fn judge_text(names: &Names, text: &[u8], sizes: &Config) -> Option<Refusal>
             number: _,
             cpu: _,
             command,
-        } => refusal_of(&command),
+        } => why_named(&command, tree, past),
     }
 }
 
-/// Adds a line for each refused line: `NAME:LINE: refused: WHY`. It fails only if memory runs out.
+// Why a line with this command is named, if it is.
+fn why_named(command: &Command<'_>, tree: &Tree, past: &Past<'_>) -> Option<Refusal>
+    ensures { (texts : List (List ℕ)) → KnowsPast past.now texts
+        → IsJudged (IsNamedFor texts command.now) result }
+{
+    refusal_of(command, tree)
+        .or(past.missing_group(command))
+        .or(doubt_of(command))
+}
+
+/// Adds a line for each such line: `NAME:LINE: refused: WHY`, or `doubtful` if it is hardly meant. It fails only if memory runs out.
 pub fn write_refused(
     name: &str,
     refused: &[RefusedLine],
@@ -120,5 +143,6 @@ fn write_line(name: &str, refused: RefusedLine, text: &mut String) -> Result<(),
 {
     let line = refused.line;
     let why = refused.refusal.sentence();
-    writeln!(text, "{name}:{line}: refused: {why}")
+    let verdict = refused.refusal.verdict();
+    writeln!(text, "{name}:{line}: {verdict}: {why}")
 }

@@ -4,7 +4,7 @@ ghost use Rattle.std.specs.Prelude.{◌≤◌, IfOk, IfSome, OnOk, length};
 ghost use Rattle.script_lines.specs.Verb.{IsNames};
 ghost use Rattle.script_lint.specs.Findings.{IsLinted, IsTextLinted};
 ghost use Rattle.script_lint.specs.Script.{AddsSpot};
-ghost use Rattle.script_lint.specs.Shapes.{HasValidCounts};
+ghost use Rattle.script_lint.specs.Lines.{HasValidCounts};
 
 use crate::cause::word_at;
 use crate::finding::{Cause, Finding, Spot};
@@ -41,7 +41,7 @@ pub fn lint_text<'a>(
     requires counts { HasValidCounts sizes.now }
     ensures { IfOk result (λ found. IsTextLinted sizes.now text.entry.now found) }
 {
-    let Some(spot) = lint_alone(names, text, false, sizes) else {
+    let Some(spot) = lint_alone(alloc, names, text, false, sizes)? else {
         return Ok(None);
     };
     let near = near_of(alloc, text, &spot)?;
@@ -73,7 +73,7 @@ fn lint_lines<'a>(
         let (text, after) = first_line(left);
         number += 1;
         let is_within = is_within(number, over);
-        let found = lint_line(names, text, had_go, is_within, sizes);
+        let found = lint_line(alloc, names, text, had_go, is_within, sizes)?;
         add_finding(alloc, number, text, found, &mut findings)?;
         if !is_within {
             return Ok(findings);

@@ -97,6 +97,7 @@ pub fn write_cause(
     match finding.spot.cause {
         Cause::ByteOrderMark => text.push_str("a UTF-8 byte order mark: a script is plain ASCII"),
         Cause::WideText => text.push_str("this looks like UTF-16: a script is plain ASCII"),
+        Cause::Gzip => text.push_str("this looks like gzip: a script is plain ASCII"),
         Cause::LateComment => text.push_str("a comment is a line that begins with #"),
         Cause::NoCpu => text.push_str("no CPU's number: a line is P COMMAND or go"),
         Cause::CpuOutOfRange => write_cpu(finding, sizes, text),

@@ -12,7 +12,7 @@ returns-in-Err-clause-asked g c =
     let kind : HasKind (fault_of program texts) c.in-Err.error =
     subst (λ (app : App). HasKind (fault_of app texts) c.in-Err.error) c.requires (c.in-Err.ensures.kinds (ap is_simple_and_free c.requires)) in
     elim kind [
-      | inl memory ↦ answers_memory _ _ (c.fault_of.ensures memory)
+      | inl memory ↦ answers_memory _ _ (c.words_fault.ensures memory)
       | inr among ↦ answers_fault _ _ (asked_nothing texts _ among)
     ]
 

@@ -1,8 +1,9 @@
 use Rattle.script_lint.proofs.Spots.{stuck_is, whole_is}
 use Rattle.script_lint.proofs.line.lint_alone.Goals as goal
 
-pub returns-in-Some : goal.returns-in-Some
-returns-in-Some c = rw c.stuck_spot.ensures (stuck_is c.args.sizes.now c.args.had_go c.args.text.now c.in-Some.place c.in-Some.ensures)
+pub returns-then-is_good : goal.returns-then-is_good
+returns-then-is_good c =
+    rw c.whole_spot.ensures (whole_is c.args.sizes.now c.args.had_go c.args.text.now (c.is_good.ensures.0 c.if-is_good.true))
 
-pub returns-in-None : goal.returns-in-None
-returns-in-None c = rw c.whole_spot.ensures (whole_is c.args.sizes.now c.args.had_go c.args.text.now c.in-None.ensures)
+pub returns : goal.returns
+returns c = rw c.stuck_spot.ensures (stuck_is c.args.sizes.now c.args.had_go c.args.text.now c.in_ok-place.place c.in_ok-place.ensures)

@@ -7,8 +7,8 @@ use Rattle.script_lint.proofs.refusal.file_of.Goals as goal
 pub returns-in-None-clause-none : goal.returns-in-None-clause-none
 returns-in-None-clause-none c = c.no_file.ensures c.args.path.now
 
-pub returns-else-eq-clause-file : goal.returns-else-eq-clause-file
-returns-else-eq-clause-file c =
+pub returns-else-is_root-clause-file : goal.returns-else-is_root-clause-file
+returns-else-is_root-clause-file c =
     let named : c.args.name.now ≡ name_of_file c.in-Some.file = (c.file_named.ensures c.in-Some.file).0 c.in-Some.is in
     let other : bytes_eq c.args.path.now (codes "/") ≡ false = search rules in
     record {

@@ -1,7 +1,8 @@
-use Rattle.std.proofs.Common.{◌≡◌, ◌∙◌, None, rules, ap, arith}
-use Rattle.script_lines.specs.Script.{texts_left}
+use Rattle.std.proofs.Common.{◌≡◌, ◌∙◌, None, rules, ap, arith, subst, sym, take}
+use Rattle.script_lines.specs.Script.{texts_left, texts_of}
 use Rattle.script_lines.proofs.Progress.{all_read, few_lines, next_of}
-use Rattle.script_lint.proofs.Refusing.{ends_over, ends_whole, next_found}
+use Rattle.script_lint.specs.Pasts.{KnowsPast}
+use Rattle.script_lint.proofs.Refusing.{ends_over, ends_whole, next_found, next_text}
 use Rattle.script_lint.proofs.refused.find_refused.Goals as goal
 
 pub overflow_add-number : goal.overflow_add-number
@@ -26,9 +27,11 @@ loop-rest-preserved c =
     let inside = next.0.inside in (
       next_found c.args.sizes.now script index c.first_line.result.0.now c.first_line_past_limit-over.result c.is_within.result c.judge_text-why.result
           c.loop-rest.refused.items c.add_refusal.new.refused.items c.loop-rest.invariant.0 next.0 c.first_line_past_limit-over.ensures
-          c.is_within.ensures c.if-not-is_within.false c.judge_text-why.ensures c.in_ok-add_refusal.ensures,
+          c.is_within.ensures c.if-not-is_within.false (c.judge_text-why.ensures (take index (texts_of script)) c.loop-rest.invariant.3) c.in_ok-add_refusal.ensures,
       next.1,
       omega arith,
+      subst (KnowsPast c.add.new.self) (sym (next_text script index c.first_line.result.0.now next.0))
+          (c.in_ok-add.ensures (take index (texts_of script)) c.loop-rest.invariant.3),
     )
 
 pub returns : goal.returns

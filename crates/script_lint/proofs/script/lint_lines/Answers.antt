@@ -14,7 +14,7 @@ overflow_add-number c =
 
 pub add_finding-requires : goal.add_finding-requires
 add_finding-requires c =
-    found_inside c.args.sizes.now c.loop-rest.had_go _ c.first_line.result.0.now c.lint_line-found.result c.lint_line-found.ensures
+    found_inside c.args.sizes.now c.loop-rest.had_go _ c.first_line.result.0.now c.in_ok-found.found c.in_ok-found.ensures
 
 pub returns-then-not-is_within : goal.returns-then-not-is_within
 returns-then-not-is_within c =
@@ -23,8 +23,8 @@ returns-then-not-is_within c =
     let index = c.loop-rest.number in
     let next = next_of script index c.first_line.result.0.now (texts_left c.first_line.result.1)
     (c.loop-rest.invariant.1 ∙ ap texts_left c.in-Some.is ∙ c.first_line.ensures) in
-    let adds = adds_of sizes (index + 1) c.loop-rest.had_go c.is_within-is_within.result c.first_line.result.0 c.lint_line-found.result
-    c.loop-rest.findings.items c.add_finding.new.findings.items c.lint_line-found.ensures c.in_ok-add_finding.ensures in
+    let adds = adds_of sizes (index + 1) c.loop-rest.had_go c.is_within-is_within.result c.first_line.result.0 c.in_ok-found.found
+    c.loop-rest.findings.items c.add_finding.new.findings.items c.in_ok-found.ensures c.in_ok-add_finding.ensures in
     let are = next_linted sizes script index index c.first_line.result.0 c.loop-rest.had_go c.is_within-is_within.result c.first_line_past_limit-over.result
     c.loop-rest.findings.items c.add_finding.new.findings.items c.loop-rest.invariant.0 next.0 c.first_line_past_limit-over.ensures
     c.is_within-is_within.ensures adds in
@@ -38,8 +38,8 @@ loop-rest-preserved-then-had_go c =
     let index = c.loop-rest.number in
     let next = next_of script index c.first_line.result.0.now (texts_left c.first_line.result.1)
     (c.loop-rest.invariant.1 ∙ ap texts_left c.in-Some.is ∙ c.first_line.ensures) in
-    let adds = adds_of sizes (index + 1) c.loop-rest.had_go c.is_within-is_within.result c.first_line.result.0 c.lint_line-found.result
-    c.loop-rest.findings.items c.add_finding.new.findings.items c.lint_line-found.ensures c.in_ok-add_finding.ensures in
+    let adds = adds_of sizes (index + 1) c.loop-rest.had_go c.is_within-is_within.result c.first_line.result.0 c.in_ok-found.found
+    c.loop-rest.findings.items c.add_finding.new.findings.items c.in_ok-found.ensures c.in_ok-add_finding.ensures in
     let are = next_linted sizes script index index c.first_line.result.0 c.loop-rest.had_go c.is_within-is_within.result c.first_line_past_limit-over.result
     c.loop-rest.findings.items c.add_finding.new.findings.items c.loop-rest.invariant.0 next.0 c.first_line_past_limit-over.ensures
     c.is_within-is_within.ensures adds in
@@ -58,8 +58,8 @@ loop-rest-preserved c =
     let index = c.loop-rest.number in
     let next = next_of script index c.first_line.result.0.now (texts_left c.first_line.result.1)
     (c.loop-rest.invariant.1 ∙ ap texts_left c.in-Some.is ∙ c.first_line.ensures) in
-    let adds = adds_of sizes (index + 1) c.loop-rest.had_go c.is_within-is_within.result c.first_line.result.0 c.lint_line-found.result
-    c.loop-rest.findings.items c.add_finding.new.findings.items c.lint_line-found.ensures c.in_ok-add_finding.ensures in
+    let adds = adds_of sizes (index + 1) c.loop-rest.had_go c.is_within-is_within.result c.first_line.result.0 c.in_ok-found.found
+    c.loop-rest.findings.items c.add_finding.new.findings.items c.in_ok-found.ensures c.in_ok-add_finding.ensures in
     let are = next_linted sizes script index index c.first_line.result.0 c.loop-rest.had_go c.is_within-is_within.result c.first_line_past_limit-over.result
     c.loop-rest.findings.items c.add_finding.new.findings.items c.loop-rest.invariant.0 next.0 c.first_line_past_limit-over.ensures
     c.is_within-is_within.ensures adds in

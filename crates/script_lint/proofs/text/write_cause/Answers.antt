@@ -42,5 +42,8 @@ returns-in-SecondGo c = rw c.in-SecondGo.is (told c.push_str-in-SecondGo.result 
 pub returns-in-ByteOrderMark : goal.returns-in-ByteOrderMark
 returns-in-ByteOrderMark c = rw c.in-ByteOrderMark.is (told c.push_str.result (string_bytes c.args.text.now) (codes "a UTF-8 byte order mark: a script is plain ASCII") _ c.push_str.ensures.bytes)
 
+pub returns-in-Gzip : goal.returns-in-Gzip
+returns-in-Gzip c = rw c.in-Gzip.is (told c.push_str-in-Gzip.result (string_bytes c.args.text.now) (codes "this looks like gzip: a script is plain ASCII") _ c.push_str-in-Gzip.ensures.bytes)
+
 pub returns-in-WideText : goal.returns-in-WideText
 returns-in-WideText c = rw c.in-WideText.is (told c.push_str-in-WideText.result (string_bytes c.args.text.now) (codes "this looks like UTF-16: a script is plain ASCII") _ c.push_str-in-WideText.ensures.bytes)
