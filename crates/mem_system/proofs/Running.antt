@@ -9,7 +9,7 @@ use Rattle.step_rules.specs.declared.step.Answer.TheVariants.{Done}
 use Rattle.step_rules.specs.State.{State}
 use Rattle.step_rules.specs.After.{Run, after}
 use Rattle.boot_words.specs.declared.past.Past.{Past}
-use Rattle.boot_words.specs.Allowed.{GrewBy}
+use Rattle.boot_words.specs.Runs.{GrewBy}
 use Rattle.boot_words.specs.Rule.{AllOf}
 use Rattle.boot_words.specs.Pasts.{KnownPasts, Locks, Unlocks, cpu_past, own_past}
 use Rattle.boot_words.specs.Growth.{GainsSteps, IsRunSoFar}
