@@ -3,11 +3,11 @@ use Rattle.std.specs.Prelude.{◌≡◌, ℕ, false, Some, List, [], ◌++◌}
 use Rattle.std.specs.Borrow.{Bor}
 use Rattle.frame_word.specs.Seats.{KnownTable}
 use Rattle.zone_blocks.specs.declared.config.Config.{Config}
-use Rattle.boot_words.specs.Pasts.{cpu_past}
+use Rattle.boot_words.specs.Pasts.{Locks, Unlocks}
 use Rattle.group_tree.specs.Groups.{number_at}
 use Rattle.step_rules.specs.After.{Run}
 use Rattle.mem_machine.specs.Machines.{KnownMachine, with_run, without_notes}
-use Rattle.mem_machine.specs.Local.{VisitState, visit_state, Makes}
+use Rattle.mem_machine.specs.Local.{VisitState, visit_state, Holds, IsShut, Makes}
 use Rattle.mem_machine.specs.Noted.{KnownRun}
 use Rattle.mem_machine.specs.Settling.{Settles, settle_steps}
 use Rattle.mem_machine.specs.Showing.{stock_left}
@@ -72,16 +72,29 @@ pub record Serves (cmd : Cmd) (reply : Reply) (call : Transition LockedState) : 
   pub sizes : call.after.locked.sizes ≡ call.before.locked.sizes
   pub steps_are : call.steps ≡ visit_steps call.table (visit_state_of call.before) inner
 
--- A command was served under the lock with this reply: these steps lead from the machine with the run that the CPU found
--- when it took the lock to the machine with the run that it left then, and the machine's counts follow them. The CPU took
--- the lock in the run before them, and released it after them.
+-- The CPU takes the lock. It holds the lock with this run, and its visit is shut.
+pub record TakesLock (table : KnownTable) (before : LockedState) (found : KnownRun) : Type 0 where
+  pub locks : Locks table before.locked.machine.run.past before.cpu.past found.past
+  pub holds : Holds table (visit_state (with_run before.locked.machine found) before.cpu.part)
+  pub shut : IsShut table (with_run before.locked.machine found) before.cpu.part.number
+
+-- The CPU holds the lock with this run, its visit is shut, and it releases the lock.
+pub record ReleasesLock (table : KnownTable) (left : KnownRun) (after : LockedState) : Type 0 where
+  pub holds : Holds table (visit_state (with_run after.locked.machine left) after.cpu.part)
+  pub shut : IsShut table (with_run after.locked.machine left) after.cpu.part.number
+  pub unlocks : Unlocks table left.past after.locked.machine.run.past after.cpu.past
+
+-- A command was served under the lock with this reply. The CPU took the lock, and found this run. These steps lead from
+-- the machine with that run to the machine with the run that the CPU left, and the machine's counts follow them. Then the
+-- CPU released the lock.
 pub record IsServed (table : KnownTable) (cmd : Cmd) (reply : Reply) (before after : LockedState) : Type 0 where
   pub steps : Run
   pub serves : Serves cmd reply (transition table before steps after)
   pub found : KnownRun
   pub left : KnownRun
-  pub holder : (cpu_past found.past).number ≡ before.cpu.part.number
+  pub taken : TakesLock table before found
   pub makes : Makes table (with_run before.locked.machine found) steps (with_run after.locked.machine left)
+  pub released : ReleasesLock table left after
   pub run : VisitsInRun before.cpu.part.number steps before.locked.machine.run.past before.cpu.past
       after.locked.machine.run.past after.cpu.past
 
