@@ -23,7 +23,8 @@ pub(crate) fn lower_usage<N: BootName>(
 )
     requires there { IsTrue (has_group machine.old.ledger.groups group) }
     requires held { IsHeld N.frames machine.old.run.past }
-    ensures { BySteps Makes N.frames (LowersUsage group limit) machine.old machine.new }
+    ensures lowers { BySteps Makes N.frames (LowersUsage group limit) machine.old machine.new }
+    ensures visit { StaysVisited N.frames machine.old machine.new }
 {
     machine.drain_stocks(tables, group);
     reclaim_to_limit(machine, tables, group, 0, limit);
