@@ -2,8 +2,7 @@
 
 ghost use Rattle.std.specs.Prelude.{◌≡◌, ℕ, IsTrue, Err};
 ghost use Rattle.group_tree.specs.Groups.{has_group};
-ghost use Rattle.mem_machine.specs.Local.{KeepsVisit};
-ghost use Rattle.mem_machine.specs.Local.{visit_state, Makes};
+ghost use Rattle.mem_machine.specs.Local.{KeepsVisit, VisitMakes, visit_state};
 ghost use Rattle.mem_alloc.specs.declared.faults.AllocFault.TheVariants as cause_is;
 ghost use Rattle.mem_system.specs.Allocations.{Allocates, AllocatesAs, FreshOf, outcome_of};
 ghost use Rattle.mem_system.specs.Outcomes.{ComesTo, HasItsGroups, reply_of};
@@ -44,7 +43,7 @@ fn allocate_as<N: BootName>(
 ) -> Result<Frame, AllocFault>
     requires visit { MayExecute N.frames sizes (visit_state machine.old cpu.old) }
     requires there { IsTrue (has_group machine.old.ledger.groups group) }
-    ensures allocates { BySteps Makes N.frames (AllocatesAs sizes group order result)
+    ensures allocates { BySteps VisitMakes N.frames (AllocatesAs sizes group order result)
         (visit_state machine.old cpu.old) (visit_state machine.new cpu.new) }
     ensures stays { KeepsVisit N.frames (visit_state machine.old cpu.old) (visit_state machine.new cpu.new) }
     ensures fresh { FreshOf (reply_of machine.new.ledger (outcome_of result)) order cpu.new.fresh }

@@ -1,7 +1,6 @@
 //! The commands that a CPU gives under the lock, how they are executed, and their replies.
 
-ghost use Rattle.mem_machine.specs.Local.{KeepsVisit};
-ghost use Rattle.mem_machine.specs.Local.{visit_state};
+ghost use Rattle.mem_machine.specs.Local.{KeepsVisit, visit_state};
 ghost use Rattle.mem_system.specs.Outcomes.{ComesTo, HasItsGroups, reply_of};
 ghost use Rattle.mem_system.specs.Commands.{FreshAfter, IsOfZone, ListAndFreshStayWithin, MayExecute, Executes};
 

@@ -4,10 +4,9 @@ ghost use Rattle.std.specs.Prelude.{◌≢◌, ℕ, IsTrue, IfOk, IfErr, List};
 ghost use Rattle.group_tree.specs.Groups.{has_group};
 ghost use Rattle.mem_system.specs.Outcomes.{ComesToAlone, HasItsGroups, reply_of};
 ghost use Rattle.boot_words.specs.Pasts.{IsHeld};
-ghost use Rattle.mem_machine.specs.Local.{Makes};
+ghost use Rattle.mem_machine.specs.Local.{Makes, StaysVisited};
 ghost use Rattle.mem_machine.specs.Transitions.{BySteps};
-ghost use Rattle.mem_system.specs.Files.{IsFileOf, HasNoFile, Reads, Writes, WritesTo};
-ghost use Rattle.mem_system.specs.Files.{KeepsAnyVisit, SetsLimit};
+ghost use Rattle.mem_system.specs.Files.{IsFileOf, HasNoFile, Reads, SetsLimit, Writes, WritesTo};
 ghost use Rattle.control_files.specs.declared.file.File.{File};
 ghost use Rattle.control_files.specs.Limit.{ReadsAmount};
 
@@ -59,7 +58,7 @@ fn set_limit<N: BootName>(
     requires below_root { group ≢ 0 }
     requires held { IsHeld N.frames machine.old.run.past }
     ensures sets { BySteps Makes N.frames (SetsLimit group limit) machine.old machine.new }
-    ensures stays { KeepsAnyVisit N.frames machine.old machine.new }
+    ensures visit { StaysVisited N.frames machine.old machine.new }
 {
     machine.set_max(tables, group, limit);
     if let Some(limit) = limit {
@@ -79,7 +78,7 @@ fn write_limit<N: BootName>(
     requires held { IsHeld N.frames machine.old.run.past }
     ensures written { ComesToAlone N.frames result (WritesTo File.Max value.now group) machine.old machine.new }
     ensures groups { HasItsGroups machine.new.ledger result }
-    ensures stays { KeepsAnyVisit N.frames machine.old machine.new }
+    ensures visit { StaysVisited N.frames machine.old machine.new }
 {
     match read_limit(value) {
         Ok(limit) => {
@@ -102,7 +101,7 @@ fn write_flag<N: BootName>(
     requires held { IsHeld N.frames machine.old.run.past }
     ensures written { ComesToAlone N.frames result (WritesTo File.OomGroup value.now group) machine.old machine.new }
     ensures groups { HasItsGroups machine.new.ledger result }
-    ensures stays { KeepsAnyVisit N.frames machine.old machine.new }
+    ensures visit { StaysVisited N.frames machine.old machine.new }
 {
     match read_flag(value) {
         Ok(flag) => {
@@ -125,7 +124,7 @@ fn reclaim_asked<N: BootName>(
     ensures written { (value : List ℕ) → ReadsAmount value asked
         → ComesToAlone N.frames result (WritesTo File.Reclaim value group) machine.old machine.new }
     ensures groups { HasItsGroups machine.new.ledger result }
-    ensures stays { KeepsAnyVisit N.frames machine.old machine.new }
+    ensures visit { StaysVisited N.frames machine.old machine.new }
 {
     if reclaim_amount(machine, tables, group, asked) < asked {
         Outcome::Refused(Fault::Again)
@@ -145,7 +144,7 @@ fn write_reclaim<N: BootName>(
     requires held { IsHeld N.frames machine.old.run.past }
     ensures written { ComesToAlone N.frames result (WritesTo File.Reclaim value.now group) machine.old machine.new }
     ensures groups { HasItsGroups machine.new.ledger result }
-    ensures stays { KeepsAnyVisit N.frames machine.old machine.new }
+    ensures visit { StaysVisited N.frames machine.old machine.new }
 {
     match read_amount(value) {
         Ok(asked) => reclaim_asked(machine, tables, group, asked),
@@ -164,7 +163,7 @@ pub(crate) fn write_file<N: BootName>(
     requires held { IsHeld N.frames machine.old.run.past }
     ensures written { ComesToAlone N.frames result (Writes path.now name.now value.now) machine.old machine.new }
     ensures groups { HasItsGroups machine.new.ledger result }
-    ensures stays { KeepsAnyVisit N.frames machine.old machine.new }
+    ensures visit { StaysVisited N.frames machine.old machine.new }
 {
     let (group, file) = match find_file(machine.charges(), path, name) {
         Ok(found) => found,
