@@ -13,6 +13,7 @@ use Rattle.control_files.specs.Flag.{IsFlagText, IsNoFlagText}
 use Rattle.control_files.specs.Limit.{ReadsAmount, ReadsAs, IsTooGreat, IsNoAmountText, IsNoLimitText}
 use Rattle.step_rules.specs.After.{Run}
 use Rattle.mem_machine.specs.Machines.{KnownMachine, with_run}
+use Rattle.mem_machine.specs.Local.{Makes}
 use Rattle.mem_machine.specs.Noted.{KnownRun}
 use Rattle.mem_machine.specs.Steps.{set_max_steps, set_oom_group_steps}
 use Rattle.mem_reclaim.specs.Moves.{FreesBySteps}
@@ -63,6 +64,8 @@ with_limit_of machine group limit = record machine { ledger = with_group_limit m
 pub record SetsLimit (group : ℕ) (limit : Option ℕ) (call : Transition KnownMachine) : Type 0 where
   pub lowering : Run
   pub seen : KnownRun
+  pub sets : Makes call.table call.before (set_max_steps group limit)
+      (with_run (with_limit_of call.before group limit) seen)
   pub keeps : KeepsToLimit group limit
       (transition call.table (with_run (with_limit_of call.before group limit) seen) lowering call.after)
   pub steps_are : call.steps ≡ set_max_steps group limit ++ lowering

@@ -64,11 +64,10 @@ pub record Serves (cmd : Cmd) (reply : Reply) (call : Transition LockedState) : 
   pub done : KnownMachine
   pub executes : Executes call.before.locked.sizes cmd reply
       (transition call.table settled inner (visit_state done call.after.cpu.part))
-  pub no_rash : NoRashKill call.table (MayAskFor cmd settled.machine.ledger.groups) settled.machine settled.cpu inner
+  pub no_rash : NoRashKill call.table (MayAskFor cmd settled.machine.ledger.groups) settled.machine inner
   pub only_inner : has_kill (visit_steps call.table (visit_state_of call.before) []) ≡ false
   pub misses : CountsMisses (transition call.table settled.machine inner done)
-  pub machine : call.after.locked.machine
-      ≡ with_run done call.after.locked.machine.run
+  pub machine : call.after.locked.machine ≡ with_run done call.after.locked.machine.run
   pub sizes : call.after.locked.sizes ≡ call.before.locked.sizes
   pub steps_are : call.steps ≡ visit_steps call.table (visit_state_of call.before) inner
 
@@ -84,15 +83,17 @@ pub record ReleasesLock (table : KnownTable) (left : KnownRun) (after : LockedSt
   pub shut : IsShut table (with_run after.locked.machine left) after.cpu.part.number
   pub unlocks : Unlocks table left.past after.locked.machine.run.past after.cpu.past
 
--- A command was served under the lock with this reply. The CPU took the lock, and found this run. These steps lead from
--- the machine with that run to the machine with the run that the CPU left, and the machine's counts follow them. Then the
--- CPU released the lock.
+-- A command was served under the lock with this reply. The CPU took the lock, and found this run. It opened its visit by
+-- the first of these steps. They lead from the machine with that run to the machine with the run that the CPU left, and the
+-- machine's counts follow them. Then the CPU released the lock.
 pub record IsServed (table : KnownTable) (cmd : Cmd) (reply : Reply) (before after : LockedState) : Type 0 where
   pub steps : Run
   pub serves : Serves cmd reply (transition table before steps after)
   pub found : KnownRun
   pub left : KnownRun
   pub taken : TakesLock table before found
+  pub opens : Makes table (with_run before.locked.machine found) (open_steps before.cpu.part.number)
+      (with_run before.locked.machine serves.seen)
   pub makes : Makes table (with_run before.locked.machine found) steps (with_run after.locked.machine left)
   pub released : ReleasesLock table left after
   pub run : VisitsInRun before.cpu.part.number steps before.locked.machine.run.past before.cpu.past
