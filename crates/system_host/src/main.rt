@@ -40,7 +40,7 @@ fn run_system<N: BootName, R: Wait>(
     boot: Boot,
     text: &mut String,
 ) -> Result<SystemEnd>
-    requires { (boot.frames ≡ N.frames) × (boot.stocks ≡ N.stocks) }
+    requires { boot.frames ≡ N.frames }
     ensures { IfOk result (HasEnded N.frames) }
 {
     let (system, mut cpus) = boot.start::<N>(alloc)?;

@@ -31,8 +31,8 @@ module _ (frames : KnownTable) (cpu group : ℕ) (from to : KnownLive) (value : 
 
   pub frame_taken : (path : Bor (List ℕ)) → IsCpu from.sizes.cpus cpu → AreCharges from.state.locked.machine.ledger → path_of groups group ≡ Some path.now
       → ((named : Bor (List ℕ)) → number_at groups named.now ≡ Some group
-      → SaysCommand frames stock_table cpu (cmd.Alloc named 0) from.state to.state (answer_of after value))
-      → NamesItsGroups after value → SameButState from to → CallsLive frames stock_table cpu (call.Alloc group 0) from to (returned.Served value)
+      → SaysCommand frames cpu (cmd.Alloc named 0) from.state to.state (answer_of after value))
+      → NamesItsGroups after value → SameButState from to → CallsLive frames cpu (call.Alloc group 0) from to (returned.Served value)
   frame_taken path exists legal is says there rest = record {
     command = cmd.Alloc path 0;
     means = (is, refl);

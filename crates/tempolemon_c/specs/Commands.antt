@@ -48,7 +48,7 @@ pub record TakesUnreadAnswer (before after : KnownLive) (text : List ℕ) : Type
 -- the text is a script, and its lines are replayed
 pub record AnswersScript (frames : KnownTable) (text : List ℕ) (is_explained : Bool)
     (answers : List ℕ) (from to : KnownLive) : Type 0 where
-  pub replays : ReplaysText (terms frames stock_table is_explained) from.sizes text from.state to.state answers
+  pub replays : ReplaysText (terms frames is_explained) from.sizes text from.state to.state answers
   pub rest : SameButState from to
 
 -- the first bad line of the text is this, and nothing is done
@@ -60,11 +60,11 @@ pub record RefusesScript (text : List ℕ) (number : ℕ) (from to : KnownLive) 
 pub record RunsOut (frames : KnownTable) (text : List ℕ) (is_explained : Bool)
     (from to : KnownLive) : Type 0 where
   pub served : (to.state ≡ from.state)
-      ⊎ StopsText (terms frames stock_table is_explained) from.sizes text from.state to.state
+      ⊎ StopsText (terms frames is_explained) from.sizes text from.state to.state
   pub rest : SameButState from to
 
 -- why a script has no answers, and what was done
 abbrev pub FailsScript : (frames : KnownTable) (text : List ℕ) (is_explained : Bool)
     (from to : KnownLive) → ScriptFault → Type 0
-FailsScript frames stock_table text is_explained from to (BadLine number) = RefusesScript text number from to
-FailsScript frames stock_table text is_explained from to NoMemory = RunsOut frames stock_table text is_explained from to
+FailsScript frames text is_explained from to (BadLine number) = RefusesScript text number from to
+FailsScript frames text is_explained from to NoMemory = RunsOut frames text is_explained from to

@@ -60,11 +60,10 @@ impl<N: BootName> Model for Live<N> {
 }
 
 impl<N: BootName> Live<N> {
-    /// Starts a boot of these sizes under a name of its tables. `AllocError` means that memory ran out: nothing is left
+    /// Starts a boot of these sizes under a name of its table. `AllocError` means that memory ran out: nothing is left
     /// then.
     pub fn start(alloc: Global, boot: Boot, sizes: Config) -> Result<Live<N>, AllocError>
         requires frames { boot.frames ≡ N.frames }
-        requires stocks { boot.stocks ≡ N.stocks }
         requires sizes { boot.sizes ≡ sizes }
         ensures first { IfOk result (λ live. IsNewBootState sizes N.frames live.state) }
         ensures sizes { IfOk result (λ live. live.sizes ≡ sizes) }

@@ -1,8 +1,8 @@
-//! Serving requests under the name of a boot's tables.
+//! Serving requests under the name of a boot's table.
 
 ghost use Rattle.std.specs.Prelude.{◌≡◌, IsSome, IsSomeAnd, None};
 ghost use Rattle.tempolemon_c.specs.HandleCalls.{CallsLive, GroupHasFiles, IsTypedCall, ShowsFile};
-ghost use Rattle.tempolemon_c.specs.Serving.{IsFit, OnLive, ServesRequest, frames_after_request, stocks_after_request};
+ghost use Rattle.tempolemon_c.specs.Serving.{IsFit, OnLive, ServesRequest, frames_after_request};
 ghost use Rattle.tempolemon_c.specs.declared.requests.Request.TheVariants.{End, Lines, Start, StoreUnread, TakeUnread};
 
 use crate::calls::{Call, CallAnswer, FileText};
@@ -25,8 +25,7 @@ pub fn serve<N: BootName>(
 ) -> (LivePointer<N>, RequestAnswer)
     requires fit { IsFit pointer.live request }
     requires frames { frames_after_request pointer.frames request ≡ N.frames }
-    requires stocks { stocks_after_request pointer.stocks request ≡ N.stocks }
-    ensures named { (result.0.frames ≡ N.frames) × (result.0.stocks ≡ N.stocks) }
+    ensures named { result.0.frames ≡ N.frames }
     ensures serves { ServesRequest N.frames pointer.live request result.0.live result.1 }
 {
     match request {
@@ -50,9 +49,9 @@ pub fn serve_call<N: BootName>(
     call: &Call<'_>,
 ) -> (LivePointer<N>, CallAnswer)
     requires some { IsSome pointer.live }
-    requires named { (pointer.frames ≡ N.frames) × (pointer.stocks ≡ N.stocks) }
+    requires named { pointer.frames ≡ N.frames }
     requires asked { IsTypedCall call.now }
-    ensures named { (result.0.frames ≡ N.frames) × (result.0.stocks ≡ N.stocks) }
+    ensures named { result.0.frames ≡ N.frames }
     ensures serves { OnLive (λ from to. CallsLive N.frames cpu call.now from to result.1)
         pointer.live result.0.live }
 {
@@ -68,8 +67,8 @@ pub fn show_file<N: BootName>(
     file: File,
 ) -> (LivePointer<N>, FileText)
     requires there { IsSomeAnd pointer.live (GroupHasFiles group file) }
-    requires named { (pointer.frames ≡ N.frames) × (pointer.stocks ≡ N.stocks) }
-    ensures named { (result.0.frames ≡ N.frames) × (result.0.stocks ≡ N.stocks) }
+    requires named { pointer.frames ≡ N.frames }
+    ensures named { result.0.frames ≡ N.frames }
     ensures shows { OnLive (λ from to. ShowsFile group file from to result.1) pointer.live result.0.live }
 {
     let live = pointer.into_box_parts().into_box();
@@ -85,9 +84,8 @@ fn start<N: BootName>(
 ) -> (LivePointer<N>, RequestAnswer)
     requires none { _pointer.live ≡ None }
     requires frames { boot.frames ≡ N.frames }
-    requires stocks { boot.stocks ≡ N.stocks }
     requires sizes { boot.sizes ≡ sizes }
-    ensures named { (result.0.frames ≡ N.frames) × (result.0.stocks ≡ N.stocks) }
+    ensures named { result.0.frames ≡ N.frames }
     ensures serves { ServesRequest N.frames _pointer.live (Start alloc boot sizes) result.0.live result.1 }
 {
     let Ok(live) = Live::<N>::start(alloc, boot, sizes) else {
@@ -106,8 +104,8 @@ fn answer_lines<N: BootName>(
     is_explained: bool,
 ) -> (LivePointer<N>, RequestAnswer)
     requires some { IsSome pointer.live }
-    requires named { (pointer.frames ≡ N.frames) × (pointer.stocks ≡ N.stocks) }
-    ensures named { (result.0.frames ≡ N.frames) × (result.0.stocks ≡ N.stocks) }
+    requires named { pointer.frames ≡ N.frames }
+    ensures named { result.0.frames ≡ N.frames }
     ensures serves { ServesRequest N.frames pointer.live
         (Lines alloc text is_explained) result.0.live result.1 }
 {
@@ -126,8 +124,8 @@ fn store_unread<N: BootName>(
     text: Vec<u8>,
 ) -> (LivePointer<N>, RequestAnswer)
     requires some { IsSome pointer.live }
-    requires named { (pointer.frames ≡ N.frames) × (pointer.stocks ≡ N.stocks) }
-    ensures named { (result.0.frames ≡ N.frames) × (result.0.stocks ≡ N.stocks) }
+    requires named { pointer.frames ≡ N.frames }
+    ensures named { result.0.frames ≡ N.frames }
     ensures serves { ServesRequest N.frames pointer.live (StoreUnread text) result.0.live result.1 }
 {
     let mut live = pointer.into_box_parts().into_box();
@@ -140,8 +138,8 @@ fn take_unread<N: BootName>(
     alloc: Global,
 ) -> (LivePointer<N>, RequestAnswer)
     requires some { IsSome pointer.live }
-    requires named { (pointer.frames ≡ N.frames) × (pointer.stocks ≡ N.stocks) }
-    ensures named { (result.0.frames ≡ N.frames) × (result.0.stocks ≡ N.stocks) }
+    requires named { pointer.frames ≡ N.frames }
+    ensures named { result.0.frames ≡ N.frames }
     ensures serves { ServesRequest N.frames pointer.live (TakeUnread alloc) result.0.live result.1 }
 {
     let mut live = pointer.into_box_parts().into_box();
@@ -154,8 +152,8 @@ fn take_unread<N: BootName>(
 
 fn finish<N: BootName>(pointer: LivePointer<N>, alloc: Global) -> (LivePointer<N>, RequestAnswer)
     requires some { IsSome pointer.live }
-    requires named { (pointer.frames ≡ N.frames) × (pointer.stocks ≡ N.stocks) }
-    ensures named { (result.0.frames ≡ N.frames) × (result.0.stocks ≡ N.stocks) }
+    requires named { pointer.frames ≡ N.frames }
+    ensures named { result.0.frames ≡ N.frames }
     ensures serves { ServesRequest N.frames pointer.live (End alloc) result.0.live result.1 }
 {
     let live = Box::into_inner(pointer.into_box_parts().into_box());

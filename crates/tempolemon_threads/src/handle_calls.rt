@@ -132,7 +132,7 @@ impl CpuPart {
     #[tactic(auto, using(crate::proofs::Crossing::crossed, crate::proofs::Crossing::cpu_behind))]
     pub(crate) fn call(&mut self, alloc: Global, call: &Call<'_>) -> CallAnswer
         requires live { IsSome (part_behind self.old) }
-        ensures { OnPart (λ frames stocks from to. Calls frames stocks call.now from to result)
+        ensures { OnPart (λ frames from to. Calls frames call.now from to result)
             (part_behind self.old) (part_behind self.new) }
     {
         let raw = self.raw.take(alloc);
@@ -145,7 +145,7 @@ impl CpuPart {
     #[tactic(auto, using(crate::proofs::Crossing::crossed, crate::proofs::Crossing::cpu_behind))]
     pub(crate) fn read(&mut self, alloc: Global, asked: &ReadCall<'_>) -> ReadAnswer
         requires live { IsSome (part_behind self.old) }
-        ensures { OnPart (λ frames stocks from to. AnswersRead frames stocks asked.now from to result)
+        ensures { OnPart (λ frames from to. AnswersRead frames asked.now from to result)
             (part_behind self.old) (part_behind self.new) }
     {
         let raw = self.raw.take(alloc);
@@ -158,7 +158,7 @@ impl CpuPart {
     pub(crate) fn text(&mut self, alloc: Global, asked: TextCall) -> Option<TextAnswer>
         requires live { IsSome (part_behind self.old) }
         ensures shown { IfSome result (λ answer.
-            OnPart (λ frames stocks. ReadsText frames stocks asked answer) (part_behind self.old)
+            OnPart (λ frames. ReadsText frames asked answer) (part_behind self.old)
             (part_behind self.new)) }
         ensures busy { IfNone result (part_behind self.new ≡ part_behind self.old) }
     {

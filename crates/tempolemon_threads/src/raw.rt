@@ -4,7 +4,7 @@ ghost use Rattle.std.specs.Prelude.{◌≡◌, IsSome, IsSomeAnd, None, Option};
 ghost use Rattle.frame_word.specs.Seats.{KnownTable};
 ghost use Rattle.zone_threads.specs.Calling.{AnswersRead, Calls};
 ghost use Rattle.zone_threads.specs.Homes.{HasCpu, KnownHome};
-ghost use Rattle.tempolemon_threads.specs.Owned.{brand, frames_coded, home_owns, home_coded, stocks_coded};
+ghost use Rattle.tempolemon_threads.specs.Owned.{brand, frames_coded, home_owns, home_coded};
 ghost use Rattle.tempolemon_threads.specs.Serving.{ForksRaw, IsFitForHome, OnRawHome, ServesRawHome};
 
 use crate::home_pointer::HomePointer;
@@ -15,14 +15,13 @@ use std::marker::{Brand, Model};
 use std::mem::ManuallyDrop;
 use zone_threads::calls::{Call, CallAnswer, ReadAnswer, ReadCall};
 
-/// A pointer to a home, or to nothing, and the tables that the home is of. It can't be dropped, so no home is left in
+/// A pointer to a home, or to nothing, and the table that the home is of. It can't be dropped, so no home is left in
 /// memory. It may go to another thread.
 #[repr(C)]
 pub struct RawHome {
     ptr: *mut u8,
     alloc: Global,
     pub ghost frames: { KnownTable } by { frames_coded },
-    pub ghost stocks: { KnownStockTable } by { stocks_coded },
     pub ghost home: { Option KnownHome } by { home_coded },
 }
 
@@ -67,7 +66,7 @@ impl RawHome {
 
     /// The same pointer, without a name.
     pub fn of(pointer: HomePointer<Brand>) -> RawHome
-        ensures { (result.frames ≡ pointer.frames) × (result.stocks ≡ pointer.stocks) × (result.home ≡ pointer.home) }
+        ensures { (result.frames ≡ pointer.frames) × (result.home ≡ pointer.home) }
     {
         let HomePointer { ptr, alloc } = pointer;
         RawHome {
@@ -78,7 +77,7 @@ impl RawHome {
 
     /// The same pointer, under a name.
     pub fn into_pointer(self) -> HomePointer<Brand>
-        ensures { (result.frames ≡ self.frames) × (result.stocks ≡ self.stocks) × (result.home ≡ self.home) }
+        ensures { (result.frames ≡ self.frames) × (result.home ≡ self.home) }
     {
         let RawHome { ptr, alloc } = self;
         HomePointer {
@@ -88,7 +87,7 @@ impl RawHome {
     }
 }
 
-/// Serves a request, as `serve` does, under a name that it picks for the tables.
+/// Serves a request, as `serve` does, under a name that it picks for the table.
 pub fn serve_raw(raw: RawHome, request: Request) -> (RawHome, RequestAnswer)
     requires fit { IsFitForHome raw.home request }
     ensures serves { ServesRawHome raw.frames raw.home request

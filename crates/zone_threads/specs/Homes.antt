@@ -129,4 +129,4 @@ pub record EndsParked (frames : KnownTable) (loan : KnownLoan (Box KnownBehind))
     (ended : SystemEnd) : Type 0 where
   pub found : Box KnownBehind
   pub found_is : loan.found ≡ Some found
-  pub ends : PutsAndEnds frames stock_table found.value.locked found.value.parked ended
+  pub ends : PutsAndEnds frames found.value.locked found.value.parked ended

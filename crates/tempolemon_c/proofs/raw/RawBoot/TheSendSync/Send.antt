@@ -6,9 +6,9 @@ use Rattle.tempolemon_c.proofs.live.Live.TheSendSync.{the_send as live_send}
 use Rattle.tempolemon_c.specs.Owned.{brand, live_row, live_owns}
 use Rattle.tempolemon_c.specs.contracts.raw.RawBoot.{the_row, the_type}
 
-owned : (f : KnownTable) (s : KnownStockTable) (a : Global) (p : Ptr) (o : Option KnownLive) → Keyless (live_owns brand f s a p o)
-owned f s a p None = tt
-owned f s a p (Some live) = box_crosses (live_row brand f s) (live_send brand (record { frames = f; stocks = s })) a p live
+owned : (f : KnownTable) (a : Global) (p : Ptr) (o : Option KnownLive) → Keyless (live_owns brand f a p o)
+owned f a p None = tt
+owned f a p (Some live) = box_crosses (live_row brand f) (live_send brand (record { frames = f })) a p live
 
 pub send : IsSend the_row
 send =

@@ -6,9 +6,9 @@ use Rattle.zone_threads.proofs.home.Home.TheSendSync.{the_send as home_send}
 use Rattle.tempolemon_threads.specs.Owned.{brand, home_row, home_owns}
 use Rattle.tempolemon_threads.specs.contracts.raw.RawHome.{the_row, the_type}
 
-owned : (f : KnownTable) (s : KnownStockTable) (a : Global) (p : Ptr) (o : Option KnownHome) → Keyless (home_owns brand f s a p o)
-owned f s a p None = tt
-owned f s a p (Some home) = box_crosses (home_row brand f s) (home_send brand (record { frames = f; stocks = s })) a p home
+owned : (f : KnownTable) (a : Global) (p : Ptr) (o : Option KnownHome) → Keyless (home_owns brand f a p o)
+owned f a p None = tt
+owned f a p (Some home) = box_crosses (home_row brand f) (home_send brand (record { frames = f })) a p home
 
 pub send : IsSend the_row
 send =

@@ -15,13 +15,12 @@ use Rattle.zone_threads.proofs.behind.Behind.read.Goals as goal
 pub returns : goal.returns
 returns g c =
     let t = g.N.BootName.frames in
-    let w = g.N.BootName.stocks in
     let sizes = c.args.self.now.locked.sizes in
     let ledger = c.serve_outcome-outcome.new.locked.machine.ledger in
     let group : c.in-Text.group ≢ 0 = (subst (HasItsGroups ledger) c.in-Text.is c.serve_outcome-outcome.ensures.groups).1 in
     let told = c.file_text.ensures.text group ∙ ap (λ (l : Ledger). files.file_text l c.in-Text.group c.in-Text.file) c.charges.ensures in
     let reply = ap (reply_of ledger) c.in-Text.is ∙ sym (ap text_reply told) in
-    let visited : IsVisited t w sizes (IsServed t (cmd.Read c.args.asked.now.path c.args.asked.now.file) (text_reply c.file_text.result)) c.args.cpu.now c.serve_outcome-outcome.new.cpu =
+    let visited : IsVisited t sizes (IsServed t (cmd.Read c.args.asked.now.path c.args.asked.now.file) (text_reply c.file_text.result)) c.args.cpu.now c.serve_outcome-outcome.new.cpu =
     record {
       found = c.self.inside.locked;
       left = c.serve_outcome-outcome.new.locked;
@@ -30,11 +29,10 @@ returns g c =
       served = subst (λ (r : Reply). IsServed t (cmd.Read c.args.asked.now.path c.args.asked.now.file) r (locked_state c.self.inside.locked c.args.cpu.now)
           (locked_state c.serve_outcome-outcome.new.locked c.serve_outcome-outcome.new.cpu)) reply c.serve_outcome-outcome.ensures.served;
       sound_after = record { quiet = c.prove_quiet-2.ensures.quiet; consistent = c.prove_quiet-2.ensures.consistent; charges = c.prove_quiet-2.ensures.charges };
-      lent = c.serve_outcome-outcome.ensures.ends.lent;
     } in
     elim c.match-file_text.branch [
-      | in-Ok x ↦ subst (λ (a : ReadAnswer). IsReadUnderLock t w sizes c.args.asked.now c.args.cpu.now c.serve_outcome-outcome.new.cpu a) (sym x.result-is)
-          (subst (λ r. IsVisited t w sizes (IsServed t (cmd.Read c.args.asked.now.path c.args.asked.now.file) (text_reply r)) c.args.cpu.now c.serve_outcome-outcome.new.cpu) x.in-Ok.is visited)
-      | in-Err x ↦ subst (λ (a : ReadAnswer). IsReadUnderLock t w sizes c.args.asked.now c.args.cpu.now c.serve_outcome-outcome.new.cpu a) (sym x.result-is)
-          (subst (λ r. IsVisited t w sizes (IsServed t (cmd.Read c.args.asked.now.path c.args.asked.now.file) (text_reply r)) c.args.cpu.now c.serve_outcome-outcome.new.cpu) x.in-Err.is visited)
+      | in-Ok x ↦ subst (λ (a : ReadAnswer). IsReadUnderLock t sizes c.args.asked.now c.args.cpu.now c.serve_outcome-outcome.new.cpu a) (sym x.result-is)
+          (subst (λ r. IsVisited t sizes (IsServed t (cmd.Read c.args.asked.now.path c.args.asked.now.file) (text_reply r)) c.args.cpu.now c.serve_outcome-outcome.new.cpu) x.in-Ok.is visited)
+      | in-Err x ↦ subst (λ (a : ReadAnswer). IsReadUnderLock t sizes c.args.asked.now c.args.cpu.now c.serve_outcome-outcome.new.cpu a) (sym x.result-is)
+          (subst (λ r. IsVisited t sizes (IsServed t (cmd.Read c.args.asked.now.path c.args.asked.now.file) (text_reply r)) c.args.cpu.now c.serve_outcome-outcome.new.cpu) x.in-Err.is visited)
     ]

@@ -7,6 +7,5 @@ use Rattle.zone_threads.proofs.behind.Behind.text.Goals as goal
 pub returns-in-Units : goal.returns-in-Units
 returns-in-Units g c =
     let t = g.N.BootName.frames in
-    let w = g.N.BootName.stocks in
-    subst (λ (asked : TextCall). ReadsAfterSettling t w (SaysText asked c.units.result) c.args.cpu.now c.units.new.cpu) (sym c.in-Units.is)
-    (subst (λ (path : List ℕ). ReadsAfterSettling t w (SaysUnits path c.units.result) c.args.cpu.now c.units.new.cpu) c.deref.ensures.value c.units.ensures)
+    subst (λ (asked : TextCall). ReadsAfterSettling t (SaysText t asked c.units.result) c.args.cpu.now c.units.new.cpu) (sym c.in-Units.is)
+    (subst (λ (path : List ℕ). ReadsAfterSettling t (SaysUnits t path c.units.result) c.args.cpu.now c.units.new.cpu) c.deref.ensures.value c.units.ensures)
