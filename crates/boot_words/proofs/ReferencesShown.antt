@@ -11,7 +11,7 @@ use Rattle.frame_word.specs.declared.view.FrameView.{FrameView}
 use Rattle.frame_word.specs.ReferenceRule.{FrameRule, HandOverRule, IsInOneHand, IsPassing, IsReferenced, ReferenceRule, VisitRule, begun_in, borrowed_in, ended_in, hands_in, lent_in, lent_number, mark, mark_count, only, opened_in, references_in, visit_index}
 use Rattle.frame_word.specs.Totals.{sum_over, total_over}
 use Rattle.frame_word.specs.Views.{blank, in_hands, lent_count, note_of}
-use Rattle.frame_word.proofs.Swap.{OneCase}
+use Rattle.frame_word.proofs.Consequences.{OneCase}
 use Rattle.frame_word.proofs.Totals.{sum_plus}
 use Rattle.step_rules.specs.declared.phase.ChargedUnit.{ChargedUnit}
 use Rattle.step_rules.specs.declared.phase.Stage.{Stage}

@@ -25,8 +25,8 @@ abbrev pub StaysSo : Stock → KnownCpu → Stock → KnownCpu → Type 0
 StaysSo last c last' d = (last' ≡ last) × (d ≡ c)
 
 -- the stock was found drained, and the part is the same
-abbrev pub FindsDrained : Stock → KnownCpu → Stock → KnownCpu → Type 0
-FindsDrained last c last' d = (last' ≡ drained_of last) × (d ≡ c)
+abbrev pub SeesStockDrained : Stock → KnownCpu → Stock → KnownCpu → Type 0
+SeesStockDrained last c last' d = (last' ≡ drained_of last) × (d ≡ c)
 
 -- a page of group g is taken, and f, the front of the list, is now the newest fresh frame
 pub record TakesPaid (g f : ℕ) (last : Stock) (c : KnownCpu) (last' : Stock) (d : KnownCpu) : Type 0 where
@@ -43,7 +43,7 @@ abbrev pub FastAnswers : ℕ → Fast → Stock → KnownCpu → Stock → Known
 FastAnswers g FreshFull last c last' d = (length c.fresh ≡ most_fresh) × StaysSo last c last' d
 FastAnswers g ListEmpty last c last' d = (length c.fresh < most_fresh) × (c.list ≡ []) × StaysSo last c last' d
 FastAnswers g OtherGroup last c last' d = CanTake c × (group_of last ≢ Some g) × StaysSo last c last' d
-FastAnswers g Drained last c last' d = CanTake c × (group_of last ≡ Some g) × FindsDrained last c last' d
+FastAnswers g Drained last c last' d = CanTake c × (group_of last ≡ Some g) × SeesStockDrained last c last' d
 FastAnswers g NoStock last c last' d = CanTake c × (last ≡ HeldBy g 0) × StaysSo last c last' d
 FastAnswers g (Got f) last c last' d = TakesPaid g f last c last' d
 
@@ -53,7 +53,7 @@ IfGot (Got f) P = P f
 IfGot other P = Unit {0}
 
 -- the page of f is in the stock again, and f moved from its place among the fresh frames to the end of the list
-pub record ListsAgain (f : ℕ) (last : Stock) (c : KnownCpu) (last' : Stock) (d : KnownCpu) : Type 0 where
+pub record IsListedAgain (f : ℕ) (last : Stock) (c : KnownCpu) (last' : Stock) (d : KnownCpu) : Type 0 where
   pub group : ℕ
   pub pages : ℕ
   pub stock_before : last ≡ HeldBy group pages
@@ -69,8 +69,8 @@ pub record ListsAgain (f : ℕ) (last : Stock) (c : KnownCpu) (last' : Stock) (d
 
 -- what drop_fresh of f answers
 abbrev pub DropAnswers : ℕ → Dropped → Stock → KnownCpu → Stock → KnownCpu → Type 0
-DropAnswers f Listed last c last' d = ListsAgain f last c last' d
-DropAnswers f NeedVisit last c last' d = FindsDrained last c last' d
+DropAnswers f Listed last c last' d = IsListedAgain f last c last' d
+DropAnswers f NeedVisit last c last' d = SeesStockDrained last c last' d
 
 -- what a get of f answers, and the CPU's part after it: Held adds a pin
 abbrev pub PinAnswers : ℕ → Get → KnownCpu → KnownCpu → Type 0

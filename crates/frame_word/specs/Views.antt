@@ -1,5 +1,5 @@
 -- What one seat knows, as plain data, and how a step changes it.
-use Rattle.std.specs.Prelude.{◌≡◌, ◌≤◌, ℕ, zero, suc, ◌+◌, ◌-◌, ◌==◌, cond, List, [], ◌∷◌, slice_index, slice_index_or}
+use Rattle.std.specs.Prelude.{◌≡◌, ℕ, zero, suc, ◌+◌, ◌-◌, ◌==◌, cond, List, [], ◌∷◌, slice_index, slice_index_or}
 use Rattle.frame_word.specs.declared.view.FrameNote.{FrameNote}
 use Rattle.frame_word.specs.declared.view.FrameView.{FrameView}
 
@@ -39,37 +39,13 @@ note_of v f = slice_index_or v.notes f blank
 abbrev pub changed : FrameView → ℕ → (FrameNote → FrameNote) → FrameView
 changed v f change = record v { notes = put_at blank v.notes f (change (note_of v f)) }
 
--- the zone's view with the CPU's visit open (1) or shut (0)
-abbrev pub with_visit : FrameView → ℕ → ℕ → FrameView
-with_visit v cpu state = record v { opened = put_at 0 v.opened cpu state; visit_changes = v.visit_changes + 1 }
-
 -- in how many of the seat's hands the frame is: 0 or 1
 abbrev pub in_hands : FrameNote → ℕ
 in_hands k = k.own + k.borrowed
 
--- the hand-overs of the frame between the zone and this CPU that one of the two seats began
-abbrev pub hand_overs_begun : FrameView → FrameView → ℕ → ℕ
-hand_overs_begun zone cpu f = slice_index (note_of zone f).passed_out cpu.number + (note_of cpu f).passed_back
-
--- the hand-overs of the frame between the zone and this CPU that one of the two seats ended
-abbrev pub hand_overs_ended : FrameView → FrameView → ℕ → ℕ
-hand_overs_ended zone cpu f = slice_index (note_of zone f).collected cpu.number + (note_of cpu f).taken_in
-
 -- the view has no reference on the frame and has it in no hand
 abbrev pub HasNone : FrameView → ℕ → Type 0
 HasNone v f = ((note_of v f).references ≡ 0) × (in_hands (note_of v f) ≡ 0)
-
--- The zone and a CPU are settled at the frame. It isn't in transit to or from the CPU, and is lent to the CPU exactly
--- if the CPU has borrowed it. If one of the two has it in a hand, the other hasn't, and neither has a reference on it.
--- If one of the two owns it, it is lent to no CPU.
-pub record IsHandedOverAt (zone cpu : FrameView) (f : ℕ) : Type 0 where
-  pub still : hand_overs_begun zone cpu f ≡ hand_overs_ended zone cpu f
-  pub lent_is_borrowed : (note_of zone f).lent ≡ cpu.number → (note_of cpu f).borrowed ≡ 1
-  pub borrowed_is_lent : (note_of cpu f).borrowed ≡ 1 → (note_of zone f).lent ≡ cpu.number
-  pub one_hand : in_hands (note_of zone f) + in_hands (note_of cpu f) ≤ 1
-  pub no_reference : 1 ≤ in_hands (note_of zone f) + in_hands (note_of cpu f)
-      → (note_of zone f).references + (note_of cpu f).references ≡ 0
-  pub own_is_not_lent : 1 ≤ (note_of zone f).own + (note_of cpu f).own → (note_of zone f).lent ≡ 0
 
 -- 1 if the frame is lent to the CPU, else 0
 abbrev pub lent_count : FrameNote → ℕ → ℕ
@@ -120,16 +96,3 @@ passed_out_to cpu k = record k {
 -- take_in: the CPU borrows the frame, and the hand-over ended
 abbrev pub took_in : FrameNote → FrameNote
 took_in k = record k { steps = k.steps + 1; borrowed = 1; taken_in = k.taken_in + 1 }
-
--- pass_back: the frame leaves the CPU's hand, and a hand-over began
-abbrev pub passed_back_by_cpu : FrameNote → FrameNote
-passed_back_by_cpu k = record k { steps = k.steps + 1; own = 0; borrowed = 0; passed_back = k.passed_back + 1 }
-
--- collect: the zone owns the frame, which is lent to no CPU, and the hand-over ended
-abbrev pub collected_from : ℕ → FrameNote → FrameNote
-collected_from cpu k = record k {
-  steps = k.steps + 1;
-  own = 1;
-  lent = 0;
-  collected = put_at 0 k.collected cpu (slice_index k.collected cpu + 1);
-}

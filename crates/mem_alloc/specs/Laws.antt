@@ -11,7 +11,7 @@ use Rattle.step_rules.specs.declared.step.Answer.{Answer}
 use Rattle.step_rules.specs.declared.step.Step.{Step}
 use Rattle.step_rules.specs.After.{Run}
 use Rattle.mem_machine.specs.Machines.{IsConsistent, KnownMachine, home_of}
-use Rattle.mem_machine.specs.Local.{IsLocalRun, VisitState, holder_of, local_of}
+use Rattle.mem_machine.specs.Local.{IsLocalRun, VisitState, lock_holder, local_of}
 use Rattle.mem_machine.specs.Stocks.{AreDrained}
 use Rattle.mem_reclaim.specs.declared.sets.Killed.{Killed}
 use Rattle.mem_reclaim.specs.Moves.{kills_in, missed_in}
@@ -29,7 +29,7 @@ use Rattle.mem_machine.specs.Transitions.{Transition}
 pub record WasLast (MayAsk : List Group → ℕ → ℕ → Type 0) (table : KnownTable) (start : KnownMachine)
     (tried : Run) (killed : Killed) : Type 0 where
   pub now : KnownMachine
-  pub leads : IsLocalRun (holder_of start) (local_of table start) tried (local_of table now)
+  pub leads : IsLocalRun (lock_holder start) (local_of table start) tried (local_of table now)
   pub consistent : IsConsistent table now
   pub charges : AreCharges now.ledger
   pub limited : ℕ

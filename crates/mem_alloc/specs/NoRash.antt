@@ -14,7 +14,7 @@ use Rattle.step_rules.specs.declared.step.Answer.{Answer}
 use Rattle.step_rules.specs.declared.step.Step.{Step}
 use Rattle.step_rules.specs.After.{Run}
 use Rattle.mem_machine.specs.Machines.{HeadsKeptUnit, IsConsistent, KnownMachine, home_of}
-use Rattle.mem_machine.specs.Local.{IsLocalRun, holder_of, local_of}
+use Rattle.mem_machine.specs.Local.{IsLocalRun, lock_holder, local_of}
 use Rattle.mem_machine.specs.Stocks.{AreDrained}
 use Rattle.mem_reclaim.specs.declared.sets.Killed.{Killed}
 use Rattle.mem_reclaim.specs.Moves.{is_kill, kills_in}
@@ -89,7 +89,7 @@ pub record MayKillAfter (table : KnownTable) (MayAsk : List Group → ℕ → �
   pub left : List ℕ
   pub later : List ℕ
   pub steps_are : before ≡ tried ++ since
-  pub leads : IsLocalRun (holder_of start) (local_of table start) tried (local_of table now)
+  pub leads : IsLocalRun (lock_holder start) (local_of table start) tried (local_of table now)
   pub may : MayKill MayAsk (transition table start tried now) killed
   pub at_once : (since ≡ []) ⊎ (begins_with_kill since ≡ true)
   pub set_is : kill_set now killed ≡ kills_in since ++ group ∷ left

@@ -28,7 +28,7 @@ use Rattle.step_rules.proofs.LocalLaws.{own_step_is_legal}
 use Rattle.step_rules.proofs.Interleaving.{local_runs_interleave}
 use Rattle.step_rules.proofs.Peaking.{peaks_are_kept}
 use Rattle.step_rules.proofs.Noting.{events_are_counted}
-use Rattle.mem_machine.specs.Local.{holder_of, local_of}
+use Rattle.mem_machine.specs.Local.{lock_holder, local_of}
 use Rattle.mem_machine.specs.Interleaving.{IsInterleaving, zone_of}
 use Rattle.mem_machine.specs.Steps.{cpu_makes}
 use Rattle.mem_machine.specs.Agreeing.{AgreesWithRun}
@@ -139,7 +139,7 @@ lines_agree t run cpus k before steps later shows serves told =
     lock (local_of t m) steps (local_of t n) took start (λ r. zone_of_run zone r ∙ sym (zone_of_run zone run)) leads serves.decided in
     let made : Run = lock ++ steps in
     let own = own_all p (local_of t m) steps (local_of t n) leads in
-    let interleaving : IsInterleaving t lock (holder_of m) steps steps =
+    let interleaving : IsInterleaving t lock (lock_holder m) steps steps =
     subst (λ (q : ℕ). IsInterleaving t lock q steps steps) (sym serves.taken.holds.who) (record { own = own; follows = mixed }) in
     let told_made : AgreesWithRun t made n.ledger =
     ledgers_agree t lock steps steps m n (the_holder_is_shown t run cpus k before shows serves.taken) told_lock serves.leads interleaving in

@@ -29,7 +29,7 @@ use Rattle.boot_words.specs.Hidden.{hide}
 use Rattle.boot_words.specs.Runs.{HasNoStepOf}
 use Rattle.boot_words.proofs.Owning.{lists_are_own}
 use Rattle.mem_machine.specs.Machines.{KnownMachine, VisitState, left_by}
-use Rattle.mem_machine.specs.Local.{holder_of, local_of}
+use Rattle.mem_machine.specs.Local.{lock_holder, local_of}
 use Rattle.mem_machine.specs.Interleaving.{zone_of, Shows}
 use Rattle.mem_machine.specs.Steps.{cpu_makes}
 use Rattle.mem_machine.proofs.Sight.{hide_seen, left_seen}
@@ -143,7 +143,7 @@ the_same_is_shown t run m other cpus shows same = record {
   each = shows.each;
 }
 
-holder_shown : (t : KnownTable) (run : Run) (m : KnownMachine) (p : ℕ) → holder_of m ≡ p → ShowsLocal (zone_of t) run p (local_of t m) → Shows t run m
+holder_shown : (t : KnownTable) (run : Run) (m : KnownMachine) (p : ℕ) → lock_holder m ≡ p → ShowsLocal (zone_of t) run p (local_of t m) → Shows t run m
 holder_shown t run m p who = subst (λ (q : ℕ). ShowsLocal (zone_of t) run q (local_of t m)) (sym who)
 
 pub the_holder_is_shown : TheHolderIsShown

@@ -22,7 +22,7 @@ use Rattle.step_watch.specs.Watched.{KnownWatch, Watches}
 use Rattle.mem_machine.specs.declared.machine.Machine.TheInside.{Inside}
 use Rattle.mem_machine.specs.Booked.{AreBooked, AreOwners}
 use Rattle.mem_machine.specs.Kept.{IsSoundMachine, machine_of}
-use Rattle.mem_machine.specs.Local.{Makes, StaysVisited, holder_of, local_of}
+use Rattle.mem_machine.specs.Local.{Makes, StaysVisited, lock_holder, local_of}
 use Rattle.mem_machine.specs.Machines.{KnownMachine, IsConsistent, IsCpuOf, IsShownBy, frames_charged, left_by, pages_booked, stock_group}
 use Rattle.mem_machine.specs.Noted.{AreLocal, KnownRun, MayTake, MayTakeAll, Notes, after_made}
 use Rattle.mem_machine.specs.Steps.{drain_steps, zone_makes}
@@ -153,8 +153,8 @@ module _ (t : KnownTable) (m : KnownMachine) (ok : IsConsistent t m) (q n : ℕ)
 
   module _ (o : Option ℕ) (group : stock_group t m q ≡ o) (run : KnownRun) (noted : Notes t m.run (drain_steps q o n) run) where
     ends : fold after_made (local_of t m) (drain_steps q o n) ≡ drain_state (local_of t m) q n
-    ends = run_ends (holder_of m) (local_of t m) (drain_steps q o n) (drain_state (local_of t m) q n)
-        (drain_leads (local_of t m) q n (holder_of m) o (own_group o group) k.legal k.fits)
+    ends = run_ends (lock_holder m) (local_of t m) (drain_steps q o n) (drain_state (local_of t m) q n)
+        (drain_leads (local_of t m) q n (lock_holder m) o (own_group o group) k.legal k.fits)
 
     drain_left : left_by t run.past ≡ drain_state (left_by t m.run.past) q n
     drain_left =
@@ -199,8 +199,8 @@ module _ (t : KnownTable) (m : KnownMachine) (ok : IsConsistent t m) (q n : ℕ)
       };
       steps = subst (λ (x : Option ℕ). Makes t m (drain_steps q x n) (record m { ledger = uncharged m.ledger o n; run = run })) (sym group)
           (makes t m (record m { ledger = uncharged m.ledger o n; run = run }) (drain_steps q o n) k.is noted
-          (subst (IsLocalRun (holder_of m) (local_of t m) (drain_steps q o n)) (sym ends)
-          (drain_leads (local_of t m) q n (holder_of m) o (own_group o group) k.legal k.fits))
+          (subst (IsLocalRun (lock_holder m) (local_of t m) (drain_steps q o n)) (sym ends)
+          (drain_leads (local_of t m) q n (lock_holder m) o (own_group o group) k.legal k.fits))
           (drain_follows (local_of t m) q n m.ledger o) (drain_counts (local_of t m) q n m.counts o));
       visit = stays_visited t m (record m { ledger = uncharged m.ledger o n; run = run }) (drain_steps q o n) noted
           (ap (λ (s : State). s.hold) ends) (λ p. subst (HasSameLists p (local_of t m)) (sym ends) (drain_lists (local_of t m) q n p));

@@ -31,7 +31,7 @@ use Rattle.mem_machine.specs.Following.{Moves, moved_along, moves_peak, moves_co
 use Rattle.mem_machine.specs.declared.counts.Counts.{Counts}
 use Rattle.mem_machine.specs.Counting.{counts_after, counts_along}
 use Rattle.mem_machine.specs.Machines.{KnownMachine}
-use Rattle.mem_machine.specs.Local.{Makes, holder_of, local_of}
+use Rattle.mem_machine.specs.Local.{Makes, lock_holder, local_of}
 use Rattle.mem_machine.specs.Noted.{KnownRun, Notes, after_made}
 use Rattle.mem_machine.proofs.Noted.{notes_none, notes_both, run_ends}
 use Rattle.mem_machine.proofs.Reaching.{run_both}
@@ -117,7 +117,7 @@ counts_both p a (e ∷ rest) two b x run =
 -- one list after another
 pub makes_both : (t : KnownTable) (one two : Run) (a b c : KnownMachine) → Makes t a one b → Makes t b two c → Makes t a (one ++ two) c
 makes_both t one two a b c first second =
-    let p = holder_of a in
+    let p = lock_holder a in
     let s = local_of t a in
     let u = local_of t b in
     let v = local_of t c in

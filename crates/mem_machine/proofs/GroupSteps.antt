@@ -30,7 +30,7 @@ use Rattle.boot_words.specs.Sight.{HasSameLists}
 use Rattle.mem_machine.specs.Booked.{AreBooked, AreOwners}
 use Rattle.mem_machine.specs.Counting.{counts_along}
 use Rattle.mem_machine.specs.Following.{FollowsSteps}
-use Rattle.mem_machine.specs.Local.{Makes, StaysVisited, holder_of, local_of}
+use Rattle.mem_machine.specs.Local.{Makes, StaysVisited, lock_holder, local_of}
 use Rattle.mem_machine.specs.Machines.{KnownMachine, AddsGroup, IsConsistent, IsShownBy, is_killed, left_by}
 use Rattle.mem_machine.specs.Noted.{KnownRun, MayTake, Notes, after_made}
 use Rattle.mem_machine.specs.Steps.{zone_makes, make_steps, remove_steps, set_max_steps, set_oom_group_steps}
@@ -53,7 +53,7 @@ pub record AllGrouped (t : KnownTable) (m now : KnownMachine) (made : Step × An
 
 -- what is known of such a step before it is made
 pub record IsGroupStep (t : KnownTable) (m : KnownMachine) (made : Step × Answer) (l : Ledger) (marks : List Bool) : Type 0 where
-  pub step : IsLocalStep (local_of t m) (holder_of m) made.0.seat made.0.action made.1
+  pub step : IsLocalStep (local_of t m) (lock_holder m) made.0.seat made.0.action made.1
   pub only : after_made (local_of t m) made ≡ record (local_of t m) { groups = (after_made (local_of t m) made).groups; killed = (after_made (local_of t m) made).killed }
   pub groups : (after_made (local_of t m) made).groups ≡ l.groups
   pub killed : (g : ℕ) → (after_made (local_of t m) made).killed g ≡ is_killed marks g
@@ -100,7 +100,7 @@ module _ (t : KnownTable) (m : KnownMachine) (ok : IsConsistent t m) (is : IsHel
         };
         sums = sums_stay t m is (made ∷ []) run noted same;
         owners = owners_stay t m is (made ∷ []) run noted same;
-        steps = makes t m then (made ∷ []) is noted (one_leads (holder_of m) s made group.step) group.follows group.counts;
+        steps = makes t m then (made ∷ []) is noted (one_leads (lock_holder m) s made group.step) group.follows group.counts;
         visit = stays_visited t m then (made ∷ []) noted (ap (λ (x : State). x.hold) group.only)
             (λ p. subst (HasSameLists p s) (sym group.only) (record { list = refl; fresh = refl; back = refl; references = refl }));
       }
@@ -135,7 +135,7 @@ module _ (t : KnownTable) (m now : KnownMachine) (same : m ≡ now) (ok : IsCons
   module _ (g : ℕ) (there : has_group now.ledger.groups g ≡ true) where
     -- a step notes an event of this kind at the group, and changes nothing that is seen
     notes : (kind : EventKey) (action : Action) → event_of action Done ≡ Some (kind, g) → ((s : State) (x : _) → x ≡ counts_along s (zone_makes action Done ∷ []) x)
-        → after_made (local_of t m) (zone_makes action Done) ≡ local_of t m → IsLocalStep (local_of t m) (holder_of m) 0 action Done
+        → after_made (local_of t m) (zone_makes action Done) ≡ local_of t m → IsLocalStep (local_of t m) (lock_holder m) 0 action Done
         → (l : Ledger) → l.groups ≡ m.ledger.groups → CountsEvent kind m.ledger l g → SamePeaks m.ledger l → IsGroupStep t m (zone_makes action Done) l m.killed
     notes kind action noted none stays step l groups counts peaks = record {
       step = step;
@@ -148,23 +148,23 @@ module _ (t : KnownTable) (m now : KnownMachine) (same : m ≡ now) (ok : IsCons
 
     pub notes_max : (l : Ledger) → l.groups ≡ m.ledger.groups → CountsEvent Max m.ledger l g → SamePeaks m.ledger l → IsGroupStep t m (zone_makes (NoteMax g) Done) l m.killed
     notes_max l groups counts peaks = notes Max (NoteMax g) refl (λ s x. refl) refl
-        (zone_step (local_of t m) (holder_of m) (NoteMax g) Done refl (and_from _ _ (zone_acts t m.run.past is) (seen_there g there)) tt) l groups counts peaks
+        (zone_step (local_of t m) (lock_holder m) (NoteMax g) Done refl (and_from _ _ (zone_acts t m.run.past is) (seen_there g there)) tt) l groups counts peaks
 
     pub notes_oom : (l : Ledger) → l.groups ≡ m.ledger.groups → CountsEvent Oom m.ledger l g → SamePeaks m.ledger l → IsGroupStep t m (zone_makes (NoteOom g) Done) l m.killed
     notes_oom l groups counts peaks = notes Oom (NoteOom g) refl (λ s x. refl) refl
-        (zone_step (local_of t m) (holder_of m) (NoteOom g) Done refl (and_from _ _ (zone_acts t m.run.past is) (seen_there g there)) tt) l groups counts peaks
+        (zone_step (local_of t m) (lock_holder m) (NoteOom g) Done refl (and_from _ _ (zone_acts t m.run.past is) (seen_there g there)) tt) l groups counts peaks
 
     pub notes_group_kill : g ≢ 0 → (l : Ledger) → l.groups ≡ m.ledger.groups → CountsEvent OomGroupKill m.ledger l g → SamePeaks m.ledger l
         → IsGroupStep t m (zone_makes (NoteGroupKill g) Done) l m.killed
     notes_group_kill below l groups counts peaks = notes OomGroupKill (NoteGroupKill g) refl (λ s x. refl) refl
-        (zone_step (local_of t m) (holder_of m) (NoteGroupKill g) Done refl
+        (zone_step (local_of t m) (lock_holder m) (NoteGroupKill g) Done refl
         (and_from _ _ (and_from _ _ (zone_acts t m.run.past is) (seen_there g there)) (ap not (ne_eqb g 0 below))) tt) l groups counts peaks
 
     -- a group is killed
     pub kills : g < length m.killed → is_killed now.killed g ≡ false → (l : Ledger) → l.groups ≡ m.ledger.groups → CountsEvent OomKill m.ledger l g → SamePeaks m.ledger l
         → (marks : List Bool) → marks ≡ slice_set m.killed g true → IsGroupStep t m (zone_makes (Kill g) Done) l marks
     kills inside alive l groups counts peaks marks set = subst (λ (k : List Bool). IsGroupStep t m (zone_makes (Kill g) Done) l k) (sym set) (record {
-      step = zone_step (local_of t m) (holder_of m) (Kill g) Done refl (and_from _ _ (and_from _ _ (zone_acts t m.run.past is) (seen_there g there))
+      step = zone_step (local_of t m) (lock_holder m) (Kill g) Done refl (and_from _ _ (and_from _ _ (zone_acts t m.run.past is) (seen_there g there))
           (ap not (shown.killed g ∙ ap (λ (x : KnownMachine). is_killed x.killed g) same ∙ alive))) tt;
       only = refl;
       groups = shown.groups ∙ sym groups;
@@ -175,7 +175,7 @@ module _ (t : KnownTable) (m now : KnownMachine) (same : m ≡ now) (ok : IsCons
 
     pub sets_max : (limit : Option ℕ) → g ≢ 0 → (l : Ledger) → l ≡ with_group_limit m.ledger g limit → IsGroupStep t m (zone_makes (SetMax g limit) Done) l m.killed
     sets_max limit below l limited = subst (λ (k : Ledger). IsGroupStep t m (zone_makes (SetMax g limit) Done) k m.killed) (sym limited) (record {
-      step = zone_step (local_of t m) (holder_of m) (SetMax g limit) Done refl
+      step = zone_step (local_of t m) (lock_holder m) (SetMax g limit) Done refl
           (and_from _ _ (and_from _ _ (zone_acts t m.run.past is) (seen_there g there)) (ap not (ne_eqb g 0 below))) tt;
       only = refl;
       groups = ap (λ (gs : List Group). (after_made (record (local_of t m) { groups = gs }) (zone_makes (SetMax g limit) Done)).groups) shown.groups;
@@ -186,7 +186,7 @@ module _ (t : KnownTable) (m now : KnownMachine) (same : m ≡ now) (ok : IsCons
 
     pub sets_oom_group : (flag : Bool) → g ≢ 0 → (l : Ledger) → l ≡ with_oom_flag m.ledger g flag → IsGroupStep t m (zone_makes (SetFlag g flag) Done) l m.killed
     sets_oom_group flag below l flagged = subst (λ (k : Ledger). IsGroupStep t m (zone_makes (SetFlag g flag) Done) k m.killed) (sym flagged) (record {
-      step = zone_step (local_of t m) (holder_of m) (SetFlag g flag) Done refl
+      step = zone_step (local_of t m) (lock_holder m) (SetFlag g flag) Done refl
           (and_from _ _ (and_from _ _ (zone_acts t m.run.past is) (seen_there g there)) (ap not (ne_eqb g 0 below))) tt;
       only = refl;
       groups = ap (λ (gs : List Group). (after_made (record (local_of t m) { groups = gs }) (zone_makes (SetFlag g flag) Done)).groups) shown.groups;
@@ -205,7 +205,7 @@ module _ (t : KnownTable) (m now : KnownMachine) (same : m ≡ now) (ok : IsCons
         let removable : is_removable s g ≡ true =
         and_from _ _ (and_from _ _ (and_from _ _ (seen_there g there) (ap not (ne_eqb g 0 below))) (ap not no_child)) (eq-eqb (usage_of s g) 0 none) in
         subst (λ (k : Ledger). IsGroupStep t m (zone_makes (Remove g) Done) k m.killed) (sym removed) (record {
-          step = zone_step s (holder_of m) (Remove g) Done refl (and_from _ _ (zone_acts t m.run.past is) removable) tt;
+          step = zone_step s (lock_holder m) (Remove g) Done refl (and_from _ _ (zone_acts t m.run.past is) removable) tt;
           only = refl;
           groups = ap (λ (gs : List Group). (after_made (record (local_of t m) { groups = gs }) (zone_makes (Remove g) Done)).groups) shown.groups;
           killed = shown.killed;
@@ -218,7 +218,7 @@ module _ (t : KnownTable) (m now : KnownMachine) (same : m ≡ now) (ok : IsCons
       → (l : Ledger) → l ≡ with_new_group m.ledger g path → (marks : List Bool) → marks ≡ slice_set m.killed g false
       → IsGroupStep t m (zone_makes (Make path) (Number g)) l marks
   makes_group g path inside allowed facts least l made marks cleared = subst (λ (x : Ledger × List Bool). IsGroupStep t m (zone_makes (Make path) (Number g)) x.0 x.1) (λ i. (sym made i, sym cleared i)) (record {
-    step = zone_step (local_of t m) (holder_of m) (Make path) (Number g) refl
+    step = zone_step (local_of t m) (lock_holder m) (Make path) (Number g) refl
         (and_from _ _ (zone_acts t m.run.past is) (ap (λ (gs : List Group). is_none (make_fault gs path)) shown.groups ∙ none_of (make_fault m.ledger.groups path) (sym allowed)))
         (subst (λ (gs : List Group). IsLeastFreeNumber gs g) (sym shown.groups) least);
     only = refl;

@@ -17,7 +17,7 @@ use Rattle.cpu_part.specs.Cpus.{KnownCpu}
 use Rattle.cpu_part.specs.Known.{HasOwn}
 use Rattle.mem_machine.specs.Counting.{counts_along}
 use Rattle.mem_machine.specs.Kept.{IsSoundMachine, machine_of}
-use Rattle.mem_machine.specs.Local.{Holds, IsShut, Makes, Visits, holder_of, local_of, visit_state}
+use Rattle.mem_machine.specs.Local.{Holds, IsShut, Makes, Visits, lock_holder, local_of, visit_state}
 use Rattle.mem_machine.specs.Machines.{KnownMachine, IsShownBy, with_run}
 use Rattle.mem_machine.specs.Noted.{KnownRun, Notes, after_made}
 use Rattle.mem_machine.specs.Steps.{open_steps, shut_steps}
@@ -72,29 +72,29 @@ module _ {N : Type 0} (t : KnownTable) (fields : Inside N) (ok : IsSoundMachine 
     own = subst (λ (s : State). HasOwn s c) (sym sees_then) (record { list = holds.own.list; fresh = holds.own.fresh; back = holds.own.back; references = holds.own.references });
   }
 
-  pub makes_then : IsLocalStep (local_of t (machine_of fields)) (holder_of (machine_of fields)) e.0.seat e.0.action e.1 → are_still (e ∷ []) ≡ true
+  pub makes_then : IsLocalStep (local_of t (machine_of fields)) (lock_holder (machine_of fields)) e.0.seat e.0.action e.1 → are_still (e ∷ []) ≡ true
       → (machine_of {N = N} fields).counts ≡ counts_along (local_of t (machine_of fields)) (e ∷ []) (machine_of {N = N} fields).counts
       → Makes t (machine_of fields) (e ∷ []) (with_run (machine_of {N = N} fields) run)
   makes_then step still counts =
-      makes t (machine_of {N = N} fields) (with_run (machine_of {N = N} fields) run) (e ∷ []) holds.held noted (one_leads (holder_of (machine_of {N = N} fields)) (local_of t (machine_of {N = N} fields)) e step)
+      makes t (machine_of {N = N} fields) (with_run (machine_of {N = N} fields) run) (e ∷ []) holds.held noted (one_leads (lock_holder (machine_of {N = N} fields)) (local_of t (machine_of {N = N} fields)) e step)
       (follows_same (local_of t (machine_of {N = N} fields)) fields.charges (e ∷ []) still) counts
 
 -- ---- the two steps
 
 module _ {N : Type 0} (t : KnownTable) (fields : Inside N) (ok : IsSoundMachine t fields) (c : KnownCpu) (holds : Holds t (visit_state (machine_of fields) c)) where
-  pub may_open : IsShut t (machine_of fields) c.number → IsLocalStep (local_of t (machine_of fields)) (holder_of (machine_of fields)) 0 (OpenVisit c.number) Done
-  may_open shut = zone_step (local_of t (machine_of {N = N} fields)) (holder_of (machine_of {N = N} fields)) (OpenVisit c.number) Done refl
+  pub may_open : IsShut t (machine_of fields) c.number → IsLocalStep (local_of t (machine_of fields)) (lock_holder (machine_of fields)) 0 (OpenVisit c.number) Done
+  may_open shut = zone_step (local_of t (machine_of {N = N} fields)) (lock_holder (machine_of {N = N} fields)) (OpenVisit c.number) Done refl
       (and_from _ _ (zone_acts t fields.past holds.held) (ap (is_held_by c.number) shut ∙ eq-eqb c.number c.number refl)) tt
 
   none_told : (a b : ℕ) → a + b ≡ 0 → (a ≡ 0) × (b ≡ 0)
   none_told a b none = (omega (arith, none), omega (arith, none))
 
-  pub may_shut : visits c.number (local_of t (machine_of fields)).hold ≡ true → IsLocalStep (local_of t (machine_of fields)) (holder_of (machine_of fields)) 0 (ShutVisit c.number) Done
+  pub may_shut : visits c.number (local_of t (machine_of fields)).hold ≡ true → IsLocalStep (local_of t (machine_of fields)) (lock_holder (machine_of fields)) 0 (ShutVisit c.number) Done
   may_shut is_open =
       let s = local_of t (machine_of {N = N} fields) in
       let shown = shown_seen t (machine_of {N = N} fields) ok.consistent holds.held in
       let none = none_told (s.parts c.number).unreported (s.parts c.number).reported (shown.absorbed c.number) in
-      zone_step s (holder_of (machine_of {N = N} fields)) (ShutVisit c.number) Done refl
+      zone_step s (lock_holder (machine_of {N = N} fields)) (ShutVisit c.number) Done refl
       (and_from _ _ (and_from _ _ (and_from _ _ (and_from _ _ (zone_acts t fields.past holds.held) is_open) (nothing_passes_here t (machine_of {N = N} fields) s shown c.number))
       (eq-eqb _ 0 none.0)) (eq-eqb _ 0 none.1)) tt
 

@@ -3,12 +3,12 @@ use Rattle.std.proofs.Common.{ℕ, ◌++◌, sym, subst}
 use Rattle.step_rules.specs.After.{Run}
 use Rattle.step_rules.specs.Laws.{ShowsLocal}
 use Rattle.step_rules.specs.Reaches.{IsLocalRun, LocalRunsInterleave}
-use Rattle.mem_machine.specs.Local.{holder_of, local_of}
+use Rattle.mem_machine.specs.Local.{lock_holder, local_of}
 use Rattle.mem_machine.specs.Interleaving.{CallsInterleave, zone_of}
 
 pub calls_interleave : LocalRunsInterleave → CallsInterleave
 calls_interleave law t run steps mixed before after shows made mixes =
-    let p = holder_of before in
+    let p = lock_holder before in
     let now = local_of t after in
     subst (λ (q : ℕ). ShowsLocal (zone_of t) (run ++ mixed) q now) (sym made.holder)
     (law (zone_of t) run p (local_of t before) mixed now shows

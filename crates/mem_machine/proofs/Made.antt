@@ -23,7 +23,7 @@ use Rattle.mem_machine.specs.Counting.{counts_along}
 use Rattle.mem_machine.specs.Following.{FollowsSteps}
 use Rattle.mem_machine.specs.Noted.{KnownRun, Notes, after_made}
 use Rattle.mem_machine.specs.Machines.{KnownMachine}
-use Rattle.mem_machine.specs.Local.{Holds, Makes, StaysVisited, Visits, holder_of, local_of, visit_state}
+use Rattle.mem_machine.specs.Local.{Holds, Makes, StaysVisited, Visits, lock_holder, local_of, visit_state}
 
 -- who holds the lock may act for the zone
 holder_acts : (p : ℕ) (hold : Hold) → holds_lock p hold ≡ true → may_zone_act hold 0 ≡ true
@@ -56,18 +56,18 @@ holds_here t m now same c holds = subst (λ (x : KnownMachine). Holds t (visit_s
 
 -- what was noted leads where the steps lead
 pub makes : (t : KnownTable) (m n : KnownMachine) (steps : Run) → IsHeld t m.run.past → Notes t m.run steps n.run
-    → IsLocalRun (holder_of m) (local_of t m) steps (fold after_made (local_of t m) steps)
+    → IsLocalRun (lock_holder m) (local_of t m) steps (fold after_made (local_of t m) steps)
     → FollowsSteps (local_of t m) m.ledger steps n.ledger → n.counts ≡ counts_along (local_of t m) steps m.counts → Makes t m steps n
 makes t m n steps is noted leads follows counts = record {
   holder = noted.grew.holder is;
-  leads = subst (IsLocalRun (holder_of m) (local_of t m) steps) (sym (noted.grew.sees is)) leads;
+  leads = subst (IsLocalRun (lock_holder m) (local_of t m) steps) (sym (noted.grew.sees is)) leads;
   follows = follows;
   counts = counts;
   noted = noted;
 }
 
 -- the same of the CPU of this number, which holds the lock
-pub makes_as : (t : KnownTable) (m n : KnownMachine) (p : ℕ) (steps : Run) → IsHeld t m.run.past → holder_of m ≡ p → Notes t m.run steps n.run
+pub makes_as : (t : KnownTable) (m n : KnownMachine) (p : ℕ) (steps : Run) → IsHeld t m.run.past → lock_holder m ≡ p → Notes t m.run steps n.run
     → IsLocalRun p (local_of t m) steps (fold after_made (local_of t m) steps)
     → FollowsSteps (local_of t m) m.ledger steps n.ledger → n.counts ≡ counts_along (local_of t m) steps m.counts → Makes t m steps n
 makes_as t m n p steps is who noted leads follows counts =

@@ -45,7 +45,7 @@ use Rattle.mem_machine.specs.Following.{FollowsSteps}
 use Rattle.mem_machine.specs.Freeing.{FreesFrames}
 use Rattle.mem_machine.specs.Machines.{KnownMachine, VisitState, IsConsistent, IsShownBy, booked, frames_charged, home_of, left_by, pages_booked, stock_group}
 use Rattle.mem_machine.specs.Noted.{AreLocal, KnownRun, MayTake, Notes, after_made}
-use Rattle.mem_machine.specs.Local.{Makes, Visits, holder_of, local_of, visit_state}
+use Rattle.mem_machine.specs.Local.{Makes, Visits, lock_holder, local_of, visit_state}
 use Rattle.mem_machine.proofs.HandOvers.{IsVisited}
 use Rattle.mem_machine.proofs.Made.{holder_is_cpu, zone_acts, zone_seen}
 use Rattle.mem_machine.proofs.Noted.{run_ends}
@@ -256,7 +256,7 @@ module _ (t : KnownTable) (m : KnownMachine) (c : KnownCpu) (visit : Visits t (v
   pub front_here : (f : ℕ) (rest : List ℕ) → c.list ≡ f ∷ rest → HasFrame (local_of t m) c.number (phase.Lent c.number OnList) f
   front_here f rest front =
       subst (λ (p : ℕ). HasFrame (local_of t m) p (phase.Lent p OnList) f) visit.who
-      (listed_own (zone_of_boot t) (cpu_past m.run.past).seen (holder_of m) visit.held.holds.shows.legal f
+      (listed_own (zone_of_boot t) (cpu_past m.run.past).seen (lock_holder m) visit.held.holds.shows.legal f
       (subst (λ (p : ℕ). 1 ≤ times f ((local_of t m).parts p).list) (sym visit.who)
       (let a = ap (times f) (visit.own.list ∙ front) in let b = times_same f in omega (arith, a, b))))
 
@@ -264,7 +264,7 @@ module _ (t : KnownTable) (m : KnownMachine) (c : KnownCpu) (visit : Visits t (v
       → HasFrame (local_of t m) c.number (phase.Head (record { group = g; order = 0 }) (FreshAt c.number)) f
   fresh_here f g rest front of =
       subst (λ (p : ℕ). HasFrame (local_of t m) p (phase.Head (record { group = g; order = 0 }) (FreshAt p)) f) visit.who
-      (fresh_own (zone_of_boot t) (cpu_past m.run.past).seen (holder_of m) visit.held.holds.shows.legal f g
+      (fresh_own (zone_of_boot t) (cpu_past m.run.past).seen (lock_holder m) visit.held.holds.shows.legal f g
       (subst (λ (p : ℕ). 1 ≤ times f ((local_of t m).parts p).fresh) (sym visit.who)
       (let a = ap (times f) (visit.own.fresh ∙ front) in let b = times_same f in omega (arith, a, b)))
       (subst (λ (p : ℕ). ((local_of t m).parts p).stock.group ≡ Some g) (sym visit.who) (group_seen ∙ of)))
@@ -273,20 +273,20 @@ module _ (t : KnownTable) (m : KnownMachine) (c : KnownCpu) (visit : Visits t (v
       → (unit : ChargedUnit) × HasFrame (local_of t m) c.number (phase.Head unit (BackAt c.number)) f
   back_here f rest front =
       subst (λ (p : ℕ). (unit : ChargedUnit) × HasFrame (local_of t m) p (phase.Head unit (BackAt p)) f) visit.who
-      (back_own (zone_of_boot t) (cpu_past m.run.past).seen (holder_of m) visit.held.holds.shows.legal f
+      (back_own (zone_of_boot t) (cpu_past m.run.past).seen (lock_holder m) visit.held.holds.shows.legal f
       (subst (λ (p : ℕ). 1 ≤ times f ((local_of t m).parts p).back) (sym visit.who)
       (let a = ap (times f) (visit.own.back ∙ front) in let b = times_same f in omega (arith, a, b))))
 
   -- with a fresh frame it has a stock of a group
   pub fresh_group_here : 1 ≤ length c.fresh → (g : ℕ) × (stock_group t m c.number ≡ Some g)
   fresh_group_here some =
-      let its = fresh_group (zone_of_boot t) (cpu_past m.run.past).seen (holder_of m) visit.held.holds.shows.legal
+      let its = fresh_group (zone_of_boot t) (cpu_past m.run.past).seen (lock_holder m) visit.held.holds.shows.legal
       (subst (λ (p : ℕ). 1 ≤ length ((local_of t m).parts p).fresh) (sym visit.who) (let a = ap length visit.own.fresh in omega (arith, a, some))) in
       (its.0, sym group_seen ∙ subst (λ (p : ℕ). ((local_of t m).parts p).stock.group ≡ Some its.0) visit.who its.1)
 
   pub booked_here : IsBooked ((local_of t m).parts c.number)
   booked_here = subst (λ (p : ℕ). IsBooked ((local_of t m).parts p)) visit.who
-      (own_booked (zone_of_boot t) (cpu_past m.run.past).seen (holder_of m) visit.held.holds.shows.legal)
+      (own_booked (zone_of_boot t) (cpu_past m.run.past).seen (lock_holder m) visit.held.holds.shows.legal)
 
   module _ (n : KnownMachine) (d : KnownCpu) (steps : Run) (x : State) (noted : Notes t m.run steps n.run) (leads : IsLocalRun c.number (local_of t m) steps x) where
     sees_then : local_of t n ≡ x

@@ -31,7 +31,7 @@ use Rattle.mem_machine.specs.declared.machine.Machine.TheInside.{Inside}
 use Rattle.mem_machine.specs.Booked.{AreBooked, AreOwners}
 use Rattle.mem_machine.specs.Following.{FollowsSteps}
 use Rattle.mem_machine.specs.Kept.{IsSoundMachine, machine_of}
-use Rattle.mem_machine.specs.Local.{Makes, StaysVisited, Visits, holder_of, local_of, visit_state}
+use Rattle.mem_machine.specs.Local.{Makes, StaysVisited, Visits, lock_holder, local_of, visit_state}
 use Rattle.mem_machine.specs.Machines.{KnownMachine, IsConsistent, IsShownBy, frames_charged, is_killed, left_by, pages_booked}
 use Rattle.mem_machine.specs.Noted.{KnownRun, MayTake, MayTakeAll, Notes, after_made}
 use Rattle.mem_machine.specs.Paying.{HasRoomFor, MayCharge}
@@ -217,7 +217,7 @@ module _ (t : KnownTable) (m : KnownMachine) (ok : IsConsistent t m) (facts : Ar
     (there : has_group m.ledger.groups g ≡ true) (alive : is_killed m.killed g ≡ false) (low : room.IsLowestOver m.ledger.groups (current_of m.ledger) g k over) where
   -- the grant that names the lowest group without room may be taken
   pub refused_may : MayTake t m.run.past (zone_makes (Grant g k) (Over over))
-  refused_may = is_over t m ok facts is (holder_of m) g there alive k over low
+  refused_may = is_over t m ok facts is (lock_holder m) g there alive k over low
 
   module _ (run : KnownRun) (noted : Notes t m.run (over_steps g k over) run) where
     refused_left : left_by t run.past ≡ left_by t m.run.past

@@ -49,7 +49,7 @@ use Rattle.mem_machine.specs.declared.releasing.Released.TheVariants.{Left, Retu
 use Rattle.mem_machine.specs.Releasing.{Releases, release_steps}
 use Rattle.mem_machine.specs.Counts.{with_last_put}
 use Rattle.mem_machine.specs.Counting.{one_more_last_put}
-use Rattle.mem_machine.specs.Local.{Makes, StaysVisited, holder_of, local_of}
+use Rattle.mem_machine.specs.Local.{Makes, StaysVisited, lock_holder, local_of}
 use Rattle.mem_machine.specs.Machines.{KnownMachine, BalancesCounts, FitsFrameState, IsConsistent, IsShownBy, group_lists, home_of, left_by, lists_of, pages_booked}
 use Rattle.mem_machine.specs.Noted.{KnownRun, MayTake, Notes}
 use Rattle.mem_machine.specs.Steps.{zone_makes}
@@ -305,7 +305,7 @@ module _ (t : KnownTable) (m : KnownMachine) (ok : IsConsistent t m) (held : IsH
         releases = record { list = leaves; some = some; machine = refl };
         visit = zone_visited t m n steps noted refl refl (λ p some. at_other (local_of t m).references 0 _ p some);
         steps = makes t m n steps held noted
-            (zone_step (local_of t m) (holder_of m) (Put f) (answer.Left left) refl (may_put t m ok held f inside kept) tt, refl) (follows_same _ _ _ refl) refl;
+            (zone_step (local_of t m) (lock_holder m) (Put f) (answer.Left left) refl (may_put t m ok held f inside kept) tt, refl) (follows_same _ _ _ refl) refl;
       }
 
   -- the unit is freed
@@ -342,8 +342,8 @@ module _ (t : KnownTable) (m : KnownMachine) (ok : IsConsistent t m) (held : IsH
         releases = record { unit = unit; heads = heads; list = leaves; frees = frees; areas = areas; machine = refl };
         visit = zone_visited t m n steps noted refl refl (λ p some. at_other (local_of t m).references 0 _ p some);
         steps = makes t m n steps held noted (
-          zone_step (local_of t m) (holder_of m) (Put f) answer.Last refl (may_put t m ok held f inside kept) tt,
-          (zone_step _ (holder_of m) (Return f) answer.Done refl (may_return t m ok held f inside kept unit heads) tt, refl),
+          zone_step (local_of t m) (lock_holder m) (Put f) answer.Last refl (may_put t m ok held f inside kept) tt,
+          (zone_step _ (lock_holder m) (Return f) answer.Done refl (may_return t m ok held f inside kept unit heads) tt, refl),
         )
             (follows_still _ m.ledger steps _ refl (uncharge_peaks m.ledger unit.group (2 ^ unit.order)) (uncharge_events m.ledger unit.group (2 ^ unit.order)))
             (sym (returned_ended (local_of t m) f (one_more_last_put m.counts)));

@@ -45,7 +45,7 @@ use Rattle.mem_machine.specs.Noted.{KnownRun, MayTakeAll, Notes, after_made}
 use Rattle.mem_machine.specs.Paying.{MayCharge}
 use Rattle.mem_machine.specs.Steps.{over_steps, zone_makes}
 use Rattle.mem_machine.specs.Blocks.{PlacesUnit, TakesBlock, TakesNoBlock, taken_steps, unplaced_steps}
-use Rattle.mem_machine.specs.Local.{Makes, StaysVisited, holder_of, local_of}
+use Rattle.mem_machine.specs.Local.{Makes, StaysVisited, lock_holder, local_of}
 use Rattle.mem_machine.proofs.BlockCharges.{charges_rise}
 use Rattle.mem_machine.proofs.Followed.{follows_same, same_events}
 use Rattle.mem_machine.proofs.Grants.{is_granted, is_not_placed, is_over, is_taken_back, may_place, none_pends, with_granted}
@@ -130,9 +130,9 @@ homeless None x is fits = refl
 homeless (Some k) x is fits = absurd (none-some k.owner (subst (λ (y : FrameState). head_group_of y ≡ Some k.owner) is fits.1))
 
 -- steps that lead on may be made
-may_steps : (t : KnownTable) (m : KnownMachine) (steps : Run) (b : State) → IsLocalRun (holder_of m) (local_of t m) steps b → MayTakeAll t m.run.past steps
+may_steps : (t : KnownTable) (m : KnownMachine) (steps : Run) (b : State) → IsLocalRun (lock_holder m) (local_of t m) steps b → MayTakeAll t m.run.past steps
 may_steps t m steps b leads =
-    may_all t m.run.past (holder_of m) (local_of t m) steps refl refl (run_steps (holder_of m) (local_of t m) steps b leads)
+    may_all t m.run.past (lock_holder m) (local_of t m) steps refl refl (run_steps (lock_holder m) (local_of t m) steps b leads)
 
 -- what is required of the group, of the machine's fields
 pub charge_here : (m now : KnownMachine) → m ≡ now → (g n : ℕ) → MayCharge now g n → MayCharge m g n
@@ -151,7 +151,7 @@ module _ (t : KnownTable) (m : KnownMachine) (ok : IsConsistent t m) (facts : Ar
   unit = record { group = g; order = b.order }
 
   abbrev granted : State
-  granted = with_granted t m ok facts held (holder_of m) g there (2 ^ b.order)
+  granted = with_granted t m ok facts held (lock_holder m) g there (2 ^ b.order)
 
   abbrev placed : State
   placed = after granted 0 (PlaceBlock g b.order) (Placed b)
@@ -216,15 +216,15 @@ module _ (t : KnownTable) (m : KnownMachine) (ok : IsConsistent t m) (facts : Ar
             ∙ is_free_seen t m (local_of t m) shown f ∙ ap is_free_state (free f covers.from covers.before);
       }
 
-  pub taken_leads : IsLocalRun (holder_of m) (local_of t m) (taken_steps g b.order b.at) (fold after_made (local_of t m) (taken_steps g b.order b.at))
+  pub taken_leads : IsLocalRun (lock_holder m) (local_of t m) (taken_steps g b.order b.at) (fold after_made (local_of t m) (taken_steps g b.order b.at))
   taken_leads = (
-    is_granted t m ok facts held (holder_of m) g there alive (2 ^ b.order) path,
+    is_granted t m ok facts held (lock_holder m) g there alive (2 ^ b.order) path,
     (
-      zone_step granted (holder_of m) (PlaceBlock g b.order) (Placed b) refl
-          (may_place t m ok facts held (holder_of m) g there (2 ^ b.order) b.order (omega arith)) (refl, seen_free),
+      zone_step granted (lock_holder m) (PlaceBlock g b.order) (Placed b) refl
+          (may_place t m ok facts held (lock_holder m) g there (2 ^ b.order) b.order (omega arith)) (refl, seen_free),
       (
-        zone_step placed (holder_of m) (Unfreeze b.at 1) Done refl may_unfreeze tt,
-        (zone_step kept (holder_of m) (Publish b.at) Done refl may_publish tt, refl),
+        zone_step placed (lock_holder m) (Unfreeze b.at 1) Done refl may_unfreeze tt,
+        (zone_step kept (lock_holder m) (Publish b.at) Done refl may_publish tt, refl),
       ),
     ),
   )
@@ -289,7 +289,7 @@ module _ (t : KnownTable) (m : KnownMachine) (ok : IsConsistent t m) (facts : Ar
           killed = shown.killed;
           phases = phases_then;
           references = references_then;
-          settled = none_pends t m ok facts held (holder_of m) g there (2 ^ b.order);
+          settled = none_pends t m ok facts held (lock_holder m) g there (2 ^ b.order);
           absorbed = shown.absorbed;
           bounded = shown.bounded;
           charged = λ h.
@@ -374,7 +374,7 @@ pub granted_may : (t : KnownTable) (m now : KnownMachine) → m ≡ now → IsCo
 granted_may t m now same ok facts held g k pages may_now room =
     let may = charge_here m now same g (2 ^ k) may_now in
     may_steps t m (zone_makes (Grant g pages) Granted ∷ []) _
-    (is_granted t m ok facts (held_here t m now same held) (holder_of m) g may.there may.alive pages room, refl)
+    (is_granted t m ok facts (held_here t m now same held) (lock_holder m) g may.there may.alive pages room, refl)
 
 -- the steps, with the pages and the frame as the code names them
 abbrev pub taken_as : (g pages k at : ℕ) → Run
@@ -415,10 +415,10 @@ module _ (t : KnownTable) (m : KnownMachine) (ok : IsConsistent t m) (facts : Ar
   none_shown : IsShownBy t m (hide (local_of t m))
   none_shown = shown_seen t m ok held
 
-  pub none_leads : IsLocalRun (holder_of m) (local_of t m) (unplaced_steps g k) (fold after_made (local_of t m) (unplaced_steps g k))
+  pub none_leads : IsLocalRun (lock_holder m) (local_of t m) (unplaced_steps g k) (fold after_made (local_of t m) (unplaced_steps g k))
   none_leads = (
-    is_granted t m ok facts held (holder_of m) g there alive (2 ^ k) path,
-    (is_not_placed t m ok held facts (holder_of m) g there (2 ^ k) k (omega arith) none, (is_taken_back t m ok facts held (holder_of m) g there (2 ^ k), refl)),
+    is_granted t m ok facts held (lock_holder m) g there alive (2 ^ k) path,
+    (is_not_placed t m ok held facts (lock_holder m) g there (2 ^ k) k (omega arith) none, (is_taken_back t m ok facts held (lock_holder m) g there (2 ^ k), refl)),
   )
 
   module _ (rise : PagesRise m.ledger (with_charge m.ledger g (2 ^ k)) g (2 ^ k)) (run : KnownRun) (noted : Notes t m.run (unplaced_steps g k) run) where
@@ -446,7 +446,7 @@ module _ (t : KnownTable) (m : KnownMachine) (ok : IsConsistent t m) (facts : Ar
         killed = none_shown.killed;
         phases = none_shown.phases;
         references = none_shown.references;
-        settled = none_pends t m ok facts held (holder_of m) g there (2 ^ k);
+        settled = none_pends t m ok facts held (lock_holder m) g there (2 ^ k);
         absorbed = none_shown.absorbed;
         bounded = none_shown.bounded;
         charged = λ h. same_pages h ∙ none_shown.charged h;
@@ -521,7 +521,7 @@ refused_step t m now same ok facts held_now g k pages over may_now low l unchang
     let may = charge_here m now same g k may_now in
     let shown = shown_seen t m ok held in
     subst (λ (x : Ledger). IsGroupStep t m (zone_makes (Grant g pages) (Over over)) x m.killed) (sym unchanged) (record {
-      step = is_over t m ok facts held (holder_of m) g may.there may.alive pages over low;
+      step = is_over t m ok facts held (lock_holder m) g may.there may.alive pages over low;
       only = refl;
       groups = shown.groups;
       killed = shown.killed;

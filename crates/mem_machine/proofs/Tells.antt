@@ -29,7 +29,7 @@ use Rattle.step_rules.proofs.LocalLaws.{own_step_is_legal, other_step_is_hidden}
 use Rattle.step_rules.proofs.Peaking.{peaks_are_kept}
 use Rattle.step_rules.proofs.Noting.{events_are_counted}
 use Rattle.mem_machine.specs.Following.{Moves, moved_along, moves_peak, moves_count, ExistsAfter}
-use Rattle.mem_machine.specs.Local.{holder_of, local_of}
+use Rattle.mem_machine.specs.Local.{lock_holder, local_of}
 use Rattle.mem_machine.specs.Interleaving.{zone_of}
 use Rattle.mem_machine.specs.Agreeing.{LedgersAgree}
 use Rattle.mem_machine.proofs.Noted.{run_ends}
@@ -183,7 +183,7 @@ module _ (zone : Zone) (p m : ℕ) where
 pub ledgers_agree : LedgersAgree
 ledgers_agree t run steps mixed before behind shows told makes mixes =
     let zone = zone_of t in
-    let p = holder_of before in
+    let p = lock_holder before in
     let a = local_of t before in
     let b = local_of t behind in
     let own : IsLocalRun p a (own_steps p mixed) b = subst (λ (r : Run). IsLocalRun p a r b) (sym mixes.own) makes.leads in

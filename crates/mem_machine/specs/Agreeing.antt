@@ -8,7 +8,7 @@ use Rattle.group_charge.specs.Charges.{Ledger, peak_of, events_of, events_local_
 use Rattle.step_rules.specs.After.{Run, state_of}
 use Rattle.step_rules.specs.Peaks.{IsPeak}
 use Rattle.step_rules.specs.Events.{events_in, events_local_in}
-use Rattle.mem_machine.specs.Local.{holder_of, Makes}
+use Rattle.mem_machine.specs.Local.{lock_holder, Makes}
 use Rattle.mem_machine.specs.Machines.{KnownMachine}
 use Rattle.mem_machine.specs.Interleaving.{zone_of, Shows, IsInterleaving}
 
@@ -28,4 +28,4 @@ pub record AgreesWithRun (table : KnownTable) (run : Run) (ledger : Ledger) : Ty
 abbrev pub LedgersAgree : Type 0
 LedgersAgree = (table : KnownTable) (run steps mixed : Run) (before after : KnownMachine)
     → Shows table run before → AgreesWithRun table run before.ledger → Makes table before steps after
-    → IsInterleaving table run (holder_of before) steps mixed → AgreesWithRun table (run ++ mixed) after.ledger
+    → IsInterleaving table run (lock_holder before) steps mixed → AgreesWithRun table (run ++ mixed) after.ledger

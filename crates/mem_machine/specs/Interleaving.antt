@@ -5,7 +5,7 @@ use Rattle.step_rules.specs.State.{Zone}
 use Rattle.step_rules.specs.After.{Run}
 use Rattle.step_rules.specs.Laws.{ShowsLocal}
 use Rattle.step_rules.specs.Reaches.{own_steps, IsInterleaved}
-use Rattle.mem_machine.specs.Local.{holder_of, local_of, Makes}
+use Rattle.mem_machine.specs.Local.{lock_holder, local_of, Makes}
 use Rattle.mem_machine.specs.Machines.{KnownMachine}
 
 -- the sizes of the table's zone
@@ -14,7 +14,7 @@ zone_of table = record { frames = table.frames; cpus = table.cpus }
 
 -- the run is legal, the machine's holder holds the lock after it, and sees then what it sees by the machine's past
 abbrev pub Shows : KnownTable → Run → KnownMachine → Type 0
-Shows table run now = ShowsLocal (zone_of table) run (holder_of now) (local_of table now)
+Shows table run now = ShowsLocal (zone_of table) run (lock_holder now) (local_of table now)
 
 -- `mixed` may follow the run. Its steps of this CPU and of the zone's seat are `steps`, in this order. Each of those
 -- has the answer that the references and stocks of all seats decide at that place, and each other step is allowed at
@@ -28,4 +28,4 @@ pub record IsInterleaving (table : KnownTable) (run : Run) (cpu : ℕ) (steps mi
 abbrev pub CallsInterleave : Type 0
 CallsInterleave = (table : KnownTable) (run steps mixed : Run) (before after : KnownMachine)
     → Shows table run before → Makes table before steps after
-    → IsInterleaving table run (holder_of before) steps mixed → Shows table (run ++ mixed) after
+    → IsInterleaving table run (lock_holder before) steps mixed → Shows table (run ++ mixed) after

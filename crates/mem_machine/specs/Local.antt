@@ -28,15 +28,15 @@ abbrev pub local_of : KnownTable → KnownMachine → State
 local_of table machine = local_by_pasts table machine.run.past
 
 -- the number of the CPU that holds the lock, by the machine's past
-abbrev pub holder_of : KnownMachine → ℕ
-holder_of machine = (cpu_past machine.run.past).number
+abbrev pub lock_holder : KnownMachine → ℕ
+lock_holder machine = (cpu_past machine.run.past).number
 
 -- These steps, of the CPU that holds the lock and of the zone's seat, lead from one machine to another. They are local
 -- steps between the two local states, and the same CPU holds the lock. The ledger's peaks and event counts follow them,
 -- and so do the machine's counts. The pasts have grown by them, and the machine's watch took them, in this order.
 pub record Makes (table : KnownTable) (before : KnownMachine) (steps : Run) (after : KnownMachine) : Type 0 where
-  pub holder : holder_of after ≡ holder_of before
-  pub leads : IsLocalRun (holder_of before) (local_of table before) steps (local_of table after)
+  pub holder : lock_holder after ≡ lock_holder before
+  pub leads : IsLocalRun (lock_holder before) (local_of table before) steps (local_of table after)
   pub follows : FollowsSteps (local_of table before) before.ledger steps after.ledger
   pub counts : after.counts ≡ counts_along (local_of table before) steps before.counts
   pub noted : Notes table before.run steps after.run
@@ -48,7 +48,7 @@ VisitMakes table before steps after = Makes table before.machine steps after.mac
 -- the CPU holds the lock, and its lists and pins are its own in what it sees
 pub record Holds (table : KnownTable) (now : VisitState) : Type 0 where
   pub held : IsHeld table now.machine.run.past
-  pub who : holder_of now.machine ≡ now.cpu.number
+  pub who : lock_holder now.machine ≡ now.cpu.number
   pub own : HasOwn (local_of table now.machine) now.cpu
 
 -- this CPU holds the lock, and its visit is open
@@ -62,7 +62,7 @@ IsShut table machine cpu = (local_of table machine).hold ≡ HeldBy cpu
 -- The CPU is visited: it holds the lock, its visit is open, and its lists and pins are its own in what it sees.
 pub record Visits (table : KnownTable) (now : VisitState) : Type 0 where
   pub held : IsHeld table now.machine.run.past
-  pub who : holder_of now.machine ≡ now.cpu.number
+  pub who : lock_holder now.machine ≡ now.cpu.number
   pub is_open : IsOpen table now.machine now.cpu.number
   pub own : HasOwn (local_of table now.machine) now.cpu
 

@@ -24,7 +24,7 @@ use Rattle.mem_machine.specs.Noted.{KnownRun}
 use Rattle.mem_machine.proofs.Sight.{shown_seen}
 use Rattle.mem_reclaim.proofs.Grown.{misses_after, missed_append}
 use Rattle.mem_machine.specs.Machines.{KnownMachine, IsConsistent}
-use Rattle.mem_machine.specs.Local.{IsLocalRun, Makes, holder_of, local_of}
+use Rattle.mem_machine.specs.Local.{IsLocalRun, Makes, lock_holder, local_of}
 use Rattle.mem_machine.specs.Evicting.{Evicts, evict_steps}
 use Rattle.mem_machine.specs.Steps.{zone_makes}
 use Rattle.mem_machine.specs.declared.counts.Counts.{Counts}
@@ -68,7 +68,7 @@ pub moves_both : (t : KnownTable) (a b c : KnownMachine) (some more : ℕ) (one 
 moves_both t a b c some more one two first second = record {
   runs = makes_both t one two a b c first.runs second.runs;
   pages =
-      let x = pages_both (holder_of a) one two (local_of t a) (local_of t b) first.runs.leads in
+      let x = pages_both (lock_holder a) one two (local_of t a) (local_of t b) first.runs.leads in
       let y = first.pages in let z = second.pages in
       omega (arith, x, y, z);
   no_kill = list_any-append (λ (e : Step × Answer). is_kill e.0.action) one two ∙ both_false (has_kill one) (has_kill two) first.no_kill second.no_kill;
