@@ -60,7 +60,7 @@ same_holder t Does m n c d visit first last = sym last.who ∙ visit.makes.holde
 
 -- ---- the parts of the run, behind a lock and its release
 
-part_locked : (t : KnownTable) (zone cpu held : KnownPasts) → Locks t zone cpu held → (q : ℕ) → (left_by t held).parts q ≡ (left_by t zone).parts q
+pub part_locked : (t : KnownTable) (zone cpu held : KnownPasts) → Locks t zone cpu held → (q : ℕ) → (left_by t held).parts q ≡ (left_by t zone).parts q
 part_locked t zone cpu held locks q = ap (λ (s : State). s.parts q) locks.found
 
 part_unlocked : (t : KnownTable) (held zone cpu : KnownPasts) → IsHeld t held → Unlocks t held zone cpu → (q : ℕ) → (left_by t zone).parts q ≡ (left_by t held).parts q

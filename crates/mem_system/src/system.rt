@@ -35,7 +35,7 @@ pub struct System<N: BootName> {
 }
 
 impl<N: BootName> Model for System<N> {
-        ghost use Rattle.mem_system.specs.Boots.{IsSizedAs, KnownSystem};
+    ghost use Rattle.mem_system.specs.Boots.{IsSizedAs, KnownSystem};
     ghost use Rattle.zone_blocks.specs.Config.{IsValidConfig};
 
     ghost Value = { KnownSystem };
@@ -144,7 +144,8 @@ impl<N: BootName> System<N> {
     /// Serves one command of the CPU: takes the lock, serves the command, and releases the lock. A frame that the
     /// command names is a frame of the zone. No clause can name what lies behind the lock. So the contract says that
     /// some sound value was there, with the system's sizes, that `serve` did its work on it, and that a sound value was
-    /// left. The code calls the form of `serve` that writes the reply in place, because returning a reply by value copies its room for a path.
+    /// left. The code calls the form of `serve` that writes the reply in place, because returning a reply by value copies
+    /// its room for a path.
     #[inline(always)]
     pub fn visit<R: Wait>(&self, rt: &R, cpu: &mut Cpu<N>, cmd: &Cmd<'_>) -> Reply
         requires { IsOfZone N.frames cmd.now }
