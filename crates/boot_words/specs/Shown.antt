@@ -3,7 +3,6 @@ use Rattle.std.specs.Prelude.{[], ℕ, ◌+◌, ◌==◌, ◌&&◌, Bool, true, 
 use Rattle.std.specs.List.{range_with_len}
 use Rattle.frame_word.specs.declared.view.FrameNote.{FrameNote}
 use Rattle.frame_word.specs.declared.view.FrameView.{FrameView}
-use Rattle.frame_word.specs.Views.{blank}
 use Rattle.stock_word.specs.declared.view.StockAccount.{StockAccount}
 use Rattle.stock_word.specs.declared.view.StockView.{StockView}
 use Rattle.stock_word.specs.Stock.{is_held}
@@ -93,7 +92,7 @@ times_by_cpu cpus p test = map (λ cpu. times_made p.number (test cpu) p.seen) (
 
 -- what the past shows of the frame
 abbrev pub note_shown : Zone → Past → ℕ → FrameNote
-note_shown zone p f = record blank {
+note_shown zone p f = record {
   references = (state_of zone p.seen).references p.number f;
   own = owned p.number ((state_of zone p.seen).phases f);
   borrowed = borrowed p.number ((state_of zone p.seen).phases f);
@@ -110,7 +109,6 @@ frame_view_shown zone p = record {
   number = p.number;
   notes = map (note_shown zone p) (range_with_len 0 zone.frames);
   opened = map (λ cpu. one_if (visits cpu (state_of zone p.seen).hold)) (range_with_len 0 (zone.cpus + 1));
-  visit_changes = 0;
 }
 
 -- what a CPU's part shows to the zone
@@ -129,7 +127,6 @@ stock_view_shown zone p = record {
   fresh = length ((state_of zone p.seen).parts p.number).fresh + ((state_of zone p.seen).parts p.number).unreported;
   last = stock_in ((state_of zone p.seen).parts p.number);
   accounts = map (λ cpu. account_shown ((state_of zone p.seen).parts cpu)) (range_with_len 0 (zone.cpus + 1));
-  steps = 0;
 }
 
 -- the views that the pasts of all seats show
