@@ -162,6 +162,7 @@ served t cmd reply l k c seat inner d seat' v sizes executed =
       left = v.left.run;
       taken = record {
         locks = v.takes;
+        watch = ap (λ (x : KnownMachine). x.run.watch) v.locks;
         holds = subst (λ (x : KnownMachine). Holds t (visit_state x c)) (found_is t m c seat inner k.machine d seat' v) v.holds;
         shut = subst (λ (x : KnownMachine). IsShut t x p) (found_is t m c seat inner k.machine d seat' v) v.shut;
       };
@@ -171,6 +172,7 @@ served t cmd reply l k c seat inner d seat' v sizes executed =
       released = record {
         holds = subst (λ (x : KnownMachine). Holds t (visit_state x d)) (left_is t m c seat inner k.machine d seat' v) v.left_holds;
         shut = subst (λ (x : KnownMachine). IsShut t x d.number) (left_is t m c seat inner k.machine d seat' v) v.left_shut;
+        watch = ap (λ (x : KnownMachine). x.run.watch) v.unlocks;
         unlocks = v.gives;
       };
       run = visit_in_run t p steps m.run.past seat.seat v.found.run.past v.left.run.past k.machine.run.past seat'.seat its v.takes all.noted.grew v.gives;

@@ -71,16 +71,18 @@ pub record Serves (cmd : Cmd) (reply : Reply) (call : Transition LockedState) : 
   pub sizes : call.after.locked.sizes ≡ call.before.locked.sizes
   pub steps_are : call.steps ≡ visit_steps call.table (visit_state_of call.before) inner
 
--- The CPU takes the lock. It holds the lock with this run, and its visit is shut.
+-- The CPU takes the lock, which the watch doesn't see. It holds the lock with this run, and its visit is shut.
 pub record TakesLock (table : KnownTable) (before : LockedState) (found : KnownRun) : Type 0 where
   pub locks : Locks table before.locked.machine.run.past before.cpu.past found.past
+  pub watch : found.watch ≡ before.locked.machine.run.watch
   pub holds : Holds table (visit_state (with_run before.locked.machine found) before.cpu.part)
   pub shut : IsShut table (with_run before.locked.machine found) before.cpu.part.number
 
--- The CPU holds the lock with this run, its visit is shut, and it releases the lock.
+-- The CPU holds the lock with this run, its visit is shut, and it releases the lock, which the watch doesn't see.
 pub record ReleasesLock (table : KnownTable) (left : KnownRun) (after : LockedState) : Type 0 where
   pub holds : Holds table (visit_state (with_run after.locked.machine left) after.cpu.part)
   pub shut : IsShut table (with_run after.locked.machine left) after.cpu.part.number
+  pub watch : after.locked.machine.run.watch ≡ left.watch
   pub unlocks : Unlocks table left.past after.locked.machine.run.past after.cpu.past
 
 -- A command was served under the lock with this reply. The CPU took the lock, and found this run. It opened its visit by
