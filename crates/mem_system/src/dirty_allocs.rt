@@ -33,7 +33,6 @@ pub fn serve_dirty_alloc<N: BootName>(
         return outcome;
     };
     locked.prove_quiet();
-    let _tied = cpu.number();
     let _done = serve_outcome(locked, tables, cpu, &Cmd::Dirty { frame });
     outcome
 }
