@@ -6,7 +6,7 @@ ghost use Rattle.mem_system.specs.Visits.{locked_state};
 ghost use Rattle.step_watch.specs.Watched.{has_legal_steps};
 ghost use Rattle.script_replay.specs.declared.owned_replay.Stopped.TheVariants.{NoMemory};
 ghost use Rattle.script_replay.specs.Answers.{AddsText, ServesCommand};
-ghost use Rattle.script_replay.specs.History.{HoldsOfPart, ReplaysCheckedOrStops, ReplaysOrStops, ServesAndKeeps};
+ghost use Rattle.script_replay.specs.History.{ReplaysCheckedOrStops, ReplaysOrStops, ServesAndKeeps};
 ghost use Rattle.script_replay.specs.Lines.{number_in_script, system_state};
 ghost use Rattle.script_replay.specs.Ranges.{CommandInRange, LineInRange};
 ghost use Rattle.script_replay.specs.Terms.{form_terms, numbered_terms, terms};
@@ -192,11 +192,11 @@ fn serve_at_cpu<N: BootName>(
     ensures answered { AddsText result answers.old answers.new
         (ServesCommand (terms N.frames is_explained) command.now
         (locked_state locked.old cpu.old) (locked_state locked.new cpu.new)) }
-    ensures held { HoldsOfPart N.frames locked.new cpu.new.part }
+    ensures sound { IsSound N.frames locked.new }
 {
     let value = serve_command(locked, tables, cpu, command, is_explained);
     let written = write_answer(locked, tables, cpu, command, &value, is_explained, answers);
-    prove_held(locked, cpu);
+    prove_sound(locked);
     written
 }
 
@@ -204,14 +204,5 @@ fn serve_at_cpu<N: BootName>(
 pub(crate) fn prove_sound<N: BootName>(locked: &Locked<N>)
     ensures { IsSound N.frames locked.now }
 {
-    locked.prove_quiet();
-}
-
-// Shows what always holds behind the lock, and of a CPU's part. It does nothing.
-pub(crate) fn prove_held<N: BootName>(locked: &Locked<N>, cpu: &Cpu<N>)
-    ensures { HoldsOfPart N.frames locked.now cpu.now.part }
-{
-    let _number = cpu.number();
-    let _last = cpu.last_stock();
     locked.prove_quiet();
 }

@@ -3,8 +3,10 @@
 ghost use Rattle.std.specs.Prelude.{◌≡◌, IsTrue, List, None, Some, ℕ};
 ghost use Rattle.std.specs.Borrow.{Bor};
 ghost use Rattle.group_tree.specs.Groups.{has_group, number_at};
+ghost use Rattle.mem_machine.specs.Showing.{stock_left};
 ghost use Rattle.mem_system.specs.Visits.{locked_state};
 ghost use Rattle.script_lines.specs.declared.line.Command.TheVariants.{Alloc};
+ghost use Rattle.script_replay.specs.declared.answer_value.AnswerValue.TheVariants.{Settled};
 ghost use Rattle.script_replay.specs.Answers.{ServesAnswer};
 ghost use Rattle.script_replay.specs.Commands.{frame_path};
 ghost use Rattle.script_replay.specs.Ranges.{CommandInRange};
@@ -36,6 +38,7 @@ pub(crate) fn serve_command<N: BootName>(
         (locked_state locked.old cpu.old) (locked_state locked.new cpu.new)
         (answer_of locked.new.machine.ledger result) }
     ensures groups { NamesItsGroups locked.new.machine.ledger result }
+    ensures last { result ≡ Settled → cpu.new.last ≡ stock_left N.frames locked.new.machine cpu.new.part.number }
 {
     match frame_path(command) {
         Some(path) => serve_frame(locked, tables, cpu, path, is_explained),
@@ -58,6 +61,7 @@ fn serve_other<N: BootName>(
         (locked_state locked.old cpu.old) (locked_state locked.new cpu.new)
         (answer_of locked.new.machine.ledger result) }
     ensures groups { NamesItsGroups locked.new.machine.ledger result }
+    ensures last { result ≡ Settled → cpu.new.last ≡ stock_left N.frames locked.new.machine cpu.new.part.number }
 {
     let cpu_number = cpu.number();
     if let Some(said) = try_in_order(locked, tables, cpu, command) {
@@ -79,6 +83,7 @@ fn serve_frame<N: BootName>(
         (locked_state locked.old cpu.old) (locked_state locked.new cpu.new)
         (answer_of locked.new.machine.ledger result) }
     ensures groups { NamesItsGroups locked.new.machine.ledger result }
+    ensures last { result ≡ Settled → cpu.new.last ≡ stock_left N.frames locked.new.machine cpu.new.part.number }
 {
     let Some(group) = locked.find(path) else {
         return AnswerValue::Unlocked(UnlockedAnswer::Refused(Fault::NoGroup));
@@ -100,6 +105,7 @@ pub(crate) fn serve_frame_of<N: BootName>(
         (locked_state locked.old cpu.old) (locked_state locked.new cpu.new)
         (answer_of locked.new.machine.ledger result) }
     ensures groups { NamesItsGroups locked.new.machine.ledger result }
+    ensures last { result ≡ Settled → cpu.new.last ≡ stock_left N.frames locked.new.machine cpu.new.part.number }
 {
     let cpu_number = cpu.number();
     match alloc_in_order(locked, tables, cpu, group) {

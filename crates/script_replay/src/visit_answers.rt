@@ -148,7 +148,5 @@ fn write_by_visit<N: BootName, R: Wait, G: Gate>(
     prove_sound(locked);
     let value = serve_locked(locked, tables, cpu, command);
     prove_sound(locked);
-    let written = write_answer(locked, tables, cpu, command, &value, false, text);
-    prove_sound(locked);
-    written
+    write_answer(locked, tables, cpu, command, &value, false, text)
 }

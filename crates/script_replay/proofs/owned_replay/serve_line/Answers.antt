@@ -17,5 +17,5 @@ returns-in-At g c = record {
       (get_or c.args.cpus.now (c.in-At.cpu - 1) c.index-cpus-at.result) c.serve_at_cpu.new.cpu _ c.args.answers.now
       c.serve_at_cpu.new.answers refl c.in-At.is c.requires.there
       (ap (λ (d : CpuInRun). get_or c.args.cpus.now (c.in-At.cpu - 1) d) c.index-cpus-at.is)
-      c.serve_at_cpu.ensures.answered c.serve_at_cpu.ensures.held;
+      c.serve_at_cpu.ensures.answered c.serve_at_cpu.ensures.sound;
 }

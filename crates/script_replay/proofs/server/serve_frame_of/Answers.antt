@@ -28,7 +28,7 @@ returns-in-Got-clause-answer g c path is =
       answered = record {
         gets = record { group = group; found = is; got = c.in-Got.ensures.answer };
         alone = record {
-          locked = then_watched l mid m c.number-cpu_number.result number c.number-cpu_number.ensures.number (λ (n : ℕ). steps_alone n (Fast group) said)
+          locked = then_watched g.N.BootName.frames l mid m c.number-cpu_number.result number c.number-cpu_number.ensures.number (λ (n : ℕ). steps_alone n (Fast group) said)
               c.in-Got.ensures.only_saw watched;
           steps_are = refl;
         };
