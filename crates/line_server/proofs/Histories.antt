@@ -6,7 +6,6 @@ use Rattle.zone_blocks.specs.declared.config.Config.{Config}
 use Rattle.step_rules.specs.After.{Run, IsLegalRun}
 use Rattle.mem_machine.specs.Interleaving.{zone_of}
 use Rattle.mem_history.specs.Whole.{ShowsAll}
-use Rattle.mem_history.specs.Kept.{AreTied}
 use Rattle.mem_history.proofs.Deciding.{legal_front}
 use Rattle.mem_history.proofs.Promised.{the_whole_is_promised}
 use Rattle.std.proofs.lemmas.Option.{none-some}
@@ -16,7 +15,7 @@ use Rattle.script_replay.specs.History.{HoldsPromise, Past, ServesAndKeeps, past
 use Rattle.script_replay.specs.Lines.{SystemState}
 use Rattle.script_replay.specs.Terms.{Terms, terms}
 use Rattle.script_replay.proofs.Following.{shows_watched}
-use Rattle.script_replay.proofs.Going.{ServesAllAndKeeps, all_replayed, line_follows, some_cpu}
+use Rattle.script_replay.proofs.Going.{ServesAllAndKeeps, all_replayed, line_follows}
 use Rattle.line_server.specs.declared.form.SessionForm.{SessionForm}
 use Rattle.line_server.specs.declared.form.SessionForm.TheVariants.{Answers, Steps}
 use Rattle.line_server.specs.Forms.{session_terms}
@@ -58,14 +57,13 @@ all_kept t is_explained sizes number (turn ∷ turns) s e all =
 
 -- the promise holds after a line
 line_kept : (on : Terms) (run : Run) (line : Line) (s e : SystemState) (text : List ℕ) → ShowsAll on.frames run s.locked.machine (parts_of s.cpus)
-    → AreTied on.frames (parts_of s.cpus) → (keeps : ServesAndKeeps on line s e text) → IsLegalRun (zone_of on.frames) (run ++ keeps.serves.steps)
+    → (keeps : ServesAndKeeps on line s e text) → IsLegalRun (zone_of on.frames) (run ++ keeps.serves.steps)
     → HoldsPromise on.frames run s (run ++ keeps.serves.steps) e
-line_kept on run line s e text shows tied keeps legal =
-    let follows = line_follows on run line s e text shows tied keeps legal in
-    let holds = keeps.keeps.holds in record {
+line_kept on run line s e text shows keeps legal =
+    let follows = line_follows on run line s e text shows keeps legal in record {
       tells = follows.1;
-      promise = the_whole_is_promised on.frames (run ++ keeps.serves.steps) e.locked.machine (parts_of e.cpus) follows.0 holds.consistent holds.charges
-          (keeps.keeps.tied tied) (some_cpu on.frames e.locked holds.quiet);
+      promise = the_whole_is_promised on.frames (run ++ keeps.serves.steps) e.locked.machine (parts_of e.cpus) follows.0 keeps.sound.consistent
+          keeps.sound.charges;
     }
 
 module _ (t : KnownTable) where
@@ -75,42 +73,37 @@ module _ (t : KnownTable) where
   renewed_shown run before begun renews shows = subst (λ (x : SystemState). ShowsAll t run x.locked.machine (parts_of x.cpus)) (sym renews.begun_is)
       (shows_watched t run before.locked.machine (parts_of before.cpus) renews.watch shows)
 
-  renewed_tied : (before begun : SystemState) → RenewsWatch before begun → AreTied t (parts_of before.cpus) → AreTied t (parts_of begun.cpus)
-  renewed_tied before begun renews tied = subst (λ (x : SystemState). AreTied t (parts_of x.cpus)) (sym renews.begun_is) tied
-
   -- what comes after a turn has its history, if that is so of each past in which the turn can end
   turn_logged : (sizes : Config) (number : ℕ) (text : Option (List ℕ)) (line : Option Line) (answer : List ℕ) (before : Past) (m : SystemState)
       (goes_on : SystemState → Type 0) (rest : Past → Type 0)
-      → (IsLegalRun (zone_of t) before.run → ShowsAll t before.run before.now.locked.machine (parts_of before.now.cpus)) → AreTied t (parts_of before.now.cpus)
+      → (IsLegalRun (zone_of t) before.run → ShowsAll t before.run before.now.locked.machine (parts_of before.now.cpus))
       → AnswersLine (session_terms t Steps) sizes number text line before.now m answer → goes_on m
-      → ((later : Past) → (IsLegalRun (zone_of t) later.run → ShowsAll t later.run later.now.locked.machine (parts_of later.now.cpus)) → AreTied t (parts_of later.now.cpus)
+      → ((later : Past) → (IsLegalRun (zone_of t) later.run → ShowsAll t later.run later.now.locked.machine (parts_of later.now.cpus))
       → goes_on later.now → rest later)
       → HasLoggedTurn (terms t true) (unwrap_or text []) line before answer rest
-  turn_logged sizes number None None answer before m goes_on rest shows tied one more next = next before shows tied (subst goes_on one.1 more)
-  turn_logged sizes number None (Some line) answer before m goes_on rest shows tied one more next = absurd (none-some line (sym one.0))
-  turn_logged sizes number (Some text) None answer before m goes_on rest shows tied one more next = next before shows tied (subst goes_on one.0 more)
-  turn_logged sizes number (Some text) (Some line) answer before m goes_on rest shows tied one more next =
+  turn_logged sizes number None None answer before m goes_on rest shows one more next = next before shows (subst goes_on one.1 more)
+  turn_logged sizes number None (Some line) answer before m goes_on rest shows one more next = absurd (none-some line (sym one.0))
+  turn_logged sizes number (Some text) None answer before m goes_on rest shows one more next = next before shows (subst goes_on one.0 more)
+  turn_logged sizes number (Some text) (Some line) answer before m goes_on rest shows one more next =
       let logs : LogsLine (terms t true) text line before.now m answer = one.1 in
       let steps : Run = logs.serves.serves.steps in
       let shown : IsLegalRun (zone_of t) before.run → ShowsAll t before.run logs.begun.locked.machine (parts_of logs.begun.cpus)
-      = λ legal. renewed_shown before.run before.now logs.begun logs.renews (shows legal) in
-      let still : AreTied t (parts_of logs.begun.cpus) = renewed_tied before.now logs.begun logs.renews tied in record {
+      = λ legal. renewed_shown before.run before.now logs.begun logs.renews (shows legal) in record {
         between = m;
         logs = logs;
-        kept_where_legal = λ legal. line_kept (terms t true) before.run line logs.begun m logs.answer (shown (legal_front (zone_of t) before.run steps legal)) still logs.serves legal;
+        kept_where_legal = λ legal. line_kept (terms t true) before.run line logs.begun m logs.answer (shown (legal_front (zone_of t) before.run steps legal)) logs.serves legal;
         tells = next (past_line before steps m)
-            (λ legal. (line_follows (terms t true) before.run line logs.begun m logs.answer (shown (legal_front (zone_of t) before.run steps legal)) still logs.serves legal).0)
-            (logs.serves.keeps.tied still) more;
+            (λ legal. (line_follows (terms t true) before.run line logs.begun m logs.answer (shown (legal_front (zone_of t) before.run steps legal)) logs.serves legal).0) more;
       }
 
   logged_history : (sizes : Config) (number : ℕ) (turns : List Turn) (before : Past) (e : SystemState)
-      → (IsLegalRun (zone_of t) before.run → ShowsAll t before.run before.now.locked.machine (parts_of before.now.cpus)) → AreTied t (parts_of before.now.cpus)
+      → (IsLegalRun (zone_of t) before.run → ShowsAll t before.run before.now.locked.machine (parts_of before.now.cpus))
       → AnswersTurns (session_terms t Steps) sizes number turns before.now e → HasLoggedHistory (terms t true) turns before e
-  logged_history sizes number [] before e shows tied same = same
-  logged_history sizes number (turn ∷ turns) before e shows tied all =
+  logged_history sizes number [] before e shows same = same
+  logged_history sizes number (turn ∷ turns) before e shows all =
       turn_logged sizes number turn.text turn.served turn.answer before all.0 (λ x. AnswersTurns (session_terms t Steps) sizes (number + 1) turns x e)
-      (λ later. HasLoggedHistory (terms t true) turns later e) shows tied all.1 all.2
-      (λ later shows_later tied_later rest. logged_history sizes (number + 1) turns later e shows_later tied_later rest)
+      (λ later. HasLoggedHistory (terms t true) turns later e) shows all.1 all.2
+      (λ later shows_later rest. logged_history sizes (number + 1) turns later e shows_later rest)
 
 -- ---- either
 
@@ -118,4 +111,4 @@ pub turns_replayed : (form : SessionForm) (t : KnownTable) (sizes : Config) (tur
     → AnswersTurns (session_terms t form) sizes 1 turns s e → ReplaysTurns form t turns s e
 turns_replayed (Answers is_explained) t sizes turns s e all =
     all_replayed (terms t is_explained) (lines_of turns) s e (answers_of turns) (all_kept t is_explained sizes 1 turns s e all)
-turns_replayed Steps t sizes turns s e all = λ run shows tied. logged_history t sizes 1 turns (past run s) e (λ legal. shows) tied all
+turns_replayed Steps t sizes turns s e all = λ run shows. logged_history t sizes 1 turns (past run s) e (λ legal. shows) all

@@ -14,7 +14,7 @@ pub record KnownServer : Type 0 where
 
 -- the terms on which it serves lines
 abbrev pub terms_of : KnownTable → KnownServer → SessionTerms
-terms_of frames stocks server = session_terms frames stocks server.form
+terms_of frames server = session_terms frames server.form
 
 -- all but the state is as before
 pub record KeepsTerms (before after : KnownServer) : Type 0 where

@@ -24,10 +24,10 @@ pub record Turn : Type 0 where
 -- a line with this text is served, and has this answer in this form
 abbrev pub ServesInForm : SessionForm → KnownTable → (text : List ℕ) → Line
     → (before after : SystemState) → (answer : List ℕ) → Type 0
-ServesInForm (Answers is_explained) frames stocks text line before after answer =
-    ServesAndKeeps (terms frames stocks is_explained) line before after answer
-ServesInForm Steps frames stocks text line before after answer =
-    LogsLine (terms frames stocks true) text line before after answer
+ServesInForm (Answers is_explained) frames text line before after answer =
+    ServesAndKeeps (terms frames is_explained) line before after answer
+ServesInForm Steps frames text line before after answer =
+    LogsLine (terms frames true) text line before after answer
 
 -- the same on these terms
 abbrev pub AnswersServed : SessionTerms → (text : List ℕ) → Line → (before after : SystemState) → (answer : List ℕ)

@@ -22,7 +22,7 @@ use Rattle.step_rules.specs.declared.step.Answer.{Answer as StepAnswer}
 use Rattle.step_rules.specs.declared.step.Answer.TheVariants as step_answer
 use Rattle.step_rules.specs.State.{State}
 use Rattle.step_rules.specs.After.{Run, state_of, IsLegalRun}
-use Rattle.boot_words.specs.Cpus.{KnownCpuSeat}
+use Rattle.step_watch.specs.Watched.{KnownWatch}
 use Rattle.mem_machine.specs.Local.{VisitState, visit_state}
 use Rattle.mem_machine.specs.Machines.{KnownMachine, IsConsistent, IsShownBy, left_by, with_run, with_watch}
 use Rattle.mem_machine.specs.Noted.{KnownRun}
@@ -85,6 +85,11 @@ held_same s u hold is = is ∙ ap (λ (x : State). record u { hold = x.hold }) (
 
 leave_same : (t : KnownTable) (m n : KnownMachine) → left_by t n.run.past ≡ left_by t m.run.past → LeaveTheSame t m n
 leave_same t m n left = held_same (left_by t n.run.past) (left_by t m.run.past) (left_by t m.run.past).hold left
+
+-- the run that shows a machine shows it with another watch too
+pub shows_watched : (t : KnownTable) (run : Run) (m : KnownMachine) (cpus : List KnownCpu) (watch : KnownWatch) → ShowsAll t run m cpus
+    → ShowsAll t run (with_watch m watch) cpus
+shows_watched t run m cpus watch shows = the_same_is_shown t run m (with_watch m watch) cpus shows (leave_same t m (with_watch m watch) refl)
 
 -- a run that leaves the same shows a consistent machine
 consistent_at : (t : KnownTable) (m : KnownMachine) (run : KnownRun) (hold : Hold) → IsConsistent t m
