@@ -68,6 +68,7 @@ pub record SeenBehindLock (table : KnownTable) (IsSo : KnownLocked → Type 0)
   pub locked : KnownLocked
   pub sound : IsSound table locked
   pub part : after.part ≡ before.part
+  pub last : after.last ≡ before.last
   pub sees : SeesMore (own_past before.past) (own_past after.past)
   pub same : (own_past locked.machine.run.past).seen ≡ (own_past after.past).seen
   pub so : IsSo locked
