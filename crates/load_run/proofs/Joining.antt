@@ -7,7 +7,7 @@ use Rattle.frame_word.specs.Seats.{KnownTable}
 use Rattle.zone_blocks.specs.declared.config.Config.{Config}
 use Rattle.step_rules.specs.After.{Run}
 use Rattle.step_rules.proofs.PhaseLemmas.{none_some}
-use Rattle.boot_words.specs.declared.view.Past.{Past}
+use Rattle.boot_words.specs.declared.past.Past.{Past}
 use Rattle.boot_words.specs.Growth.{IsRunSoFar}
 use Rattle.boot_words.specs.Pasts.{own_past}
 use Rattle.boot_words.specs.Rule.{AllOf}
@@ -29,7 +29,7 @@ use Rattle.load_run.specs.Answers.{AreThreadAnswers, IsNewBootState, IsQuietSyst
 use Rattle.load_run.specs.Ending.{EndsHeld, boot_end_text}
 use Rattle.load_run.specs.Survey.{AreNumbered, HasPast, ChangesFollow, HasSeen, SeesAllPasts}
 use Rattle.load_run.proofs.Changes.{follow_both, follow_seen, grew_number, others_follow, same_changes}
-use Rattle.load_run.proofs.Starting.{boot_agrees, boot_shown, lines_there, parts_tied}
+use Rattle.load_run.proofs.Starting.{boot_agrees, boot_shown, lines_there}
 use Rattle.load_run.proofs.Surveying.{at_index}
 use Rattle.load_run.proofs.Whole.{whole_run}
 
@@ -146,7 +146,7 @@ are_answers sizes is_numbered is_audited t lines first_lines other_lines start r
     let front = take (lines_before_go lines) lines in
     let replays = subst (λ (l : List Line). Replays on l start replayed early) is_first served in
     let tells = subst (λ (l : List Line). AreAllAnswers (boot_tables t sizes) (workers_from 1 at_go.cpus l is_numbered) end.cpus told later) is_other all in
-    let history = replays.history [] (boot_shown _ _ _ _ new) (parts_tied _ _ _ _ new) in
+    let history = replays.history [] (boot_shown _ _ _ new) in
     let run : Run = steps_of on front (past [] start) replayed early history in
     let has : HasRun run replayed = all_lines_go_on on front (past [] start) replayed early history [] new.so_far in
     let rest = drop (lines_before_go lines) lines in
@@ -160,7 +160,6 @@ are_answers sizes is_numbered is_audited t lines first_lines other_lines start r
     let numbers = numbers_after sees.beginning z (boot_tables t sizes) at_go.cpus end.cpus rest is_numbered told later sees.seen.1 run goes tells in
     record {
       frames = t;
-      stocks = w;
       start = start;
       replayed = replayed;
       at_go = at_go;
@@ -173,8 +172,8 @@ are_answers sizes is_numbered is_audited t lines first_lines other_lines start r
       ending = boot_end_text is_audited ended;
       first = new;
       served = replays.served;
-      history = legal_histories_keep_it on front (past [] start) replayed early history (sees.steps_legal run has) (boot_agrees _ _ _ _ new);
-      agrees = boot_agrees _ _ _ _ new;
+      history = legal_histories_keep_it on front (past [] start) replayed early history (sees.steps_legal run has) (boot_agrees _ _ _ new);
+      agrees = boot_agrees _ _ _ new;
       sees = sees;
       tells = tells;
       quiet = quiet;

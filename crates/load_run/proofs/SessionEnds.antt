@@ -9,7 +9,6 @@ use Rattle.zone_blocks.specs.declared.config.Config.{Config}
 use Rattle.zone_blocks.specs.Config.{IsValidConfig}
 use Rattle.mem_system.specs.Cpus.{parts_of}
 use Rattle.mem_history.specs.Whole.{ShowsAll}
-use Rattle.mem_history.specs.Kept.{AreTied}
 use Rattle.step_rules.specs.After.{Run}
 use Rattle.mem_machine.specs.Interleaving.{zone_of}
 use Rattle.script_replay.specs.Lines.{HasRun, SystemState}
@@ -37,7 +36,7 @@ use Rattle.load_run.specs.Logs.{LogsEnd, log_head_text}
 use Rattle.load_run.specs.Sessions.{BeginsHead, DrivesSession, EndsInForm, EndsSession, IsOfValid, IsSameFault, IsWorkFault, LeavesSession}
 use Rattle.load_run.specs.Sessions.{LeavesWithHead, ServesInput, ServesWithHead, StopsSession, WritesHead, steps_of_end, words_of_end}
 use Rattle.line_server.specs.Writing.{AppendsBeginning}
-use Rattle.load_run.proofs.Starting.{boot_agrees, boot_shown, parts_tied}
+use Rattle.load_run.proofs.Starting.{boot_agrees, boot_shown}
 use Rattle.load_run.proofs.Whole.{whole_run}
 
 -- a fault at work has status 1
@@ -144,9 +143,9 @@ head_missed form sizes before is = subst (λ (f : SessionForm). BeginsHead f siz
 
 -- turns that are replayed from a boot have their history
 history_of : (form : SessionForm) (t : KnownTable) (turns : List Turn) (start end : SystemState) → ShowsAll t [] start.locked.machine (parts_of start.cpus)
-    → AreTied t (parts_of start.cpus) → ReplaysTurns form t turns start end → HasTurnsHistory form t turns (past [] start) end
-history_of (Answers is_explained) t turns start end shows tied replays = replays.history [] shows tied
-history_of Steps t turns start end shows tied replays = replays [] shows tied
+    → ReplaysTurns form t turns start end → HasTurnsHistory form t turns (past [] start) end
+history_of (Answers is_explained) t turns start end shows replays = replays.history [] shows
+history_of Steps t turns start end shows replays = replays [] shows
 
 -- if a run led to the end of a session, it and the steps of the end are all steps of the boot
 end_whole : (form : SessionForm) (t : KnownTable) (is_audited : Bool) (run : Run) (end : SystemState) (text : List ℕ) → HasRun run end
@@ -172,17 +171,16 @@ module _ (options : Options) (form : SessionForm) (t : KnownTable) (server : Kno
       → EndsInForm form t options.is_audited left ending → EndsSession options form input before middle ending
   session_ends input before middle end left ending serves is ends =
       let session = as_made (λ on sizes s. ServesSession on sizes input s end before middle) serves in
-      let history = history_of form t session.turns start end (boot_shown _ _ _ _ new) (parts_tied _ _ _ _ new) session.holds.replays in
+      let history = history_of form t session.turns start end (boot_shown _ _ _ new) session.holds.replays in
       let end_is = subst (λ (s : SystemState). EndsInForm form t options.is_audited s ending) is ends in
       record {
         frames = t;
-        stocks = w;
         start = start;
         end = end;
         first = new;
         session = session;
         history = history;
-        agrees = boot_agrees _ _ _ _ new;
+        agrees = boot_agrees _ _ _ new;
         ends = end_is;
         whole = steps_of_turns form t session.turns (past [] start) end history ++ steps_of_end form t options.is_audited end ending end_is;
         whole_is = refl;
@@ -199,7 +197,6 @@ module _ (options : Options) (form : SessionForm) (t : KnownTable) (server : Kno
     valid = of_valid options.sizes fault valid;
     left = inr (inl (record {
       frames = t;
-      stocks = w;
       start = start;
       end = end;
       first = new;

@@ -1,10 +1,10 @@
--- What stands after a boot is shown, and each part is what its seats know. Serves `replay_on_boot`, `check_on_boot`,
+-- What stands after a boot is shown. Serves `replay_on_boot`, `check_on_boot`,
 -- `steps_on_boot`, `run_by_threads`.
 use Rattle.std.proofs.Common.{◌≡◌, ℕ, ◌+◌, ◌≤◌, Some, List, [], ◌++◌, All, drop, length, refl, sym, take, ◌∙◌, ap, subst, arith, zero, suc}
 use Rattle.std.specs.List.{slice_get}
 use Rattle.std.proofs.lemmas.Option.{slice_get_within}
 use Rattle.frame_word.specs.Seats.{KnownTable}
-use Rattle.cpu_part.specs.Cpus.{KnownCpu, IsTied}
+use Rattle.cpu_part.specs.Cpus.{KnownCpu, first_cpu}
 use Rattle.zone_blocks.specs.declared.config.Config.{Config}
 use Rattle.step_rules.specs.State.{Zone}
 use Rattle.step_watch.specs.Watched.{IsNewWatch, KnownWatch}
@@ -12,12 +12,11 @@ use Rattle.mem_core.specs.Shown as core
 use Rattle.mem_machine.specs.Interleaving.{zone_of}
 use Rattle.mem_machine.specs.Machines.{KnownMachine, IsFirst, with_watch}
 use Rattle.mem_history.specs.Whole.{ShowsAll}
-use Rattle.mem_history.specs.Kept.{AreTied, IsTiedPart}
 use Rattle.mem_history.proofs.Booting.{a_boot_is_shown}
-use Rattle.boot_words.specs.declared.view.Past.{Past}
+use Rattle.boot_words.specs.declared.past.Past.{Past}
 use Rattle.boot_words.specs.Pasts.{own_past}
 use Rattle.boot_words.specs.Growth.{IsRunSoFar}
-use Rattle.mem_system.specs.Boots.{IsSizedAs, part_at_first, first_cpus}
+use Rattle.mem_system.specs.Boots.{IsSizedAs, first_cpus}
 use Rattle.mem_system.specs.Cpus.{CpuInRun, parts_of, pasts_of}
 use Rattle.mem_machine.specs.Agreeing.{AgreesWithRun}
 use Rattle.mem_history.proofs.Agreeing.{a_boot_agrees}
@@ -29,32 +28,17 @@ use Rattle.script_replay.specs.Ranges.{LineInRange}
 use Rattle.load_run.specs.Starting.{IsNewBootState}
 use Rattle.load_run.proofs.Answering.{first_long}
 
-first_at : (t : KnownTable) (p n k : ℕ) (c : KnownCpu) → slice_get (first_cpus t p n) k ≡ Some c → c ≡ part_at_first t (p + k)
-first_at t p zero k c at = absurd (let none = slice_get_within (first_cpus t p 0) k c at in omega arith)
-first_at t p (suc n) zero c at = same (part_at_first t p) c at ∙ ap (part_at_first t) (omega arith)
+first_at : (p n k : ℕ) (c : KnownCpu) → slice_get (first_cpus p n) k ≡ Some c → c ≡ first_cpu (p + k)
+first_at p zero k c at = absurd (let none = slice_get_within (first_cpus p 0) k c at in omega arith)
+first_at p (suc n) zero c at = same (first_cpu p) c at ∙ ap first_cpu (omega arith)
   where
     same : (a b : KnownCpu) → Some a ≡ Some b → b ≡ a
     same a b e = cc
-first_at t p (suc n) (suc k) c at = first_at t (p + 1) n k c at ∙ ap (part_at_first t) (omega arith)
-
-first_tied : (t : KnownTable) (p : ℕ) → 1 ≤ p → p ≤ t.cpus → p ≤ w.cpus → IsTied t (part_at_first t p)
-first_tied t p low high payer = record {
-  seats = record {
-    frame_table = refl;
-    frame_number = refl;
-    stock_table = refl;
-    stock_number = refl;
-    some_number = low;
-    frame_cpus = high;
-    stock_cpus = payer;
-  };
-  noted = λ f. record { borrowed_is = refl; own_is = refl; references_are = refl; once = omega arith; in_table = λ past. refl };
-  within = record { list_bound = omega arith; fresh_bound = omega arith; pin_bound = omega arith; pages_are = refl };
-}
+first_at p (suc n) (suc k) c at = first_at (p + 1) n k c at ∙ ap first_cpu (omega arith)
 
 -- the parts of a boot as they are made
 pub new_state : (booted sizes : Config) (t : KnownTable) (locked : KnownLocked) (cpus : List CpuInRun) → booted ≡ sizes
-    → IsSizedAs booted t → IsFirst t locked.machine → locked.sizes ≡ booted → parts_of cpus ≡ first_cpus t 1 booted.cpus
+    → IsSizedAs booted t → IsFirst t locked.machine → locked.sizes ≡ booted → parts_of cpus ≡ first_cpus 1 booted.cpus
     → IsRunSoFar [] (own_past locked.machine.run.past) (pasts_of cpus)
     → IsNewBootState sizes t (system_state locked cpus)
 new_state booted sizes t locked cpus same sized machine sizes_are are so_far =
@@ -62,30 +46,16 @@ new_state booted sizes t locked cpus same sized machine sizes_are are so_far =
     (record { sized = sized; machine = machine; sizes_are = sizes_are; cpus = are; so_far = so_far })
 
 module _ (sizes : Config) (t : KnownTable) (start : SystemState) (new : IsNewBootState sizes t start) where
-  each_first : (k : ℕ) (c : KnownCpu) → slice_get (parts_of start.cpus) k ≡ Some c → c ≡ part_at_first t (suc k)
+  each_first : (k : ℕ) (c : KnownCpu) → slice_get (parts_of start.cpus) k ≡ Some c → c ≡ first_cpu (suc k)
   each_first k c at =
-      first_at t 1 sizes.cpus k c (subst (λ (l : List KnownCpu). slice_get l k ≡ Some c) new.cpus at) ∙ ap (part_at_first t) (omega arith)
-
-  cpus_long : length (parts_of start.cpus) ≡ sizes.cpus
-  cpus_long = ap length new.cpus ∙ first_long t 1 sizes.cpus
+      first_at 1 sizes.cpus k c (subst (λ (l : List KnownCpu). slice_get l k ≡ Some c) new.cpus at) ∙ ap first_cpu (omega arith)
 
   pub boot_shown : ShowsAll t [] start.locked.machine (parts_of start.cpus)
   boot_shown = a_boot_is_shown t start.locked.machine (parts_of start.cpus) (record {
     machine = new.machine;
-    count = cpus_long ∙ sym new.sized.cpus;
+    count = ap length new.cpus ∙ first_long 1 sizes.cpus ∙ sym new.sized.cpus;
     each = each_first;
   })
-
-  pub parts_tied : AreTied t (parts_of start.cpus)
-  parts_tied k c at =
-      let below = slice_get_within (parts_of start.cpus) k c at in
-      let long = cpus_long in
-      let frames = new.sized.cpus in
-      let payers = new.sized.stock_cpus in
-      subst (IsTiedPart t) (sym (each_first k c at)) (record {
-        tied = first_tied t (suc k) (omega arith) (omega arith) (omega arith);
-        none_fresh = λ none. refl;
-      })
 
   pub boot_agrees : AgreesWithRun t [] start.locked.machine.ledger
   boot_agrees = a_boot_agrees t start.locked.machine new.machine
@@ -114,11 +84,10 @@ watched_first t m watch first = record {
   frame_states = first.frame_states;
   ledger = first.ledger;
   nowhere = first.nowhere;
-  frame_seat = first.frame_seat;
-  stock_seat = first.stock_seat;
   killed = first.killed;
   counts = first.counts;
   notes = first.notes;
+  past = first.past;
 }
 
 -- a new watch of a boot's sizes is one of its tables

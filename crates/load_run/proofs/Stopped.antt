@@ -30,7 +30,7 @@ use Rattle.load_run.proofs.Starting.{new_watch, watched_first}
 -- a new boot that was given a new watch
 pub new_watched : (booted sizes : Config) (t : KnownTable) (locked : KnownLocked) (cpus : List CpuInRun) (watch : KnownWatch)
     (after : KnownLocked) → IsSizedAs booted t → booted ≡ sizes → IsFirst t locked.machine → locked.sizes ≡ booted
-    → parts_of cpus ≡ first_cpus t 1 booted.cpus → IsRunSoFar [] (own_past locked.machine.run.past) (pasts_of cpus)
+    → parts_of cpus ≡ first_cpus 1 booted.cpus → IsRunSoFar [] (own_past locked.machine.run.past) (pasts_of cpus)
     → IsNewWatch (core.zone_of_config sizes) watch → after ≡ record locked { machine = with_watch locked.machine watch }
     → IsNewWatchedState booted t (system_state after cpus)
 new_watched booted sizes t locked cpus watch after sized same first sizes_are are so_far new is = record {
@@ -49,7 +49,7 @@ pub stop_told : (sizes : Config) (form : Form) (t : KnownTable) (lines : List Li
     → IsNewWatchedState sizes t start → StopsFor (form_terms t form) lines start end why → IsCheckFault sizes form lines (fault_of_stop why)
 stop_told sizes form t lines start end (stopped.NoMemory error) new stops = tt
 stop_told sizes form t lines start end (stopped.NotLegal line) new stops =
-    record { frames = t; stocks = w; start = start; end = end; new = new; stops = stops }
+    record { frames = t; start = start; end = end; new = new; stops = stops }
 
 module _ (options : Options) (is_explained : Bool) (booted : Config) (form : Form) (lines : List Line) (asked : options.task ≡ Replay is_explained true)
     (same : booted ≡ options.sizes) (is : form ≡ form_of is_explained options.is_numbered) where

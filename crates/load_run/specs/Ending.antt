@@ -4,6 +4,8 @@ use Rattle.std.specs.Fmt.{decimal}
 use Rattle.frame_word.specs.declared.answers.Put.{Put}
 use Rattle.frame_word.specs.Seats.{KnownTable}
 use Rattle.boot_words.specs.Pasts.{own_past}
+use Rattle.boot_words.specs.Rule.{words_in}
+use Rattle.boot_words.specs.Seats.{zone_of_boot}
 use Rattle.boot_words.specs.Words.{IsRunOf, Words}
 use Rattle.boot_words.specs.Growth.{GainsSteps, IsRunSoFar}
 use Rattle.cpu_part.specs.Calls.{UnpinAnswers}
@@ -32,6 +34,7 @@ put_steps cpu frame answer = cpu_makes cpu (step.Put frame) (put_answer answer) 
 pub record PutsHeldPin (frame : ℕ) (before after : MachineAndCpu) : Type 0 where
   pub answer : Put
   pub cpu : UnpinAnswers frame answer before.cpu.part after.cpu.part
+  pub last : after.cpu.last ≡ before.cpu.last
   pub machine : after.machine ≡ with_run before.machine after.machine.run
   pub watched : Watches before.machine.run.watch (put_steps before.cpu.part.number frame answer) after.machine.run.watch
   pub gains : GainsSteps (own_past before.machine.run.past) (own_past before.cpu.past)
@@ -98,9 +101,9 @@ pub record EndsHeld (table : KnownTable) (before : SystemState)
   pub closes : Closes table emptied ended.audit
 
 -- the words of the table when it was closed
-abbrev pub last_words : {table : KnownTable} {stock_table : KnownStockTable} {emptied : KnownEmptiedBoot} {audit : Audit}
+abbrev pub last_words : {table : KnownTable} {emptied : KnownEmptiedBoot} {audit : Audit}
     → Closes table emptied audit → Words
-last_words closes = record { frames = closes.frame_words; stocks = closes.stock_words }
+last_words {table} closes = words_in (zone_of_boot table) closes.words
 
 -- All steps of a boot, up to its end: a legal run, which led to these words of the boot's table. The promise holds after
 -- each beginning of the run that leaves the lock free.

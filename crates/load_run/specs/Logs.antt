@@ -83,13 +83,12 @@ steps_of_logs terms texts (line ∷ lines) before after log logs = logs.serves_f
 -- boot on; and then the steps of the end, and what is reported of it with `--audit`. `whole` is all these steps.
 pub record AreLoggedSteps (sizes : Config) (script : List ℕ) (lines : List Line) (text : List ℕ) : Type 0 where
   pub frames : KnownTable
-  pub stocks : KnownStockTable
   pub start : SystemState
-  pub first : IsNewBootState sizes frames stocks start
+  pub first : IsNewBootState sizes frames start
   pub log : List ℕ
-  pub logs : LogsAllAndEnd frames stocks (texts_of script) lines start log
+  pub logs : LogsAllAndEnd frames (texts_of script) lines start log
   pub whole : Run
-  pub whole_is : whole ≡ steps_of_logs (terms frames stocks true) (texts_of script) lines start logs.end logs.served_log
+  pub whole_is : whole ≡ steps_of_logs (terms frames true) (texts_of script) lines start logs.end logs.served_log
       logs.served ++ logs.ends.ends.leaves.steps
   pub is_whole : IsWholeRun (zone_of frames) (last_words logs.ends.ends.closes) whole
   pub text_is : text ≡ log_head_text sizes ++ log

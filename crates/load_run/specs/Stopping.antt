@@ -29,23 +29,21 @@ pub record IsNewWatchedState (sizes : Config) (table : KnownTable)
 -- That line has this number.
 pub record StopsAtIllegalLine (sizes : Config) (form : Form) (lines : List Line) (number : ℕ) : Type 0 where
   pub frames : KnownTable
-  pub stocks : KnownStockTable
   pub start : SystemState
   pub end : SystemState
-  pub new : IsNewWatchedState sizes frames stocks start
-  pub stops : StopsFor (form_terms frames stocks form) lines start end (stopped.NotLegal number)
+  pub new : IsNewWatchedState sizes frames start
+  pub stops : StopsFor (form_terms frames form) lines start end (stopped.NotLegal number)
 
 -- A boot with these sizes served the lines by legal steps, and ended. The watch didn't allow a step of the end.
 pub record StopsAtIllegalEnd (sizes : Config) (form : Form) (lines : List Line) : Type 0 where
   pub frames : KnownTable
-  pub stocks : KnownStockTable
   pub start : SystemState
   pub end : SystemState
   pub answers : List ℕ
   pub ended : BootEnd
-  pub new : IsNewWatchedState sizes frames stocks start
-  pub history : HasLegalHistory (form_terms frames stocks form) lines start end answers
-  pub ends : EndsHeld frames stocks end ended
+  pub new : IsNewWatchedState sizes frames start
+  pub history : HasLegalHistory (form_terms frames form) lines start end answers
+  pub ends : EndsHeld frames end ended
   pub not_legal : has_legal_steps ends.emptied.machine.run.watch ≡ false
 
 -- why a boot with these sizes gives no answers to the lines

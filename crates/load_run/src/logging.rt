@@ -152,7 +152,6 @@ pub fn steps_on_boot<N: BootName>(
     lines: &[Line<'_>],
 ) -> Result<Vec<u8>, AllocError>
     requires frames { boot.frames ≡ N.frames }
-    requires stocks { boot.stocks ≡ N.stocks }
     requires sizes { boot.sizes ≡ sizes }
     requires lines { All (LineInRange boot.sizes.frames boot.sizes.cpus) lines.now }
     ensures steps { IfOk result (λ text. AreLoggedSteps boot.sizes script.now lines.now text.items) }

@@ -99,7 +99,6 @@ fn serve_on_boot<N: BootName, I: Read, O: Write>(
     output: &mut O,
 ) -> Result<(), ProgramFault>
     requires frames { boot.frames ≡ N.frames }
-    requires stocks { boot.stocks ≡ N.stocks }
     requires sizes { boot.sizes ≡ options.now.sizes }
     requires valid { IsValidConfig options.now.sizes }
     requires in_range { HasSizesInRange options.now.sizes }
