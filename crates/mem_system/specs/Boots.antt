@@ -4,8 +4,9 @@ use Rattle.frame_word.specs.Seats.{KnownTable}
 use Rattle.boot_words.specs.declared.past.Past.{Past}
 use Rattle.boot_words.specs.Runs.{no_past}
 use Rattle.boot_words.specs.Pasts.{KnownPasts}
-use Rattle.boot_words.specs.Cpus.{KnownCpuSeat}
+use Rattle.boot_words.specs.Cpus.{IsAwayCpu, KnownCpuSeat}
 use Rattle.boot_words.specs.Opening.{cpus_at_first, seat_at_first}
+use Rattle.boot_words.specs.Rule.{AllOf}
 use Rattle.cpu_part.specs.Cpus.{KnownCpu, first_cpu}
 use Rattle.zone_blocks.specs.declared.config.Config.{Config}
 use Rattle.zone_blocks.specs.Config.{IsValidConfig}
@@ -26,12 +27,13 @@ pub record IsSizedAs (sizes : Config) (table : KnownTable) : Type 0 where
   pub cpus : table.cpus ≡ sizes.cpus
 
 -- The sizes are in their ranges, and the table has them. The seats of the zone and of the CPUs are all the seats of the
--- table, and none has made a step.
+-- table, and none has made a step. No CPU holds the lock.
 pub record IsBooted (boot : KnownBoot) (zone : KnownPasts) (cpus : List KnownCpuSeat) : Type 0 where
   pub valid : IsValidConfig boot.sizes
   pub sized : IsSizedAs boot.sizes boot.frames
   pub zone_is : zone ≡ seat_at_first boot.frames.table 0
   pub cpus_are : cpus ≡ cpus_at_first boot.frames.table 1 boot.sizes.cpus
+  pub away : AllOf (IsAwayCpu boot.frames) cpus
 
 -- the first parts of this many CPUs, from number `first` on: no frame is listed, fresh or back, and there is no pin
 abbrev pub first_cpus : (first count : ℕ) → List KnownCpu

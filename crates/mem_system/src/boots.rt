@@ -142,7 +142,6 @@ fn make_cpus<N: BootName>(
 ) -> Result<Vec<Cpu<N>>, AllocError>
     requires seats { seats.items ≡ cpus_at_first N.frames.table 1 cpus }
     requires away { AllOf (IsAwayCpu N.frames) seats.items }
-    requires cpus { cpus ≡ N.frames.cpus }
     ensures parts { IfOk result (λ made. parts_of made.items ≡ first_cpus 1 cpus) }
     ensures pasts { IfOk result (λ made. pasts_of made.items ≡ first_pasts 1 cpus) }
 {

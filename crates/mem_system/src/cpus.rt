@@ -4,7 +4,6 @@ ghost use Rattle.std.specs.Prelude.{◌≡◌, ◌≢◌, ◌+◌, ◌<◌, ◌�
 ghost use Rattle.frame_word.specs.declared.answers.Get.TheVariants.{Zero};
 ghost use Rattle.boot_words.specs.Growth.{GrewByAll};
 ghost use Rattle.boot_words.specs.Calls.{RacesAt};
-ghost use Rattle.boot_words.specs.Closed.{HasCpuPast};
 ghost use Rattle.boot_words.specs.Cpus.{IsAwayCpu};
 ghost use Rattle.boot_words.specs.Opening.{cpu_at_first};
 ghost use Rattle.boot_words.specs.Pasts.{own_past};
@@ -16,7 +15,7 @@ ghost use Rattle.step_rules.specs.State.{times};
 ghost use Rattle.cpu_part.specs.Cpus.{AreWithin, IsIdle, IsUnlisted, first_cpu, most_fresh, most_listed, most_pins};
 ghost use Rattle.cpu_part.specs.Calls.{DropAnswers, FastAnswers, IfGot, IfRaced, PinAnswers, UnpinAnswers};
 ghost use Rattle.cpu_part.specs.Told.{steps_of_drop, steps_of_fast, steps_of_get, steps_of_put};
-ghost use Rattle.mem_system.specs.Cpus.{cpu_in_run, seat_of};
+ghost use Rattle.mem_system.specs.Cpus.{KnowsItself, cpu_in_run, seat_of};
 
 use boot_words::CpuSeat;
 use cpu_part::{BootName, Cpu as CpuPart, Dropped, Fast, Tables};
@@ -61,7 +60,7 @@ impl<N: BootName> Cpu<N> {
     pub fn into_seat(self) -> CpuSeat
         requires { IsIdle self.part }
         ensures seat { result ≡ seat_of self }
-        ensures past { HasCpuPast N.frames result }
+        ensures knows { KnowsItself N.frames self }
     {
         let Cpu { part, past } = self;
         part.end();

@@ -1,13 +1,13 @@
 //! A boot at which nothing is left: its table can be closed.
 
-ghost use Rattle.std.specs.Prelude.{◌≡◌, length, All};
+ghost use Rattle.std.specs.Prelude.{◌≡◌, length, map, All};
 ghost use Rattle.std.specs.Vec.{vec_capacity};
 ghost use Rattle.boot_words.specs.Rule.{AllOf};
-ghost use Rattle.boot_words.specs.Closed.{HasCpuPast, pasts_of_cpus};
+ghost use Rattle.boot_words.specs.Closed.{HasCpuPast};
 ghost use Rattle.cpu_part.specs.Cpus.{IsIdle};
 ghost use Rattle.mem_machine.specs.Resting.{Rests};
 ghost use Rattle.mem_system.specs.Locked.{IsEmptyWithRoom};
-ghost use Rattle.mem_system.specs.Cpus.{parts_of, pasts_of};
+ghost use Rattle.mem_system.specs.Cpus.{KnowsItself, parts_of, seat_of};
 ghost use Rattle.mem_system.specs.Ends.{Closes, IsClosed};
 
 use crate::audit::{Audit, take_audit};
@@ -75,9 +75,8 @@ impl<N: BootName> EmptiedBoot<N> {
 fn gather_seats<N: BootName>(mut cpus: Vec<Cpu<N>>, mut seats: Vec<CpuSeat>) -> Vec<CpuSeat>
     requires idle { All IsIdle (parts_of cpus.items) }
     requires room { IsEmptyWithRoom (length cpus.items) (length seats.items) (vec_capacity seats) }
-    ensures pasts { pasts_of_cpus result.items ≡ pasts_of cpus.items }
-    ensures are { AllOf (HasCpuPast N.frames) result.items }
-    ensures count { length result.items ≡ length cpus.items }
+    ensures seats { result.items ≡ map seat_of cpus.items }
+    ensures knows { AllOf (KnowsItself N.frames) cpus.items }
 {
     while !cpus.is_empty() {
         seats.push_reserved(cpus.remove(0).into_seat());
