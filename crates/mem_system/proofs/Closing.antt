@@ -15,7 +15,7 @@ use Rattle.step_rules.specs.declared.phase.Stage.{Stage}
 use Rattle.step_rules.specs.declared.phase.Stage.TheVariants.{FreshAt, BackAt}
 use Rattle.step_rules.specs.declared.phase.Phase.{Phase}
 use Rattle.step_rules.specs.declared.phase.Phase.TheVariants as phase
-use Rattle.step_rules.specs.State.{Part, State, Zone, is_unheld, times}
+use Rattle.step_rules.specs.State.{Part, State, Zone, is_unheld, live_references, times}
 use Rattle.step_rules.specs.After.{Run, state_of}
 use Rattle.step_rules.proofs.Freeing.{zone_of_run}
 use Rattle.step_rules.proofs.Sums.{sum_only}
@@ -193,9 +193,10 @@ module _ (t : KnownTable) (m : KnownMachine) (cpus : List CpuInRun) (words : Lis
   last_words : AreLastWords t m (words_in zone words).frames
   last_words f inside =
       let shown = ap (λ (u : State). u.phases f) hidden ∙ ok.shown.phases f in
+      let live = live_references s f in
       let none : (p : ℕ) → p < s.zone.cpus + 1 → p ≢ 0 → s.references p f ≡ 0 = λ p low ne. (own_at p (omega (arith, ne)) (omega (arith, low, sized))).1 f in
       closed.end.is.frames.frame f (subst (λ (z : Zone). f < z.frames) (sym (zone_of_run zone run)) inside)
-      ∙ sym (hidden_word (s.phases f) _) ∙ ap (λ (x : Phase). word_in_phase x _) shown ∙ shown_word (frame_state_at m.frame_states f) _
+      ∙ sym (hidden_word (s.phases f) live) ∙ ap (λ (x : Phase). word_in_phase x live) shown ∙ shown_word (frame_state_at m.frame_states f) live
       ∙ sum_only (s.zone.cpus + 1) (λ p. s.references p f) 0 (omega arith) none
       ∙ ap (λ (u : State). u.references 0 f) hidden ∙ ok.shown.references f
 

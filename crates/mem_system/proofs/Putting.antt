@@ -36,7 +36,7 @@ parted f Last c d one = one.0
 
 same_number : (f : ℕ) (answer : Put) (c d : KnownCpu) → UnpinAnswers f answer c d → d.number ≡ c.number
 same_number f (Left n) c d one = ap (λ (x : KnownCpu). x.number) one.3
-same_number f Last c d one = ap (λ (x : KnownCpu). x.number) one.3
+same_number f Last c d one = ap (λ (x : KnownCpu). x.number) one.1
 
 -- a reference less
 pub fewer_pins : (f : ℕ) (answer : Put) (c d : KnownCpu) → UnpinAnswers f answer c d → length d.pins < length c.pins

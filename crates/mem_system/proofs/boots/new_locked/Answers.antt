@@ -14,7 +14,7 @@ invariant_of-result g c =
       quiet = record {
         shut = λ cpu. ap (λ (run : Run). visits cpu (state_of (zone_of_boot g.N.BootName.frames) run).hold) none;
         rests = made.rests;
-        counted = first_counted g.N.BootName.frames c.in_ok-machine.machine made.first none;
+        counted = first_counted g.N.BootName.frames c.in_ok-machine.machine made.first;
         valid = c.requires.valid;
         sized = c.requires.sized;
       };

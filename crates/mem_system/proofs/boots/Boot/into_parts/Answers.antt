@@ -14,13 +14,13 @@ use Rattle.mem_system.proofs.Closing.{long_parts}
 use Rattle.mem_system.proofs.Parts.{cpus_idle, cpus_long, first_past_at}
 use Rattle.mem_system.proofs.boots.Boot.into_parts.Goals as goal
 
-pub make_cpus-cpus-requires-clause-seats : goal.make_cpus-cpus-requires-clause-seats
-make_cpus-cpus-requires-clause-seats g c =
+pub make_cpus-requires-clause-seats : goal.make_cpus-requires-clause-seats
+make_cpus-requires-clause-seats g c =
     c.self.invariant.cpus_are
     ∙ ap (λ (t : KnownTable). cpus_at_first t.table 1 c.self.inside.sizes.cpus) (ap (λ (b : KnownBoot). b.frames) c.self.view_is ∙ c.requires.frames)
 
-pub make_cpus-cpus-requires-clause-away : goal.make_cpus-cpus-requires-clause-away
-make_cpus-cpus-requires-clause-away g c =
+pub make_cpus-requires-clause-away : goal.make_cpus-requires-clause-away
+make_cpus-requires-clause-away g c =
     subst (λ (t : KnownTable). AllOf (IsAwayCpu t) c.self.inside.cpus.items) (ap (λ (b : KnownBoot). b.frames) c.self.view_is ∙ c.requires.frames)
     c.self.invariant.away
 
