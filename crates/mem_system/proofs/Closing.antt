@@ -41,7 +41,7 @@ use Rattle.mem_machine.specs.Stocks.{HasDrained}
 use Rattle.mem_machine.proofs.NoneLent.{lent_to_cpu, each_is_placed}
 use Rattle.step_watch.proofs.Watching.{watches_both}
 use Rattle.mem_system.specs.declared.audit.Audit.{Audit}
-use Rattle.mem_system.specs.Cpus.{CpuInRun, KnowsItself, parts_of, pasts_of, seat_of}
+use Rattle.mem_system.specs.Cpus.{CpuInRun, KnowsItself, parts_of, pasts_of}
 use Rattle.mem_system.specs.Ends.{AreLastWords, Closes, ForEachCpu, SettlesInVisit, VisitsUnderLock, Empties, IsEmptied, IsAuditOf, HasNoPage, KnownEmptiedBoot}
 use Rattle.mem_system.specs.Ends.{MachineAndCpu, MakesLastVisits, steps_of_visits, drops_of, pins_of_all}
 use Rattle.mem_system.specs.Left.{NothingIsLeft}

@@ -1,5 +1,5 @@
 -- Who has a unit, by the state after a run that goes on from the machine's past. Serves `no_unit_is_lost`.
-use Rattle.std.proofs.Common.{◌≡◌, ◌⊎◌, ℕ, ◌+◌, ◌<◌, ◌≤◌, ◌==◌, Bool, true, false, Option, Some, None, List, refl, sym, ap, ◌∙◌, inl, inr, arith, zero, suc, eq-eqb}
+use Rattle.std.proofs.Common.{◌≡◌, ◌⊎◌, ℕ, ◌+◌, ◌<◌, ◌≤◌, true, false, Option, Some, None, List, refl, sym, ap, ◌∙◌, inl, inr, arith, zero, suc, eq-eqb}
 use Rattle.std.specs.Prelude.{is_some}
 use Rattle.std.proofs.lemmas.Bool.{cases_lt, cases_eq, false≢true}
 use Rattle.std.proofs.lemmas.Nat.{pow_pos}
@@ -13,7 +13,7 @@ use Rattle.step_rules.specs.declared.phase.Phase.TheVariants as phase
 use Rattle.step_rules.specs.Phases.{BackFrame, FreshFrame, ListFrame, has_as, is_live_phase}
 use Rattle.step_rules.specs.Invariant.{KeepsInvariant}
 use Rattle.step_rules.specs.State.{State, Zone, one_if, sum_to, times}
-use Rattle.step_rules.specs.After.{Run, state_of}
+use Rattle.step_rules.specs.After.{state_of}
 use Rattle.step_rules.proofs.Freeing.{zone_of_run}
 use Rattle.step_rules.proofs.Living.{live_are_referenced}
 use Rattle.step_rules.proofs.Runs.{sound_run}
@@ -28,6 +28,7 @@ use Rattle.lru_lists.specs.declared.record.Home.{Home}
 use Rattle.mem_machine.specs.declared.frame_state.FrameState.{FrameState}
 use Rattle.mem_machine.specs.declared.frame_state.FrameState.TheVariants.{Lent, Head}
 use Rattle.mem_machine.specs.FrameStates.{frame_state_at, head_group_of, phase_hidden}
+use Rattle.mem_machine.specs.Local.{number_or_0}
 use Rattle.mem_machine.specs.Machines.{FitsFrameState, KnownMachine, IsConsistent, home_of, left_by}
 use Rattle.mem_machine.specs.Resting.{Rests}
 use Rattle.mem_machine.proofs.NoneLent.{lent_to_cpu}
@@ -41,10 +42,6 @@ some_seat (suc n) h some = elim (cases_lt 0 (h n)) [
   | inl here ↦ (n, omega arith, omega (arith, here))
   | inr none ↦ let rest = some_seat n h (omega (arith, some, none)) in (rest.0, (let low = rest.1 in omega (arith, low)), rest.2)
 ]
-
-number_or_0 : Option ℕ → ℕ
-number_or_0 None = 0
-number_or_0 (Some q) = q
 
 some_home : (home : Option Home) (x : FrameState) (g : ℕ) → FitsFrameState home x → head_group_of x ≡ Some g
     → ((h : Home) × (home ≡ Some h) × (h.owner ≡ g)) ⊎ (home ≡ None)

@@ -1,9 +1,9 @@
 -- A CPU is settled, or its list is returned and its stock drained. Serves the visits at the end of a system.
-use Rattle.std.proofs.Common.{◌≡◌, ℕ, zero, suc, ◌<◌, ◌≤◌, Bool, false, List, [], ◌∷◌, ◌++◌, length, take, refl, sym, ap, ◌∙◌, subst, inl, inr, arith}
+use Rattle.std.proofs.Common.{◌≡◌, ℕ, zero, suc, ◌<◌, ◌≤◌, Bool, true, false, List, [], ◌∷◌, ◌++◌, length, take, refl, sym, ap, ◌∙◌, subst, inl, inr, arith}
 use Rattle.std.proofs.Common.{append-nil}
 use Rattle.std.specs.Prelude.{slice_set}
 use Rattle.std.specs.List.{flat_map}
-use Rattle.std.proofs.lemmas.Bool.{cases_lt}
+use Rattle.std.proofs.lemmas.Bool.{cases_lt, false≢true}
 use Rattle.frame_word.specs.Seats.{KnownTable}
 use Rattle.cpu_part.specs.Cpus.{KnownCpu}
 use Rattle.mem_machine.specs.declared.frame_state.FrameState.{FrameState}
@@ -17,7 +17,6 @@ use Rattle.mem_machine.specs.Local.{visit_state, Makes, VisitMakes, number_or_0}
 use Rattle.mem_machine.specs.Settling.{Settles, fresh_steps, is_fresh_killed, return_all_steps, settle_steps}
 use Rattle.mem_machine.specs.Steps.{open_steps, shut_steps, drain_list_steps, drain_steps}
 use Rattle.mem_machine.proofs.DrainingAll.{drained_now, drained_still}
-use Rattle.mem_machine.proofs.NoneLent.{past_free}
 use Rattle.mem_machine.proofs.StocksKept.{drained_kept, groups_kept, has_stock_step}
 use Rattle.mem_system.specs.Commands.{BySteps}
 use Rattle.mem_system.specs.Ends.{SettlesInVisit, Empties, LendsAndFillsNone}
@@ -76,6 +75,13 @@ whole_list k count list left listed all fewer split =
     record { none_left = none; all_taken = sym (split ∙ ap (λ (l : List ℕ). take k list ++ l) none ∙ append-nil (take k list)) }
 
 -- ---- what a visit leaves that returns the list and drains the stock
+
+past_free : (p : ℕ) → Free ≡ Lent p → ⊥
+past_free p e = false≢true (ap is_some_cpu e)
+  where
+    is_some_cpu : FrameState → Bool
+    is_some_cpu (Lent q) = true
+    is_some_cpu x = false
 
 -- a frame that is free now is lent to no one
 still_lent : (frame_states : List FrameState) (f g p : ℕ) → frame_state_at (slice_set frame_states f Free) g ≡ Lent p → frame_state_at frame_states g ≡ Lent p

@@ -1,12 +1,19 @@
 -- Serves the contract of `empty_cpu`: the list is returned whole, and then the stock is drained.
-use Rattle.std.proofs.Common.{ap, sym, ◌∙◌, subst}
+use Rattle.std.proofs.Common.{sym, ◌∙◌, subst}
 use Rattle.std.specs.Prelude.{ℕ, take}
 use Rattle.mem_machine.specs.Stocks.{Drains, stock_group}
 use Rattle.mem_machine.specs.Local.{Makes}
+use Rattle.mem_machine.specs.Machines.{IsCpuOf}
 use Rattle.mem_machine.specs.Steps.{drain_steps}
+use Rattle.mem_machine.proofs.Moved.{number_range}
 use Rattle.mem_system.proofs.Listing.{cut_off}
 use Rattle.mem_system.proofs.Turns.{EmptyParts, whole_list, taken_alone, emptied_alone, emptied_drained, emptied}
 use Rattle.mem_system.proofs.last_visits.empty_cpu.Goals as goal
+
+pub drain_stock-requires-clause-cpu : goal.drain_stock-requires-clause-cpu
+drain_stock-requires-clause-cpu g c =
+    let t = g.N.BootName.frames in
+    subst (IsCpuOf t) (sym c.number.ensures.number) (number_range t c.drain_list.new.self c.drain_list.new.cpu c.drain_list.ensures.visit)
 
 pub drain_stock-requires-clause-held : goal.drain_stock-requires-clause-held
 drain_stock-requires-clause-held g c = c.drain_list.ensures.visit.held

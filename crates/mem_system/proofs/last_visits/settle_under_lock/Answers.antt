@@ -1,5 +1,5 @@
 use Rattle.std.proofs.Common.{◌∙◌, ap, subst, sym}
-use Rattle.mem_machine.specs.Local.{Holds, IsShut, visit_state}
+use Rattle.mem_machine.specs.Local.{IsShut}
 use Rattle.mem_machine.specs.Machines.{KnownMachine}
 use Rattle.mem_system.specs.Cpus.{CpuInRun, cpu_in_run}
 use Rattle.mem_system.specs.Ends.{SettlesInVisit, VisitsUnderLock, machine_and_cpu}
