@@ -1,5 +1,5 @@
 -- A stock that is drained stays drained while room is made. Serves `fill_one`.
-use Rattle.std.proofs.Common.{◌≡◌, ℕ, false, Bool, Option, Some, List, [], ◌∷◌, refl, sym, subst, inl, inr}
+use Rattle.std.proofs.Common.{ℕ, Option, Some, List, [], ◌∷◌, refl, sym, subst, inl, inr}
 use Rattle.std.proofs.lemmas.Bool.{cases_Bool, cases_lt}
 use Rattle.frame_word.specs.Seats.{KnownTable}
 use Rattle.boot_words.specs.Pasts.{IsHeld}

@@ -16,7 +16,7 @@ use Rattle.step_rules.specs.After.{Run}
 use Rattle.group_charge.specs.declared.note.Note.TheVariants.{Zone}
 use Rattle.mem_machine.specs.Machines.{KnownMachine, is_killed, with_note, with_run}
 use Rattle.boot_words.specs.Pasts.{IsHeld}
-use Rattle.mem_machine.specs.Local.{Makes, VisitMakes, Visits, VisitState, visit_state}
+use Rattle.mem_machine.specs.Local.{Makes, VisitMakes, Visits, visit_state}
 use Rattle.mem_machine.specs.Lending.{LendsMany, Refills}
 use Rattle.mem_machine.specs.Paying.{HoldsPage, PaysForFront}
 use Rattle.mem_machine.specs.Showing.{stock_now}
@@ -27,8 +27,8 @@ use Rattle.boot_words.specs.Words.{stock_in}
 use Rattle.mem_reclaim.specs.Staying.{Keeps}
 use Rattle.mem_alloc.specs.declared.faults.AllocFault.{AllocFault}
 use Rattle.mem_alloc.specs.declared.faults.AllocFault.TheVariants.{Over, NoFrames, RequesterKilled}
-use Rattle.mem_machine.specs.Transitions.{BySteps, Finds, InTurn, OfMachineAlone, Transition, transition}
-use Rattle.mem_alloc.specs.Room.{AfterRoom, IsRefusedAt, IsRefusedFor, IsRefusedAtSome, MakesRoom}
+use Rattle.mem_machine.specs.Transitions.{BySteps, Finds, transition}
+use Rattle.mem_alloc.specs.Room.{IsRefusedAt, IsRefusedFor, MakesRoom}
 use Rattle.mem_alloc.specs.Charging.{ChargesAfterDrain, FillsDrainedStock, ChargesOne, DrainsStock, FillsStock, AfterBatchRefused, PaysForFrame}
 use Rattle.mem_alloc.specs.Rounds.{FailsInRounds}
 use Rattle.mem_alloc.specs.Frames.{AllocatesFrame, FillsList, HasNoFreeFrame, LendsBatch, LendsNoFrame, RefillsInRounds, RefillsList}

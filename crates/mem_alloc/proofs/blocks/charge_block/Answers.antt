@@ -1,4 +1,4 @@
-use Rattle.std.proofs.Common.{◌≡◌, ℕ, ◌^◌, true, refl, sym, ap, ◌∙◌, subst, rules}
+use Rattle.std.proofs.Common.{◌≡◌, ℕ, ◌^◌, true, refl, sym, ◌∙◌, subst, rules}
 use Rattle.std.specs.Prelude.{Err, IfErr}
 use Rattle.group_tree.specs.Groups.{has_group}
 use Rattle.group_tree.proofs.CallerLemmas.{in_subtree-above}
