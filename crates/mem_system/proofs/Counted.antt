@@ -40,7 +40,7 @@ use Rattle.mem_machine.specs.Agreeing.{AgreesWithRun}
 use Rattle.mem_machine.specs.Counting.{counts_after, counts_along, is_back_passing, one_more_last_put, one_more_return}
 use Rattle.mem_machine.specs.Counts.{no_counts, with_killed_fresh}
 use Rattle.mem_machine.specs.Interleaving.{zone_of}
-use Rattle.mem_machine.specs.Local.{Makes, holder_of, local_of}
+use Rattle.mem_machine.specs.Local.{Makes, local_of, lock_holder}
 use Rattle.mem_machine.specs.Machines.{IsFirst, KnownMachine, with_past}
 use Rattle.mem_machine.specs.Resting.{Rests}
 use Rattle.mem_machine.proofs.Agreeing.{first_agrees}
@@ -212,7 +212,7 @@ pub visit_counted : (t : KnownTable) (m found n k : KnownMachine) (steps : Run) 
 visit_counted t m found n k steps past past' rests told locked locks makes unlocked gives rests_after =
     let zone = zone_of t in
     let held = found.run.past in
-    let p = holder_of found in
+    let p = lock_holder found in
     let a = local_of t found in
     let b = local_of t n in
     let z = own_past m.run.past in
