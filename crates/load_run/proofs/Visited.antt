@@ -37,7 +37,7 @@ use Rattle.mem_machine.specs.Steps.{cpu_makes}
 use Rattle.mem_system.specs.Cpus.{between_locks}
 use Rattle.mem_system.specs.Locked.{IsSound, KnownLocked}
 use Rattle.mem_system.proofs.Beside.{legal_front}
-use Rattle.mem_system.proofs.Mixed.{AreBehindOthers, all_own, as_many, both, cpu_and_zone, gained, has_none, just_these}
+use Rattle.mem_system.proofs.Mixed.{AreBehindOthers, all_own, as_many, both, gained, has_none, just_these}
 use Rattle.mem_system.proofs.Mixed.{no_fewer, none_of, own_is, steps_of, zone_and_cpu}
 use Rattle.load_run.specs.Threads.{IsStateOf, PastsBegin, RunsShowFinds, RunsShowVisits}
 
@@ -108,7 +108,7 @@ behind_both cpu lock steps z c z' c' zone_is cpu_is zone_grew cpu_grew same =
             rest = ch.1;
             others = has_none 0 (zh.0 ++ h.0) (omega (arith, all, least, is, parts, before, joined));
             is = z_is ∙ ap (λ (l : Run). z.seen ++ (zh.0 ++ l)) h.2 ∙ ap (λ (l : Run). z.seen ++ l) (sym (append_assoc zh.0 h.0 (lock ∷ ch.1)));
-            own = just_these cpu cpu 0 (cpu_and_zone cpu) (lock ∷ steps) (lock ∷ ch.1) cpu_run (omega (arith, all, is, parts));
+            own = just_these cpu cpu 0 (λ seat not_cpu not_zone. zone_and_cpu cpu seat not_zone not_cpu) (lock ∷ steps) (lock ∷ ch.1) cpu_run (omega (arith, all, is, parts));
           }
     ]
 

@@ -25,8 +25,8 @@ pub record IsStateOf (table : KnownTable) (machine : KnownMachine) (state : Stat
   pub free : is_unheld state.hold ≡ true
   pub shown : IsShownBy table machine (hide state)
 
--- A run has a visit of this CPU. Before it the run shows what was found, and after it what was left. Meanwhile the CPU and the zone's seat make just the Lock, the steps of the visit
--- and the Unlock.
+-- A run has a visit of this CPU. Before it the run shows what was found, and after it what was left. Meanwhile the CPU and
+-- the zone's seat make just the Lock, the steps of the visit and the Unlock.
 pub record ShowsVisit (table : KnownTable) (run : Run) (cpu : ℕ) (steps : Run) (found left : KnownMachine)
     : Type 0 where
   pub before : Run

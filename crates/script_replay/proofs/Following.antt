@@ -15,7 +15,7 @@ use Rattle.cpu_part.specs.declared.answers.Fast.TheVariants.{FreshFull, ListEmpt
 use Rattle.cpu_part.specs.Cpus.{KnownCpu}
 use Rattle.cpu_part.specs.Calls.{FastAnswers}
 use Rattle.step_rules.specs.declared.phase.Hold.{Hold}
-use Rattle.step_rules.specs.declared.phase.Hold.TheVariants.{Unheld}
+use Rattle.step_rules.specs.declared.phase.Hold.TheVariants.{HeldBy, Unheld}
 use Rattle.step_rules.specs.declared.step.Action.{Action}
 use Rattle.step_rules.specs.declared.step.Action.TheVariants as step
 use Rattle.step_rules.specs.declared.step.Answer.{Answer as StepAnswer}
@@ -23,6 +23,7 @@ use Rattle.step_rules.specs.declared.step.Answer.TheVariants as step_answer
 use Rattle.step_rules.specs.State.{State}
 use Rattle.step_rules.specs.After.{Run, state_of, IsLegalRun}
 use Rattle.step_watch.specs.Watched.{KnownWatch}
+use Rattle.boot_words.specs.Pasts.{own_past}
 use Rattle.mem_machine.specs.Local.{VisitState, visit_state}
 use Rattle.mem_machine.specs.Machines.{KnownMachine, IsConsistent, IsShownBy, left_by, with_run, with_watch}
 use Rattle.mem_machine.specs.Noted.{KnownRun}
@@ -168,7 +169,8 @@ module _ (t : KnownTable) (run : Run) (locked : KnownLocked) (cpus : List KnownC
       let first : VisitState = visit_state (with_run found.machine is.found) seen.part in
       let last : VisitState = visit_state (with_run n is.left) d in
       let locks : left_by t is.found.past ≡ record (left_by t m.run.past) { hold = (left_by t is.found.past).hold } =
-      held_same _ _ _ (is.taken.locks.found ∙ ap (λ (s : State). record s { hold = (left_by t is.found.past).hold }) left) in
+      held_same (left_by t is.found.past) (left_by t m.run.past) (HeldBy (own_past seen.past).number)
+      (is.taken.locks.found ∙ ap (λ (s : State). record s { hold = HeldBy (own_past seen.past).number }) left) in
       let shown : ShowsAll t run first.machine cpus = the_same_is_shown t run m first.machine cpus shows locks in
       let taken : HasTakenLock t cpus k first = record { is_part = is_part ∙ ap Some (sym same); holds = is.taken.holds; shut = is.taken.shut } in
       let frees : left_by t n.run.past ≡ record (left_by t is.left.past) { hold = Unheld } =
@@ -181,7 +183,7 @@ module _ (t : KnownTable) (run : Run) (locked : KnownLocked) (cpus : List KnownC
         may_release = may_unlock t last.machine d (consistent_at t n is.left Unheld ok frees) is.released.holds is.released.shut;
       } in (
         the_same_is_shown t (run ++ under_lock seen.part.number is.steps) last.machine n (slice_set cpus k d)
-            (lines_follow t run cpus k first is.steps last shown serves) (held_same _ _ Unheld frees),
+            (lines_follow t run cpus k first is.steps last shown serves) (held_same (left_by t n.run.past) (left_by t is.left.past) Unheld frees),
         λ told. lines_agree t run cpus k first is.steps last shown serves (subst (AgreesWithRun t run) (sym ledger) told),
       )
 

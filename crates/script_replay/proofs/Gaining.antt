@@ -16,6 +16,7 @@ use Rattle.frame_word.specs.declared.answers.Put.TheVariants as put
 use Rattle.frame_word.specs.Seats.{KnownTable}
 use Rattle.stock_word.specs.declared.view.Stock.{Stock}
 use Rattle.stock_word.specs.Stock.{is_held}
+use Rattle.group_tree.specs.declared.fault.Fault.TheVariants.{PinsFull, NotPinned}
 use Rattle.cpu_part.specs.declared.answers.Fast.{Fast}
 use Rattle.cpu_part.specs.declared.answers.Fast.TheVariants as fast
 use Rattle.cpu_part.specs.Told.{one_step, steps_of_fast, steps_of_put}
@@ -118,9 +119,20 @@ both_saw t l m n c c' d d' is meets later again = saw_both t [] [] l m n (met_sa
 
 alone_anywhere : (command : Command) (c d : CpuInRun) (said : UnlockedAnswer) (p q : KnownPasts) → AnswersAlone command c d said
     → AnswersAlone command (record c { past = p }) (record d { past = q }) said
-alone_anywhere command c d said p q is = is
+alone_anywhere (command.Fast g) c d (unlocked.Fast fast) p q is = is
+alone_anywhere (command.Get f) c d (unlocked.Got got) p q is = is
+alone_anywhere (command.Get f) c d (unlocked.Refused PinsFull) p q is = is
+alone_anywhere (command.Put f) c d (unlocked.Put put) p q is = is
+alone_anywhere (command.Put f) c d (unlocked.Refused NotPinned) p q is = is
+alone_anywhere (command.Release f) c d unlocked.Listed p q is = record { fresh = is.fresh; listed = is.listed }
+alone_anywhere command c d said p q is = absurd is
 
 vain_anywhere : (command : Command) (c d : CpuInRun) (p q : KnownPasts) → NeedsLock command c d → NeedsLock command (record c { past = p }) (record d { past = q })
+vain_anywhere (command.Release f) c d p q (inl is) = inl (record { none_fresh = is.none_fresh; stays = is.stays })
+vain_anywhere (command.Release f) c d p q (inr is) = inr (record { fresh = is.fresh; drained = is.drained })
+vain_anywhere (command.Fast g) c d p q is = absurd is
+vain_anywhere (command.Get f) c d p q is = absurd is
+vain_anywhere (command.Put f) c d p q is = absurd is
 vain_anywhere command c d p q is = is
 
 module _ (command : Command) (c c1 c2 d : CpuInRun) (part : c1.part ≡ c.part) (last : c1.last ≡ c.last) (part' : d.part ≡ c2.part) (last' : d.last ≡ c2.last) where
