@@ -96,17 +96,6 @@ const SERVE_FLAGS: [(&str, &str); 3] = [
     ("steps", STEPS_HELP),
 ];
 
-// The options without a value, and the subcommands that take them.
-const TAKERS: [(&str, &str); 7] = [
-    ("--audit", "replay, run, serve"),
-    ("--numbered", "replay, run"),
-    ("--strict", "replay, run"),
-    ("--explain", "replay, serve"),
-    ("--check", "replay"),
-    ("--steps", "replay, serve"),
-    ("--all", "check"),
-];
-
 // Why the words are refused though clap takes each of them.
 const STEPS_ALONE: &str =
     "the argument '--steps' cannot be used with '--audit', '--numbered', '--strict', '--explain' \
@@ -168,45 +157,83 @@ fn parse<'a, S: AsStr>(
             drop(found);
             asked
         }
-        Err(error) => Err(words_fault(alloc, &error, words)),
+        Err(error) => Err(words_fault(alloc, &error, command, words)),
     }
 }
 
 // The fault for an error of clap at these words. For an option that other subcommands take, clap knows only the options
 // of this one, and would name one that looks alike.
-fn words_fault<S: AsStr>(alloc: Global, error: &Error, words: &[S]) -> WordsFault
+fn words_fault<S: AsStr>(
+    alloc: Global,
+    error: &Error,
+    program: &Command<'_>,
+    words: &[S],
+) -> WordsFault
     ensures { kind_of error.now ≡ ErrorKind.OutOfMemory → IsNoMemory result }
 {
     if error.kind() != ErrorKind::UnknownArgument {
         return fault_of(alloc, error);
     }
     match words {
-        [name, rest @ ..] => match misplaced(name.as_str(), rest) {
-            Some(option) => bad_words(misplaced_text(alloc, name.as_str(), option)),
+        [name, rest @ ..] => match misplaced(program, name.as_str(), rest) {
+            Some(option) => bad_words(misplaced_text(alloc, program, name.as_str(), option)),
             None => fault_of(alloc, error),
         },
         [] => fault_of(alloc, error),
     }
 }
 
-// The first of the words that is an option of other subcommands than this one, and those.
-fn misplaced<S: AsStr>(name: &str, words: &[S]) -> Option<(&'static str, &'static str)> {
+// The first of the words that is an option of other subcommands than this one.
+fn misplaced<'a, S: AsStr>(program: &Command<'_>, name: &str, words: &'a [S]) -> Option<&'a str> {
     for word in words {
-        for (option, takers) in TAKERS {
-            if word.as_str() == option && !takers.split(", ").any(|taker| taker == name) {
-                return Some((option, takers));
-            }
+        let option = word.as_str();
+        let is_own = program
+            .find_subcommand(name)
+            .is_some_and(|own| takes(own, option));
+        if !is_own && program.get_subcommands().iter().any(|other| takes(other, option)) {
+            return Some(option);
         }
     }
     None
 }
 
+// Whether the subcommand takes the option, which begins with `--`.
+fn takes(command: &Command<'_>, option: &str) -> bool {
+    match option.strip_prefix("--") {
+        Some(long) => command
+            .get_arguments()
+            .iter()
+            .any(|arg| arg.get_long() == Some(long)),
+        None => false,
+    }
+}
+
 // What is said of an option that only other subcommands take, laid out as by clap.
-fn misplaced_text(alloc: Global, name: &str, option: (&str, &str)) -> Result<String, AllocError> {
-    let (option, takers) = option;
+fn misplaced_text(
+    alloc: Global,
+    program: &Command<'_>,
+    name: &str,
+    option: &str,
+) -> Result<String, AllocError> {
+    let takers = takers(alloc, program, option)?;
     format!(in alloc;
-        "error: unexpected argument '{option}' found\n\n  tip: only these take it: {takers}\n\nUsage: memcg {name} [OPTIONS]\n\nFor more information, try '--help'.\n"
+        "error: unexpected argument '{option}' found\n\n  tip: only these take it: {takers}\n\n\
+        Usage: memcg {name} [OPTIONS]\n\nFor more information, try '--help'.\n"
     )
+}
+
+// The names of the subcommands that take the option, with commas between.
+fn takers(alloc: Global, program: &Command<'_>, option: &str) -> Result<String, AllocError> {
+    let mut names = String::new(alloc);
+    for command in program.get_subcommands() {
+        if takes(command, option) {
+            if !names.is_empty() {
+                names.push_str(", ")?;
+            }
+            names.push_str(command.get_name())?;
+        }
+    }
+    Ok(names)
 }
 
 // The fault with this text, if memory was there for it.

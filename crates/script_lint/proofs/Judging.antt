@@ -71,6 +71,16 @@ judged_or R S None None result e is is_other = rw e (λ why refuses. elim refuse
   | inr two ↦ is_other why two
 ])
 
+-- what is known of one kind of reasons, and of another kind that counts only if the first gives none
+pub judged_else : (R S : Refusal → Type 0) (one other result : Option Refusal) → result ≡ option_or one other → IsJudged R one → IsJudged S other
+    → IsJudged (λ why. R why ⊎ (S why × ((other : Refusal) → ¬ R other))) result
+judged_else R S (Some why) other result e is is_other = rw e (inl is)
+judged_else R S None (Some why) result e is is_other = rw e (inr (is_other, is))
+judged_else R S None None result e is is_other = rw e (λ why refuses. elim refuses [
+  | inl one ↦ is why one
+  | inr two ↦ is_other why two.0
+])
+
 pub no_line : (sizes : Config) (texts : List (List ℕ)) (text : List ℕ) → ((line : Line) → ¬ IsLineText sizes 1 line text)
     → IsJudgedText sizes texts text None
 no_line sizes texts text none = inl (inr (λ cpu command is. none (At 1 cpu command) (refl, is)))

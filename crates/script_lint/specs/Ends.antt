@@ -1,4 +1,4 @@
--- What may be missing behind the beginning of a good line.
+-- What may be missing after the beginning of a good line.
 use Rattle.std.specs.Prelude.{ℕ, ◌≤◌, List, [], ◌∷◌, ◌++◌, codes, drop, length}
 use Rattle.script_lines.specs.Verb.{form_of_verb, name_of_verb}
 use Rattle.script_lines.specs.declared.verb.Form.{Form}

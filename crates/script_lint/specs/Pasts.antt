@@ -26,7 +26,7 @@ is_made texts path = list_any (makes path) texts
 abbrev pub lacks_group : List (List ℕ) → List ℕ → Bool
 lacks_group texts path = not (has_go texts) && (not (is_root path) && not (is_made texts path))
 
--- why the command is refused behind these texts: it needs a group that no text makes
+-- why the command is refused after these lines: it needs a group that no text makes
 abbrev pub IsMissing : List (List ℕ) → Command → Refusal → Type 0
 IsMissing texts (Rmdir path) NeverMade = lacks_group texts path.now ≡ true
 IsMissing texts (Units path) NeverMade = lacks_group texts path.now ≡ true

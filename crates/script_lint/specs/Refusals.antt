@@ -115,11 +115,16 @@ abbrev pub IsJudged : (Refusal → Type 0) → Option Refusal → Type 0
 IsJudged Refuses (Some why) = Refuses why
 IsJudged Refuses None = (why : Refusal) → ¬ Refuses why
 
--- why the command behind these texts is refused, in every state that they can lead to, or is hardly meant
-abbrev pub IsNamedFor : (texts : List (List ℕ)) → Command → Refusal → Type 0
-IsNamedFor texts command why = (IsRefused command why ⊎ IsMissing texts command why) ⊎ IsDoubtful command why
+-- why the command is refused after these lines, in every state that they can lead to
+abbrev pub IsRefusedAfter : (texts : List (List ℕ)) → Command → Refusal → Type 0
+IsRefusedAfter texts command why = IsRefused command why ⊎ IsMissing texts command why
 
--- the text of a line is `P COMMAND`, and this is known of the command behind these texts
+-- Why the command after these lines is named: it is refused, or nothing refuses it and it is hardly meant.
+abbrev pub IsNamedFor : (texts : List (List ℕ)) → Command → Refusal → Type 0
+IsNamedFor texts command why = IsRefusedAfter texts command why
+    ⊎ (IsDoubtful command why × ((other : Refusal) → ¬ IsRefusedAfter texts command other))
+
+-- the text of a line is `P COMMAND`, and this is known of the command after these lines
 pub record IsJudgedRequest (sizes : Config) (texts : List (List ℕ)) (text : List ℕ) (judged : Option Refusal) : Type 0 where
   pub cpu : ℕ
   pub command : Command
@@ -132,7 +137,7 @@ abbrev pub AsksNothing : Config → List ℕ → Type 0
 AsksNothing sizes text =
     (longest_line < length text) ⊎ ((cpu : ℕ) (command : Command) → ¬ IsRequestText sizes cpu command text)
 
--- the text of a line behind these is a command that is refused or hardly meant for this reason; or it isn't
+-- the text of a line after these is a command that is refused or hardly meant for this reason; or it isn't
 abbrev pub IsJudgedText : Config → (texts : List (List ℕ)) → List ℕ → Option Refusal → Type 0
 IsJudgedText sizes texts text (Some why) = IsJudgedRequest sizes texts text (Some why)
 IsJudgedText sizes texts text None = AsksNothing sizes text ⊎ IsJudgedRequest sizes texts text None

@@ -18,7 +18,7 @@ numbered n [] = []
 numbered n (None ∷ rest) = numbered (n + 1) rest
 numbered n (Some why ∷ rest) = record { line = n; refusal = why } ∷ numbered (n + 1) rest
 
--- each of these is known of the text beside it, behind those before that and these
+-- each of these is known of the text beside it, after those before that and these
 abbrev pub AreJudged : Config → (before texts : List (List ℕ)) → List (Option Refusal) → Type 0
 AreJudged sizes before [] [] = ⊤
 AreJudged sizes before (text ∷ texts) (why ∷ judged) =

@@ -48,7 +48,7 @@ pub(crate) fn is_good(names: &Names, text: &[u8], had_go: bool, sizes: &Config) 
     }
 }
 
-// Whether the text is good with these two pieces behind it. The line is room to write it.
+// Whether the text is good with these two pieces after it. The line is room to write it.
 fn is_good_with(
     names: &Names,
     front: &[u8],

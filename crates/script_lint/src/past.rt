@@ -49,7 +49,7 @@ impl<'a> Past<'a> {
         !self.had_go && !is_root(path) && !self.made.contains(path)
     }
 
-    // Why the command is refused behind these lines, if they don't make the group that it needs.
+    // Why the command is refused after these lines, if they don't make the group that it needs.
     pub(crate) fn missing_group(&self, command: &Command<'_>) -> Option<Refusal>
         ensures { (texts : List (List ℕ)) → KnowsPast self.now texts → IsJudged (IsMissing texts command.now) result }
     {

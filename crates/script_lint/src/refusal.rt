@@ -1,4 +1,4 @@
-//! Why a command is refused, whatever groups there are.
+//! Why a command is refused, whatever groups there are, or is hardly meant.
 
 ghost use Rattle.std.specs.Prelude.{◌≡◌, ◌↔◌, IfErr, IfOk, IsTrue, List, ℕ};
 ghost use Rattle.control_files.specs.declared.file.File.{File};
@@ -14,6 +14,7 @@ ghost use Rattle.script_lint.specs.declared.refusal.Refusal.{Refusal};
 use control_files::file::{File, file_named};
 use control_files::flag::read_flag;
 use control_files::limit::{read_amount, read_limit};
+use control_files::text::PAGE_BYTES;
 use group_tree::fault::Fault;
 use group_tree::tree::Tree;
 use script_lines::line::Command;
@@ -21,9 +22,6 @@ use script_lines::number::number;
 
 // The greatest order of a block.
 const MAX_ORDER: u32 = 10;
-
-// How many bytes a page has.
-const PAGE_BYTES: u64 = 4096;
 
 /// Why a good line is named: its command is refused, whatever groups there are, or is hardly meant.
 #[derive(Clone, Copy, PartialEq, Eq)]

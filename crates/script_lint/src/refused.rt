@@ -1,4 +1,4 @@
-//! The lines of a script that are refused, whatever groups there are.
+//! The good lines of a script that are certainly refused, or hardly meant.
 
 ghost use Rattle.std.specs.Prelude.{◌≡◌, ◌∷◌, ◌++◌, [], IfOk, List, OnOk, ℕ};
 ghost use Rattle.std.specs.List.{flat_map};
@@ -87,7 +87,7 @@ fn add_refusal(
     }
 }
 
-// Why the text is that of a refused command, if it is, behind the lines of this past.
+// Why the text is that of a refused command, if it is, after the lines of this past.
 fn judge_text(
     names: &Names,
     text: &[u8],
@@ -124,7 +124,8 @@ fn why_named(command: &Command<'_>, tree: &Tree, past: &Past<'_>) -> Option<Refu
         .or(doubt_of(command))
 }
 
-/// Adds a line for each such line: `NAME:LINE: refused: WHY`, or `doubtful` if it is hardly meant. It fails only if memory runs out.
+/// Adds a line for each such line: `NAME:LINE: refused: WHY`, or `doubtful` if it is hardly meant. It fails only if memory
+/// runs out.
 pub fn write_refused(
     name: &str,
     refused: &[RefusedLine],
