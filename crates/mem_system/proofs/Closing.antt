@@ -8,7 +8,6 @@ use Rattle.group_tree.specs.Room.{max_count}
 use Rattle.frame_word.specs.Seats.{KnownTable}
 use Rattle.frame_word.specs.Totals.{sum_over}
 use Rattle.stock_word.specs.Stock.{stock_pages_of}
-use Rattle.cpu_part.specs.Cpus.{KnownCpu, IsIdle}
 use Rattle.cpu_part.specs.Known.{HasOwn}
 use Rattle.cpu_part.proofs.Owning.{own_same}
 use Rattle.step_rules.specs.declared.phase.Stage.{Stage}
@@ -62,13 +61,6 @@ pub written_back : (k : ℕ) (new old : List CpuInRun) → length new ≡ length
 written_back k new old long all =
     ap (λ (l : List CpuInRun). take k (new ++ l)) (drop_all (length new) old (omega (arith, long))) ∙ ap (λ (l : List CpuInRun). take k l) (append-nil new)
     ∙ take_all k new (omega (arith, long, all))
-
-pub idle_all : (t : KnownTable) (m : KnownMachine) (cpus : List KnownCpu) → All (λ c. IsEmptied t m c) cpus → All IsIdle cpus
-idle_all t m cpus all = λ k any inside. (all k any inside).idle
-
-pub long_parts : (cpus : List CpuInRun) → length (parts_of cpus) ≡ length cpus
-long_parts [] = refl
-long_parts (c ∷ cpus) = let rest = long_parts cpus in omega (arith, rest)
 
 -- ---- what the state says of one part, and of one frame
 

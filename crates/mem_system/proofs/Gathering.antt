@@ -1,9 +1,8 @@
 -- The seats of the CPUs are gathered, one CPU after the other. Serves the end of a system.
-use Rattle.std.proofs.Common.{◌≡◌, ℕ, suc, ◌<◌, List, [], ◌∷◌, ◌++◌, All, length, map, get_or, refl, sym, ap, subst, arith, append-nil, append_assoc}
+use Rattle.std.proofs.Common.{◌≡◌, ℕ, ◌<◌, List, [], ◌∷◌, ◌++◌, length, map, get_or, refl, sym, ap, subst, arith}
 use Rattle.std.specs.List.{remove}
 use Rattle.frame_word.specs.Seats.{KnownTable}
 use Rattle.boot_words.specs.Closed.{HasCpuPast, IsClosedRun, pasts_of_cpus}
-use Rattle.boot_words.specs.Cpus.{KnownCpuSeat}
 use Rattle.boot_words.specs.Pasts.{own_past}
 use Rattle.boot_words.specs.Rule.{AllOf}
 use Rattle.boot_words.specs.Seats.{zone_of_boot}
@@ -12,34 +11,10 @@ use Rattle.mem_machine.specs.Resting.{Rests}
 use Rattle.mem_system.specs.Cpus.{CpuInRun, KnowsItself, pasts_of, seat_of}
 use Rattle.mem_system.specs.Ends.{IsClosed}
 
-pub none_yet : {A : Type 0} (xs : List A) → length xs ≡ 0 → xs ≡ []
-none_yet [] none = refl
-none_yet (x ∷ xs) none = absurd (omega (arith, none))
-
 -- the front and the rest
 pub front_of : (cpus : List CpuInRun) (c : CpuInRun) → 0 < length cpus → c ≡ get_or cpus 0 c → cpus ≡ c ∷ remove cpus 0
 front_of [] c some is = absurd (omega (arith, some))
 front_of (d ∷ cpus) c some is = ap (λ (x : CpuInRun). x ∷ cpus) (sym is)
-
-pub all_front : (P : CpuInRun → Type 0) (c : CpuInRun) (cpus : List CpuInRun) → All P (c ∷ cpus) → P c
-all_front P c cpus all = all 0 c (omega arith)
-
-pub all_rest : (P : CpuInRun → Type 0) (c : CpuInRun) (cpus : List CpuInRun) → All P (c ∷ cpus) → All P cpus
-all_rest P c cpus all = λ k any inside. all (suc k) any (omega (arith, inside))
-
--- one more
-pub seats_more : (seats : List KnownCpuSeat) (c : CpuInRun) (cpus : List CpuInRun)
-    → (seats ++ seat_of c ∷ []) ++ map seat_of cpus ≡ seats ++ map seat_of (c ∷ cpus)
-seats_more seats c cpus = append_assoc seats (seat_of c ∷ []) (map seat_of cpus)
-
--- no more are left
-pub seats_end : (seats : List KnownCpuSeat) (cpus : List CpuInRun) → length cpus ≡ 0 → seats ++ map seat_of cpus ≡ seats
-seats_end seats [] none = append-nil seats
-seats_end seats (c ∷ cpus) none = absurd (omega (arith, none))
-
-pub long_seats : (cpus : List CpuInRun) → length (map seat_of cpus) ≡ length cpus
-long_seats [] = refl
-long_seats (c ∷ cpus) = let rest = long_seats cpus in omega (arith, rest)
 
 module _ (t : KnownTable) where
   -- each seat has its CPU's past

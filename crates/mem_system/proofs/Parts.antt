@@ -1,4 +1,4 @@
--- Serves `make_cpus` and `take_apart`. The parts of the CPUs at first, made one by one.
+-- Serves `make_cpus`. The parts of the CPUs at first, made one by one.
 use Rattle.std.proofs.Common.{◌≡◌, ℕ, zero, suc, ◌+◌, ◌-◌, ◌<◌, List, [], ◌∷◌, ◌++◌, All, length, get_or, Some, refl, sym, ap, ◌∙◌, subst, arith}
 use Rattle.std.specs.Prelude.{is_some, slice_get}
 use Rattle.std.proofs.lemmas.Option.{get_or_from_slice_get}
@@ -8,12 +8,10 @@ use Rattle.frame_word.specs.Seats.{KnownTable}
 use Rattle.boot_words.specs.declared.past.Past.{Past}
 use Rattle.boot_words.specs.Cpus.{IsAwayCpu, KnownCpuSeat, state_left}
 use Rattle.boot_words.specs.Opening.{cpu_at_first, cpus_at_first}
-use Rattle.boot_words.specs.Pasts.{own_past}
 use Rattle.boot_words.specs.Runs.{no_past}
 use Rattle.cpu_part.specs.Cpus.{KnownCpu, IsIdle, first_cpu}
 use Rattle.cpu_part.specs.Known.{HasOwn, KnowsItsPart}
 use Rattle.mem_system.specs.Boots.{first_cpus, first_pasts}
-use Rattle.mem_system.specs.Cpus.{CpuInRun, parts_of, pasts_of}
 
 -- the seats that are left after i CPUs were dealt
 pub seats_left : (id : TableId) (i n : ℕ) → i < n
@@ -53,15 +51,6 @@ pub cpus_long : (p n : ℕ) → length (first_cpus p n) ≡ n
 cpus_long p zero = refl
 cpus_long p (suc n) = let rest = cpus_long (p + 1) n in omega (arith, rest)
 
--- the parts and the pasts with one CPU more
-pub parts_both : (cpus : List CpuInRun) (c : CpuInRun) → parts_of (cpus ++ c ∷ []) ≡ parts_of cpus ++ c.part ∷ []
-parts_both [] c = refl
-parts_both (d ∷ cpus) c = ap (λ (l : List KnownCpu). d.part ∷ l) (parts_both cpus c)
-
-pub pasts_both : (cpus : List CpuInRun) (c : CpuInRun) → pasts_of (cpus ++ c ∷ []) ≡ pasts_of cpus ++ own_past c.past ∷ []
-pasts_both [] c = refl
-pasts_both (d ∷ cpus) c = ap (λ (l : List Past). own_past d.past ∷ l) (pasts_both cpus c)
-
 first_pasts_more : (p n : ℕ) → first_pasts p (suc n) ≡ first_pasts p n ++ no_past (p + n) ∷ []
 first_pasts_more p zero = ap (λ (m : ℕ). no_past m ∷ []) (let e : p ≡ p + 0 = omega arith in e)
 first_pasts_more p (suc n) = ap (λ (l : List Past). no_past p ∷ l)
@@ -80,18 +69,3 @@ first_past_at p (suc n) zero past at =
 first_past_at p (suc n) (suc k) past at =
     let rest = first_past_at (p + 1) n k past at in
     (rest.0 ∙ (let e : (p + 1) + k ≡ p + suc k = omega arith in e), rest.1)
-
--- what holds of all of a list holds of its front
-pub all_in_front : {A : Type 0} (Is : A → Type 0) (front back all : List A) → all ≡ front ++ back → All Is all → All Is front
-all_in_front {A = A} Is front back all are each = λ k d lt.
-    subst Is (same front k d lt) (subst (All Is) are each k d (long front k lt))
-  where
-    same : (xs : List A) (k : ℕ) (d : A) → k < length xs → get_or (xs ++ back) k d ≡ get_or xs k d
-    same [] k d lt = absurd (omega arith)
-    same (x ∷ xs) zero d lt = refl
-    same (x ∷ xs) (suc k) d lt = same xs k d (omega arith)
-
-    long : (xs : List A) (k : ℕ) → k < length xs → k < length (xs ++ back)
-    long [] k lt = absurd (omega arith)
-    long (x ∷ xs) zero lt = omega arith
-    long (x ∷ xs) (suc k) lt = let rest = long xs k (omega arith) in omega (arith, rest)

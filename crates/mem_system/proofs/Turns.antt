@@ -4,6 +4,7 @@ use Rattle.std.proofs.Common.{append-nil}
 use Rattle.std.specs.Prelude.{slice_set}
 use Rattle.std.specs.List.{flat_map}
 use Rattle.std.proofs.lemmas.Bool.{cases_lt, false≢true}
+use Rattle.std.proofs.lemmas.List.{nil_from_length}
 use Rattle.frame_word.specs.Seats.{KnownTable}
 use Rattle.cpu_part.specs.Cpus.{KnownCpu}
 use Rattle.mem_machine.specs.declared.frame_state.FrameState.{FrameState}
@@ -61,16 +62,12 @@ pub record WholeList (k : ℕ) (list left : List ℕ) : Type 0 where
   pub none_left : left ≡ []
   pub all_taken : take k list ≡ list
 
-nothing_left : (l : List ℕ) → length l ≡ 0 → l ≡ []
-nothing_left [] h = refl
-nothing_left (x ∷ xs) h = absurd (omega (arith, h))
-
 pub whole_list : (k count : ℕ) (list left : List ℕ) → k ≤ length list → count ≡ length list → (k < count → left ≡ []) → list ≡ take k list ++ left
     → WholeList k list left
 whole_list k count list left listed all fewer split =
     let none : left ≡ [] = elim (cases_lt k count) [
       | inl less ↦ fewer less
-      | inr enough ↦ let more = left_over k list left listed split in nothing_left left (omega (arith, enough, all, more))
+      | inr enough ↦ let more = left_over k list left listed split in nil_from_length left (omega (arith, enough, all, more))
     ] in
     record { none_left = none; all_taken = sym (split ∙ ap (λ (l : List ℕ). take k list ++ l) none ∙ append-nil (take k list)) }
 

@@ -1,5 +1,6 @@
 use Rattle.std.proofs.Common.{◌≡◌, ◌+◌, ◌-◌, ◌<◌, ◌++◌, ◌∷◌, [], All, length, sym, ap, ◌∙◌, subst, arith, rules}
 use Rattle.std.specs.List.{remove}
+use Rattle.std.proofs.lemmas.List.{map-append}
 use Rattle.boot_words.specs.Cpus.{IsAwayCpu, KnownCpuSeat}
 use Rattle.boot_words.specs.Opening.{cpu_at_first, cpus_at_first}
 use Rattle.boot_words.specs.Pasts.{own_past}
@@ -7,7 +8,7 @@ use Rattle.boot_words.specs.Rule.{AllOf}
 use Rattle.cpu_part.specs.Cpus.{IsIdle, first_cpu}
 use Rattle.mem_system.specs.Boots.{first_cpus, first_pasts}
 use Rattle.mem_system.specs.Cpus.{CpuInRun, parts_of, pasts_of}
-use Rattle.mem_system.proofs.Parts.{seats_left, front_is, cpus_next, cpus_idle, parts_both, pasts_both, pasts_next}
+use Rattle.mem_system.proofs.Parts.{seats_left, front_is, cpus_next, cpus_idle, pasts_next}
 use Rattle.mem_system.proofs.boots.make_cpus.Goals as goal
 
 pub loop-dealt-init : goal.loop-dealt-init
@@ -53,10 +54,10 @@ loop-dealt-preserved g c =
       size = omega (arith, c.push_reserved.ensures.len, c.loop-dealt.invariant.size);
       seats = rest;
       away = subst (AllOf (IsAwayCpu t)) (sym rest) (subst (AllOf (IsAwayCpu t)) left c.loop-dealt.invariant.away).1;
-      parts = ap parts_of c.push_reserved.ensures.items ∙ parts_both c.loop-dealt.made.items c.in-Ok.cpu
+      parts = ap parts_of c.push_reserved.ensures.items ∙ map-append (λ (x : CpuInRun). x.part) c.loop-dealt.made.items (c.in-Ok.cpu ∷ [])
           ∙ (λ j. c.loop-dealt.invariant.parts j ++ (ap (λ (x : CpuInRun). x.part) c.in-Ok.ensures ∙ ap (λ (s : KnownCpuSeat). first_cpu s.number) front) j ∷ [])
           ∙ sym (cpus_next i);
-      pasts = ap pasts_of c.push_reserved.ensures.items ∙ pasts_both c.loop-dealt.made.items c.in-Ok.cpu
+      pasts = ap pasts_of c.push_reserved.ensures.items ∙ map-append (λ (x : CpuInRun). own_past x.past) c.loop-dealt.made.items (c.in-Ok.cpu ∷ [])
           ∙ (λ j. c.loop-dealt.invariant.pasts j ++ (ap (λ (x : CpuInRun). own_past x.past) c.in-Ok.ensures ∙ ap (λ (s : KnownCpuSeat). own_past s.seat) front) j ∷ [])
           ∙ sym (pasts_next i);
     }

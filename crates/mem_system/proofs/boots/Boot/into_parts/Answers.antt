@@ -1,5 +1,6 @@
 use Rattle.std.proofs.Common.{◌≡◌, ◌+◌, suc, Some, List, All, arith, length, sym, ap, ◌∙◌, subst}
 use Rattle.std.specs.Prelude.{slice_get}
+use Rattle.std.proofs.lemmas.List.{length-map}
 use Rattle.frame_word.specs.Seats.{KnownTable}
 use Rattle.boot_words.specs.declared.past.Past.{Past}
 use Rattle.boot_words.specs.Cpus.{IsAwayCpu}
@@ -9,8 +10,7 @@ use Rattle.boot_words.specs.Rule.{AllOf}
 use Rattle.boot_words.proofs.Gaining.{a_boot_has_no_steps}
 use Rattle.cpu_part.specs.Cpus.{IsIdle}
 use Rattle.mem_system.specs.Boots.{KnownBoot}
-use Rattle.mem_system.specs.Cpus.{pasts_of}
-use Rattle.mem_system.proofs.Closing.{long_parts}
+use Rattle.mem_system.specs.Cpus.{CpuInRun, pasts_of}
 use Rattle.mem_system.proofs.Parts.{cpus_idle, cpus_long, first_past_at}
 use Rattle.mem_system.proofs.boots.Boot.into_parts.Goals as goal
 
@@ -29,7 +29,7 @@ take_apart-requires g c = subst (All IsIdle) (sym c.in_ok-cpus.ensures.parts) (c
 
 pub returns-in-Ok-clause-count : goal.returns-in-Ok-clause-count
 returns-in-Ok-clause-count g c =
-    sym (long_parts _) ∙ ap length c.in_ok-cpus.ensures.parts ∙ cpus_long 1 c.self.inside.sizes.cpus
+    sym (length-map c.in_ok-cpus.cpus.items (λ (cpu : CpuInRun). cpu.part)) ∙ ap length c.in_ok-cpus.ensures.parts ∙ cpus_long 1 c.self.inside.sizes.cpus
     ∙ sym c.self.invariant.sized.cpus ∙ ap (λ (t : KnownTable). t.cpus) (ap (λ (b : KnownBoot). b.frames) c.self.view_is ∙ c.requires.frames)
 
 pub returns-in-Ok-clause-so_far : goal.returns-in-Ok-clause-so_far

@@ -1,16 +1,19 @@
 use Rattle.std.proofs.Common.{◌∙◌, List, length, sym, ap, subst}
+use Rattle.std.proofs.lemmas.List.{length-map}
+use Rattle.std.proofs.lemmas.List.Elements.{All-weaker}
 use Rattle.boot_words.specs.Closed.{HasCpuPast}
 use Rattle.boot_words.specs.Cpus.{KnownCpuSeat}
 use Rattle.boot_words.specs.Rule.{AllOf}
-use Rattle.mem_system.specs.Cpus.{parts_of}
-use Rattle.mem_system.specs.Ends.{Closes, IsClosed, KnownEmptiedBoot}
-use Rattle.mem_system.proofs.Closing.{all_closes, idle_all}
-use Rattle.mem_system.proofs.Gathering.{closed_run, have_pasts, long_seats}
+use Rattle.cpu_part.specs.Cpus.{IsIdle}
+use Rattle.mem_system.specs.Cpus.{parts_of, seat_of}
+use Rattle.mem_system.specs.Ends.{Closes, IsClosed, IsEmptied, KnownEmptiedBoot}
+use Rattle.mem_system.proofs.Closing.{all_closes}
+use Rattle.mem_system.proofs.Gathering.{closed_run, have_pasts}
 use Rattle.mem_system.proofs.emptied_boot.EmptiedBoot.close.Goals as goal
 
 pub gather_seats-seats-requires-clause-idle : goal.gather_seats-seats-requires-clause-idle
 gather_seats-seats-requires-clause-idle g c =
-    idle_all g.N.BootName.frames c.self.inside.machine (parts_of c.self.inside.cpus.items) c.self.invariant.0.all_emptied
+    All-weaker (IsEmptied g.N.BootName.frames c.self.inside.machine) IsIdle (λ cpu emptied. emptied.idle) (parts_of c.self.inside.cpus.items) c.self.invariant.0.all_emptied
 
 pub close_table-requires-clause-seats : goal.close_table-requires-clause-seats
 close_table-requires-clause-seats g c =
@@ -19,7 +22,7 @@ close_table-requires-clause-seats g c =
 
 pub close_table-requires-clause-count : goal.close_table-requires-clause-count
 close_table-requires-clause-count g c =
-    ap length c.gather_seats-seats.ensures.seats ∙ long_seats c.self.inside.cpus.items ∙ c.self.invariant.0.count
+    ap length c.gather_seats-seats.ensures.seats ∙ length-map c.self.inside.cpus.items seat_of ∙ c.self.invariant.0.count
 
 pub returns : goal.returns
 returns g c =
