@@ -10,6 +10,6 @@ pub returns : goal.returns
 returns g c =
     let groups = c.tree.ensures.tree ∙ ap (λ (l : Ledger). l.groups) c.charges.ensures in
     let part = ap (λ (x : CpuInRun). x.part) c.cpu.view_is in
-    let stock = c.last_stock.ensures.last ∙ c.requires in
+    let stock = c.last_stock.ensures.last ∙ c.requires.last in
     subst (λ (line : List ℕ). IfOk c.write_stock.result (λ _. string_bytes c.write_stock.new.text ≡ string_bytes c.args.text.now ++ line))
     (λ i. cpu_text (groups i) (part i) (stock i)) c.write_stock.ensures

@@ -67,10 +67,10 @@ pub lock-requires-clause-knows : goal.lock-requires-clause-knows
 lock-requires-clause-knows g c = c.cpu.invariant
 
 pub open-requires-clause-holds : goal.open-requires-clause-holds
-open-requires-clause-holds g c = forgotten_holds g.N.BootName.frames _ _ _ c.forget_notes.ensures c.lock.ensures.holds
+open-requires-clause-holds g c = forgotten_holds g.N.BootName.frames c.lock.new.self c.forget_notes.new.self c.cpu.inside.part c.forget_notes.ensures c.lock.ensures.holds
 
 pub open-requires-clause-shut : goal.open-requires-clause-shut
-open-requires-clause-shut g c = forgotten_shut g.N.BootName.frames _ _ _ c.forget_notes.ensures c.lock.ensures.shut
+open-requires-clause-shut g c = forgotten_shut g.N.BootName.frames c.lock.new.self c.forget_notes.new.self c.cpu.inside.part.number c.forget_notes.ensures c.lock.ensures.shut
 
 pub unlock-requires-clause-number : goal.unlock-requires-clause-number
 unlock-requires-clause-number g c =
@@ -123,6 +123,7 @@ pub returns-clause-back : goal.returns-clause-back
 returns-clause-back g c = c.alloc_frame-answer.ensures.stays.back ∙ c.settle.ensures.none_back
 
 pub returns-clause-served : goal.returns-clause-served
+unfolding visit
 returns-clause-served g c path at =
     let t = g.N.BootName.frames in
     let x = c.alloc_frame-answer.new.machine in
@@ -135,15 +136,14 @@ returns-clause-served g c path at =
     ap (λ (y : KnownMachine). y.ledger) c.unlock.ensures.machine ∙ ap (λ (y : KnownMachine). y.ledger) c.shut.ensures.machine in
     let told : reply_of k.machine.ledger c.outcome_of.result ≡ reply =
     ap (λ (z : Ledger × Outcome). reply_of z.0 z.1) (λ i. (kept i, c.outcome_of.ensures i)) in
-    let here = (goal.at.returns-clause-served g c).After-unlock in
     let found : number_at c.settle.new.self.ledger.groups path.now ≡ Some c.args.group =
-    ap (λ (gs : List Group). number_at gs path.now) (groups_found g here.After-settle) ∙ at in
+    ap (λ (gs : List Group). number_at gs path.now) (groups_found g (goal.at.returns-clause-served g c).After-settle) ∙ at in
     let executed = frame_allocated t c.locked.inside.sizes path.now c.args.group c.settle.new.self x c.settle.new.cpu d answer found
     c.alloc_frame-answer.ensures.allocates in
     subst (λ (z : Reply × KnownLocked × CpuInRun). IsServed t (Alloc path 0) z.0 (locked_state z.1 z.2) (locked_state k (cpu_in_run d c.unlock.new.past)))
     (λ i. (sym told i, c.locked.view_is i, c.cpu.view_is i))
-    (served t (Alloc path 0) reply l k c.cpu.inside.part c.cpu.inside.past c.alloc_frame-answer.ensures.allocates.steps d c.unlock.new.past (visit g here) refl
-    executed.does)
+    (served t (Alloc path 0) reply l k c.cpu.inside.part c.cpu.inside.past c.alloc_frame-answer.ensures.allocates.steps d c.unlock.new.past
+    (visit g (goal.at.returns-clause-served g c).After-unlock) refl executed.does)
 
 pub returns-clause-groups : goal.returns-clause-groups
 returns-clause-groups g c =

@@ -45,10 +45,10 @@ visit g c = record {
 }
 
 pub open-requires-clause-holds : goal.open-requires-clause-holds
-open-requires-clause-holds g c = forgotten_holds g.N.BootName.frames _ _ _ c.forget_notes.ensures c.lock.ensures.holds
+open-requires-clause-holds g c = forgotten_holds g.N.BootName.frames c.lock.new.self c.forget_notes.new.self c.cpu.inside.part c.forget_notes.ensures c.lock.ensures.holds
 
 pub open-requires-clause-shut : goal.open-requires-clause-shut
-open-requires-clause-shut g c = forgotten_shut g.N.BootName.frames _ _ _ c.forget_notes.ensures c.lock.ensures.shut
+open-requires-clause-shut g c = forgotten_shut g.N.BootName.frames c.lock.new.self c.forget_notes.new.self c.cpu.inside.part.number c.forget_notes.ensures c.lock.ensures.shut
 
 pub unlock-requires-clause-number : goal.unlock-requires-clause-number
 unlock-requires-clause-number g c =
@@ -73,6 +73,7 @@ invariant_of-locked g c =
     }
 
 pub returns : goal.returns
+unfolding visit
 returns g c =
     let t = g.N.BootName.frames in
     let d = c.execute-outcome.new.cpu in
