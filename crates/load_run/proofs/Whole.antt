@@ -43,7 +43,7 @@ whole_run t run end ended has ends =
     let last : Run = closes.end.run in
     let words = last_words closes in
     let both = the_run_so_far_is_legal (zone_of t) last whole (own_past ends.emptied.machine.run.past) (pasts_of cpus) closes.end.is.legal closes.zone
-    (length-map cpus (λ (x : CpuInRun). own_past x.past) ∙ closes.count) (all_begin (zone_of t) last _ closes.end.begin) (ends.leaves.so_far run has) in
+    (length-map cpus (λ (x : CpuInRun). own_past x.past) ∙ closes.count) (all_begin (zone_of t) last (own_past ends.emptied.machine.run.past ∷ pasts_of cpus) closes.end.begin) (ends.leaves.so_far run has) in
     record {
       leads = record {
         legal = both.0;
