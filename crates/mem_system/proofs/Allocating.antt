@@ -64,11 +64,8 @@ over_is_there t sizes group m n c d answer told g is = frame_over_there t sizes 
     (subst (λ (r : Result ℕ AllocFault). AllocatesFrame sizes group r (transition t (visit_state m c) told.steps (visit_state n d))) is told.does)
 
 pub frame_allocated : (t : KnownTable) (sizes : Config) (path : List ℕ) (group : ℕ) (m n : KnownMachine) (c d : KnownCpu) (answer : Result ℕ AllocFault)
-    → number_at m.ledger.groups path ≡ Some group → BySteps VisitMakes t (AllocatesFrame sizes group answer) (visit_state m c) (visit_state n d)
-    → BySteps VisitMakes t (Allocates sizes path 0 (reply_of n.ledger (outcome_of answer))) (visit_state m c) (visit_state n d)
-frame_allocated t sizes path group m n c d answer found told = record {
-  steps = told.steps;
-  does = allocated sizes path 0 group (transition t (visit_state m c) told.steps (visit_state n d)) found (omega arith) answer
-      (record { frame = λ same. told.does; block = λ more. absurd (more refl) }) (over_is_there t sizes group m n c d answer told);
-  makes = told.makes;
-}
+    (told : BySteps VisitMakes t (AllocatesFrame sizes group answer) (visit_state m c) (visit_state n d)) → number_at m.ledger.groups path ≡ Some group
+    → Allocates sizes path 0 (reply_of n.ledger (outcome_of answer)) (transition t (visit_state m c) told.steps (visit_state n d))
+frame_allocated t sizes path group m n c d answer told found =
+    allocated sizes path 0 group (transition t (visit_state m c) told.steps (visit_state n d)) found (omega arith) answer
+    (record { frame = λ same. told.does; block = λ more. absurd (more refl) }) (over_is_there t sizes group m n c d answer told)

@@ -4,7 +4,7 @@ use Rattle.mem_system.specs.Locked.{IsQuiet}
 use Rattle.mem_system.proofs.shown.write_units_at.Goals as goal
 
 pub write_units-requires : goal.write_units-requires
-write_units-requires g c = c.locked.invariant.quiet.rests
+write_units-requires g c = record { rests = c.locked.invariant.quiet.rests }
 
 pub invariant_of-locked : goal.invariant_of-locked
 invariant_of-locked g c = record {

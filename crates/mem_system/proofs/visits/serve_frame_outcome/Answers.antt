@@ -138,12 +138,12 @@ returns-clause-served g c path at =
     ap (λ (z : Ledger × Outcome). reply_of z.0 z.1) (λ i. (kept i, c.outcome_of.ensures i)) in
     let found : number_at c.settle.new.self.ledger.groups path.now ≡ Some c.args.group =
     ap (λ (gs : List Group). number_at gs path.now) (groups_found g (goal.at.returns-clause-served g c).After-settle) ∙ at in
-    let executed = frame_allocated t c.locked.inside.sizes path.now c.args.group c.settle.new.self x c.settle.new.cpu d answer found
-    c.alloc_frame-answer.ensures.allocates in
+    let executed = frame_allocated t c.locked.inside.sizes path.now c.args.group c.settle.new.self x c.settle.new.cpu d answer
+    c.alloc_frame-answer.ensures.allocates found in
     subst (λ (z : Reply × KnownLocked × CpuInRun). IsServed t (Alloc path 0) z.0 (locked_state z.1 z.2) (locked_state k (cpu_in_run d c.unlock.new.past)))
     (λ i. (sym told i, c.locked.view_is i, c.cpu.view_is i))
     (served t (Alloc path 0) reply l k c.cpu.inside.part c.cpu.inside.past c.alloc_frame-answer.ensures.allocates.steps d c.unlock.new.past
-    (visit g (goal.at.returns-clause-served g c).After-unlock) refl executed.does)
+    (visit g (goal.at.returns-clause-served g c).After-unlock) refl executed)
 
 pub returns-clause-groups : goal.returns-clause-groups
 returns-clause-groups g c =

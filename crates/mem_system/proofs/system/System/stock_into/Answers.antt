@@ -2,7 +2,7 @@ use Rattle.std.proofs.Common.{refl, rules}
 use Rattle.mem_system.proofs.system.System.stock_into.Goals as goal
 
 pub write_own_stock-told-requires : goal.write_own_stock-told-requires
-write_own_stock-told-requires g c = c.settle.ensures.ends.last
+write_own_stock-told-requires g c = record { last = c.settle.ensures.ends.last }
 
 pub returns-clause-text : goal.returns-clause-text
 returns-clause-text g c = record {
