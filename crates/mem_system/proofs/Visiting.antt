@@ -13,7 +13,7 @@ use Rattle.boot_words.specs.Seats.{zone_of_boot}
 use Rattle.cpu_part.specs.Cpus.{KnownCpu}
 use Rattle.cpu_part.specs.Known.{KnowsItsPart}
 use Rattle.mem_machine.specs.Machines.{KnownMachine, is_killed, with_past, with_run, without_notes}
-use Rattle.mem_machine.specs.Local.{Holds, IsShut, Makes, local_of, number_or_0, visit_state}
+use Rattle.mem_machine.specs.Local.{Holds, IsShut, Makes, number_or_0, visit_state}
 use Rattle.mem_machine.specs.Resting.{Rests}
 use Rattle.mem_machine.specs.Settling.{Settles, fresh_steps, return_all_steps, settle_steps}
 use Rattle.mem_machine.specs.Steps.{open_steps, shut_steps}
@@ -83,7 +83,7 @@ module _ (t : KnownTable) (m : KnownMachine) (c : KnownCpu) (seat : KnownCpuSeat
   begun_is : v.begun ≡ with_run (without_notes m) v.begun.run
   begun_is = run_twice (without_notes m) (without_notes v.found) v.begun (record (m.run) { past = v.found.run.past }) v.found.run (ap without_notes v.locks) v.forgets
 
-  pub entered_is : v.entered ≡ with_run (without_notes m) v.entered.run
+  entered_is : v.entered ≡ with_run (without_notes m) v.entered.run
   entered_is = run_twice (without_notes m) v.begun v.entered v.begun.run v.entered.run begun_is v.opens
 
   begun_held : IsHeld t v.begun.run.past
@@ -98,21 +98,21 @@ module _ (t : KnownTable) (m : KnownMachine) (c : KnownCpu) (seat : KnownCpuSeat
       (part_locked t m.run.past seat.seat v.found.run.past v.takes c.number)
 
   -- the machine found, and what it is when the visit is opened and when it is shut
-  pub found_is : v.found ≡ with_run m v.found.run
+  found_is : v.found ≡ with_run m v.found.run
   found_is = run_twice m m v.found m.run _ refl v.locks
 
-  pub left_is : v.left ≡ with_run k v.left.run
+  left_is : v.left ≡ with_run k v.left.run
   left_is = sym (ap (λ (x : KnownMachine). with_run x v.left.run) v.unlocks)
 
   -- the visit is opened, whether or not the notes are forgotten
-  pub opened : Makes t (with_run m v.found.run) (open_steps c.number) (with_run m v.entered.run)
+  opened : Makes t (with_run m v.found.run) (open_steps c.number) (with_run m v.entered.run)
   opened =
       let all : Makes t (without_notes (with_run m v.found.run)) (open_steps c.number) (with_run (without_notes m) v.entered.run) =
       subst (λ (x : KnownMachine × KnownMachine). Makes t x.0 (open_steps c.number) x.1) (λ i. ((v.forgets ∙ ap without_notes found_is) i, entered_is i)) v.opening in
       record { holder = all.holder; leads = all.leads; follows = all.follows; counts = all.counts; noted = all.noted }
 
   -- all steps of the visit
-  pub all_made : Makes t v.found (visit_steps t (visit_state m c) inner) v.left
+  all_made : Makes t v.found (visit_steps t (visit_state m c) inner) v.left
   all_made =
       let p = c.number in
       let middle = settle_steps t (visit_state m c) in

@@ -1,5 +1,5 @@
 -- Serves the contract of `serve_frame_outcome`: the visit is that of an Alloc of order 0.
-use Rattle.std.proofs.Common.{◌≡◌, ◌+◌, ◌≤◌, List, length, IsTrue, Some, ap, sym, ◌∙◌, refl, subst, arith}
+use Rattle.std.proofs.Common.{◌≡◌, ◌+◌, ◌≤◌, List, length, Some, ap, sym, ◌∙◌, refl, subst, arith}
 use Rattle.group_tree.specs.declared.group.Group.{Group}
 use Rattle.group_tree.specs.Groups.{has_group, number_at}
 use Rattle.group_charge.specs.Charges.{Ledger}
@@ -14,7 +14,7 @@ use Rattle.mem_system.specs.Allocations.{outcome_of}
 use Rattle.mem_system.specs.Outcomes.{HasItsGroups, reply_of}
 use Rattle.mem_system.specs.Visits.{locked_state, IsServed}
 use Rattle.mem_system.proofs.Lost.{no_unit_is_lost}
-use Rattle.mem_system.proofs.Visiting.{GoesThrough, counted, entered_is, forgotten_holds, forgotten_shut, resting_shut, served}
+use Rattle.mem_system.proofs.Visiting.{GoesThrough, counted, forgotten_holds, forgotten_shut, resting_shut, served}
 use Rattle.mem_system.proofs.Staying.{settled_groups}
 use Rattle.mem_system.proofs.Allocating.{frame_allocated, has_groups, over_is_there}
 use Rattle.mem_system.proofs.visits.serve_frame_outcome.Given as given
