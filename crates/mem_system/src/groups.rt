@@ -1,6 +1,6 @@
 //! Making and removing groups.
 
-ghost use Rattle.std.specs.Prelude.{◌≡◌, ◌<◌, [], MatchResult};
+ghost use Rattle.std.specs.Prelude.{MatchResult};
 ghost use Rattle.boot_words.specs.Pasts.{IsHeld};
 ghost use Rattle.mem_machine.specs.Local.{StaysVisited};
 ghost use Rattle.mem_system.specs.Leaves.{IsLeafAt, HasNoLeaf};
