@@ -7,6 +7,7 @@ use Rattle.step_rules.specs.After.{Run}
 use Rattle.boot_words.specs.declared.past.Past.{Past}
 use Rattle.boot_words.specs.Composed.{AreLegal, GrewInTurn, GrewUnderLock}
 use Rattle.boot_words.specs.Held.{HoldsLock, local_seen}
+
 pub set_over : {A : Type 0} (xs : List A) (i : ℕ) (x y : A) → set (set xs i x) i y ≡ set xs i y
 set_over [] i x y = refl
 set_over (z ∷ xs) zero x y = refl

@@ -7,6 +7,7 @@ use Rattle.step_rules.specs.After.{Run, IsLegalRun}
 use Rattle.boot_words.specs.Runs.{OthersFollow}
 use Rattle.boot_words.specs.declared.past.Past.{Past}
 use Rattle.boot_words.specs.Growth.{GrewByAll}
+
 -- the past that has noted the step
 abbrev pub grown : Past → Run → Step × Answer → Past
 grown p between e = record { number = p.number; seen = (p.seen ++ between) ++ e ∷ [] }

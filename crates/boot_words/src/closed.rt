@@ -10,7 +10,7 @@ ghost use Rattle.boot_words.specs.Rule.{AllOf};
 ghost use Rattle.boot_words.specs.Seats.{zone_of_boot};
 
 use crate::cpu::CpuSeat;
-use crate::raw::{PastSeat, BootWords};
+use crate::raw::{BootWords, PastSeat};
 use atomic_table::Closed;
 use frame_word::Frame;
 use std::alloc::Global;

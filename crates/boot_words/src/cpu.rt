@@ -9,7 +9,7 @@ ghost use Rattle.boot_words.specs.Seats.{zone_of_boot, MayChange};
 ghost use Rattle.boot_words.specs.declared.word.Word.TheVariants.{StockOf};
 ghost use Rattle.boot_words.specs.Cpus.{ConsumesPage, CreditsPage, IsAwayCpu};
 
-use crate::raw::{PastSeat, BootWords, Telling};
+use crate::raw::{BootWords, PastSeat, Telling};
 use crate::word::Word;
 use frame_word::Frame;
 use std::marker::{Brand, Model};

@@ -8,7 +8,7 @@ ghost use Rattle.boot_words.specs.Words.{stock_in};
 ghost use Rattle.boot_words.specs.Cpus.{IsAwayCpu, SawLast, state_left};
 
 use crate::cpu::CpuSeat;
-use crate::raw::{PastSeat, BootWords};
+use crate::raw::{BootWords, PastSeat};
 use crate::word::Word;
 use std::marker::Brand;
 use stock_word::Stock;

@@ -9,7 +9,7 @@ ghost use Rattle.boot_words.specs.Seats.{zone_of_boot};
 ghost use Rattle.boot_words.specs.Words.{stock_in};
 ghost use Rattle.boot_words.specs.Looking.{LoadsReferences};
 
-use crate::raw::{PastSeat, BootWords};
+use crate::raw::{BootWords, PastSeat};
 use crate::word::Word;
 use frame_word::Frame;
 use std::marker::Brand;

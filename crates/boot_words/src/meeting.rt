@@ -6,7 +6,7 @@ ghost use Rattle.boot_words.specs.Seats.{zone_of_boot};
 ghost use Rattle.boot_words.specs.Cpus.{IsAwayCpu};
 
 use crate::cpu::CpuSeat;
-use crate::raw::{PastSeat, BootWords};
+use crate::raw::{BootWords, PastSeat};
 use crate::word::Word;
 use std::marker::Brand;
 

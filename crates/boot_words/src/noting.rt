@@ -6,7 +6,7 @@ ghost use Rattle.boot_words.specs.Seats.{zone_of_boot, MayChange};
 ghost use Rattle.boot_words.specs.Steps.{IsPlain};
 ghost use Rattle.boot_words.specs.declared.word.Word.TheVariants.{Quiet};
 
-use crate::raw::{PastSeat, BootWords, Telling};
+use crate::raw::{BootWords, PastSeat, Telling};
 use crate::word::Word;
 use std::marker::Brand;
 use step_rules::step::{Action, Answer};

@@ -7,7 +7,7 @@ ghost use Rattle.boot_words.specs.Opening.{cpus_at_first, seat_at_first};
 ghost use Rattle.boot_words.specs.Seats.{cpus_pasts, first_alone, rest_of};
 
 use crate::cpu::CpuSeat;
-use crate::raw::{PastSeat, BootWords};
+use crate::raw::{BootWords, PastSeat};
 use std::alloc::{AllocError, Global};
 use std::mem;
 use stock_word::Stock;

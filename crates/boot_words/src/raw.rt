@@ -8,9 +8,9 @@ ghost use Rattle.boot_words.specs.Seats.{zone_of_boot};
 ghost use Rattle.boot_words.specs.Closed.{IsEndOfRun};
 ghost use Rattle.boot_words.specs.Seats.{all_pasts, first_alone, word_place, rest_of, IsInTable, MayChange};
 
+use crate::past::Past;
 use crate::word::Word;
 use atomic_table::{Closed, Join, Play, Seat, Split, Table, TableRule};
-use crate::past::Past;
 use frame_word::Frame;
 use std::alloc::{AllocError, Global};
 use std::collections::LinkedList;

@@ -10,7 +10,7 @@ ghost use Rattle.boot_words.specs.Calls.{CpuMakes, GetsReference};
 ghost use Rattle.boot_words.specs.Cpus.{IsAwayCpu};
 
 use crate::cpu::CpuSeat;
-use crate::raw::{PastSeat, BootWords};
+use crate::raw::{BootWords, PastSeat};
 use crate::word::Word;
 use frame_word::{Frame, Get, MAX_REFERENCES, Put};
 use std::marker::Brand;

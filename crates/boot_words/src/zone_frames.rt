@@ -7,7 +7,7 @@ ghost use Rattle.boot_words.specs.Pasts.{freeze_said, put_said, IsHeld, IsHolder
 ghost use Rattle.boot_words.specs.Seats.{zone_of_boot, MayChange};
 ghost use Rattle.boot_words.specs.declared.word.Word.TheVariants.{OfFrame};
 
-use crate::raw::{PastSeat, BootWords, Telling};
+use crate::raw::{BootWords, PastSeat, Telling};
 use crate::word::Word;
 use frame_word::{Frame, MARK_BASE, Put};
 use std::marker::Brand;

@@ -9,7 +9,7 @@ ghost use Rattle.boot_words.specs.Pasts.{local_by_pasts, IsHeld, IsHolder, Makes
 ghost use Rattle.boot_words.specs.Seats.{zone_of_boot, MayChange};
 ghost use Rattle.boot_words.specs.declared.word.Word.TheVariants.{StockOf};
 
-use crate::raw::{PastSeat, BootWords, Telling};
+use crate::raw::{BootWords, PastSeat, Telling};
 use crate::word::Word;
 use std::marker::Brand;
 use stock_word::Stock;

@@ -11,8 +11,8 @@ use crate::answers::{Dropped, Fast};
 use crate::boot_name::{BootName, Tables};
 use crate::cpu::{Cpu, MAX_FRESH};
 use crate::moves::{freshen, relist};
-use frame_word::Frame;
 use boot_words::CpuSeat;
+use frame_word::Frame;
 use stock_word::{Consume, Credit};
 
 impl<N: BootName> Cpu<N> {

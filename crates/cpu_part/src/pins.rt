@@ -15,9 +15,9 @@ ghost use Rattle.cpu_part.specs.Told.{steps_of_get, steps_of_put};
 use crate::boot_name::{BootName, Tables};
 use crate::cpu::{Cpu, MAX_PINS};
 use crate::moves::unpin;
+use boot_words::CpuSeat;
 use frame_word::{Frame, Get, Put};
 use group_tree::fault::Fault;
-use boot_words::CpuSeat;
 
 impl<N: BootName> Cpu<N> {
     /// Pins the frame if some seat has a reference on it. If pins and back frames are 256 together, that is refused

@@ -12,8 +12,8 @@ ghost use Rattle.cpu_part.specs.Known.{HasOwn};
 use crate::boot_name::{BootName, Tables};
 use crate::cpu::Cpu;
 use crate::moves::freshen;
-use frame_word::Frame;
 use boot_words::PastSeat;
+use frame_word::Frame;
 
 impl<N: BootName> Cpu<N> {
     /// Borrows a free frame of the zone, at the end of the list. The zone passes it out and the CPU takes it in: two steps

@@ -190,7 +190,12 @@ fn misplaced<'a, S: AsStr>(program: &Command<'_>, name: &str, words: &'a [S]) ->
         let is_own = program
             .find_subcommand(name)
             .is_some_and(|own| takes(own, option));
-        if !is_own && program.get_subcommands().iter().any(|other| takes(other, option)) {
+        if !is_own
+            && program
+                .get_subcommands()
+                .iter()
+                .any(|other| takes(other, option))
+        {
             return Some(option);
         }
     }

@@ -9,8 +9,8 @@ ghost use Rattle.mem_machine.specs.Resting.{Rests};
 ghost use Rattle.mem_machine.specs.Showing.{stock_left};
 
 use crate::machine::Machine;
-use cpu_part::{BootName, Cpu, Tables};
 use boot_words::CpuSeat;
+use cpu_part::{BootName, Cpu, Tables};
 
 impl<N: BootName> Machine<N> {
     /// The CPU takes the lock, which is free. Its past, which it gives away, is the machine's until `unlock`. The caller

@@ -18,10 +18,10 @@ use crate::freed::free_unit;
 use crate::lists::join_list;
 use crate::machine::Machine;
 use crate::stepping;
+use boot_words::PastSeat;
 use cpu_part::{BootName, Cpu, Tables};
 use frame_word::Frame;
 use group_tree::group::{GroupId, MAX_GROUPS};
-use boot_words::PastSeat;
 use step_rules::phase::ChargedUnit;
 use step_watch::Watch;
 

@@ -10,9 +10,9 @@ ghost use Rattle.step_rules.specs.declared.step.Answer.TheVariants as answer;
 ghost use Rattle.mem_machine.specs.Noted.{MayTake, Notes};
 ghost use Rattle.mem_machine.specs.Steps.{zone_makes};
 
+use boot_words::PastSeat;
 use cpu_part::{BootName, Tables};
 use group_tree::group::GroupId;
-use boot_words::PastSeat;
 use step_rules::step::{Action, Answer, Step};
 use step_watch::Watch;
 use zone_blocks::block::Block;
