@@ -16,7 +16,7 @@ returns c =
     subst (λ (r : RawHome). IsSome (led_of r.frames r.home)) (sym raw.ensures.taken) c.requires.live in
     let ends : EndsAs served.result.1 (led_of raw.result.frames raw.result.home)
     (led_of served.result.0.frames served.result.0.home) =
-    ends_led raw.result.frames c.args.alloc raw.result.home _ _ _ _ some served.ensures.serves in
+    ends_led raw.result.frames c.args.alloc raw.result.home _ _ _ some served.ensures.serves in
     subst (λ (r : RawHome). EndsAs served.result.1 (zone_behind c.args.self.now) (led_of r.frames r.home)) (sym c.put.ensures)
     (subst (λ (r : RawHome). EndsAs served.result.1 (led_of r.frames r.home)
     (led_of served.result.0.frames served.result.0.home)) raw.ensures.taken ends)
