@@ -23,7 +23,7 @@ returns-clause-answered g c =
     let served = c.serve_command-value in
     let said = c.write_answer-written in
     let cpu = served.new.cpu in
-    subst (λ (l : KnownLocked). AddsText said.result c.args.text.now said.new.text (ServesCommand (terms g.N.BootName.frames c.args.is_explained) c.args.command.now
+    subst (λ (l : KnownLocked). AddsText said.result c.args.answers.now said.new.text (ServesCommand (terms g.N.BootName.frames c.args.is_explained) c.args.command.now
     (locked_state c.args.locked.now c.args.cpu.now) (locked_state l cpu))) (sym said.ensures.stays) (record {
       text = said.ensures.told.text;
       so = record {

@@ -14,7 +14,7 @@ returns-in_default g c = let found = c.in_default.ensures in record {
   answers = record {
     steps = [];
     answers = (
-      record { locked = found.locked; sound = found.sound; part = found.part; sees = found.sees; same = found.same; so = sym found.so },
+      record { locked = found.locked; sound = found.sound; part = found.part; last = found.last; sees = found.sees; same = found.same; so = sym found.so },
       refl,
     );
     grew = seen_grew c.args.cpu.now.past c.find.new.cpu.past found.sees;

@@ -1,5 +1,6 @@
 use Rattle.std.proofs.Common.{◌∙◌, ap}
 use Rattle.mem_system.specs.Locked.{KnownLocked}
+use Rattle.mem_system.specs.Visits.{locked_state}
 use Rattle.script_replay.specs.Terms.{boot_tables}
 use Rattle.script_replay.specs.ValueAnswers.{answer_of}
 use Rattle.script_replay.proofs.Serving.{locked_settles}
@@ -10,7 +11,8 @@ pub write_answer-requires : goal.write_answer-requires
 write_answer-requires g c = let served = c.serve_locked-value in record {
   in_range = c.requires.in_range;
   groups = served.ensures.groups;
-  settles = λ is. locked_settles g.N.BootName.frames c.args.command.now _ _ served.new.locked.machine.ledger served.result served.ensures.answers is;
+  settles = λ is. locked_settles g.N.BootName.frames c.args.command.now (locked_state c.deref_mut-locked.result.now c.args.cpu.now)
+      (locked_state served.new.locked served.new.cpu) served.new.locked.machine.ledger served.result served.ensures.answers is;
   last = λ is. served.ensures.last;
 }
 
