@@ -50,7 +50,7 @@ use Rattle.reply_texts.specs.declared.steps.UnlockedAnswer.TheVariants as unlock
 use Rattle.script_lines.specs.declared.line.Command.{Command}
 use Rattle.script_lines.specs.declared.line.Command.TheVariants as command
 use Rattle.script_replay.specs.Answers.{AnswersAlone, AnswersCommand, AnswersUnlocked, CanNotList, IsServedUnderLock, IsTriedInVain, OnlySaw, OnlyWatched, WritesCommand}
-use Rattle.script_replay.specs.Answers.{locked_with_watch, steps_alone}
+use Rattle.script_replay.specs.Answers.{steps_alone}
 use Rattle.script_replay.specs.Ranges.{CommandInRange}
 use Rattle.script_replay.proofs.Gaining.{saw_none}
 

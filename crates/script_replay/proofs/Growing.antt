@@ -1,5 +1,5 @@
 -- How pasts grow by steps and by what others did. Serves `visit_answers`, `own_lines`, and the looks at all pasts.
-use Rattle.std.proofs.Common.{◌≡◌, ◌∙◌, ℕ, true, List, [], ◌∷◌, ◌++◌, append_assoc, append-nil, ap, refl, subst, sym}
+use Rattle.std.proofs.Common.{◌≡◌, ◌∙◌, ℕ, true, [], ◌∷◌, ◌++◌, append_assoc, append-nil, ap, refl, subst, sym}
 use Rattle.boot_words.specs.declared.past.Past.{Past}
 use Rattle.boot_words.specs.Growth.{GrewByAll, SeesMore, changes_nothing}
 use Rattle.boot_words.specs.Pasts.{KnownPasts, own_past}

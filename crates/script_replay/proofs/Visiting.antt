@@ -1,5 +1,5 @@
 -- What lines were answered by visits. Serves `visit_answers`, `visit_replay`.
-use Rattle.std.proofs.Common.{Result, ◌≡◌, ℕ, zero, ◌+◌, ◌-◌, ◌<◌, true, false, Option, Some, None, List, [], ◌++◌, length, take, get_or, inl, inr, refl, sym, subst, arith}
+use Rattle.std.proofs.Common.{Result, ◌≡◌, ℕ, zero, ◌+◌, ◌-◌, ◌<◌, false, Option, Some, None, List, [], ◌++◌, length, take, get_or, inl, inr, refl, sym, subst, arith}
 use Rattle.std.specs.Prelude.{IfNone, IfSome, slice_set}
 use Rattle.std.specs.declared.string.String.{String}
 use Rattle.std.proofs.lemmas.Option.{none-some, slice_get_read}

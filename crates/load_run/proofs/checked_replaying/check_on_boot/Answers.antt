@@ -19,7 +19,7 @@ pub replay_checked-answers-requires-clause-there : goal.replay_checked-answers-r
 replay_checked-answers-requires-clause-there g c =
     let booted = c.in_ok-locked.ensures in
     let long = ap length c.deref_mut.ensures.value ∙ booted.count in
-    lines_there c.args.boot.sizes _ _ _ c.args.lines.now booted.sized long c.requires.lines
+    lines_there c.args.boot.sizes _ _ c.args.lines.now booted.sized long c.requires.lines
 
 pub replay_checked-answers-requires-clause-legal : goal.replay_checked-answers-requires-clause-legal
 replay_checked-answers-requires-clause-legal g c =
@@ -39,7 +39,7 @@ returns-in_err-answers g c =
     let p = err_from_is_err_and c.from_residual-in_err-answers.result c.from_residual-in_err-answers.ensures.1 in
     rw (p.1, p.2) (record {
       answers = tt;
-      fault = stop_told c.args.boot.sizes c.args.form _ _ c.args.lines.now _ _ _ new
+      fault = stop_told c.args.boot.sizes c.args.form _ c.args.lines.now _ _ _ new
           (IfErr-at_err _ c.in_err-answers.was c.replay_checked-answers.ensures.outcome.stopped);
     })
 

@@ -12,7 +12,7 @@ pub log_each-served-requires : goal.log_each-served-requires
 log_each-served-requires g c =
     let booted = c.in_ok-locked.ensures in
     let long = ap length c.deref_mut.ensures.value ∙ booted.count in
-    record { there = lines_there c.args.boot.sizes _ _ _ c.args.lines.now booted.sized long c.requires.lines }
+    record { there = lines_there c.args.boot.sizes _ _ c.args.lines.now booted.sized long c.requires.lines }
 
 pub log_end-ended-requires : goal.log_end-ended-requires
 log_end-ended-requires g c =

@@ -17,7 +17,7 @@ pub replay-answers-requires : goal.replay-answers-requires
 replay-answers-requires g c =
     let booted = c.in_ok-locked.ensures in
     let long = ap length c.deref_mut.ensures.value ∙ booted.count in
-    record { there = lines_there c.args.boot.sizes _ _ _ c.args.lines.now booted.sized long c.requires.lines }
+    record { there = lines_there c.args.boot.sizes _ _ c.args.lines.now booted.sized long c.requires.lines }
 
 pub end_boot-ended-requires : goal.end_boot-ended-requires
 end_boot-ended-requires g c =

@@ -23,7 +23,7 @@ pub replay-first-requires : goal.replay-first-requires
 replay-first-requires g c =
     let booted = c.in_ok-locked.ensures in
     let long = ap length c.deref_mut.ensures.value ∙ booted.count in
-    record { there = early_there c.args.boot.sizes _ _ c.before_go.result _ c.args.lines.now _ booted.sized long c.split_at.ensures.front c.requires.lines }
+    record { there = early_there c.args.boot.sizes _ c.before_go.result _ c.args.lines.now _ booted.sized long c.split_at.ensures.front c.requires.lines }
 
 pub survey-requires : goal.survey-requires
 survey-requires g c =
@@ -48,7 +48,7 @@ serve_later-told-requires-clause-lines g c κs within =
     let booted = c.in_ok-locked.ensures in
     let long = ap length (c.deref_mut-3.ensures.value ∙ looked) ∙ c.survey.auto.cpus ∙ ap length (c.deref_mut-2.ensures.value ∙ back) ∙ c.replay-first.auto.cpus
     ∙ ap length c.deref_mut.ensures.value ∙ booted.count in
-    later_there c.args.boot.sizes _ _ c.before_go.result _ c.args.lines.now _ booted.sized long c.split_at.ensures.back c.requires.lines
+    later_there c.args.boot.sizes _ c.before_go.result _ c.args.lines.now _ booted.sized long c.split_at.ensures.back c.requires.lines
 
 pub survey-requires-2 : goal.survey-requires-2
 survey-requires-2 g c =

@@ -1,5 +1,4 @@
-use Rattle.std.proofs.Common.{◌≡◌, sym, subst}
-use Rattle.mem_system.specs.Cpus.{CpuInRun}
+use Rattle.std.proofs.Common.{sym, subst}
 use Rattle.mem_system.specs.Locked.{KnownLocked}
 use Rattle.mem_system.specs.Visits.{locked_state}
 use Rattle.script_replay.specs.Answers.{AddsText, ServesCommand}

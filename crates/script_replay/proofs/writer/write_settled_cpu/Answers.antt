@@ -5,7 +5,7 @@ use Rattle.machine_texts.specs.Stock.{stock_line_text}
 use Rattle.mem_system.specs.Visits.{locked_state}
 use Rattle.reply_texts.specs.Answers.{answer_text}
 use Rattle.reply_texts.specs.LineAnswer as answer
-use Rattle.script_lines.specs.declared.line.Command.TheVariants.{Blocks, Settle, Show, Stock, Units}
+use Rattle.script_lines.specs.declared.line.Command.TheVariants.{Blocks, Settle, Show, Stock}
 use Rattle.script_replay.proofs.Serving.{is_settle, settled_written}
 use Rattle.script_replay.proofs.writer.write_settled_cpu.Goals as goal
 
