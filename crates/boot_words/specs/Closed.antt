@@ -33,5 +33,6 @@ pub record IsClosedRun (zone : Zone) (words : List ℕ) (pasts : List Past) : Ty
   pub end : IsEndOfRun zone words pasts
   pub one_past : (number : ℕ) → sum_over (of_number number) pasts ≡ one_if (nat_le number zone.cpus)
 
+-- the words that the closed table was left with, as a run's words are parted
 abbrev pub closed_words : KnownWords → Words
 closed_words w = words_in (record { frames = w.frames; cpus = w.cpus }) w.words
