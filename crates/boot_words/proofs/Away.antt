@@ -1,5 +1,5 @@
 -- A CPU that doesn't hold the lock doesn't come to hold it by others' steps.
-use Rattle.std.proofs.Common.{◌≡◌, ◌≢◌, ℕ, ◌==◌, ◌||◌, Bool, true, false, [], ◌∷◌, ◌++◌, suc, zero, refl, sym, ◌∙◌, ap, subst, inl, inr}
+use Rattle.std.proofs.Common.{[], ◌≡◌, ◌≢◌, ℕ, ◌==◌, ◌||◌, Bool, true, false, ◌∷◌, suc, zero, refl, sym, ◌∙◌, ap, subst, inl, inr}
 use Rattle.std.specs.List.{fold}
 use Rattle.std.proofs.lemmas.Bool.{false≢true, ne_eqb}
 use Rattle.step_rules.specs.declared.phase.Hold.{Hold}

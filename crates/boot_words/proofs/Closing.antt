@@ -1,86 +1,46 @@
--- The table at the end: one seat has all views.
-use Rattle.std.proofs.Common.{◌≡◌, ℕ, suc, ◌+◌, List, [], ◌∷◌, ◌++◌, length, map, refl, ap, ◌∙◌, subst}
+-- The table at the end: one seat has all pasts.
+use Rattle.std.proofs.Common.{[], ◌≡◌, ℕ, suc, ◌+◌, ◌<◌, ◌≤◌, List, ◌∷◌, ◌++◌, length, refl, ap, sym, ◌∙◌, subst, arith, inl, inr}
+use Rattle.atomic_table.specs.Table.{Final, Seen}
+use Rattle.frame_word.specs.Seats.{KnownTable}
 use Rattle.frame_word.specs.Totals.{sum_over}
-use Rattle.frame_word.specs.Seats.{view_of}
-use Rattle.frame_word.proofs.Ending.{final_rule}
-use Rattle.stock_word.specs.declared.view.StockView.{StockView}
-use Rattle.stock_word.specs.Stock.{views_of}
-use Rattle.stock_word.specs.Kinds.{AreFinalStockWords}
-use Rattle.stock_word.proofs.Closes.{closed_each, closed_numbers, closed_stocks}
+use Rattle.frame_word.proofs.Totals.{total_member}
 use Rattle.step_rules.specs.State.{Zone}
-use Rattle.step_rules.specs.After.{Run}
-use Rattle.boot_words.specs.declared.seat.OwnSeats.{OwnSeats}
-use Rattle.boot_words.specs.declared.view.Past.{Past}
-use Rattle.boot_words.specs.declared.view.BootView.{BootView}
-use Rattle.boot_words.specs.declared.view.BootView.TheVariants.{OfFrames, OfStocks, OfRun}
-use Rattle.boot_words.specs.Rule.{AllOf, FitsRun, IsPastOf, frames_in, stocks_in, words_in}
-use Rattle.boot_words.specs.Seating.{IsEndOf}
-use Rattle.boot_words.specs.Closing.{IsClosedTable, all_pasts_in, all_views_in, frame_seats, stock_seats, views_in}
+use Rattle.boot_words.specs.declared.past.Past.{Past}
+use Rattle.boot_words.specs.Rule.{AllOf, BeginsRun, RunRule, of_number, run_rule}
+use Rattle.boot_words.proofs.Each.{all_at}
+use Rattle.boot_words.specs.Closed.{HasCpuPast, IsClosedRun, IsEndOfRun, pasts_of_cpus}
+use Rattle.boot_words.specs.Cpus.{KnownCpuSeat}
+use Rattle.boot_words.proofs.Counting.{all_low, case_le, count_all, each_one, is_high, is_low}
 
-frames_behind : (pasts : List Past) (views : List BootView) → frames_in (map OfRun pasts ++ views) ≡ frames_in views
-frames_behind [] views = refl
-frames_behind (p ∷ pasts) views = frames_behind pasts views
-
-stocks_behind : (pasts : List Past) (views : List BootView) → stocks_in (map OfRun pasts ++ views) ≡ stocks_in views
-stocks_behind [] views = refl
-stocks_behind (p ∷ pasts) views = stocks_behind pasts views
-
--- the views of three seats, with others behind
-after_three : (pasts : List Past) (u v : BootView) (views : List BootView) → (map OfRun pasts ++ u ∷ v ∷ []) ++ views ≡ map OfRun pasts ++ u ∷ v ∷ views
-after_three [] u v views = refl
-after_three (p ∷ pasts) u v views = ap (λ l. OfRun p ∷ l) (after_three pasts u v views)
-
-seats_frames : (s : OwnSeats) (views : List BootView) → frames_in (views_in s ++ views) ≡ s.frames.view ∷ frames_in views
-seats_frames s views = ap frames_in (after_three s.past.pasts (OfFrames s.frames.view) (OfStocks s.stocks.view) views)
-    ∙ frames_behind s.past.pasts (OfFrames s.frames.view ∷ OfStocks s.stocks.view ∷ views)
-
-seats_stocks : (s : OwnSeats) (views : List BootView) → stocks_in (views_in s ++ views) ≡ s.stocks.view ∷ stocks_in views
-seats_stocks s views = ap stocks_in (after_three s.past.pasts (OfFrames s.frames.view) (OfStocks s.stocks.view) views)
-    ∙ stocks_behind s.past.pasts (OfFrames s.frames.view ∷ OfStocks s.stocks.view ∷ views)
-
-all_frames : (seats : List OwnSeats) → frames_in (all_views_in seats) ≡ map view_of (frame_seats seats)
-all_frames [] = refl
-all_frames (s ∷ seats) = seats_frames s (all_views_in seats) ∙ ap (λ l. s.frames.view ∷ l) (all_frames seats)
-
-all_stocks : (seats : List OwnSeats) → stocks_in (all_views_in seats) ≡ views_of (stock_seats seats)
-all_stocks [] = refl
-all_stocks (s ∷ seats) = seats_stocks s (all_views_in seats) ∙ ap (λ l. s.stocks.view ∷ l) (all_stocks seats)
-
-frames_count : (seats : List OwnSeats) → length (frame_seats seats) ≡ length seats
-frames_count [] = refl
-frames_count (s ∷ seats) = ap suc (frames_count seats)
-
-stocks_count : (seats : List OwnSeats) → length (stock_seats seats) ≡ length seats
-stocks_count [] = refl
-stocks_count (s ∷ seats) = ap suc (stocks_count seats)
-
--- ---- the pasts
-some_fit : (run : Run) (pasts : List Past) (views : List BootView) (rest : List Past) → AllOf (FitsRun run) (map OfRun pasts ++ views)
-    → (AllOf (FitsRun run) views → AllOf (IsPastOf run) rest) → AllOf (IsPastOf run) (pasts ++ rest)
-some_fit run [] views rest all more = more all
-some_fit run (p ∷ pasts) views rest all more = (all.0, some_fit run pasts views rest all.1 more)
-
-pasts_fit : (run : Run) (seats : List OwnSeats) → AllOf (FitsRun run) (all_views_in seats) → AllOf (IsPastOf run) (all_pasts_in seats)
-pasts_fit run [] all = tt
-pasts_fit run (s ∷ seats) all =
-    some_fit run s.past.pasts (OfFrames s.frames.view ∷ OfStocks s.stocks.view ∷ all_views_in seats) (all_pasts_in seats)
-    (subst (AllOf (FitsRun run)) (after_three s.past.pasts (OfFrames s.frames.view) (OfStocks s.stocks.view) (all_views_in seats)) all)
-    (λ both. pasts_fit run seats both.1.1)
-
-pub closed_end : (zone : Zone) (words : List ℕ) (slots : List (Unit {0})) (z : OwnSeats) (cpus : List OwnSeats) (views : List BootView) → IsEndOf zone words slots views
-    → views ≡ views_in z ++ all_views_in cpus → length cpus ≡ zone.cpus → z.stocks.view.number ≡ 0 → IsClosedTable zone words z cpus
-closed_end zone words slots z cpus views of_end are count zeroth =
-    let end = of_end.1 in
-    let frames : frames_in views ≡ z.frames.view ∷ map view_of (frame_seats cpus) = ap frames_in are ∙ all_frames (z ∷ cpus) in
-    let stocks : stocks_in views ≡ z.stocks.view ∷ views_of (stock_seats cpus) = ap stocks_in are ∙ all_stocks (z ∷ cpus) in
-    let rule : AreFinalStockWords zone.cpus (words_in zone words).stocks (stocks_in views) = end.stocks in
-    let sums : (f : StockView → ℕ) → sum_over f (stocks_in views) ≡ f z.stocks.view + sum_over f (views_of (stock_seats cpus)) = λ f. ap (sum_over f) stocks in
-    let enough = stocks_count cpus ∙ count in record {
-      run = end.run;
-      is = end.is;
-      pasts = pasts_fit end.run (z ∷ cpus) (subst (AllOf (FitsRun end.run)) are end.pasts);
-      frames = final_rule zone.frames zone.cpus _ (frames_in views) (words_in zone words).frames slots z.frames.view (frame_seats cpus) end.frames frames (frames_count cpus ∙ count);
-      numbers = λ k below. closed_numbers _ _ _ _ rule.3 _ rule.2 z.stocks.view zeroth (stock_seats cpus) sums enough k below;
-      each = λ p low high. closed_each _ _ _ _ rule.3 _ rule.2 z.stocks.view zeroth (stock_seats cpus) sums enough p low high;
-      stocks = λ k below. closed_stocks _ _ _ _ rule.3 _ rule.2 z.stocks.view zeroth (stock_seats cpus) sums enough _ refl k below;
+pub end_of_run : (zone : Zone) (id : ℕ) (pasts : List Past) (words : List ℕ) (slots : List (Unit {0})) → Final (Seen (run_rule zone) id pasts) words slots
+    → IsEndOfRun zone words pasts
+end_of_run zone id pasts words slots final =
+    let s = final.0 in
+    let k : RunRule zone words s.views = subst (λ (w : List ℕ). RunRule zone w s.views) final.2 final.1.0 in
+    let at = final.1.1 in record {
+      run = k.run;
+      is = k.is;
+      small = k.small;
+      begin = all_at (AllOf (BeginsRun zone k.run)) s.views id pasts at k.fits;
+      few = λ number. let a = total_member (of_number number) s.views id pasts at in let b = k.one_past number in omega (arith, a, b);
     }
+
+one_each : (t : KnownTable) (cpus : List KnownCpuSeat) → AllOf (HasCpuPast t) cpus → length (pasts_of_cpus cpus) ≡ length cpus
+one_each t [] all = refl
+one_each t (c ∷ cpus) all =
+    ap (λ (l : List Past). length (l ++ pasts_of_cpus cpus)) all.0.alone ∙ ap suc (one_each t cpus all.1)
+
+pub closed_run : (zone : Zone) (t : KnownTable) (words : List ℕ) (z : Past) (cpus : List KnownCpuSeat) (pasts : List Past) → IsEndOfRun zone words pasts → AllOf (HasCpuPast t) cpus
+    → pasts ≡ z ∷ pasts_of_cpus cpus → length cpus ≡ zone.cpus → IsClosedRun zone words pasts
+closed_run zone t words z cpus pasts end all are count = record {
+  end = end;
+  one_past = λ number.
+      let n = zone.cpus in
+      let none : (q : ℕ) → n < q → sum_over (of_number q) pasts ≡ 0 = λ q high. let a = end.few q in let b = is_high q n high in omega (arith, a, b) in
+      let few : (q : ℕ) → q < n + 1 → sum_over (of_number q) pasts ≤ 1 = λ q low. let a = end.few q in let b = is_low q n (omega (arith, low)) in omega (arith, a, b) in
+      let many : length pasts ≡ n + 1 = ap length are ∙ ap suc (one_each t cpus all ∙ count) ∙ (let e : suc n ≡ n + 1 = omega arith in e) in
+      elim (case_le number n) [
+        | inl low ↦ each_one (n + 1) (λ q. sum_over (of_number q) pasts) few (count_all (n + 1) pasts (all_low n pasts none) ∙ many) number (omega (arith, low)) ∙ sym (is_low number n low)
+        | inr high ↦ none number high ∙ sym (is_high number n high)
+      ];
+}

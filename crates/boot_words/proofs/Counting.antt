@@ -1,71 +1,77 @@
--- The word of a frame and its number of references.
-use Rattle.std.proofs.Common.{◌≡◌, ◌≢◌, ℕ, ◌+◌, ◌<◌, ◌≤◌, ◌==◌, Bool, true, false, refl, sym, ◌∙◌, ap, arith, inl, inr, cond, ◌&&◌}
-use Rattle.std.specs.Prelude.{nat_le}
-use Rattle.std.proofs.lemmas.Bool.{cases_Bool, cond-false, le-leb, leb-true, ne_eqb}
-use Rattle.step_rules.specs.declared.phase.Way.TheVariants.{PassingOut, PassingBack}
-use Rattle.step_rules.specs.declared.phase.Stage.TheVariants.{FreshPassing, BackPassing}
-use Rattle.step_rules.specs.declared.phase.Phase.{Phase}
-use Rattle.step_rules.specs.declared.phase.Phase.TheVariants.{Lent, Head}
-use Rattle.step_rules.specs.declared.step.Answer.TheVariants.{Held, Zero, Full}
-use Rattle.step_rules.specs.Phases.{is_live_phase}
-use Rattle.step_rules.specs.State.{State, live_references, sum_to}
-use Rattle.step_rules.specs.Legal.{get_answer}
-use Rattle.step_rules.specs.Invariant.{KeepsInvariant}
-use Rattle.step_rules.proofs.PhaseLemmas.{live_is}
-use Rattle.step_rules.proofs.Referring.{changed, changed_others}
-use Rattle.step_rules.proofs.Sums.{sum_none, sum_same}
-use Rattle.boot_words.specs.Words.{word_in_phase, frame_word}
+-- How many pasts there are of each number.
+use Rattle.std.proofs.Common.{[], sym, ◌≡◌, ◌≢◌, ℕ, zero, suc, ◌+◌, ◌<◌, ◌≤◌, List, ◌∷◌, length, refl, ap, ◌∙◌, arith, inl, inr, eq-eqb}
+use Rattle.std.specs.Prelude.{◌⊎◌, nat_le}
+use Rattle.std.proofs.lemmas.Bool.{cases_Bool, le-leb, leb-false, leb-true, lt-leb, ne_eqb}
+use mathlib.Core.Logic.{dite}
+use native.Mathlib.Decide.{ℕ_discrete}
+use Rattle.frame_word.specs.Totals.{sum_over}
+use Rattle.step_rules.specs.State.{one_if, sum_to}
+use Rattle.step_rules.proofs.Sums.{sum_both, sum_none, sum_only}
+use Rattle.boot_words.specs.declared.past.Past.{Past}
+use Rattle.boot_words.specs.Rule.{AllOf, of_number}
 
--- other frames keep their references
-pub sum_others : (s : State) (k f n m : ℕ) → m ≢ f → sum_to (s.zone.cpus + 1) (λ seat. changed s.references k f n seat m) ≡ live_references s m
-sum_others s k f n m ne = sum_same (s.zone.cpus + 1) _ _ (λ seat below. changed_others s.references k f n m ne seat)
+pub is_low : (n m : ℕ) → n ≤ m → one_if (nat_le n m) ≡ 1
+is_low n m low = ap one_if (le-leb n m low)
 
-pub none_live : (s : State) (f : ℕ) → KeepsInvariant s → is_live_phase (s.phases f) ≡ false → live_references s f ≡ 0
-none_live s f sound dead = sum_none (s.zone.cpus + 1) (λ seat. s.references seat f) (λ seat below. (sound.frames f).unreferred dead seat)
+pub is_high : (n m : ℕ) → m < n → one_if (nat_le n m) ≡ 0
+is_high n m high = ap one_if (lt-leb n m high)
 
--- a frame in a live phase has its number of references as its word
-pub live_word : (s : State) (f : ℕ) → is_live_phase (s.phases f) ≡ true → (live : ℕ) → word_in_phase (s.phases f) live ≡ live
-live_word s f is live = ap (λ x. word_in_phase x live) (live_is (s.phases f) is).1
-
-not_marked : (q : ℕ) → 256 + q < 256 → ⊥
-not_marked q low = omega arith
-
--- a word below the marks is a number of references
-pub low_word : (x : Phase) (live : ℕ) → word_in_phase x live < 256 → word_in_phase x live ≡ live
-low_word (Lent q PassingOut) live low = absurd (not_marked q low)
-low_word (Lent q PassingBack) live low = absurd (not_marked q low)
-low_word (Head u (FreshPassing q)) live low = absurd (not_marked q low)
-low_word (Head u (BackPassing q)) live low = absurd (not_marked q low)
-low_word x live low = refl
-
-not_le : (a b : ℕ) → b < a → nat_le a b ≡ false
-not_le a b h = elim (cases_Bool (nat_le a b)) [
-  | inl e ↦ absurd (let l = leb-true a b e in omega arith)
-  | inr e ↦ e
+pub case_le : (n m : ℕ) → (n ≤ m) ⊎ (m < n)
+case_le n m = elim (cases_Bool (nat_le n m)) [
+  | inl e ↦ inl (leb-true n m e)
+  | inr e ↦ inr (leb-false n m e)
 ]
 
-and_not : (b : Bool) → (b && false) ≡ false
-and_not true = refl
-and_not false = refl
+pub is_own : (p : Past) (q : ℕ) → p.number ≡ q → of_number q p ≡ 1
+is_own p q e = ap one_if (eq-eqb p.number q e)
 
-high_answer : (n : ℕ) → 256 ≤ n → get_answer n ≡ Zero
-high_answer n high =
-    cond-false (nat_le 1 n && nat_le n 254) Held (cond (n == 255) Full Zero) (ap (λ b. nat_le 1 n && b) (not_le n 254 (omega (arith, high))) ∙ and_not (nat_le 1 n))
-    ∙ cond-false (n == 255) Full Zero (ne_eqb n 255 (λ e. absurd (omega (arith, high, e))))
+pub is_none : (p : Past) (q : ℕ) → p.number ≢ q → of_number q p ≡ 0
+is_none p q ne = ap one_if (ne_eqb p.number q ne)
 
-pub held_answer : (n : ℕ) → 1 ≤ n → n ≤ 254 → get_answer n ≡ Held
-held_answer n low high = (λ i. cond (le-leb 1 n low i && le-leb n 254 high i) Held (cond (n == 255) Full Zero))
+one_to : (p : Past) (n : ℕ) → p.number < n → sum_to n (λ q. of_number q p) ≡ 1
+one_to p n low = sum_only n (λ q. of_number q p) p.number low (λ q below ne. is_none p q (λ e. ne (sym e))) ∙ is_own p p.number refl
 
-mark_high : (q : ℕ) → 256 ≤ 256 + q
-mark_high q = omega arith
+-- each past's number is below n
+abbrev pub AreBelow : ℕ → List Past → Type 0
+AreBelow n ps = AllOf (λ (p : Past). p.number < n) ps
 
-answer_in : (x : Phase) (live : ℕ) → (is_live_phase x ≡ false → live ≡ 0) → get_answer (word_in_phase x live) ≡ get_answer live
-answer_in (Lent q PassingOut) live dead = high_answer (256 + q) (mark_high q) ∙ sym (ap get_answer (dead refl))
-answer_in (Lent q PassingBack) live dead = high_answer (256 + q) (mark_high q) ∙ sym (ap get_answer (dead refl))
-answer_in (Head u (FreshPassing q)) live dead = high_answer (256 + q) (mark_high q) ∙ sym (ap get_answer (dead refl))
-answer_in (Head u (BackPassing q)) live dead = high_answer (256 + q) (mark_high q) ∙ sym (ap get_answer (dead refl))
-answer_in x live dead = refl
+pub count_all : (n : ℕ) (ps : List Past) → AreBelow n ps → sum_to n (λ q. sum_over (of_number q) ps) ≡ length ps
+count_all n [] below = sum_none n (λ q. 0) (λ q low. refl)
+count_all n (p ∷ ps) below =
+    let a = count_all n ps below.1 in
+    let b = one_to p n below.0 in
+    let c = sum_both n (λ q. of_number q p) (λ q. sum_over (of_number q) ps) in omega (arith, a, b, c)
 
--- the word decides the answer of a get as the number of references does
-pub answer_by_word : (s : State) (f : ℕ) → KeepsInvariant s → get_answer (frame_word s f) ≡ get_answer (live_references s f)
-answer_by_word s f sound = answer_in (s.phases f) (live_references s f) (none_live s f sound)
+-- pasts of which none has a number above n
+pub all_low : (n : ℕ) (ps : List Past) → ((q : ℕ) → n < q → sum_over (of_number q) ps ≡ 0) → AreBelow (n + 1) ps
+all_low n [] none = tt
+all_low n (p ∷ ps) none = (
+  elim (case_le p.number n) [
+    | inl low ↦ omega (arith, low)
+    | inr high ↦ absurd (let a = none p.number high in let b = is_own p p.number refl in omega (arith, a, b))
+  ],
+  all_low n ps (λ q high. let a = none q high in omega (arith, a)),
+)
+
+-- if each of n numbers counts at most 1 and all count n together, each counts 1
+sum_most : (n : ℕ) (f : ℕ → ℕ) → ((q : ℕ) → q < n → f q ≤ 1) → sum_to n f ≤ n
+unfolding sum_to
+sum_most zero f few = omega arith
+sum_most (suc n) f few =
+    let a = sum_most n f (λ q low. few q (omega (arith, low))) in
+    let b = few n (omega arith) in omega (arith, a, b)
+
+pub each_one : (n : ℕ) (f : ℕ → ℕ) → ((q : ℕ) → q < n → f q ≤ 1) → sum_to n f ≡ n → (q : ℕ) → q < n → f q ≡ 1
+unfolding sum_to
+each_one zero f few all q low = absurd (omega (arith, low))
+each_one (suc n) f few all q low =
+    let less = sum_most n f (λ k below. few k (omega (arith, below))) in
+    let last = few n (omega arith) in
+    dite (ℕ_discrete q n)
+    (λ e. ap f e ∙ (let one : f n ≡ 1 = omega (arith, all, less, last) in one))
+    (λ ne. each_one n f (λ k below. few k (omega (arith, below))) (omega (arith, all, less, last)) q (omega (arith, low, ne)))
+
+pub ones : (n : ℕ) → sum_to n (λ q. 1) ≡ n
+unfolding sum_to
+ones zero = refl
+ones (suc n) = let a = ones n in omega (arith, a)

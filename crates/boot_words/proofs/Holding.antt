@@ -1,5 +1,5 @@
 -- What the lock's holder saw it still sees.
-use Rattle.std.proofs.Common.{◌≡◌, ℕ, Some, [], ◌∷◌, ◌++◌, length, take, refl, sym, ap, subst, inl, append_assoc}
+use Rattle.std.proofs.Common.{[], ◌≡◌, ℕ, Some, ◌∷◌, ◌++◌, length, take, refl, sym, ap, subst, inl, append_assoc}
 use Rattle.std.specs.Prelude.{IfSome}
 use Rattle.std.specs.List.{slice_get}
 use Rattle.step_rules.specs.declared.step.Step.{Step}

@@ -1,5 +1,5 @@
 -- A step that a rule over some words and some of the views allows is allowed by a rule over all of them, as far as that part goes.
-use Rattle.std.proofs.Common.{◌≡◌, ℕ, ◌<◌, List, [], map, length, set, ap, sym, ◌∙◌, subst}
+use Rattle.std.proofs.Common.{[], ◌≡◌, ℕ, ◌<◌, List, map, length, set, ap, sym, ◌∙◌, subst}
 use Rattle.std.specs.Prelude.{slice_index}
 use Rattle.std.proofs.lemmas.List.{map-set}
 use mathlib.Core.Option.{some}

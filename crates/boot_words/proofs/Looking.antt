@@ -1,115 +1,142 @@
--- Loads that are no step of the run, and the look of a drain.
-use Rattle.std.proofs.Common.{◌≡◌, ℕ, ◌+◌, List, [], ◌∷◌, ◌++◌, drop, map, set, take, refl, ap, sym, ◌∙◌, subst, inl, ◌<◌}
-use Rattle.std.specs.Prelude.{slice_index}
-use mathlib.Core.Option.{Option, none, some}
-use mathlib.Core.Logic.{dite}
-use native.Mathlib.Decide.{ℕ_discrete}
-use lib.ListN.{get_elem?}
-use Rattle.atomic_table.specs.Table.{Me, State as Board, Allows, carried_after, homes_after, step}
-use Rattle.frame_word.specs.Totals.{sum_over}
-use Rattle.frame_word.specs.declared.view.FrameView.{FrameView}
-use Rattle.frame_word.specs.Kinds.{by_one, looks, rule_of}
-use Rattle.frame_word.proofs.ShortSteps.{looks_at}
-use Rattle.stock_word.specs.declared.view.StockView.{StockView}
+-- Loads under the lock that are no step.
+use Rattle.std.proofs.Common.{[], ◌≡◌, ℕ, ◌+◌, ◌<◌, ◌≤◌, true, List, ◌∷◌, refl, ap, sym, ◌∙◌, subst, arith}
+use Rattle.std.specs.Prelude.{slice_index, IfSome}
+use Rattle.frame_word.specs.ReferenceRule.{most_references}
+use Rattle.frame_word.specs.Seats.{KnownTable}
+use Rattle.stock_word.specs.declared.view.Stock.{Stock}
+use Rattle.stock_word.specs.declared.view.Stock.TheVariants.{DrainedOf, HeldBy, NoGroup}
+use Rattle.stock_word.specs.Stock.{HasWord, group_of, word_of}
 use Rattle.stock_word.specs.StockRule.{stock_index}
-use Rattle.stock_word.specs.Kinds.{Alone, Joined, looking_step, seeing_stock_step}
-use Rattle.stock_word.proofs.Steps.{looking_allowed, seeing_allowed}
-use Rattle.step_rules.specs.declared.step.Action.TheVariants.{DrainStock}
-use Rattle.step_rules.specs.declared.step.Answer.TheVariants.{Pages}
-use Rattle.step_rules.specs.State.{Zone}
-use Rattle.boot_words.specs.Steps.{OfNone}
-use Rattle.boot_words.specs.declared.view.Past.{Past}
-use Rattle.boot_words.specs.declared.view.BootView.{BootView}
-use Rattle.boot_words.specs.declared.view.BootView.TheVariants.{OfFrames, OfStocks, OfRun}
-use Rattle.boot_words.specs.Rule.{AllOf, BootRule, FitsRun, boot_rule, frame_base, frames_in, past_of, stocks_in}
-use Rattle.boot_words.specs.Rule.{words_in}
-use Rattle.boot_words.specs.Looks.{FrameLookIsAllowed, JoinedLookIsAllowed, LookToDrainIsAllowed, Looks, StockLookIsAllowed}
-use Rattle.boot_words.proofs.Banking.{stock_rule, stock_under_lock_at}
-use Rattle.boot_words.proofs.FrameSteps.{frame_kept}
-use Rattle.boot_words.proofs.Lifting.{IsAt, lift}
-use Rattle.boot_words.proofs.Parts.{frame_is_at}
-use Rattle.boot_words.proofs.Seats.{all_at}
-use Rattle.boot_words.proofs.StockSteps.{stock_is_at, stock_kept, stock_low, stock_same}
-use Rattle.boot_words.proofs.Wraps.{IsKind, of_frames, of_stocks, picked, same_pasts, skipped, still_fit}
+use Rattle.step_rules.specs.Phases.{is_live_phase}
+use Rattle.step_rules.specs.State.{State, Zone, live_references}
+use Rattle.step_rules.specs.After.{state_of}
+use Rattle.step_rules.proofs.Living.{live_are_referenced}
+use Rattle.step_rules.proofs.Referring.{live_from_one}
+use Rattle.boot_words.specs.Words.{stock_in}
+use Rattle.boot_words.specs.Held.{local_seen}
+use Rattle.boot_words.specs.declared.past.Past.{Past}
+use Rattle.boot_words.specs.Rule.{AllOf, BeginsRun, frame_base, words_in}
+use Rattle.boot_words.proofs.Each.{all_at}
+use Rattle.boot_words.proofs.Growing.{past_of_run}
+use Rattle.boot_words.proofs.Resting.{zone_rests}
+use Rattle.boot_words.specs.Locks.{LeavesFree}
+use Rattle.boot_words.specs.Pasts.{KnownPasts, IsHeld, IsHolder, IsZonePast, cpu_past, local_by_pasts, own_past}
+use Rattle.boot_words.specs.Seats.{zone_of_boot, MayChange}
+use Rattle.boot_words.proofs.WordCounts.{live_word}
+use Rattle.boot_words.proofs.Following.{stands_in}
+use Rattle.boot_words.proofs.Parts.{frame_reads}
+use Rattle.boot_words.specs.declared.word.Word.TheVariants.{OfFrame, StockOf}
+use Rattle.boot_words.specs.Looking.{LoadsReferences}
+use Rattle.boot_words.proofs.Fast.{stays}
+use Rattle.boot_words.proofs.Visiting.{cpu_of_held, stock_held}
+use Rattle.boot_words.proofs.Drains.{StockFound, stock_found}
+use Rattle.boot_words.proofs.Referring.{word_now}
+use Rattle.boot_words.proofs.UnderLock.{of_held, stands_at}
 
--- word i of one part of the table, which is word j of all, with the rule of that part
-module _ {S V W : Type 0} (zone : Zone) (wrap : V → BootView) (mine : List BootView → List V) (other : List BootView → List W) (kind_is : IsKind wrap mine other)
-    (front : List ℕ → List ℕ) (i j : ℕ) (is_at : IsAt front i j) (holds : Board S (List V) → Type 0)
-    (has : (s : Board S (List BootView)) → boot_rule zone s → holds (record { words = front s.words; homes = s.homes; views = map mine s.views }))
-    (kept : (s : Board S (List BootView)) (k : boot_rule zone s) (homes : List (Option S)) (id : ℕ) (old new : List BootView)
-    → get_elem? s.views id ≡ some old → other new ≡ other old → ((q : ℕ) → sum_over (past_of q) new ≡ sum_over (past_of q) old)
-    → AllOf (FitsRun k.run) new → holds (record { words = front (set s.words j (slice_index s.words j)); homes = homes; views = map mine (set s.views id new) })
-    → BootRule zone (set s.words j (slice_index s.words j)) (set s.views id new)) where
-  pub look : (slots id : ℕ) (pasts : List Past) (views : List V) (kind : ℕ → Me S (List V) → Type 0)
-      → ((found : ℕ) (m : Me S (List V)) → kind found m → m.1 ≡ []) → Allows holds slots id (views, []) i (λ n. n) kind
-      → Allows {S = S} (boot_rule zone) slots id (map OfRun pasts ++ map wrap views, []) j (λ n. n) (λ found later. Looks wrap S pasts (kind found) later)
-  look slots id pasts views kind empty allows s k homes at small =
-      let old = map OfRun pasts ++ map wrap views in
-      let found = slice_index s.words j in
-      let own_allows : Allows holds slots id (mine old, []) i (λ n. n) kind =
-      subst (λ (l : List V). Allows holds slots id (l, []) i (λ n. n) kind) (sym (picked wrap mine other kind_is pasts views)) allows in
-      let lifted = lift holds front mine slots id i j old (λ n. n) kind own_allows is_at s (has s k) homes at small in
-      let all = all_at (AllOf (FitsRun k.run)) s.views id old at k.fits in
-      let new = map OfRun pasts ++ map wrap lifted.0 in
-      let carried : carried_after [] lifted.1 ≡ [] = empty found (lifted.0, carried_after [] lifted.1) lifted.4 in (
-        new,
-        lifted.1,
-        lifted.2,
-        kept s k (homes_after s.homes [] lifted.1) id old new at (skipped wrap mine other kind_is pasts lifted.0 ∙ sym (skipped wrap mine other kind_is pasts views))
-            (λ q. same_pasts wrap mine other kind_is q pasts views lifted.0) (still_fit wrap mine other kind_is k.run pasts views lifted.0 all)
-            (lifted.3 new (picked wrap mine other kind_is pasts lifted.0)),
+-- the seat has the pasts that it had
+pub same_seat : (t : KnownTable) (s s' : KnownPasts) → IsHeld t s → s'.table ≡ s.table → s'.pasts ≡ own_past s ∷ cpu_past s ∷ [] → s' ≡ s
+same_seat t s s' is table later i = record { table = table i; pasts = (later ∙ sym is.both) i }
+
+-- ---- the holder's stock
+pub record SeesStock (zone : Zone) (z c : Past) (found : ℕ) (later : List Past) : Type 0 where
+  pub fits : HasWord (stock_in ((local_seen zone c).parts c.number))
+  pub word : found ≡ word_of (stock_in ((local_seen zone c).parts c.number))
+  pub few : ((local_seen zone c).parts c.number).book < 65536
+  pub later_is : later ≡ z ∷ c ∷ []
+
+pub sees_stock : (t : KnownTable) (s : KnownPasts) (cpu : ℕ) → IsHeld t s → IsHolder s cpu
+    → MayChange (zone_of_boot t) s.pasts (StockOf cpu) (λ n. n) (SeesStock (zone_of_boot t) (own_past s) (cpu_past s))
+sees_stock t s cpu is holder =
+    let zone = zone_of_boot t in
+    let z = own_past s in
+    let c = cpu_past s in
+    let range = cpu_of_held t s is in
+    subst (λ q. MayChange zone s.pasts (StockOf q) (λ n. n) (SeesStock zone z c)) (sym holder)
+    (of_held t s (StockOf c.number) (λ n. n) (SeesStock zone z c) is
+    (λ id b k homes at small.
+    let j = stock_index c.number in
+    let h = stock_held zone b.words b.views id z c range.0 range.1 (stands_at zone b k id z c at is.holds) in
+    let r = stays zone b k id j (slice_index b.words j) (z ∷ c ∷ []) at refl in
+    (r.0, r.1, r.2, r.3, (r.4.0, record { fits = h.fits; word = h.word; few = h.few; later_is = r.4.1 }))))
+
+pub stock_is : (t : KnownTable) (s : KnownPasts) (cpu found : ℕ) (later : List Past) (stock : Stock) → IsHolder s cpu → SeesStock (zone_of_boot t) (own_past s) (cpu_past s) found later
+    → ((k : Stock) → HasWord k → found ≡ word_of k → stock ≡ k) → stock ≡ stock_in ((local_by_pasts t s).parts cpu)
+stock_is t s cpu found later stock holder told decodes =
+    decodes (stock_in ((local_by_pasts t s).parts (cpu_past s).number)) told.fits told.word ∙ ap (λ q. stock_in ((local_by_pasts t s).parts q)) (sym holder)
+
+-- ---- the group of any stock
+pub record SeesGroup (zone : Zone) (z c : Past) (cpu found : ℕ) (later : List Past) : Type 0 where
+  pub is : StockFound zone c cpu found
+  pub later_is : later ≡ z ∷ c ∷ []
+
+pub sees_group : (t : KnownTable) (s : KnownPasts) (cpu : ℕ) → IsHeld t s → 1 ≤ cpu → cpu ≤ t.cpus
+    → MayChange (zone_of_boot t) s.pasts (StockOf cpu) (λ n. n) (SeesGroup (zone_of_boot t) (own_past s) (cpu_past s) cpu)
+sees_group t s cpu is low high =
+    let zone = zone_of_boot t in
+    let z = own_past s in
+    let c = cpu_past s in
+    of_held t s (StockOf cpu) (λ n. n) (SeesGroup zone z c cpu) is
+    (λ id b k homes at small.
+    let j = stock_index cpu in
+    let there = stock_found zone b k id z c cpu at is.holds low high in
+    let r = stays zone b k id j (slice_index b.words j) (z ∷ c ∷ []) at refl in
+    (r.0, r.1, r.2, r.3, (r.4.0, record { is = there; later_is = r.4.1 })))
+
+pub group_is : (t : KnownTable) (s : KnownPasts) (cpu found : ℕ) (later : List Past) (stock : Stock) → (told : SeesGroup (zone_of_boot t) (own_past s) (cpu_past s) cpu found later)
+    → ((k : Stock) → HasWord k → found ≡ word_of k → stock ≡ k) → group_of stock ≡ ((local_by_pasts t s).parts cpu).stock.group
+group_is t s cpu found later stock told decodes = ap group_of (decodes told.is.stock told.is.fits told.is.word) ∙ told.is.group
+
+few_group : (stock : Stock) → HasWord stock → IfSome (group_of stock) (λ g. g < 64)
+few_group NoGroup h = tt
+few_group (HeldBy g n) h = h.0
+few_group (DrainedOf g) h = h
+
+pub group_fits : (t : KnownTable) (s : KnownPasts) (cpu found : ℕ) (later : List Past) (stock : Stock) → (told : SeesGroup (zone_of_boot t) (own_past s) (cpu_past s) cpu found later)
+    → ((k : Stock) → HasWord k → found ≡ word_of k → stock ≡ k) → IfSome (group_of stock) (λ g. g < 64)
+group_fits t s cpu found later stock told decodes =
+    subst (λ k. IfSome (group_of k) (λ g. g < 64)) (sym (decodes told.is.stock told.is.fits told.is.word)) (few_group told.is.stock told.is.fits)
+
+-- ---- references
+pub record SeesReferences (t : KnownTable) (s : KnownPasts) (f found : ℕ) (later : List Past) : Type 0 where
+  pub counted : LoadsReferences (zone_of_boot t) (own_past s) f found
+  pub some : 1 ≤ found
+  pub most : found ≤ most_references
+  pub later_is : later ≡ own_past s ∷ []
+
+pub sees_references : (t : KnownTable) (s : KnownPasts) (f : ℕ) → IsZonePast t s → LeavesFree (zone_of_boot t) (own_past s) → f < t.frames
+    → 1 ≤ (state_of (zone_of_boot t) (own_past s).seen).references 0 f → MayChange (zone_of_boot t) s.pasts (OfFrame f) (λ n. n) (SeesReferences t s f)
+sees_references t s f is free inside some =
+    let zone = zone_of_boot t in
+    let z = own_past s in
+    subst (λ (l : List Past). MayChange zone l (OfFrame f) (λ n. n) (SeesReferences t s f)) (sym is.alone)
+    (λ id b k homes at small.
+    let fits : BeginsRun zone k.run z = (all_at (AllOf (BeginsRun zone k.run)) b.views id (z ∷ []) at k.fits).0 in
+    let run = state_of zone k.run in
+    let stands = stands_in zone (words_in zone b.words) k.run k.is in
+    let own : run.references 0 f ≡ (state_of zone z.seen).references 0 f
+    = ap (λ (l : State). l.references 0 f) (zone_rests zone k.run z k.is.legal (past_of_run zone k.run z fits) is.zone_is free) in
+    let one : 1 ≤ run.references 0 f = subst (λ n. 1 ≤ n) (sym own) some in
+    let live : is_live_phase (run.phases f) ≡ true = live_from_one run 0 f stands.sound one in
+    let j = frame_base zone + f in
+    let found : live_references run f ≡ slice_index b.words j =
+    sym (live_word run f live (live_references run f)) ∙ word_now zone (words_in zone b.words) k.run f k.is inside ∙ frame_reads zone f b.words in
+    let range = (live_are_referenced zone k.run k.is.legal f).some live in
+    let r = stays zone b k id j (slice_index b.words j) (z ∷ []) at refl in (
+      r.0,
+      r.1,
+      r.2,
+      r.3,
+      (
+        r.4.0,
         record {
-          views = lifted.0;
-          later_is = ap (λ m. (new, m)) carried;
-          made = subst (λ m. kind found (lifted.0, m)) carried lifted.4;
+          counted = record { run = k.run; begins = fits.goes; legal = k.is.legal; counted = found };
+          some = (let a = range.0 in omega (arith, a, found));
+          most = (let a = range.1 in omega (arith, a, found));
+          later_is = r.4.1;
         },
-      )
+      ),
+    ))
 
-stock_look : {S : Type 0} (zone : Zone) (slots id i : ℕ) (low : i < frame_base zone) (pasts : List Past) (views : List StockView) (kind : ℕ → Me S (List StockView) → Type 0)
-    → ((found : ℕ) (m : Me S (List StockView)) → kind found m → m.1 ≡ []) → Allows {S = S} (stock_rule zone) slots id (views, []) i (λ n. n) kind
-    → Allows {S = S} (boot_rule zone) slots id (map OfRun pasts ++ map OfStocks views, []) i (λ n. n)
-    (λ found later. Looks OfStocks S pasts (kind found) later)
-stock_look {S} zone slots id i low pasts views kind empty allows =
-    look {S = S} zone OfStocks stocks_in frames_in of_stocks (take (frame_base zone)) i i (stock_is_at zone i low) (stock_rule {S = S} zone)
-    (λ s k. k.stocks)
-    (λ s k homes id old new at others counts fits rule. stock_kept zone s.words s.views k id i (slice_index s.words i) old new low at others counts fits rule refl)
-    slots id pasts views kind empty allows
-
-pub frame_look_is_allowed : {S : Type 0} → FrameLookIsAllowed S
-frame_look_is_allowed {S} zone slots id f v inside =
-    look {S = S} zone OfFrames frames_in stocks_in of_frames (drop (frame_base zone)) f (frame_base zone + f) (frame_is_at zone f)
-    (rule_of {S = S} zone.frames zone.cpus) (λ s k. k.frames)
-    (λ s k homes id old new at others counts fits rule. frame_kept zone s.words s.views k id f (slice_index s.words (frame_base zone + f)) old new at others counts fits rule refl)
-    slots id [] (v ∷ []) (by_one looks (step slots f 0 0 none) (v ∷ [], [])) (λ found m told. ap (λ (x : Me S (List FrameView)). x.1) told.1)
-    (looks_at zone.frames zone.cpus slots id v f inside)
-
-pub stock_look_is_allowed : {S : Type 0} → StockLookIsAllowed S
-stock_look_is_allowed {S} zone slots id cpu m zone_is low high =
-    stock_look zone slots id (stock_index cpu) (stock_low zone cpu high) [] (m ∷ []) (Alone looking_step (step slots (stock_index cpu) 0 0 none) (m ∷ [], []))
-    (λ found x told. ap (λ (y : Me S (List StockView)). y.1) told.1)
-    (looking_allowed zone.cpus slots id m zone_is cpu low high)
-
-pub joined_look_is_allowed : {S : Type 0} → JoinedLookIsAllowed S
-joined_look_is_allowed {S} zone slots id m v zone_is low high =
-    stock_look zone slots id (stock_index v.number) (stock_low zone v.number high) [] (m ∷ v ∷ []) (Joined seeing_stock_step (step slots (stock_index v.number) 0 0 none) (m ∷ v ∷ [], []))
-    (λ found x told. ap (λ (y : Me S (List StockView)). y.1) told.2)
-    (seeing_allowed zone.cpus slots id m v zone_is low high)
-
-pub look_to_drain_is_allowed : {S : Type 0} → LookToDrainIsAllowed S
-look_to_drain_is_allowed {S} zone slots id cpu z c local m holds legal zone_is low high s k homes at small =
-    let i = stock_index cpu in
-    let word_low = stock_low zone cpu high in
-    let found = slice_index s.words i in
-    let kind : ℕ → Me S (List StockView) → Type 0 = Alone looking_step (step slots i 0 0 none) (m ∷ [], []) in
-    let empty : (found : ℕ) (x : Me S (List StockView)) → kind found x → x.1 ≡ [] = λ found x told. ap (λ (y : Me S (List StockView)). y.1) told.1 in
-    let allows = looking_allowed {S = S} zone.cpus slots id m zone_is cpu low high in
-    let words = words_in zone s.words in
-    let is : slice_index words.stocks i ≡ found = (stock_is_at zone i word_low).reads s.words in
-    dite (ℕ_discrete found 0)
-    (λ none_filled.
-    let r = stock_under_lock_at zone slots id i word_low (λ n. n) z c local (m ∷ []) (record { seat = 0; action = DrainStock cpu }) (Pages 0) kind holds (inl refl) refl legal empty allows s k homes at small
-    (λ x told. OfNone refl (record { fits = tt; found = is ∙ none_filled; later_is = stock_same words i found (sym is) })) in
-    (r.0, r.1, r.2, r.3, record { drained = λ e. r.4; looked = λ ne. absurd (ne none_filled) }))
-    (λ filled.
-    let r = stock_look zone slots id i word_low (z ∷ c ∷ []) (m ∷ []) kind empty allows s k homes at small in
-    (r.0, r.1, r.2, r.3, record { drained = λ e. absurd (filled e); looked = λ ne. r.4 }))
+-- the seat has the past that it had
+pub same_zone : (t : KnownTable) (s s' : KnownPasts) → IsZonePast t s → s'.table ≡ s.table → s'.pasts ≡ own_past s ∷ [] → s' ≡ s
+same_zone t s s' is table later i = record { table = table i; pasts = (later ∙ sym is.alone) i }

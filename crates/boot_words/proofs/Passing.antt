@@ -21,7 +21,7 @@ use Rattle.step_rules.proofs.SoundSteps.{below_frames, cpu_range}
 use Rattle.boot_words.specs.Words.{Words, word_in_phase, with_frame_word, with_visit_word}
 use Rattle.boot_words.proofs.WordLists.{HasFrameWord, frame_set, visit_set, stocks_same}
 use Rattle.boot_words.proofs.Following.{Stands, Follows, all_stocks, same_stocks, holding_cpu, visited_cpu}
-use Rattle.boot_words.proofs.Counting.{none_live}
+use Rattle.boot_words.proofs.WordCounts.{none_live}
 
 -- one frame gets another phase, whose word is this
 phase_word : (s : State) (f : ℕ) (y : Phase) (word : ℕ) → word_in_phase y (live_references s f) ≡ word

@@ -22,7 +22,7 @@ use Rattle.boot_words.specs.Words.{Words, word_in_phase, frame_word, with_frame_
 use Rattle.boot_words.specs.Steps.{frame_word_at}
 use Rattle.boot_words.proofs.WordLists.{HasSameStock, frame_set, stocks_same}
 use Rattle.boot_words.proofs.Following.{Stands, Follows, all_stocks, same_stocks}
-use Rattle.boot_words.proofs.Counting.{answer_by_word, held_answer, live_word, low_word, none_live, sum_others}
+use Rattle.boot_words.proofs.WordCounts.{answer_by_word, held_answer, live_word, low_word, none_live, sum_others}
 
 -- the number of references of a live frame is its word
 word_is_live : (s : State) (words : Words) (f : ℕ) → Stands s words → f < s.zone.frames → is_live_phase (s.phases f) ≡ true → frame_word_at words f ≡ live_references s f

@@ -1,8 +1,7 @@
 -- Each step of the table keeps the words those of the run.
 use Rattle.std.proofs.Common.{◌≡◌, ℕ, true, sym, subst}
 use Rattle.step_rules.specs.declared.step.Action.{Action}
-use Rattle.step_rules.specs.declared.step.Action.TheVariants.{OpenVisit, ShutVisit, Get, Put, Freeze, Unfreeze, PassOut, TakeIn}
-use Rattle.step_rules.specs.declared.step.Action.TheVariants.{PassBack, Collect, Consume, Credit, Report, Absorb, Fill, DrainStock}
+use Rattle.step_rules.specs.declared.step.Action.TheVariants.{OpenVisit, ShutVisit, Get, Put, Freeze, Unfreeze, PassOut, TakeIn, PassBack, Collect, Consume, Credit, Report, Absorb, Fill, DrainStock}
 use Rattle.step_rules.specs.declared.step.Answer.{Answer}
 use Rattle.step_rules.specs.declared.step.Answer.TheVariants.{Done, Held, Zero, Full, Left, Last, Missed, Took, Drained, Stocked, Pages}
 use Rattle.step_rules.specs.State.{State}

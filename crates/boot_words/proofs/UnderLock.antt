@@ -1,213 +1,181 @@
--- A step under the lock on a word of the frames or of the stocks.
-use Rattle.std.proofs.Common.{◌≡◌, ℕ, ◌+◌, ◌<◌, ◌≤◌, Bool, true, false, List, [], ◌∷◌, ◌++◌, cond, length, map, set, refl, ap, sym, ◌∙◌, subst, arith, inl, inr, eq-eqb}
-use Rattle.std.specs.Prelude.{◌⊎◌, ◌||◌, ◌==◌, slice_index}
-use Rattle.std.proofs.lemmas.Bool.{false≢true, or_left, true≢false}
-use Rattle.std.proofs.lemmas.List.{append_cancel_left}
-use mathlib.Core.Option.{Option, some}
+-- Steps under the lock, by the seat that has the zone's past and that of the lock's holder.
+use Rattle.std.proofs.Common.{[], ◌≡◌, ℕ, zero, suc, true, false, List, ◌∷◌, ◌++◌, set, refl, sym, ◌∙◌, subst}
+use Rattle.std.specs.Prelude.{◌⊎◌, slice_index}
+use Rattle.std.proofs.lemmas.List.{set-get_or}
+use mathlib.Core.Option.{some, some-ne-none}
 use lib.ListN.{get_elem?}
-use Rattle.atomic_table.specs.Table.{Act, Me, State as Board, Allows, Valid, carried_after, homes_after, stepped}
-use Rattle.frame_word.specs.Totals.{sum_over}
-use Rattle.step_rules.specs.declared.phase.Hold.{Hold}
-use Rattle.step_rules.specs.declared.phase.Hold.TheVariants.{HeldBy, Visiting}
+use Rattle.atomic_table.specs.Table.{State as Board, keeps}
+use Rattle.frame_word.specs.Seats.{KnownTable}
 use Rattle.step_rules.specs.declared.step.Step.{Step}
 use Rattle.step_rules.specs.declared.step.Action.{Action}
-use Rattle.step_rules.specs.declared.step.Action.TheVariants.{Lock, Unlock, OpenVisit, ShutVisit}
+use Rattle.step_rules.specs.declared.step.Action.TheVariants.{Fill}
 use Rattle.step_rules.specs.declared.step.Answer.{Answer}
-use Rattle.step_rules.specs.declared.step.Answer.TheVariants.{Done, Illegal}
-use Rattle.step_rules.specs.State.{Zone, State, is_held_by, visits}
-use Rattle.step_rules.specs.Legal.{is_legal}
-use Rattle.step_rules.specs.After.{Run, after, state_of, IsLegalRun}
-use Rattle.step_rules.specs.Views.{holds_lock, seen_by}
+use Rattle.step_rules.specs.State.{Zone}
+use Rattle.step_rules.specs.Legal.{Allows, is_legal}
+use Rattle.step_rules.specs.After.{after, state_of}
 use Rattle.step_rules.specs.Laws.{ShowsLocal, is_of_lock}
-use Rattle.step_rules.proofs.LegalTests.{open_visit_tests, shut_visit_tests}
-use Rattle.step_rules.proofs.Own.{only_visit, own_after, own_legal}
-use Rattle.step_rules.proofs.PhaseLemmas.{equal_test}
-use Rattle.step_rules.proofs.Runs.{after_illegal, allowed, sound_run, state_more}
-use Rattle.boot_words.specs.Runs.{HasNoStepOf, OthersFollow}
-use Rattle.boot_words.specs.Words.{Words, IsRunOf}
-use Rattle.boot_words.specs.Steps.{ChangesWords}
-use Rattle.boot_words.proofs.Holding.{allowed_at, still_shows}
+use Rattle.boot_words.specs.Runs.{OthersFollow}
+use Rattle.boot_words.specs.Words.{IsRunOf}
+use Rattle.boot_words.specs.Steps.{ChangesWords, IsPlain}
+use Rattle.boot_words.specs.Composed.{GrewUnderLock}
+use Rattle.boot_words.specs.Held.{HoldsLock, local_seen}
+use Rattle.boot_words.specs.declared.past.Past.{Past}
+use Rattle.boot_words.specs.Rule.{AllOf, words_in, BeginsRun, RunRule, run_rule}
+use Rattle.boot_words.specs.Pasts.{KnownPasts, IsHeld, MakesStep, cpu_past, own_past}
+use Rattle.boot_words.specs.Seats.{zone_of_boot, MayChange}
+use Rattle.boot_words.proofs.Grown.{grown}
+use Rattle.boot_words.proofs.Plain.{plain_steps_keep_words}
+use Rattle.boot_words.proofs.Each.{all_at}
 use Rattle.boot_words.proofs.Stepping.{words_follow}
-use Rattle.boot_words.specs.declared.view.Past.{Past}
-use Rattle.boot_words.specs.declared.view.BootView.{BootView}
-use Rattle.boot_words.specs.declared.view.BootView.TheVariants.{OfRun}
-use Rattle.boot_words.specs.Rule.{AllOf, BootRule, FitsRun, boot_rule, past_of, words_in}
-use Rattle.boot_words.specs.Held.{HoldsLock, MadeUnderLock, joined, local_seen}
-use Rattle.boot_words.proofs.Growing.{grown, grown_fits}
-use Rattle.boot_words.proofs.Lifting.{IsAt, lift}
-use Rattle.boot_words.proofs.Seats.{all_at}
-use Rattle.boot_words.proofs.Wraps.{IsKind, all_fit, picked, same_pasts, skipped}
+use Rattle.boot_words.proofs.HolderSteps.{legal_now, next_holds, shows_now}
+use Rattle.boot_words.specs.declared.word.Word.{Word}
+use Rattle.boot_words.proofs.Booking.{AreSmall, IsNoFill, small_step}
+use Rattle.boot_words.proofs.Fast.{Leaves}
+use Rattle.boot_words.proofs.Growing.{IsOnlyHolder, notes_both, one_holder}
 
--- ---- what the holder sees at the end of the run
-pub shows_now : (zone : Zone) (z c : Past) (local : State) (run : Run) → HoldsLock zone z c local → OthersFollow z.number z.seen run → OthersFollow c.number c.seen run
-    → IsLegalRun zone run → ShowsLocal zone run c.number local
-shows_now zone z c local run holds zone_fits fits legal =
-    let other : run ≡ c.seen ++ zone_fits.rest = zone_fits.is ∙ ap (λ s. s ++ zone_fits.rest) holds.same in
-    let same : zone_fits.rest ≡ fits.rest = append_cancel_left c.seen zone_fits.rest fits.rest (sym other ∙ fits.is) in
-    let none_of : HasNoStepOf 0 fits.rest = subst (λ (k : ℕ). HasNoStepOf k fits.rest) holds.zone_is (subst (HasNoStepOf z.number) same zone_fits.others) in
-    subst (λ r. ShowsLocal zone r c.number local) (sym fits.is)
-    (still_shows zone c.seen fits.rest c.number local holds.shows none_of fits.others (subst (IsLegalRun zone) fits.is legal))
+-- by the rule both pasts of a seat are beginnings of the run
+pub both_begin : (zone : Zone) (words : List ℕ) (seats : List (List Past)) (k : RunRule zone words seats) (id : ℕ) (z c : Past) → get_elem? seats id ≡ some (z ∷ c ∷ [])
+    → OthersFollow z.number z.seen k.run × OthersFollow c.number c.seen k.run
+both_begin zone words seats k id z c at = let all = all_at (AllOf (BeginsRun zone k.run)) seats id (z ∷ c ∷ []) at k.fits in (all.0.goes, all.1.0.goes)
 
-pub legal_now : (zone : Zone) (run : Run) (cpu : ℕ) (local : State) (made_step : Step) → ShowsLocal zone run cpu local → (made_step.seat ≡ 0) ⊎ (made_step.seat ≡ cpu)
-    → is_of_lock made_step.action ≡ false → is_legal local made_step.seat made_step.action ≡ true → is_legal (state_of zone run) made_step.seat made_step.action ≡ true
-legal_now zone run cpu local made_step shows own inside legal =
-    sym (own_legal (state_of zone run) cpu made_step.seat made_step.action (sound_run zone run shows.legal) own inside shows.holds)
-    ∙ sym (ap (λ (l : State). is_legal l made_step.seat made_step.action) shows.sees) ∙ legal
-
--- ---- the two pasts
-first_sum : (a b n : ℕ) → a ≡ 1 → 1 ≤ a + (b + n)
-first_sum a b n e = omega arith
-
-second_sum : (a b n : ℕ) → b ≡ 1 → 1 ≤ a + (b + n)
-second_sum a b n e = omega arith
-
-pub has_past : (z c : Past) (seat : ℕ) (views : List BootView) → z.number ≡ 0 → (seat ≡ 0) ⊎ (seat ≡ c.number) → 1 ≤ sum_over (past_of seat) (OfRun z ∷ OfRun c ∷ views)
-has_past z c seat views zone_is own = elim own [
-  | inl e ↦ first_sum (past_of seat (OfRun z)) (past_of seat (OfRun c)) (sum_over (past_of seat) views) (ap (λ b. cond b 1 0) (eq-eqb z.number seat (zone_is ∙ sym e)))
-  | inr e ↦ second_sum (past_of seat (OfRun z)) (past_of seat (OfRun c)) (sum_over (past_of seat) views) (ap (λ b. cond b 1 0) (eq-eqb c.number seat (sym e)))
-]
-
-pub same_seen : (z c : Past) (run : Run) (e : Step × Answer) (zone_fits : OthersFollow z.number z.seen run)
-    → (fits : OthersFollow c.number c.seen run) → (grown z zone_fits.rest e).seen ≡ (grown c fits.rest e).seen
-same_seen z c run e zone_fits fits = ap (λ r. r ++ e ∷ []) (sym zone_fits.is ∙ fits.is)
-
--- ---- what the holder sees after its step
-held_own : (p q : ℕ) (hold : Hold) → holds_lock p hold ≡ true → is_held_by q hold ≡ true → holds_lock p (Visiting q) ≡ true
-held_own p q (HeldBy r) holds held = sym (ap (λ (k : ℕ). holds_lock p (Visiting k)) (equal_test r q held)) ∙ same (r == p) holds
-  where
-    same : (b : Bool) → (b || false) ≡ true → b ≡ true
-    same true e = refl
-    same false e = e
-held_own p q hold holds held = absurd (false≢true held)
-
-visit_own : (p q : ℕ) (hold : Hold) → holds_lock p hold ≡ true → visits q hold ≡ true → holds_lock p (HeldBy q) ≡ true
-visit_own p q hold holds visit = or_left _ false (eq-eqb q p (only_visit p q hold holds visit))
-
-own_holds : (s : State) (p seat : ℕ) (action : Action) (answer : Answer) → is_of_lock action ≡ false → holds_lock p s.hold ≡ true →
-    is_legal s seat action ≡ true → holds_lock p (after s seat action answer).hold ≡ true
-own_holds s p seat action Illegal inside holds legal = ap (λ (t : State). holds_lock p t.hold) (after_illegal s seat action) ∙ holds
-own_holds s p seat Lock answer inside holds legal = absurd (true≢false inside)
-own_holds s p seat Unlock answer inside holds legal = absurd (true≢false inside)
-own_holds s p seat (OpenVisit q) Done inside holds legal = held_own p q s.hold holds (open_visit_tests s seat q legal).1
-own_holds s p seat (ShutVisit q) Done inside holds legal = visit_own p q s.hold holds (shut_visit_tests s seat q legal).1
-own_holds s p seat action answer inside holds legal = holds
-
-next_shows : (zone : Zone) (run : Run) (cpu : ℕ) (local : State) (made_step : Step) (answer : Answer) → ShowsLocal zone run cpu local
-    → (made_step.seat ≡ 0) ⊎ (made_step.seat ≡ cpu) → is_of_lock made_step.action ≡ false → IsLegalRun zone (run ++ (made_step, answer) ∷ [])
-    → ShowsLocal zone (run ++ (made_step, answer) ∷ []) cpu (after local made_step.seat made_step.action answer)
-next_shows zone run cpu local made_step answer shows own inside legal =
-    let s = state_of zone run in
-    let seat = made_step.seat in
-    let action = made_step.action in
-    let more = state_more zone run made_step answer in
-    elim (allowed s seat action answer (allowed_at zone run (made_step, answer) [] legal)) [
-      | inl illegal ↦
-          let stays : after s seat action answer ≡ s = ap (after s seat action) illegal ∙ after_illegal s seat action in record {
-            legal = legal;
-            holds = ap (λ (t : State). holds_lock cpu t.hold) (more ∙ stays) ∙ shows.holds;
-            sees = ap (after local seat action) illegal ∙ after_illegal local seat action ∙ shows.sees ∙ sym (ap (seen_by cpu) (more ∙ stays));
-          }
-      | inr made ↦ record {
-        legal = legal;
-        holds = ap (λ (t : State). holds_lock cpu t.hold) more ∙ own_holds s cpu seat action answer inside shows.holds made.legal;
-        sees =
-            ap (λ (l : State). after l seat action answer) shows.sees
-            ∙ sym (own_after s cpu seat action answer (sound_run zone run shows.legal) own inside shows.holds made.legal made.answered made.counted)
-            ∙ sym (ap (seen_by cpu) more);
-      }
-    ]
-
--- the lock is still held, and the holder sees what its step makes of what it saw
-pub record StillHolds (zone : Zone) (z c : Past) (later : State) : Type 0 where
+-- The rule holds, and a seat has the zone's past and that of the CPU which holds the lock.
+pub record Stands (zone : Zone) (words : List ℕ) (seats : List (List Past)) (id : ℕ) (z c : Past) : Type 0 where
+  pub rule : RunRule zone words seats
+  pub at : get_elem? seats id ≡ some (z ∷ c ∷ [])
   pub holds : HoldsLock zone z c (local_seen zone c)
-  pub local_is : local_seen zone c ≡ later
 
-pub next_holds : (zone : Zone) (run : Run) (z c : Past) (local : State) (made_step : Step) (answer : Answer) → HoldsLock zone z c local
-    → (zone_fits : OthersFollow z.number z.seen run) → (fits : OthersFollow c.number c.seen run) → ShowsLocal zone run c.number local
-    → (made_step.seat ≡ 0) ⊎ (made_step.seat ≡ c.number) → is_of_lock made_step.action ≡ false → IsLegalRun zone (run ++ (made_step, answer) ∷ [])
-    → StillHolds zone (grown z zone_fits.rest (made_step, answer)) (grown c fits.rest (made_step, answer)) (after local made_step.seat made_step.action answer)
-next_holds zone run z c local made_step answer has_lock zone_fits fits shows own inside legal =
-    let e : Step × Answer = (made_step, answer) in
-    let next : ShowsLocal zone ((c.seen ++ fits.rest) ++ e ∷ []) c.number (after local made_step.seat made_step.action answer) =
-    subst (λ r. ShowsLocal zone (r ++ e ∷ []) c.number (after local made_step.seat made_step.action answer)) fits.is
-    (next_shows zone run c.number local made_step answer shows own inside legal) in record {
-      holds = record {
-        zone_is = has_lock.zone_is;
-        cpu_is = has_lock.cpu_is;
-        same = same_seen z c run e zone_fits fits;
-        shows = record { legal = next.legal; holds = next.holds; sees = refl };
+module _ (zone : Zone) (words : List ℕ) (seats : List (List Past)) (id : ℕ) (z c : Past) (st : Stands zone words seats id z c) where
+  pub fits_both : OthersFollow z.number z.seen st.rule.run × OthersFollow c.number c.seen st.rule.run
+  fits_both = both_begin zone words seats st.rule id z c st.at
+
+  -- what the holder sees it sees at the end of the run
+  pub shows_end : ShowsLocal zone st.rule.run c.number (local_seen zone c)
+  shows_end = shows_now zone z c (local_seen zone c) st.rule.run st.holds fits_both.0 fits_both.1 st.rule.is.legal
+
+  pub legal_end : (step : Step) → (step.seat ≡ 0) ⊎ (step.seat ≡ c.number) → is_of_lock step.action ≡ false → is_legal (local_seen zone c) step.seat step.action ≡ true
+      → is_legal (state_of zone st.rule.run) step.seat step.action ≡ true
+  legal_end step own unlocked legal = legal_now zone st.rule.run c.number (local_seen zone c) step shows_end own unlocked legal
+
+  pub only_holder : IsOnlyHolder zone st.rule.run c.number
+  only_holder q holds = one_holder (state_of zone st.rule.run).hold c.number q shows_end.holds holds
+
+set_there : {A : Type 0} (xs : List A) (i : ℕ) (x y : A) → get_elem? xs i ≡ some x → get_elem? (set xs i y) i ≡ some y
+set_there [] i x y at = absurd (some-ne-none x (sym at))
+set_there (z ∷ xs) zero x y at = refl
+set_there (z ∷ xs) (suc i) x y at = set_there xs i x y at
+
+-- both pasts have grown by the step, and the rule holds of the words that it leaves
+pub record StepsOn (zone : Zone) (words : List ℕ) (seats : List (List Past)) (id : ℕ) (z c : Past) (made : Step × Answer) : Type 0 where
+  pub zone_past : Past
+  pub cpu_past : Past
+  pub stands : Stands zone words (set seats id (zone_past ∷ cpu_past ∷ [])) id zone_past cpu_past
+  pub grew : GrewUnderLock zone z c made zone_past cpu_past
+
+-- the run grows by a step that is legal in what the holder sees, and whose answer the words decide
+pub steps_small : (zone : Zone) (words : List ℕ) (seats : List (List Past)) (id : ℕ) (z c : Past) (st : Stands zone words seats id z c) (j x : ℕ) (step : Step) (answer : Answer)
+    → (step.seat ≡ 0) ⊎ (step.seat ≡ c.number) → is_of_lock step.action ≡ false → is_legal (local_seen zone c) step.seat step.action ≡ true
+    → ChangesWords zone (words_in zone words) step.seat step.action answer (words_in zone (set words j x))
+    → AreSmall (after (state_of zone st.rule.run) step.seat step.action answer)
+    → StepsOn zone (set words j x) seats id z c (step, answer)
+steps_small zone words seats id z c st j x step answer own unlocked legal changes small =
+    let fit = fits_both zone words seats id z c st in
+    let now = words_follow zone (words_in zone words) (words_in zone (set words j x)) st.rule.run step answer st.rule.is
+    (legal_end zone words seats id z c st step own unlocked legal) changes in
+    let next = next_holds zone st.rule.run z c (local_seen zone c) step answer st.holds fit.0 fit.1 (shows_end zone words seats id z c st) own unlocked now.legal in
+    let zone_past = grown z fit.0.rest (step, answer) in
+    let cpu_past = grown c fit.1.rest (step, answer) in record {
+      zone_past = zone_past;
+      cpu_past = cpu_past;
+      stands = record {
+        rule = notes_both zone words seats st.rule id j x z c step answer fit.0 fit.1 st.at st.holds.zone_is own (only_holder zone words seats id z c st) small now;
+        at = set_there seats id (z ∷ c ∷ []) (zone_past ∷ cpu_past ∷ []) st.at;
+        holds = next.holds;
       };
-      local_is = sym next.sees;
+      grew = record {
+        zone_grew = record { between = fit.0.rest; others = fit.0.others; number = refl; seen = refl };
+        cpu_grew = record { between = fit.1.rest; others = fit.1.others; number = refl; seen = refl };
+        holds = next.holds;
+        local_is = next.local_is;
+      };
     }
 
--- word i of one part of the table, which is word j of all, with the rule of that part
-module _ {S V W : Type 0} (zone : Zone) (wrap : V → BootView) (mine : List BootView → List V) (other : List BootView → List W) (kind_is : IsKind wrap mine other)
-    (front : List ℕ → List ℕ) (i j : ℕ) (is_at : IsAt front i j) (holds : Board S (List V) → Type 0)
-    (has : (s : Board S (List BootView)) → boot_rule zone s → holds (record { words = front s.words; homes = s.homes; views = map mine s.views }))
-    (change : Words → ℕ → Words)
-    (stored : (s : Board S (List BootView)) (k : boot_rule zone s) (homes : List (Option S)) (id x : ℕ) (old new : List BootView) (e : Step × Answer)
-    → get_elem? s.views id ≡ some old → other new ≡ other old → ((q : ℕ) → sum_over (past_of q) new ≡ sum_over (past_of q) old)
-    → 1 ≤ sum_over (past_of e.0.seat) old → is_of_lock e.0.action ≡ false → AllOf (FitsRun (k.run ++ e ∷ [])) new
-    → holds (record { words = front (set s.words j x); homes = homes; views = map mine (set s.views id new) })
-    → IsRunOf zone (change (words_in zone s.words) x) (k.run ++ e ∷ []) → BootRule zone (set s.words j x) (set s.views id new)) where
-  -- in this state of the table
-  pub under_lock_at : (slots id : ℕ) (F : ℕ → ℕ) (z c : Past) (local : State) (views : List V) (made_step : Step) (answer : Answer)
-      (kind : ℕ → Me S (List V) → Type 0) → HoldsLock zone z c local → (made_step.seat ≡ 0) ⊎ (made_step.seat ≡ c.number)
-      → is_of_lock made_step.action ≡ false → is_legal local made_step.seat made_step.action ≡ true
-      → ((found : ℕ) (m : Me S (List V)) → kind found m → m.1 ≡ []) → Allows holds slots id (views, []) i F kind
-      → (s : Board S (List BootView)) → boot_rule zone s → length s.homes ≡ slots → get_elem? s.views id ≡ some (joined wrap z c views)
-      → slice_index s.words j < 18446744073709551616
-      → ((m : Me S (List V)) → kind (slice_index s.words j) m
-      → ChangesWords zone (words_in zone s.words) made_step.seat made_step.action answer (change (words_in zone s.words) (F (slice_index s.words j))))
-      → (w : List BootView) × (a : Act S) × Valid s.homes [] a × boot_rule zone (stepped s j (F (slice_index s.words j)) id [] w a)
-      × MadeUnderLock wrap S zone z c local made_step answer (kind (slice_index s.words j)) (w, carried_after [] a)
-  under_lock_at slots id F z c local views made_step answer kind has_lock own unlocked legal empty allows s k homes at small changes =
-      let old = joined wrap z c views in
-      let found = slice_index s.words j in
-      let own_allows : Allows holds slots id (mine old, []) i F kind =
-      subst (λ (l : List V). Allows holds slots id (l, []) i F kind) (sym (picked wrap mine other kind_is (z ∷ c ∷ []) views)) allows in
-      let lifted = lift holds front mine slots id i j old F kind own_allows is_at s (has s k) homes at small in
-      let all = all_at (AllOf (FitsRun k.run)) s.views id old at k.fits in
-      let zone_fits : OthersFollow z.number z.seen k.run = all.0.goes in
-      let fits : OthersFollow c.number c.seen k.run = all.1.0.goes in
-      let words = words_in zone s.words in
-      let e : Step × Answer = (made_step, answer) in
-      let shows = shows_now zone z c local k.run has_lock zone_fits fits k.is.legal in
-      let now = words_follow zone words (change words (F found)) k.run made_step answer k.is
-      (legal_now zone k.run c.number local made_step shows own unlocked legal) (changes (lifted.0, carried_after [] lifted.1) lifted.4) in
-      let next = next_holds zone k.run z c local made_step answer has_lock zone_fits fits shows own unlocked now.legal in
-      let zone_past = grown z zone_fits.rest e in
-      let cpu_past = grown c fits.rest e in
-      let new = joined wrap zone_past cpu_past lifted.0 in
-      let carried : carried_after [] lifted.1 ≡ [] = empty found (lifted.0, carried_after [] lifted.1) lifted.4 in (
-        new,
-        lifted.1,
-        lifted.2,
-        stored s k (homes_after s.homes [] lifted.1) id (F found) old new e at (skipped wrap mine other kind_is (zone_past ∷ cpu_past ∷ []) lifted.0 ∙ sym (skipped wrap mine other kind_is (z ∷ c ∷ []) views)) (λ q. same_pasts wrap mine other kind_is q (z ∷ c ∷ []) views lifted.0)
-            (has_past z c made_step.seat (map wrap views) has_lock.zone_is own) unlocked
-            (grown_fits k.run z e zone_fits, (grown_fits k.run c e fits, all_fit wrap mine other kind_is (k.run ++ e ∷ []) lifted.0))
-            (lifted.3 new (picked wrap mine other kind_is (zone_past ∷ cpu_past ∷ []) lifted.0)) now,
-        record {
-          views = lifted.0;
-          zone_past = zone_past;
-          cpu_past = cpu_past;
-          later_is = ap (λ m. (new, m)) carried;
-          made = subst (λ m. kind found (lifted.0, m)) carried lifted.4;
-          zone_grew = record { between = zone_fits.rest; others = zone_fits.others; number = refl; seen = refl };
-          cpu_grew = record { between = fits.rest; others = fits.others; number = refl; seen = refl };
-          holds = next.holds;
-          local_is = next.local_is;
-        },
-      )
+-- for any step but a fill
+pub steps_on : (zone : Zone) (words : List ℕ) (seats : List (List Past)) (id : ℕ) (z c : Past) (st : Stands zone words seats id z c) (j x : ℕ) (step : Step) (answer : Answer)
+    → (step.seat ≡ 0) ⊎ (step.seat ≡ c.number) → is_of_lock step.action ≡ false → IsNoFill step.action → is_legal (local_seen zone c) step.seat step.action ≡ true
+    → ChangesWords zone (words_in zone words) step.seat step.action answer (words_in zone (set words j x))
+    → StepsOn zone (set words j x) seats id z c (step, answer)
+steps_on zone words seats id z c st j x step answer own unlocked none legal changes =
+    steps_small zone words seats id z c st j x step answer own unlocked legal changes (small_step (state_of zone st.rule.run) step.seat step.action answer none st.rule.small)
 
-  pub under_lock : (slots id : ℕ) (F : ℕ → ℕ) (z c : Past) (local : State) (views : List V) (made_step : Step) (answer : ℕ → Answer)
-      (kind : ℕ → Me S (List V) → Type 0) → HoldsLock zone z c local → (made_step.seat ≡ 0) ⊎ (made_step.seat ≡ c.number)
-      → is_of_lock made_step.action ≡ false → is_legal local made_step.seat made_step.action ≡ true
-      → ((s : Board S (List BootView)) → boot_rule zone s → get_elem? s.views id ≡ some (joined wrap z c views) → slice_index s.words j < 18446744073709551616
-      → (m : Me S (List V)) → kind (slice_index s.words j) m
-      → ChangesWords zone (words_in zone s.words) made_step.seat made_step.action (answer (slice_index s.words j)) (change (words_in zone s.words) (F (slice_index s.words j))))
-      → ((found : ℕ) (m : Me S (List V)) → kind found m → m.1 ≡ []) → Allows holds slots id (views, []) i F kind
-      → Allows {S = S} (boot_rule zone) slots id (joined wrap z c views, []) j F (λ found later. MadeUnderLock wrap S zone z c local made_step (answer found) (kind found) later)
-  under_lock slots id F z c local views made_step answer kind has_lock own unlocked legal changes empty allows s k homes at small =
-      under_lock_at slots id F z c local views made_step (answer (slice_index s.words j)) kind has_lock own unlocked legal empty allows s k homes at small
-      (λ m told. changes s k at small m told)
+-- ---- one step by one access
+-- the seat's two pasts have grown by the step
+pub record MadeHeld (zone : Zone) (z c : Past) (step : Step) (answer : Answer) (later : List Past) : Type 0 where
+  pub zone_past : Past
+  pub cpu_past : Past
+  pub later_is : later ≡ zone_past ∷ cpu_past ∷ []
+  pub grew : GrewUnderLock zone z c (step, answer) zone_past cpu_past
+
+abbrev pub stands_at : (zone : Zone) (s : Board (Unit {0}) (List Past)) (k : run_rule zone s) (id : ℕ) (z c : Past) → get_elem? s.views id ≡ some (z ∷ c ∷ [])
+    → HoldsLock zone z c (local_seen zone c) → Stands zone s.words s.views id z c
+stands_at zone s k id z c at holds = record { rule = k; at = at; holds = holds }
+
+pub by_access : (zone : Zone) (s : Board (Unit {0}) (List Past)) (id j x : ℕ) (z c : Past) (step : Step) (answer : Answer) → StepsOn zone (set s.words j x) s.views id z c (step, answer)
+    → Leaves zone s id j x (MadeHeld zone z c step answer)
+by_access zone s id j x z c step answer r = (
+  r.zone_past ∷ r.cpu_past ∷ [],
+  keeps,
+  tt,
+  r.stands.rule,
+  (refl, record { zone_past = r.zone_past; cpu_past = r.cpu_past; later_is = refl; grew = r.grew }),
+)
+
+pub held_makes_small : (zone : Zone) (s : Board (Unit {0}) (List Past)) (k : run_rule zone s) (id j x : ℕ) (z c : Past) (step : Step) (answer : Answer)
+    → get_elem? s.views id ≡ some (z ∷ c ∷ []) → HoldsLock zone z c (local_seen zone c) → (step.seat ≡ 0) ⊎ (step.seat ≡ c.number)
+    → is_of_lock step.action ≡ false → is_legal (local_seen zone c) step.seat step.action ≡ true
+    → ChangesWords zone (words_in zone s.words) step.seat step.action answer (words_in zone (set s.words j x))
+    → AreSmall (after (state_of zone k.run) step.seat step.action answer) → Leaves zone s id j x (MadeHeld zone z c step answer)
+held_makes_small zone s k id j x z c step answer at holds own unlocked legal changes small =
+    by_access zone s id j x z c step answer
+    (steps_small zone s.words s.views id z c (stands_at zone s k id z c at holds) j x step answer own unlocked legal changes small)
+
+pub held_makes : (zone : Zone) (s : Board (Unit {0}) (List Past)) (k : run_rule zone s) (id j x : ℕ) (z c : Past) (step : Step) (answer : Answer)
+    → get_elem? s.views id ≡ some (z ∷ c ∷ []) → HoldsLock zone z c (local_seen zone c) → (step.seat ≡ 0) ⊎ (step.seat ≡ c.number)
+    → is_of_lock step.action ≡ false → IsNoFill step.action → is_legal (local_seen zone c) step.seat step.action ≡ true
+    → ChangesWords zone (words_in zone s.words) step.seat step.action answer (words_in zone (set s.words j x))
+    → Leaves zone s id j x (MadeHeld zone z c step answer)
+held_makes zone s k id j x z c step answer at holds own unlocked none legal changes =
+    by_access zone s id j x z c step answer
+    (steps_on zone s.words s.views id z c (stands_at zone s k id z c at holds) j x step answer own unlocked none legal changes)
+
+-- the seat after a step, as contracts see it
+pub held_made : (t : KnownTable) (s : KnownPasts) (step : Step) (answer : Answer) (s' : KnownPasts) → IsHeld t s → s'.table ≡ s.table
+    → MadeHeld (zone_of_boot t) (own_past s) (cpu_past s) step answer s'.pasts → MakesStep t s step.seat step.action answer s'
+held_made t s step answer s' is table m =
+    subst (λ (l : List Past). MakesStep t s step.seat step.action answer (record { table = s'.table; pasts = l })) (sym m.later_is) (record {
+      zone_grew = m.grew.zone_grew;
+      cpu_grew = m.grew.cpu_grew;
+      held = record { table_is = table ∙ is.table_is; both = refl; holds = m.grew.holds };
+      local_is = m.grew.local_is;
+    })
+
+-- the holder's seat in contracts, as the rule sees it
+pub of_held : (t : KnownTable) (s : KnownPasts) (word : Word) (change : ℕ → ℕ) (told : ℕ → List Past → Type 0) → IsHeld t s
+    → MayChange (zone_of_boot t) (own_past s ∷ cpu_past s ∷ []) word change told → MayChange (zone_of_boot t) s.pasts word change told
+of_held t s word change told is may = subst (λ (l : List Past). MayChange (zone_of_boot t) l word change told) (sym is.both) may
+
+-- ---- steps that no word is of
+plain_no_fill : (action : Action) → IsPlain action → IsNoFill action
+plain_no_fill (Fill cpu g n) plain = absurd plain
+plain_no_fill action plain = tt
+
+-- Such a step is made by a load of any word, and both pasts note it.
+pub plain_step : (zone : Zone) (s : Board (Unit {0}) (List Past)) (k : run_rule zone s) (id j : ℕ) (z c : Past) (step : Step) (answer : Answer)
+    → z.number ≡ 0 → (step.seat ≡ 0) ⊎ (step.seat ≡ c.number) → get_elem? s.views id ≡ some (z ∷ c ∷ []) → IsOnlyHolder zone k.run c.number
+    → (zone_fits : OthersFollow z.number z.seen k.run) → (fits : OthersFollow c.number c.seen k.run)
+    → IsPlain step.action → Allows (state_of zone k.run) step.seat step.action answer
+    → RunRule zone (set s.words j (slice_index s.words j)) (set s.views id (grown z zone_fits.rest (step, answer) ∷ grown c fits.rest (step, answer) ∷ []))
+plain_step zone s k id j z c step answer zone_is own at holder zone_fits fits plain ok =
+    notes_both zone s.words s.views k id j (slice_index s.words j) z c step answer zone_fits fits at zone_is own holder
+    (small_step (state_of zone k.run) step.seat step.action answer (plain_no_fill step.action plain) k.small)
+    (subst (λ (l : List ℕ). IsRunOf zone (words_in zone l) (k.run ++ (step, answer) ∷ [])) (sym (set-get_or s.words j 0))
+    (plain_steps_keep_words zone (words_in zone s.words) k.run step answer k.is plain ok))

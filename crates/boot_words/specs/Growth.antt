@@ -1,15 +1,13 @@
 -- How a past grows by several steps, and what the pasts of all seats say of the run together.
-use Rattle.std.specs.Prelude.{◌≡◌, ◌≢◌, ◌⊎◌, ℕ, suc, ◌+◌, ◌==◌, ◌&&◌, not, Bool, true, false, Some, List, [], ◌∷◌, ◌++◌}
-use Rattle.std.specs.Prelude.{length, slice_get, slice_set}
+use Rattle.std.specs.Prelude.{[], ◌≡◌, ◌≢◌, ◌⊎◌, ℕ, suc, ◌+◌, ◌==◌, ◌&&◌, not, Bool, true, false, Some, List, ◌∷◌, ◌++◌, length, slice_get, slice_set}
 use Rattle.step_rules.specs.declared.step.Step.{Step}
 use Rattle.step_rules.specs.declared.step.Answer.{Answer}
 use Rattle.step_rules.specs.declared.step.Answer.TheVariants.{Drained, Full, Illegal, Zero}
 use Rattle.step_rules.specs.State.{Zone, one_if}
 use Rattle.step_rules.specs.After.{Run, state_of, IsLegalRun}
-use Rattle.boot_words.specs.Runs.{HasNoStepOf}
-use Rattle.boot_words.specs.declared.view.Past.{Past}
+use Rattle.boot_words.specs.Runs.{HasNoStepOf, GrewBy}
+use Rattle.boot_words.specs.declared.past.Past.{Past}
 use Rattle.boot_words.specs.Rule.{AllOf, IsPastOf}
-use Rattle.boot_words.specs.Allowed.{GrewBy}
 
 -- the past has grown by these steps with their answers, each behind steps of others
 abbrev pub GrewByAll : Past → Run → Past → Type 0

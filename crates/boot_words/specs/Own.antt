@@ -4,10 +4,9 @@ use Rattle.step_rules.specs.declared.step.Action.{Action}
 use Rattle.step_rules.specs.declared.step.Answer.{Answer}
 use Rattle.step_rules.specs.State.{Zone}
 use Rattle.step_rules.specs.After.{after, state_of}
-use Rattle.boot_words.specs.Runs.{IsFast}
+use Rattle.boot_words.specs.Runs.{IsFast, GrewBy}
 use Rattle.boot_words.specs.Sight.{HasSameLists}
-use Rattle.boot_words.specs.declared.view.Past.{Past}
-use Rattle.boot_words.specs.Allowed.{GrewBy}
+use Rattle.boot_words.specs.declared.past.Past.{Past}
 
 -- A CPU's step without the lock makes of its lists and references what it makes of those that its past left, whatever
 -- others did since.

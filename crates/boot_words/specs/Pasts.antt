@@ -1,35 +1,28 @@
 -- What contracts see of a seat's pasts, and how they grow.
-use Rattle.std.specs.Prelude.{◌≡◌, ◌≢◌, ℕ, ◌≤◌, Bool, true, false, List, [], ◌∷◌, MatchBool}
+use Rattle.std.specs.Prelude.{[], ◌≡◌, ℕ, ◌≤◌, Bool, true, false, List, ◌∷◌}
 use Rattle.atomic_table.specs.Seated.{TableId}
 use Rattle.frame_word.specs.declared.answers.Get.{Get}
 use Rattle.frame_word.specs.declared.answers.Get.TheVariants as gets
 use Rattle.frame_word.specs.declared.answers.Put.{Put}
 use Rattle.frame_word.specs.declared.answers.Put.TheVariants as puts
 use Rattle.frame_word.specs.Seats.{KnownTable}
-use Rattle.stock_word.specs.declared.view.StockView.{StockView}
 use Rattle.stock_word.specs.declared.words.Consume.{Consume}
 use Rattle.stock_word.specs.declared.words.Consume.TheVariants as consumes
 use Rattle.stock_word.specs.declared.words.Credit.{Credit}
 use Rattle.stock_word.specs.declared.words.Credit.TheVariants as credits
-use Rattle.stock_word.specs.Stock.{is_held}
 use Rattle.step_rules.specs.declared.phase.Hold.TheVariants.{HeldBy, Unheld}
 use Rattle.step_rules.specs.declared.step.Action.{Action}
-use Rattle.step_rules.specs.declared.step.Action.TheVariants.{Lock, Unlock, Get as GetOf, Consume as ConsumeOf}
-use Rattle.step_rules.specs.declared.step.Action.TheVariants.{Credit as CreditOf}
+use Rattle.step_rules.specs.declared.step.Action.TheVariants.{Lock, Unlock}
 use Rattle.step_rules.specs.declared.step.Answer.{Answer}
-use Rattle.step_rules.specs.declared.step.Answer.TheVariants.{Done, Drained, Full, Held, Last, Left, Missed}
-use Rattle.step_rules.specs.declared.step.Answer.TheVariants.{Stocked, Took, Zero}
+use Rattle.step_rules.specs.declared.step.Answer.TheVariants.{Done, Full, Held, Last, Left, Missed, Zero}
 use Rattle.step_rules.specs.State.{State}
-use Rattle.step_rules.specs.Legal.{get_answer, is_legal}
+use Rattle.step_rules.specs.Legal.{is_legal}
 use Rattle.step_rules.specs.After.{after, state_of, IsLegalRun}
 use Rattle.boot_words.specs.Hidden.{hide}
 use Rattle.boot_words.specs.Sight.{HasSameLists}
-use Rattle.boot_words.specs.declared.view.Past.{Past}
-use Rattle.boot_words.specs.declared.view.BootView.{BootView}
-use Rattle.boot_words.specs.declared.view.BootView.TheVariants.{OfFrames, OfStocks, OfRun}
-use Rattle.boot_words.specs.Seating.{no_past}
+use Rattle.boot_words.specs.declared.past.Past.{Past}
+use Rattle.boot_words.specs.Runs.{no_past, GrewBy}
 use Rattle.boot_words.specs.Seats.{zone_of_boot}
-use Rattle.boot_words.specs.Allowed.{GrewBy}
 use Rattle.boot_words.specs.Held.{HoldsLock, local_seen}
 use Rattle.boot_words.specs.Locks.{LeavesFree}
 use Rattle.boot_words.specs.Growth.{SeesMore}
@@ -38,13 +31,6 @@ use Rattle.boot_words.specs.Growth.{SeesMore}
 pub record KnownPasts : Type 0 where
   pub table : TableId
   pub pasts : List Past
-
--- the pasts alone
-abbrev pub pasts_in : List BootView → List Past
-pasts_in [] = []
-pasts_in (OfFrames v ∷ views) = pasts_in views
-pasts_in (OfStocks v ∷ views) = pasts_in views
-pasts_in (OfRun p ∷ views) = p ∷ pasts_in views
 
 -- the first past; without one, that of number 0 without steps
 abbrev pub first_past : List Past → Past
@@ -67,12 +53,6 @@ pub record IsCpuPast (t : KnownTable) (s : KnownPasts) : Type 0 where
 abbrev pub MayDo : KnownTable → KnownPasts → Action → Type 0
 MayDo t s action = is_legal (state_of (zone_of_boot t) (own_past s).seen) (own_past s).number action ≡ true
 
--- the CPU has made the step, with this answer
-pub record Does (s : KnownPasts) (action : Action) (answer : Answer) (s' : KnownPasts) : Type 0 where
-  pub table_is : s'.table ≡ s.table
-  pub alone : s'.pasts ≡ own_past s' ∷ []
-  pub grew : GrewBy (own_past s) (record { seat = (own_past s).number; action = action }) answer (own_past s')
-
 -- the answer of the run's step
 abbrev pub put_said : Put → Answer
 put_said (puts.Left n) = Left n
@@ -84,33 +64,6 @@ get_said gets.Held = Held
 get_said gets.Zero = Zero
 get_said gets.Full = Full
 get_said (gets.Raced n) = Held
-
--- the run after the load of a get that found this word: a word that refuses the get is that step
-abbrev pub LooksRun : KnownPasts → ℕ → ℕ → KnownPasts → Type 0
-LooksRun s f found s' = (get_answer found ≢ Held → Does s (GetOf f) (get_answer found) s')
-    × (get_answer found ≡ Held → s' ≡ s)
-
--- the run after the exchange of a get, from the word `seen`, that found this word
-abbrev pub AddsRun : KnownPasts → ℕ → ℕ → ℕ → KnownPasts → Type 0
-AddsRun s f seen found s' = (found ≡ seen → Does s (GetOf f) Held s') × (found ≢ seen → s' ≡ s)
-
--- the run after a get: the step with its answer, but for a race, which is no step
-abbrev pub Gets : KnownPasts → ℕ → Get → KnownPasts → Type 0
-Gets s f (gets.Raced n) s' = s' ≡ s
-Gets s f answer s' = Does s (GetOf f) (get_said answer) s'
-
--- The run after a consume for g by a CPU that knew v: the step with its answer, if the CPU made an exchange. It made
--- one if the answer is Took, or Drained of a stock that it saw held last.
-abbrev pub ConsumesRun : KnownPasts → ℕ → StockView → Consume → KnownPasts → Type 0
-ConsumesRun s g v consumes.Took s' = Does s (ConsumeOf g) Took s'
-ConsumesRun s g v consumes.Empty s' = s' ≡ s
-ConsumesRun s g v consumes.OtherGroup s' = s' ≡ s
-ConsumesRun s g v consumes.Drained s' = MatchBool (is_held v.last) (Does s (ConsumeOf g) Drained s') (s' ≡ s)
-
--- the run after a credit of frame f by a CPU that knew v
-abbrev pub CreditsRun : KnownPasts → ℕ → StockView → Credit → KnownPasts → Type 0
-CreditsRun s f v credits.Stocked s' = Does s (CreditOf f) Stocked s'
-CreditsRun s f v credits.Drained s' = MatchBool (is_held v.last) (Does s (CreditOf f) Drained s') (s' ≡ s)
 
 -- ---- under the lock
 

@@ -1,48 +1,27 @@
--- The rule of one table that has all words of a boot.
-use Rattle.std.specs.Prelude.{◌≡◌, ℕ, ◌+◌, ◌*◌, ◌≤◌, ◌==◌, cond, false, List, [], ◌∷◌, map, take, drop}
-use Rattle.atomic_table.specs.Table.{State}
+-- The words of the one table, its rule, which keeps a legal run, and what each seat has seen of that run.
+use Rattle.std.specs.Prelude.{[], ◌≡◌, ℕ, ◌+◌, ◌*◌, ◌==◌, false, List, ◌∷◌, take, drop, ◌⊎◌, ◌<◌, nat_le, true, length}
 use Rattle.frame_word.specs.Totals.{total_over}
-use Rattle.frame_word.specs.declared.view.FrameView.{FrameView}
-use Rattle.frame_word.specs.ReferenceRule.{ReferenceRule}
-use Rattle.stock_word.specs.declared.view.StockView.{StockView}
-use Rattle.stock_word.specs.StockRule.{StockRule}
-use Rattle.step_rules.specs.State.{Zone}
-use Rattle.step_rules.specs.After.{Run}
+use Rattle.step_rules.specs.State.{Zone, one_if}
+use Rattle.step_rules.specs.After.{Run, state_of}
 use Rattle.step_rules.specs.Laws.{is_of_lock}
-use Rattle.boot_words.specs.Runs.{OthersFollow}
+use Rattle.boot_words.specs.Runs.{OthersFollow, IsFast}
 use Rattle.boot_words.specs.Words.{Words, IsRunOf}
-use Rattle.boot_words.specs.declared.view.Past.{Past}
-use Rattle.boot_words.specs.declared.view.BootView.{BootView}
-use Rattle.boot_words.specs.declared.view.BootView.TheVariants.{OfFrames, OfStocks, OfRun}
+use Rattle.boot_words.specs.declared.past.Past.{Past}
+use Rattle.atomic_table.specs.Table.{State as Board}
+use Rattle.step_rules.specs.Views.{holds_lock}
 
 -- The rows of the stocks come first. The first word of row 0 is one that nobody writes: seats that are parted or joined
 -- load it. The words of frames and visits follow.
 abbrev pub frame_base : Zone → ℕ
 frame_base zone = 16 * (zone.cpus + 1)
 
+-- how many words the table has
+abbrev pub word_count : Zone → ℕ
+word_count zone = frame_base zone + (zone.frames + zone.cpus)
+
 -- the words of the table, as a run's words are parted
 abbrev pub words_in : Zone → List ℕ → Words
 words_in zone words = record { frames = drop (frame_base zone) words; stocks = take (frame_base zone) words }
-
--- the views of frames alone
-abbrev pub frames_in : List BootView → List FrameView
-frames_in [] = []
-frames_in (OfFrames v ∷ views) = v ∷ frames_in views
-frames_in (OfStocks v ∷ views) = frames_in views
-frames_in (OfRun p ∷ views) = frames_in views
-
--- the views of stocks alone
-abbrev pub stocks_in : List BootView → List StockView
-stocks_in [] = []
-stocks_in (OfFrames v ∷ views) = stocks_in views
-stocks_in (OfStocks v ∷ views) = v ∷ stocks_in views
-stocks_in (OfRun p ∷ views) = stocks_in views
-
--- 1 for a past of this number, else 0
-abbrev pub past_of : ℕ → BootView → ℕ
-past_of number (OfRun p) = cond (p.number == number) 1 0
-past_of number (OfFrames v) = 0
-past_of number (OfStocks v) = 0
 
 -- nobody takes or releases the lock in the run
 abbrev pub LeavesLock : Run → Type 0
@@ -55,31 +34,45 @@ pub record IsPastOf (run : Run) (p : Past) : Type 0 where
   pub goes : OthersFollow p.number p.seen run
   pub leaves_lock : p.number ≡ 0 → LeavesLock goes.rest
 
--- a past fits the run if it is one of it
-abbrev pub FitsRun : Run → BootView → Type 0
-FitsRun run (OfRun p) = IsPastOf run p
-FitsRun run (OfFrames v) = Unit {0}
-FitsRun run (OfStocks v) = Unit {0}
-
 -- P holds of each
 abbrev pub AllOf : {A : Type 0} → (A → Type 0) → List A → Type 0
 AllOf P [] = Unit {0}
 AllOf P (x ∷ xs) = P x × AllOf P xs
 
--- P holds of each view of each seat
-abbrev pub AllViews : (BootView → Type 0) → List (List BootView) → Type 0
-AllViews P seats = AllOf (λ (views : List BootView). AllOf P views) seats
+-- no step of the run needs the lock
+abbrev pub AreFast : Run → Type 0
+AreFast [] = Unit {0}
+AreFast (e ∷ run) = IsFast e.0.action × AreFast run
 
--- There is a legal run whose state has just these words. The reference rule and the stock rule hold of their words and
--- views, each number has at most one past, and each past fits the run.
-pub record BootRule (zone : Zone) (words : List ℕ) (seats : List (List BootView)) : Type 0 where
+-- the past is the zone's, or that of a CPU which holds the lock after it
+abbrev pub HasLock : Zone → Past → Type 0
+HasLock zone p = (p.number ≡ 0) ⊎ (holds_lock p.number (state_of zone p.seen).hold ≡ true)
+
+-- The past is a beginning of the run, after which its seat made no step. After the zone's past, and after that of the
+-- CPU which holds the lock, no step needs the lock. The book that a CPU's past left fits a stock word.
+pub record BeginsRun (zone : Zone) (run : Run) (p : Past) : Type 0 where
+  pub goes : OthersFollow p.number p.seen run
+  pub fast : HasLock zone p → AreFast goes.rest
+  pub few : ((state_of zone p.seen).parts p.number).book < 65536
+
+-- how often the past counts among those of the number: once or not at all
+abbrev pub of_number : ℕ → Past → ℕ
+of_number number p = one_if (p.number == number)
+
+-- every past in every seat has P
+abbrev pub AllPasts : (Past → Type 0) → List (List Past) → Type 0
+AllPasts P seats = AllOf (λ (pasts : List Past). AllOf P pasts) seats
+
+-- There is a legal run whose state has just these words. Each book fits a stock word. The zone and each CPU have one
+-- past, and there is no other; each is a beginning of the run.
+pub record RunRule (zone : Zone) (words : List ℕ) (seats : List (List Past)) : Type 0 where
   pub run : Run
   pub is : IsRunOf zone (words_in zone words) run
-  pub frames : ReferenceRule zone.frames zone.cpus (words_in zone words).frames (map frames_in seats)
-  pub stocks : StockRule zone.cpus (words_in zone words).stocks (map stocks_in seats)
-  pub one_past : (number : ℕ) → total_over (past_of number) seats ≤ 1
-  pub fits : AllViews (FitsRun run) seats
+  pub wide : length words ≡ word_count zone
+  pub small : (cpu : ℕ) → ((state_of zone run).parts cpu).book < 65536
+  pub one_past : (number : ℕ) → total_over (of_number number) seats ≡ one_if (nat_le number zone.cpus)
+  pub fits : AllPasts (BeginsRun zone run) seats
 
 -- the rule of a table's state
-abbrev pub boot_rule : {S : Type 0} → Zone → State S (List BootView) → Type 0
-boot_rule zone s = BootRule zone s.words s.views
+abbrev pub run_rule : {S : Type 0} → Zone → Board S (List Past) → Type 0
+run_rule zone s = RunRule zone s.words s.views

@@ -1,8 +1,16 @@
 -- A run that others continue.
-use Rattle.std.specs.Prelude.{◌≡◌, ◌≢◌, ℕ, ◌==◌, ◌++◌, Bool, false, [], ◌∷◌}
+use Rattle.std.specs.Prelude.{[], ◌≡◌, ◌≢◌, ℕ, ◌==◌, ◌++◌, Bool, false, ◌∷◌, ◌+◌}
 use Rattle.step_rules.specs.declared.step.Action.{Action}
 use Rattle.step_rules.specs.declared.step.Action.TheVariants.{Get, Put, Consume, Credit, Absorb, Fill}
-use Rattle.step_rules.specs.After.{Run}
+use Rattle.step_rules.specs.After.{Run, IsLegalRun}
+use Rattle.step_rules.specs.declared.step.Step.{Step}
+use Rattle.step_rules.specs.declared.step.Answer.{Answer}
+use Rattle.step_rules.specs.State.{Zone}
+use Rattle.boot_words.specs.declared.past.Past.{Past}
+
+-- the past of a seat that has noted no step
+abbrev pub no_past : ℕ → Past
+no_past number = record { number = number; seen = [] }
 
 -- no step of the run is this seat's
 abbrev pub HasNoStepOf : ℕ → Run → Type 0
@@ -33,3 +41,15 @@ books cpu action = false
 abbrev pub BooksNothingOf : ℕ → Run → Type 0
 BooksNothingOf cpu [] = Unit {0}
 BooksNothingOf cpu (e ∷ run) = (books cpu e.0.action ≡ false) × BooksNothingOf cpu run
+
+-- the past has grown by the step with its answer, behind steps of others
+pub record GrewBy (before : Past) (step : Step) (answer : Answer) (later : Past) : Type 0 where
+  pub between : Run
+  pub others : HasNoStepOf before.number between
+  pub number : later.number ≡ before.number
+  pub seen : later.seen ≡ (before.seen ++ between) ++ (step, answer) ∷ []
+
+-- the later past is of the same seat, and a legal run
+pub record IsLegalLater (zone : Zone) (before later : Past) : Type 0 where
+  pub number : later.number ≡ before.number
+  pub legal : IsLegalRun zone later.seen

@@ -2,14 +2,15 @@
 ghost use Rattle.std.specs.Prelude.{◌≡◌, ◌+◌, ◌*◌, ◌<◌, ◌≤◌, ◌++◌, length, slice_index};
 ghost use Rattle.frame_word.specs.ReferenceRule.{visit_index};
 ghost use Rattle.stock_word.specs.declared.view.Stock.{Stock as AStock};
-ghost use Rattle.stock_word.specs.Stock.{word_of, HasWord, IsZoneView};
+ghost use Rattle.stock_word.specs.Stock.{word_of, HasWord};
 ghost use Rattle.stock_word.specs.StockRule.{report_index, stock_index};
+ghost use Rattle.boot_words.specs.Closed.{closed_words, pasts_of_cpus, HasCpuPast, IsClosedRun};
+ghost use Rattle.boot_words.specs.Pasts.{IsZonePast};
 ghost use Rattle.boot_words.specs.Rule.{AllOf};
 ghost use Rattle.boot_words.specs.Seats.{zone_of_boot};
-ghost use Rattle.boot_words.specs.Closing.{all_views_in, closed_words, views_in, AreAt, IsClosedTable};
 
-use crate::raw::{BootWords, RawSeat};
-use crate::seat::{FrameSeat, OwnSeats, PastSeat, StockSeat};
+use crate::cpu::CpuSeat;
+use crate::raw::{BootWords, PastSeat};
 use atomic_table::Closed;
 use frame_word::Frame;
 use std::alloc::Global;
@@ -27,7 +28,7 @@ impl Model for ClosedWords {
     ghost use Rattle.std.specs.Prelude.{◌≡◌};
     ghost use Rattle.std.specs.Mem.Slots.{slots_items, slots_len, IsFull};
     ghost use Rattle.frame_word.specs.Seats.{KnownWords};
-    ghost use Rattle.boot_words.specs.Seating.{word_count};
+    ghost use Rattle.boot_words.specs.Rule.{word_count};
 
     ghost Value = { KnownWords };
 
@@ -50,57 +51,36 @@ impl Drop for ClosedWords {
 }
 
 impl BootWords {
-    // One seat that has the views of these three.
-    fn merged(&self, seats: OwnSeats) -> RawSeat
-        requires { AreAt self.now.table seats }
-        ensures { result ≡ record { table = self.now.table; views = views_in seats } }
+    // The zone's seat takes in the pasts of all CPUs.
+    fn gather(&self, zone: &mut PastSeat, cpus: Vec<CpuSeat>)
+        requires zone { zone.old.table ≡ self.now.table }
+        requires cpus { AllOf (HasCpuPast self.now) cpus.items }
+        ensures { zone.new ≡ record { table = self.now.table; pasts = zone.old.pasts ++ pasts_of_cpus cpus.items } }
     {
-        let OwnSeats {
-            past,
-            frames,
-            stocks,
-        } = seats;
-        let PastSeat { mut raw } = past;
-        let FrameSeat {
-            raw: mut frames,
-            number: _,
-        } = frames;
-        let StockSeat {
-            raw: mut stocks,
-            number: _,
-            last: _,
-        } = stocks;
-        self.join(&mut raw, &mut frames);
-        self.join(&mut raw, &mut stocks);
-        raw
-    }
-
-    // Joins all seats into one.
-    fn gather(&self, all: &mut RawSeat, seats: Vec<OwnSeats>)
-        requires table { all.old.table ≡ self.now.table }
-        requires seats { AllOf (AreAt self.now.table) seats.items }
-        ensures { all.new ≡ record { table = self.now.table; views = all.old.views ++ all_views_in seats.items } }
-    {
-        for seat in seats {
-            let mut raw = self.merged(seat);
-            self.join(all, &mut raw);
+        for cpu in cpus {
+            let CpuSeat {
+                mut past,
+                number: _,
+                last: _,
+            } = cpu;
+            self.join(zone, &mut past);
         }
     }
 
-    /// Ends the table with all its seats, those of the CPUs in any order. There is one legal run whose last state has
-    /// just the final words, and each seat's past is a beginning of it. No page was lost or made.
-    pub fn close(self, zone: OwnSeats, cpus: Vec<OwnSeats>) -> ClosedWords
-        requires zone { AreAt self.table zone × IsZoneView zone.stocks.view }
-        requires cpus { AllOf (AreAt self.table) cpus.items × (length cpus.items ≡ self.cpus) }
+    /// Ends the table with all its seats, those of the CPUs in any order. There is one legal run whose state has just the
+    /// final words, and each seat's past is a beginning of it.
+    pub fn close(self, zone: PastSeat, cpus: Vec<CpuSeat>) -> ClosedWords
+        requires zone { IsZonePast self zone }
+        requires cpus { AllOf (HasCpuPast self) cpus.items × (length cpus.items ≡ self.cpus) }
         ensures sizes { (result.frames ≡ self.frames) × (result.cpus ≡ self.cpus) }
-        ensures end { IsClosedTable (zone_of_boot self) result.words zone cpus.items }
+        ensures end { IsClosedRun (zone_of_boot self) result.words (zone.pasts ++ pasts_of_cpus cpus.items) }
     {
         let frames = self.frames();
         let count = self.cpus();
-        let mut raw = self.merged(zone);
-        self.gather(&mut raw, cpus);
+        let mut zone = zone;
+        self.gather(&mut zone, cpus);
         ClosedWords {
-            closed: self.end(raw),
+            closed: self.end(zone),
             frames,
             cpus: count,
         }

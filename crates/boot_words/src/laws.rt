@@ -1,39 +1,24 @@
-//! Laws: each function's `ensures` clause says that the rule of the one table allows an atomic step.
+//! The reference rule and the stock rule, as laws of the rule that keeps the run.
+ghost use Rattle.boot_words.specs.Laws.{NeverZero, NoGroupNothingFresh, ReferenceRuleFollows, StockRuleFollows};
 
-ghost use Rattle.boot_words.specs.Allowed.{AddIsAllowed, ConsumeIsAllowed, CreditIsAllowed, LookIsAllowed, PutIsAllowed};
-ghost use Rattle.boot_words.specs.Own.{OwnPartFollows};
-
-/// A CPU's step without the lock changes its own lists and references as if it were made right behind its last step.
-pub fn own_part_follows()
-    ensures { OwnPartFollows }
+/// The reference rule of `frame_word` holds of the words of frames and visits, and of what the pasts of all seats show:
+/// references, hands, lent frames, hand-overs begun and ended, open visits.
+pub fn the_reference_rule_follows()
+    ensures { ReferenceRuleFollows }
 {}
 
-/// A put that is legal at the CPU's own last step is allowed, and the run grows by it with the answer that the word
-/// decides.
-pub fn a_put_is_allowed<S>()
-    ensures { PutIsAllowed S }
+/// The stock rule of `stock_word` holds of the words of stocks and reports, and of what the pasts of all seats show: stocks,
+/// fresh and reported pages, books.
+pub fn the_stock_rule_follows()
+    ensures { StockRuleFollows }
 {}
 
-/// The load of a get that is legal at the CPU's own last step is allowed. If the word refuses the get, the run grows by
-/// it, with the answer that the word decides.
-pub fn a_look_is_allowed<S>()
-    ensures { LookIsAllowed S }
+/// A CPU that has a reference on the frame never gets Zero.
+pub fn never_zero()
+    ensures { NeverZero }
 {}
 
-/// The exchange of a get that is legal at the CPU's own last step is allowed. If it finds the word that it expects, the
-/// run grows by a get answered Held.
-pub fn an_add_is_allowed<S>()
-    ensures { AddIsAllowed S }
-{}
-
-/// The exchange of a consume that is legal at the CPU's own last step is allowed. The run grows by the consume, answered
-/// Took if the exchange finds the word that it expects, else Drained.
-pub fn a_consume_is_allowed<S>()
-    ensures { ConsumeIsAllowed S }
-{}
-
-/// The exchange of a credit that is legal at the CPU's own last step is allowed. The run grows by the credit, answered
-/// Stocked if the exchange finds the word that it expects, else Drained.
-pub fn a_credit_is_allowed<S>()
-    ensures { CreditIsAllowed S }
+/// A CPU that saw a stock of no group last has no fresh frame.
+pub fn no_group_nothing_fresh()
+    ensures { NoGroupNothingFresh }
 {}

@@ -1,43 +1,39 @@
-//! One table for all words of a boot, whose rule holds a legal run of steps between any two atomic steps, and the laws that
-//! tie such a run to the words.
+//! One table for all words of a boot, whose rule keeps a legal run of steps: its state has just these words. A seat knows a
+//! past, a beginning of that run, and nothing else.
 //!
 //! The layout: a row of sixteen words for the zone and for each CPU, then a word for each frame, then one for each CPU's
 //! visit. Nobody writes the first word of the zone's row. A CPU's row begins with its stock and its report.
 //!
 //! Some terms of the contracts:
 //!
-//! - A seat is the right to make steps. The zone and each CPU have one for frames, one for stocks and one for the past.
+//! - A seat is the right to make steps. The zone and each CPU have one.
 //! - A past is a beginning of the run, after which its owner made no step.
-//! - The lock is held if the zone's past seat has the past of a CPU too (`IsHeld`). An argument `held` is that seat, and
-//!   an argument `zone` is the zone's seat of frames or stocks.
+//! - The lock is held if the zone's seat has the past of a CPU too (`IsHeld`). An argument `held` is that seat.
+//! - A CPU is away if it doesn't hold the lock (`IsAwayCpu`). An argument `cpu` is its seat.
 //!
-//! The modules `growth`, `held`, `laws`, `locks`, `looks`, `run_laws` and `seating` have no code that runs: each of their
-//! functions is a law.
+//! The modules `growth`, `laws` and `run_laws` have no code that runs: each of their functions is a law.
 #![tactic(auto)]
 
 mod closed;
+mod cpu;
 pub mod growth;
-mod hand_over;
-pub mod held;
 pub mod laws;
 mod lending;
 mod lock;
-pub mod locks;
-pub mod looks;
+mod looks;
+mod meeting;
+mod noting;
 mod opening;
+mod past;
 mod raw;
 mod references;
 pub mod run_laws;
-mod seat;
-pub mod seating;
-mod stocks;
 mod taking_back;
-mod view;
 mod word;
 mod zone_frames;
 mod zone_stocks;
 
 pub use closed::ClosedWords;
-pub use raw::BootWords;
-pub use seat::{FrameSeat, OwnSeats, PastSeat, StockSeat};
-pub use view::{BootView, Past};
+pub use cpu::CpuSeat;
+pub use past::Past;
+pub use raw::{BootWords, PastSeat};

@@ -1,15 +1,14 @@
-//! The table and its raw seats. All atomic steps are made here, and each tells what its caller asks by `Telling`. What
-//! a caller can ask is what the rule allows of the step (`MayStep`).
+//! The atomic table, its words and the pasts of its seats. Each access to a word is here. A caller names by `Telling` a
+//! fact that it wants to know afterwards, and proves by `MayChange` that the rule lets the access bring it about.
 ghost use Rattle.std.specs.Prelude.{◌≡◌, ◌≤◌, ◌+◌, ◌-◌, ◌%◌, ◌^◌, ◌<◌, ◌==◌, ◌++◌, [], IfOk, MatchOption};
 ghost use Rattle.std.specs.Mem.Slots.{slots_items, slots_len, IsFull};
 ghost use prog.Atomic.{either};
-ghost use Rattle.boot_words.specs.Rule.{boot_rule};
-ghost use Rattle.boot_words.specs.Seating.{all_views, word_count, IsEndOf};
-ghost use Rattle.boot_words.specs.Seats.{zone_of_boot, index_of, HasPlace, MayStep, rest_of_views, first_view_alone};
-ghost use Rattle.boot_words.specs.Seats.{but_last};
-ghost use Rattle.boot_words.specs.Seats.{last_alone};
+ghost use Rattle.boot_words.specs.Rule.{word_count, run_rule};
+ghost use Rattle.boot_words.specs.Seats.{zone_of_boot};
+ghost use Rattle.boot_words.specs.Closed.{IsEndOfRun};
+ghost use Rattle.boot_words.specs.Seats.{all_pasts, first_alone, word_place, rest_of, IsInTable, MayChange};
 
-use crate::view::BootView;
+use crate::past::Past;
 use crate::word::Word;
 use atomic_table::{Closed, Join, Play, Seat, Split, Table, TableRule};
 use frame_word::Frame;
@@ -18,86 +17,77 @@ use std::collections::LinkedList;
 use std::marker::{Brand, Model, PhantomData};
 use std::mem;
 
-/// A seat's views: one, several while seats are joined, none if it is empty.
-pub(crate) type Views = LinkedList<BootView>;
+/// The pasts of a seat: its own, or none while that is with the zone's seat.
+pub(crate) type Pasts = LinkedList<Past>;
 
-/// How many frames and CPUs a table has. It is fixed when the table is made.
+/// The numbers of frames and CPUs, for the table's whole life.
 #[derive(Clone, Copy)]
 pub struct Sizes {
     pub frames: u32,
     pub cpus: u32,
 }
 
-/// The rule of the table, between any two steps.
+/// What holds of the table before and after each access.
 pub struct OneRun;
 
-impl TableRule<(), Views, Sizes> for OneRun {
-    ghost holds = { λ key. boot_rule (record { frames = key.frames; cpus = key.cpus }) };
+impl TableRule<(), Pasts, Sizes> for OneRun {
+    ghost holds = { λ key. run_rule (record { frames = key.frames; cpus = key.cpus }) };
 
-    ghost first = { λ key. all_views (record { frames = key.frames; cpus = key.cpus }) };
+    ghost first = { λ key. all_pasts key.cpus };
 }
 
-/// What a step tells its caller of the word found and of the seat's views afterwards. Each call picks it.
+/// A fact that an access tells its caller, about the word that it found and the pasts that the seat has then.
 pub trait Telling {
     ghost use Rattle.std.specs.Prelude.{ℕ, List};
-    ghost use Rattle.boot_words.specs.declared.view.BootView.{BootView};
+    ghost use Rattle.boot_words.specs.declared.past.Past.{Past};
 
-    ghost told: { ℕ → List BootView → Type 0 };
+    ghost told: { ℕ → List Past → Type 0 };
 }
 
 impl Telling for Brand {
-    ghost told = { λ found views. Unit {0} };
+    ghost told = { λ found pasts. Unit {0} };
 }
 
 pub(crate) struct Tells<M: Telling> {
     of: PhantomData<M>,
 }
 
-impl<M: Telling> Play<(), Views> for Tells<M> {
+impl<M: Telling> Play<(), Pasts> for Tells<M> {
     ghost then = { λ step before found later. (later.1 ≡ []) × M.told found later.0 };
 }
 
-// The first view goes to a seat of its own.
-struct First;
+// Parts the first past from the rest.
+struct Others;
 
-impl Split<Views> for First {
-    ghost left = { rest_of_views };
+impl Split<Pasts> for Others {
+    ghost left = { first_alone };
 
-    ghost right = { first_view_alone };
+    ghost right = { rest_of };
 }
 
-// The last view goes to a seat of its own.
-struct Last;
-
-impl Split<Views> for Last {
-    ghost left = { but_last };
-
-    ghost right = { last_alone };
-}
-
-// An empty seat beside a seat that keeps its views.
+// Parts nothing off: the new seat is empty.
 struct Nothing;
 
-impl Split<Views> for Nothing {
-    ghost left = { λ views. views };
+impl Split<Pasts> for Nothing {
+    ghost left = { λ pasts. pasts };
 
-    ghost right = { λ views. [] };
+    ghost right = { λ pasts. [] };
 }
 
-// One seat gets both seats' views, and the other is empty.
+// All pasts go to the first seat.
 struct Both;
 
-impl Join<Views> for Both {
-    ghost both = { λ views taken. views ++ taken };
+impl Join<Pasts> for Both {
+    ghost both = { λ pasts taken. pasts ++ taken };
 
     ghost spent = { [] };
 }
 
-/// All words of a boot: the frames', the visits' and the stocks'. A contract sees which table it is and how many frames
-/// and CPUs it has. Threads share it by `&`; no call waits.
+/// The atomic words of a boot: one of each frame, and two of each CPU, for its stock and its visit. CPUs share it by
+/// `&`, and none waits in a call. A contract sees the table's identity and its numbers of frames and CPUs.
 #[derive(Drop)]
 pub struct BootWords {
-    table: Table<(), Views, Sizes, OneRun, Global>,
+    table: Table<(), Pasts, Sizes, OneRun, Global>,
     frames: u32,
     cpus: u32,
 }
@@ -115,21 +105,22 @@ impl Model for BootWords {
         w.frames w.cpus };
 }
 
-/// A seat at the table, without what the public seats store beside it.
+/// A seat of the table, which a contract sees as its pasts. The zone's seat has two while a CPU holds the lock: its own
+/// and the CPU's.
 #[derive(Drop)]
-pub(crate) struct RawSeat {
-    seat: Seat<(), Views>,
+pub struct PastSeat {
+    seat: Seat<(), Pasts>,
 }
 
-impl Model for RawSeat {
+impl Model for PastSeat {
     ghost use Rattle.std.specs.Prelude.{◌≡◌, []};
-    ghost use Rattle.boot_words.specs.Seats.{KnownBootSeat};
+    ghost use Rattle.boot_words.specs.Pasts.{KnownPasts};
 
-    ghost Value = { KnownBootSeat };
+    ghost Value = { KnownPasts };
 
-    ghost view = { λ raw. record { table = raw.seat.table_id; views = raw.seat.me.0 } };
+    ghost view = { λ s. record { table = s.seat.table_id; pasts = s.seat.me.0 } };
 
-    ghost invariant = { λ raw. raw.seat.me.1 ≡ [] };
+    ghost invariant = { λ s. s.seat.me.1 ≡ [] };
 }
 
 impl BootWords {
@@ -159,11 +150,11 @@ impl BootWords {
         }
     }
 
-    // The place of a word in the table. A CPU's row has sixteen words, so that no two CPUs' share a cache line.
+    // Where the word is. Stock words are sixteen words apart, so each has a cache line to itself.
     #[inline(always)]
     fn index(&self, word: Word) -> usize
-        requires { HasPlace (zone_of_boot self.now) word }
-        ensures { result ≡ index_of (zone_of_boot self.now) word }
+        requires { IsInTable (zone_of_boot self.now) word }
+        ensures { result ≡ word_place (zone_of_boot self.now) word }
     {
         let base = 16 * (self.cpus as usize + 1);
         match word {
@@ -176,128 +167,115 @@ impl BootWords {
 
     /// Reads a word.
     #[inline(always)]
-    pub(crate) fn load<M: Telling>(&self, raw: &mut RawSeat, word: Word) -> u64
-        requires table { raw.old.table ≡ self.now.table }
-        requires place { HasPlace (zone_of_boot self.now) word }
-        requires may { MayStep (zone_of_boot self.now) raw.old.views word (λ n. n) M.told }
-        ensures table { raw.new.table ≡ raw.old.table }
-        ensures told { M.told result raw.new.views }
+    pub(crate) fn load<M: Telling>(&self, seat: &mut PastSeat, word: Word) -> u64
+        requires table { seat.old.table ≡ self.now.table }
+        requires place { IsInTable (zone_of_boot self.now) word }
+        requires may { MayChange (zone_of_boot self.now) seat.old.pasts word (λ n. n) M.told }
+        ensures table { seat.new.table ≡ seat.old.table }
+        ensures told { M.told result seat.new.pasts }
     {
         let at = self.index(word);
-        self.table.shared.load::<Tells<M>>(&mut raw.seat, at)
+        self.table.shared.load::<Tells<M>>(&mut seat.seat, at)
     }
 
     /// Stores a word.
     #[inline(always)]
-    pub(crate) fn store<M: Telling>(&self, raw: &mut RawSeat, word: Word, new: u64)
-        requires table { raw.old.table ≡ self.now.table }
-        requires place { HasPlace (zone_of_boot self.now) word }
-        requires may { MayStep (zone_of_boot self.now) raw.old.views word (λ n. new) (λ found. M.told new) }
-        ensures table { raw.new.table ≡ raw.old.table }
-        ensures told { M.told new raw.new.views }
+    pub(crate) fn store<M: Telling>(&self, seat: &mut PastSeat, word: Word, new: u64)
+        requires table { seat.old.table ≡ self.now.table }
+        requires place { IsInTable (zone_of_boot self.now) word }
+        requires may { MayChange (zone_of_boot self.now) seat.old.pasts word (λ n. new) (λ found. M.told new) }
+        ensures table { seat.new.table ≡ seat.old.table }
+        ensures told { M.told new seat.new.pasts }
     {
         let at = self.index(word);
-        self.table.shared.store::<Tells<M>>(&mut raw.seat, at, new);
+        self.table.shared.store::<Tells<M>>(&mut seat.seat, at, new);
     }
 
-    /// Stores a word and returns what it was.
+    /// Stores a word, and returns the one that was there.
     #[inline(always)]
-    pub(crate) fn swap<M: Telling>(&self, raw: &mut RawSeat, word: Word, new: u64) -> u64
-        requires table { raw.old.table ≡ self.now.table }
-        requires place { HasPlace (zone_of_boot self.now) word }
-        requires may { MayStep (zone_of_boot self.now) raw.old.views word (λ n. new) M.told }
-        ensures table { raw.new.table ≡ raw.old.table }
-        ensures told { M.told result raw.new.views }
+    pub(crate) fn swap<M: Telling>(&self, seat: &mut PastSeat, word: Word, new: u64) -> u64
+        requires table { seat.old.table ≡ self.now.table }
+        requires place { IsInTable (zone_of_boot self.now) word }
+        requires may { MayChange (zone_of_boot self.now) seat.old.pasts word (λ n. new) M.told }
+        ensures table { seat.new.table ≡ seat.old.table }
+        ensures told { M.told result seat.new.pasts }
     {
         let at = self.index(word);
-        self.table.shared.swap::<Tells<M>>(&mut raw.seat, at, new)
+        self.table.shared.swap::<Tells<M>>(&mut seat.seat, at, new)
     }
 
-    /// Stores `new` if the word is `old`, and returns what it was.
+    /// Stores `new` if `old` is there. Either way it returns the word that was there.
     #[inline(always)]
     pub(crate) fn exchange<M: Telling>(
         &self,
-        raw: &mut RawSeat,
+        seat: &mut PastSeat,
         word: Word,
         old: u64,
         new: u64,
     ) -> u64
-        requires table { raw.old.table ≡ self.now.table }
-        requires place { HasPlace (zone_of_boot self.now) word }
-        requires may { MayStep (zone_of_boot self.now) raw.old.views word (λ n. either (n == old) new n) M.told }
-        ensures table { raw.new.table ≡ raw.old.table }
-        ensures told { M.told result raw.new.views }
+        requires table { seat.old.table ≡ self.now.table }
+        requires place { IsInTable (zone_of_boot self.now) word }
+        requires may { MayChange (zone_of_boot self.now) seat.old.pasts word (λ n. either (n == old) new n) M.told }
+        ensures table { seat.new.table ≡ seat.old.table }
+        ensures told { M.told result seat.new.pasts }
     {
         let at = self.index(word);
         self.table
             .shared
-            .compare_exchange::<Tells<M>>(&mut raw.seat, at, old, new)
+            .compare_exchange::<Tells<M>>(&mut seat.seat, at, old, new)
     }
 
-    /// Takes one off a word and returns what it was.
+    /// Subtracts one, and returns the word that was there.
     #[inline(always)]
-    pub(crate) fn take_one<M: Telling>(&self, raw: &mut RawSeat, word: Word) -> u64
-        requires table { raw.old.table ≡ self.now.table }
-        requires place { HasPlace (zone_of_boot self.now) word }
-        requires may { MayStep (zone_of_boot self.now) raw.old.views word (λ n. (n + (2 ^ 64 - 1)) % 2 ^ 64) M.told }
-        ensures table { raw.new.table ≡ raw.old.table }
-        ensures told { M.told result raw.new.views }
+    pub(crate) fn take_one<M: Telling>(&self, seat: &mut PastSeat, word: Word) -> u64
+        requires table { seat.old.table ≡ self.now.table }
+        requires place { IsInTable (zone_of_boot self.now) word }
+        requires may { MayChange (zone_of_boot self.now) seat.old.pasts word (λ n. (n + (2 ^ 64 - 1)) % 2 ^ 64) M.told }
+        ensures table { seat.new.table ≡ seat.old.table }
+        ensures told { M.told result seat.new.pasts }
     {
         let at = self.index(word);
         self.table
             .shared
-            .fetch_sub::<Tells<M>>(&mut raw.seat, at, 1)
+            .fetch_sub::<Tells<M>>(&mut seat.seat, at, 1)
     }
 
-    /// The seat takes in all views of the other, which is empty then.
+    /// Moves all pasts of `other` to `seat`.
     #[inline(always)]
-    pub(crate) fn join(&self, raw: &mut RawSeat, other: &mut RawSeat)
-        requires tables { (raw.old.table ≡ self.now.table) × (other.old.table ≡ self.now.table) }
-        ensures raw { raw.new ≡ record { table = self.now.table; views = raw.old.views ++ other.old.views } }
-        ensures other { other.new ≡ record { table = self.now.table; views = [] } }
+    pub(crate) fn join(&self, seat: &mut PastSeat, other: &mut PastSeat)
+        requires tables { (seat.old.table ≡ self.now.table) × (other.old.table ≡ self.now.table) }
+        ensures seat { seat.new ≡ record { table = self.now.table; pasts = seat.old.pasts ++ other.old.pasts } }
+        ensures other { other.new ≡ record { table = self.now.table; pasts = [] } }
     {
-        let empty = RawSeat {
-            seat: self.table.shared.split_seat::<Nothing>(&mut raw.seat),
+        let empty = PastSeat {
+            seat: self.table.shared.split_seat::<Nothing>(&mut seat.seat),
         };
-        let RawSeat { seat } = mem::replace(other, empty);
-        self.table.shared.join_seat::<Both>(&mut raw.seat, seat);
+        let PastSeat { seat: taken } = mem::replace(other, empty);
+        self.table.shared.join_seat::<Both>(&mut seat.seat, taken);
     }
 
-    /// The seat's first view, in a seat of its own.
+    /// Moves all pasts of `seat` but the first to a new seat.
     #[inline(always)]
-    pub(crate) fn split_first(&self, raw: &mut RawSeat) -> RawSeat
-        requires table { raw.old.table ≡ self.now.table }
-        ensures rest { raw.new ≡ record { table = self.now.table; views = rest_of_views raw.old.views } }
-        ensures first { result ≡ record { table = self.now.table; views = first_view_alone raw.old.views } }
+    pub(crate) fn split_others(&self, seat: &mut PastSeat) -> PastSeat
+        requires table { seat.old.table ≡ self.now.table }
+        ensures seat { seat.new ≡ record { table = self.now.table; pasts = first_alone seat.old.pasts } }
+        ensures others { result ≡ record { table = self.now.table; pasts = rest_of seat.old.pasts } }
     {
-        RawSeat {
-            seat: self.table.shared.split_seat::<First>(&mut raw.seat),
+        PastSeat {
+            seat: self.table.shared.split_seat::<Others>(&mut seat.seat),
         }
     }
 
-    /// The seat's last view goes to the other seat, whose own views end here.
-    #[inline(always)]
-    pub(crate) fn split_last(&self, raw: &mut RawSeat, last: &mut RawSeat)
-        requires table { raw.old.table ≡ self.now.table }
-        ensures rest { raw.new ≡ record { table = self.now.table; views = but_last raw.old.views } }
-        ensures last { last.new ≡ record { table = self.now.table; views = last_alone raw.old.views } }
-    {
-        *last = RawSeat {
-            seat: self.table.shared.split_seat::<Last>(&mut raw.seat),
-        };
-    }
-
-    /// A table of zeros, and one seat that has all views.
+    /// A table of zeros, and one seat that has all pasts.
     pub(crate) fn start(
         alloc: Global,
         frames: u32,
         cpus: u32,
-    ) -> Result<(BootWords, RawSeat), AllocError>
+    ) -> Result<(BootWords, PastSeat), AllocError>
         requires frames { 1 ≤ frames }
         requires cpus { (1 ≤ cpus) × (cpus ≤ 64) }
         ensures sizes { IfOk result (λ r. (r.0.frames ≡ frames) × (r.0.cpus ≡ cpus)) }
-        ensures all { IfOk result (λ r. r.1
-            ≡ record { table = r.0.table; views = all_views (record { frames = frames; cpus = cpus }) }) }
+        ensures all { IfOk result (λ r. r.1 ≡ record { table = r.0.table; pasts = all_pasts cpus }) }
     {
         let rows = 16 * (cpus as usize + 1);
         let words = vec![in alloc; 0u64; rows + (frames as usize + cpus as usize)]?;
@@ -308,22 +286,22 @@ impl BootWords {
             frames,
             cpus,
         };
-        Ok((words, RawSeat { seat }))
+        Ok((words, PastSeat { seat }))
     }
 
-    /// Ends the table. The rule holds of its words, and `raw` is one of its seats.
-    pub(crate) fn end(self, raw: RawSeat) -> Closed<(), Global>
-        requires { raw.table ≡ self.table }
+    /// Ends the table, of which `seat` is one seat.
+    pub(crate) fn end(self, seat: PastSeat) -> Closed<(), Global>
+        requires { seat.table ≡ self.table }
         ensures counts { (slots_len result.words ≡ word_count (zone_of_boot self)) × (slots_len result.slots ≡ 0) }
         ensures full { IsFull result.words }
-        ensures end { IsEndOf (zone_of_boot self) (slots_items result.words) (slots_items result.slots) raw.views }
+        ensures end { IsEndOfRun (zone_of_boot self) (slots_items result.words) seat.pasts }
     {
         let BootWords {
             table,
             frames: _,
             cpus: _,
         } = self;
-        let RawSeat { seat } = raw;
+        let PastSeat { seat } = seat;
         table.close_with(seat)
     }
 }

@@ -1,5 +1,7 @@
 //! Laws: each function's `ensures` clause is a statement about all legal runs.
 
+ghost use Rattle.boot_words.specs.Locks.{ZoneRests};
+ghost use Rattle.boot_words.specs.Own.{OwnPartFollows};
 ghost use Rattle.boot_words.specs.Sight.{AwayStays, FastIsHidden, FastLegalityLasts, FrontsPassBack, HolderGoesOn};
 ghost use Rattle.boot_words.specs.Sight.{HolderSeesBoth, ListsAreOwn, NoneBooked, StocksAreOwn};
 ghost use Rattle.boot_words.specs.Steps.{ABootHasWords, PlainStepsKeepWords, WordsFollow};
@@ -66,4 +68,14 @@ pub fn fronts_pass_back()
 /// Nothing is booked for a CPU without fresh, unreported and reported pages whose stock was drained or never filled.
 pub fn none_booked()
     ensures { NoneBooked }
+{}
+
+/// A CPU's step without the lock changes its own lists and references as if it were made right after its last step.
+pub fn own_part_follows()
+    ensures { OwnPartFollows }
+{}
+
+/// While nobody holds the lock, nothing changes but each CPU's own lists, fresh and back frames, and references.
+pub fn the_zone_rests()
+    ensures { ZoneRests }
 {}

@@ -2,7 +2,7 @@
 use Rattle.std.proofs.Common.{◌≡◌, ℕ, ◌+◌, ◌<◌, ◌==◌, List, [], ◌∷◌, length, get_or, sym, refl, ap, ◌∙◌, subst, arith}
 use Rattle.std.proofs.lemmas.List.Sums.{sum_by-cons}
 use Rattle.std.proofs.lemmas.List.{get_or_default}
-use Rattle.std.proofs.lemmas.List.Sorted.{sum_by-IsPermutation, IsPermutation-remove, IsPermutation-swap_remove}
+use Rattle.std.proofs.lemmas.List.Sorted.{length_permutation, sum_by-IsPermutation, IsPermutation-remove, IsPermutation-swap_remove}
 use Rattle.std.specs.Prelude.{remove, sum_by, IsPermutation}
 use Rattle.std.specs.List.{swap_remove}
 use Rattle.step_rules.specs.State.{one_if, times}
@@ -31,3 +31,6 @@ taken_out f i xs inside is = IsPermutation-remove xs i f inside (sym (get_or_def
 pub front_removed : (x : ℕ) (xs rest : List ℕ) → 0 < length xs → x ≡ get_or xs 0 x → rest ≡ remove xs 0 → xs ≡ x ∷ rest
 front_removed x [] rest some is left = absurd (omega arith)
 front_removed x (y ∷ ys) rest some is left = λ i. sym is i ∷ sym left i
+
+pub one_shorter : (f : ℕ) (xs ys : List ℕ) → IsPermutation xs (f ∷ ys) → length xs ≡ length ys + 1
+one_shorter f xs ys same = let e = length_permutation xs (f ∷ ys) same in omega (arith, e)

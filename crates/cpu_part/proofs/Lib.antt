@@ -1,8 +1,9 @@
 pub mod Counts
-pub mod Notes
-pub mod Tied
-pub mod Answered
-pub mod CallerLemmas
-pub mod Making
+pub mod Owning
+pub mod Legal
 pub mod Knowing
+pub mod Unlisted
 pub mod Telling
+pub mod Making
+pub mod Passing
+pub mod CallerLemmas

@@ -1,35 +1,61 @@
--- The steps that the answer of a fast call tells of are those by which the past grew.
-use Rattle.std.proofs.Common.{◌≡◌, ℕ, Bool, true, false, [], refl, ap, subst}
-use Rattle.std.specs.Prelude.{MatchBool, Ok, if◌then◌else◌}
+-- The steps that the answer of a fast call tells of are those by which the CPU's past grew.
+use Rattle.std.proofs.Common.{◌≡◌, ◌≢◌, ℕ, Bool, true, false, [], refl, ap, sym, ◌∙◌, subst}
+use Rattle.std.specs.Prelude.{MatchBool, Result, Err, Ok, if◌then◌else◌}
 use Rattle.frame_word.specs.declared.answers.Get as gets
 use Rattle.frame_word.specs.declared.answers.Get.TheVariants as get
+use Rattle.frame_word.specs.Seats.{KnownTable}
+use Rattle.group_tree.specs.declared.fault.Fault.{Fault}
+use Rattle.stock_word.specs.Stock.{drained_of, is_held}
 use Rattle.step_rules.specs.declared.step.Action.{Action}
 use Rattle.step_rules.specs.declared.step.Answer.{Answer}
-use Rattle.boot_words.specs.Allowed.{GrewBy}
+use Rattle.step_rules.specs.declared.step.Answer.TheVariants.{Drained}
+use Rattle.boot_words.specs.Runs.{GrewBy}
 use Rattle.boot_words.specs.Growth.{GrewByAll}
-use Rattle.boot_words.specs.Pasts.{KnownPasts, own_past, Does, Gets}
+use Rattle.boot_words.specs.Pasts.{KnownPasts, own_past}
+use Rattle.boot_words.specs.Seats.{zone_of_boot}
+use Rattle.boot_words.specs.Calls.{CpuMakes, GetsReference, RacesAt}
+use Rattle.boot_words.specs.Cpus.{Exchanges, KnownCpuSeat}
+use Rattle.cpu_part.specs.Calls.{IfRaced, PinAnswers}
+use Rattle.cpu_part.specs.Cpus.{KnownCpu}
+use Rattle.cpu_part.specs.Known.{KnowsItsPart}
 use Rattle.cpu_part.specs.Told.{one_step, steps_of_get}
 
-module _ (past later : KnownPasts) (q : ℕ) (named : (own_past past).number ≡ q) where
-  pub told_one : (action : Action) (answer : Answer) → Does past action answer later
-      → GrewByAll (own_past past) (one_step q action answer) (own_past later)
-  told_one action answer does = (
-    own_past later,
-    subst (λ (n : ℕ). GrewBy (own_past past) (record { seat = n; action = action }) answer (own_past later)) named does.grew,
+module _ (t : KnownTable) (k : KnownCpuSeat) (c : KnownCpu) (knows : KnowsItsPart t k c) where
+  pub told_one : (action : Action) (answer : Answer) (s : KnownPasts) → CpuMakes t k.seat action answer s
+      → GrewByAll (own_past k.seat) (one_step c.number action answer) (own_past s)
+  told_one action answer s made = (
+    own_past s,
+    subst (λ (n : ℕ). GrewBy (own_past k.seat) (record { seat = n; action = action }) answer (own_past s)) (sym knows.is.number ∙ knows.number) made.grew,
     refl,
   )
 
-  pub told_none : later ≡ past → GrewByAll (own_past past) [] (own_past later)
-  told_none same = ap own_past same
+  -- the stock was found drained: a step if it was held when the CPU saw it last
+  pub told_drained : (action : Action) (l : KnownCpuSeat) → MatchBool (is_held k.last) (Exchanges t k action Drained (drained_of k.last) l) (l ≡ k)
+      → GrewByAll (own_past k.seat) (if is_held k.last then one_step c.number action Drained else []) (own_past l.seat)
+  told_drained action l told = by (is_held k.last) told
+    where
+      by : (b : Bool) → MatchBool b (Exchanges t k action Drained (drained_of k.last) l) (l ≡ k)
+          → GrewByAll (own_past k.seat) (if b then one_step c.number action Drained else []) (own_past l.seat)
+      by true made = told_one action Drained l.seat made.makes
+      by false same = ap (λ (x : KnownCpuSeat). own_past x.seat) same
 
-  pub told_if : (b : Bool) (action : Action) (answer : Answer) → MatchBool b (Does past action answer later) (later ≡ past)
-      → GrewByAll (own_past past) (if b then one_step q action answer else []) (own_past later)
-  told_if true action answer does = told_one action answer does
-  told_if false action answer same = told_none same
+  pub told_get : (f : ℕ) (answer : gets.Get) (s : KnownPasts) → GetsReference t k.seat f answer s → GrewByAll (own_past k.seat) (steps_of_get c.number f (Ok answer)) (own_past s)
+  told_get f get.Held s made = told_one _ _ s made
+  told_get f get.Zero s made = told_one _ _ s made
+  told_get f get.Full s made = told_one _ _ s made
+  told_get f (get.Raced n) s raced = ap own_past raced.0
 
-  pub told_get : (f : ℕ) (answer : gets.Get) → Gets past f answer later
-      → GrewByAll (own_past past) (steps_of_get q f (Ok answer)) (own_past later)
-  told_get f get.Held does = told_one _ _ does
-  told_get f get.Zero does = told_one _ _ does
-  told_get f get.Full does = told_one _ _ does
-  told_get f (get.Raced n) same = told_none same
+  -- an answer that adds no pin
+  pub not_pinned : (f : ℕ) (answer : gets.Get) (s : KnownPasts) → answer ≢ get.Held → GetsReference t k.seat f answer s
+      → PinAnswers f answer c c × IfRaced answer (RacesAt (zone_of_boot t) (own_past k.seat) f)
+  not_pinned f get.Held s not made = absurd (not refl)
+  not_pinned f get.Zero s not made = (refl, tt)
+  not_pinned f get.Full s not made = (refl, tt)
+  not_pinned f (get.Raced n) s not raced = (refl, raced.1)
+
+abbrev answer_in : Result gets.Get Fault → gets.Get
+answer_in (Ok answer) = answer
+answer_in (Err fault) = get.Zero
+
+pub same_answer : (answer other : gets.Get) → ◌≡◌ {A = Result gets.Get Fault} (Ok answer) (Ok other) → answer ≡ other
+same_answer answer other same = ap answer_in same

@@ -4,7 +4,6 @@ ghost use Rattle.std.specs.VecDeque.{deque_capacity};
 ghost use Rattle.cpu_part.specs.Cpus.{HasRoom};
 
 use crate::boot_name::BootName;
-use boot_words::{FrameSeat, StockSeat};
 use frame_word::Frame;
 use std::alloc::{AllocError, Global};
 use std::collections::VecDeque;
@@ -22,8 +21,8 @@ pub const MAX_PINS: usize = 256;
 // Entries past the last one that is used: as many bytes as a cache line.
 const SPARE: usize = 16;
 
-/// What a CPU has for itself. `into_seats` consumes it. It ends with a cache line that no one writes, so that no two
-/// CPUs write the same one.
+/// What a CPU has for itself. `end` consumes it. It ends with a cache line that no one writes, so that no two CPUs write
+/// the same one.
 pub struct Cpu<N: BootName> {
     pub(crate) number: u32,
     /// The free frames that the zone lent to the CPU, the next one to take first.
@@ -34,8 +33,6 @@ pub struct Cpu<N: BootName> {
     pub(crate) back: VecDeque<Frame>,
     /// The frames on which it has references, each as often as it has one.
     pub(crate) pins: Vec<Frame>,
-    pub(crate) frame_seat: FrameSeat,
-    pub(crate) stock_seat: StockSeat,
     /// How many fresh frames it has put back on its list.
     pub(crate) drops: u64,
     /// The cache line that no one writes.
@@ -44,9 +41,10 @@ pub struct Cpu<N: BootName> {
 }
 
 impl<N: BootName> Model for Cpu<N> {
+    ghost use Rattle.std.specs.Prelude.{length};
     ghost use Rattle.std.specs.VecDeque.{deque_capacity};
     ghost use Rattle.std.specs.Vec.{vec_capacity};
-    ghost use Rattle.cpu_part.specs.Cpus.{KnownCpu, IsTied, HasRoom};
+    ghost use Rattle.cpu_part.specs.Cpus.{KnownCpu, AreWithin, HasRoom};
 
     ghost Value = { KnownCpu };
 
@@ -56,21 +54,12 @@ impl<N: BootName> Model for Cpu<N> {
       fresh = c.fresh.items;
       back = c.back.items;
       pins = c.pins.items;
-      frame_seat = c.frame_seat;
-      stock_seat = c.stock_seat;
       drops = c.drops;
     } };
 
-    ghost invariant = { λ c. IsTied N.frames N.stocks (record {
-      number = c.number;
-      list = c.list.items;
-      fresh = c.fresh.items;
-      back = c.back.items;
-      pins = c.pins.items;
-      frame_seat = c.frame_seat;
-      stock_seat = c.stock_seat;
-      drops = c.drops;
-    }) × HasRoom (deque_capacity c.list) (vec_capacity c.fresh) (deque_capacity c.back) (vec_capacity c.pins) };
+    ghost invariant = { λ c.
+        AreWithin (length c.list.items) (length c.fresh.items) (length c.back.items) (length c.pins.items)
+        × HasRoom (deque_capacity c.list) (vec_capacity c.fresh) (deque_capacity c.back) (vec_capacity c.pins) };
 }
 
 // The frames that a CPU has, by their lists.
@@ -102,43 +91,29 @@ fn new_frames(alloc: Global) -> Result<Frames, AllocError>
 }
 
 impl<N: BootName> Cpu<N> {
-    ghost use Rattle.frame_word.specs.Seats.{seat_number, first_cpu_view, IsCpuSeat};
-    ghost use Rattle.stock_word.specs.Stock.{IsCpuView};
     ghost use Rattle.cpu_part.specs.Cpus.{first_cpu, IsIdle};
 
-    /// The part of the CPU that has these seats and did nothing yet. All room that its calls need is reserved.
+    /// The part of the CPU of this number, which did nothing yet. All room that its calls need is reserved.
     /// `AllocError` if memory runs out.
-    pub fn new(
-        alloc: Global,
-        frame_seat: FrameSeat,
-        stock_seat: StockSeat,
-    ) -> Result<Cpu<N>, AllocError>
-        requires frame_seat { IsCpuSeat N.frames frame_seat
-            × (frame_seat.view ≡ first_cpu_view (seat_number frame_seat)) }
-        requires stock_seat { (stock_seat.table ≡ N.stocks.table) × IsCpuView N.stocks stock_seat.view
-            × (stock_seat.view.fresh ≡ 0) }
-        requires same { stock_seat.view.number ≡ seat_number frame_seat }
-        ensures { IfOk result (λ c. c ≡ first_cpu frame_seat stock_seat) }
+    pub fn new(alloc: Global, number: u32) -> Result<Cpu<N>, AllocError>
+        ensures { IfOk result (λ c. c ≡ first_cpu number) }
     {
         let frames = new_frames(alloc)?;
         Ok(Cpu {
-            number: frame_seat.number(),
+            number,
             list: frames.list,
             fresh: frames.fresh,
             back: frames.back,
             pins: frames.pins,
-            frame_seat,
-            stock_seat,
             drops: 0,
             gap: [0; 8],
             of: PhantomData,
         })
     }
 
-    /// The two seats, once nothing is left: no frame on the lists and no pin.
-    pub fn into_seats(self) -> (FrameSeat, StockSeat)
+    /// Ends the part, once nothing is left: no frame on the lists and no pin.
+    pub fn end(self)
         requires { IsIdle self }
-        ensures { result ≡ (self.frame_seat, self.stock_seat) }
     {
         let Cpu {
             number: _,
@@ -146,8 +121,6 @@ impl<N: BootName> Cpu<N> {
             fresh,
             back,
             pins,
-            frame_seat,
-            stock_seat,
             drops: _,
             gap: _,
             of: _,
@@ -159,6 +132,5 @@ impl<N: BootName> Cpu<N> {
             back,
             pins,
         });
-        (frame_seat, stock_seat)
     }
 }

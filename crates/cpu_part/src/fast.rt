@@ -11,21 +11,19 @@ use crate::answers::{Dropped, Fast};
 use crate::boot_name::{BootName, Tables};
 use crate::cpu::{Cpu, MAX_FRESH};
 use crate::moves::{freshen, relist};
-use boot_words::PastSeat;
+use boot_words::CpuSeat;
 use frame_word::Frame;
 use stock_word::{Consume, Credit};
 
 impl<N: BootName> Cpu<N> {
-    /// Takes the front of the list for group `group` (0 to 63), and pays for it from the CPU's stock. The answer is the
-    /// first of these that holds: 32 fresh frames, an empty list, what the stock says; else the frame.
-    pub fn alloc_fast(&mut self, tables: &Tables<N>, past: &mut PastSeat, group: u32) -> Fast
-        requires group { group < 64 }
+    /// Takes the front of the list for the group, and pays for it from the CPU's stock. The answer is the first of these
+    /// that holds: 32 fresh frames, an empty list, what the stock says; else the frame.
+    pub fn alloc_fast(&mut self, tables: &Tables<N>, past: &mut CpuSeat, group: u32) -> Fast
         requires knows { KnowsItsPart N.frames past.old self.old }
-        ensures answer { FastAnswers group result self.old self.new }
+        ensures answer { FastAnswers group result past.old.last self.old past.new.last self.new }
         ensures frame { IfGot result (λ f. f < N.frames.frames) }
-        ensures run { GrewByAll (own_past past.old)
-            (steps_of_fast self.old.number group result self.old.stock_seat.view.last)
-            (own_past past.new) }
+        ensures run { GrewByAll (own_past past.old.seat) (steps_of_fast self.old.number group result past.old.last)
+            (own_past past.new.seat) }
         ensures knows { KnowsItsPart N.frames past.new self.new }
     {
         if self.fresh.len() == MAX_FRESH {
@@ -34,7 +32,7 @@ impl<N: BootName> Cpu<N> {
         if self.list.is_empty() {
             return Fast::ListEmpty;
         }
-        match tables.words.consume(past, &mut self.stock_seat, group) {
+        match tables.words.consume(past, group) {
             Consume::OtherGroup => Fast::OtherGroup,
             Consume::Drained => Fast::Drained,
             Consume::Empty => Fast::NoStock,
@@ -45,16 +43,15 @@ impl<N: BootName> Cpu<N> {
     /// Drops a fresh frame: its page goes to the stock, the frame to the end of the list. If the stock was drained,
     /// only what the CPU saw of it changes. A frame that is listed again counts as one drop and one return; the count
     /// stays at 2^64 - 1.
-    pub fn drop_fresh(&mut self, tables: &Tables<N>, past: &mut PastSeat, frame: Frame) -> Dropped
+    pub fn drop_fresh(&mut self, tables: &Tables<N>, past: &mut CpuSeat, frame: Frame) -> Dropped
         requires fresh { 1 ≤ times frame self.old.fresh }
         requires knows { KnowsItsPart N.frames past.old self.old }
-        ensures answer { DropAnswers frame result self.old self.new }
-        ensures run { GrewByAll (own_past past.old)
-            (steps_of_drop self.old.number frame result self.old.stock_seat.view.last)
-            (own_past past.new) }
+        ensures answer { DropAnswers frame result past.old.last self.old past.new.last self.new }
+        ensures run { GrewByAll (own_past past.old.seat) (steps_of_drop self.old.number frame result past.old.last)
+            (own_past past.new.seat) }
         ensures knows { KnowsItsPart N.frames past.new self.new }
     {
-        match tables.words.credit(past, &mut self.stock_seat, frame) {
+        match tables.words.credit(past, frame) {
             Credit::Drained => Dropped::NeedVisit,
             Credit::Stocked => {
                 relist(&mut self.list, &mut self.fresh, frame);

@@ -1,6 +1,6 @@
-//! A CPU's part of the memory controller: the frames of its list, its fresh and its back frames, its pins, and its
-//! seats at the boot's table. The fast calls take no lock and wait for nobody. The others are
-//! made inside a visit, together with the zone's seats.
+//! A CPU's part of the memory controller: the frames of its list, its fresh and its back frames, and its pins. What they
+//! are worth, the CPU's past of the run says. The fast calls take no lock and wait for nobody. The others are made under the
+//! lock, with the seat that has the zone's past too.
 #![tactic(auto)]
 
 mod answers;
@@ -11,7 +11,6 @@ mod moves;
 mod pins;
 mod readers;
 mod search;
-mod stocks;
 mod visit;
 
 pub use answers::{Dropped, Fast};

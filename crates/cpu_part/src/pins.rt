@@ -1,20 +1,21 @@
 //! Pins: the references of the CPU.
 ghost use Rattle.std.specs.Prelude.{◌≡◌, ◌≢◌, ◌+◌, ◌<◌, ◌≤◌, length, IfOk, MatchResult, Ok};
 ghost use Rattle.frame_word.specs.declared.answers.Get.TheVariants.{Zero};
-ghost use Rattle.frame_word.specs.Seats.{IsInNoHand};
 ghost use Rattle.group_tree.specs.declared.fault.Fault.TheVariants.{PinsFull};
 ghost use Rattle.boot_words.specs.Growth.{GrewByAll};
 ghost use Rattle.boot_words.specs.Pasts.{own_past};
+ghost use Rattle.boot_words.specs.Seats.{zone_of_boot};
+ghost use Rattle.boot_words.specs.Calls.{RacesAt};
 ghost use Rattle.step_rules.specs.State.{times};
-ghost use Rattle.cpu_part.specs.Cpus.{most_pins};
-ghost use Rattle.cpu_part.specs.Calls.{PinAnswers, UnpinAnswers};
+ghost use Rattle.cpu_part.specs.Cpus.{most_pins, IsUnlisted};
+ghost use Rattle.cpu_part.specs.Calls.{IfRaced, PinAnswers, UnpinAnswers};
 ghost use Rattle.cpu_part.specs.Known.{KnowsItsPart};
 ghost use Rattle.cpu_part.specs.Told.{steps_of_get, steps_of_put};
 
 use crate::boot_name::{BootName, Tables};
 use crate::cpu::{Cpu, MAX_PINS};
 use crate::moves::unpin;
-use boot_words::PastSeat;
+use boot_words::CpuSeat;
 use frame_word::{Frame, Get, Put};
 use group_tree::fault::Fault;
 
@@ -24,26 +25,28 @@ impl<N: BootName> Cpu<N> {
     pub fn get(
         &mut self,
         tables: &Tables<N>,
-        past: &mut PastSeat,
+        past: &mut CpuSeat,
         frame: Frame,
     ) -> Result<Get, Fault>
         requires frame { frame < N.frames.frames }
         requires knows { KnowsItsPart N.frames past.old self.old }
         ensures answer { MatchResult result
             (λ answer. (length self.old.back + length self.old.pins < most_pins)
-            × PinAnswers frame answer self.old self.new)
+            × PinAnswers frame answer self.old self.new
+            × IfRaced answer (RacesAt (zone_of_boot N.frames) (own_past past.old.seat) frame))
             (λ fault. (fault ≡ PinsFull) × (length self.old.back + length self.old.pins ≡ most_pins)
             × (self.new ≡ self.old)) }
         ensures never_zero { 1 ≤ times frame self.old.pins → result ≢ Ok Zero }
-        ensures in_no_hand { IfOk result (λ answer. answer ≢ Zero → IsInNoHand self.old.frame_seat frame) }
-        ensures run { GrewByAll (own_past past.old) (steps_of_get self.old.number frame result)
-            (own_past past.new) }
+        ensures unlisted { IfOk result (λ answer. answer ≢ Zero → IsUnlisted frame self.old) }
+        ensures run { GrewByAll (own_past past.old.seat) (steps_of_get self.old.number frame result)
+            (own_past past.new.seat) }
+        ensures last { past.new.last ≡ past.old.last }
         ensures knows { KnowsItsPart N.frames past.new self.new }
     {
         if self.back.len() + self.pins.len() == MAX_PINS {
             return Err(Fault::PinsFull);
         }
-        match tables.words.get(past, &mut self.frame_seat, frame) {
+        match tables.words.get(past, frame) {
             Get::Held => {
                 self.pins.push_reserved(frame);
                 Ok(Get::Held)
@@ -53,17 +56,18 @@ impl<N: BootName> Cpu<N> {
     }
 
     /// Removes one pin from the frame. After its last reference the frame is the newest back frame.
-    pub fn put(&mut self, tables: &Tables<N>, past: &mut PastSeat, frame: Frame) -> Put
+    pub fn put(&mut self, tables: &Tables<N>, past: &mut CpuSeat, frame: Frame) -> Put
         requires pinned { 1 ≤ times frame self.old.pins }
         requires knows { KnowsItsPart N.frames past.old self.old }
         ensures answer { UnpinAnswers frame result self.old self.new }
-        ensures in_no_hand { IsInNoHand self.old.frame_seat frame }
-        ensures run { GrewByAll (own_past past.old) (steps_of_put self.old.number frame result)
-            (own_past past.new) }
+        ensures unlisted { IsUnlisted frame self.old }
+        ensures run { GrewByAll (own_past past.old.seat) (steps_of_put self.old.number frame result)
+            (own_past past.new.seat) }
+        ensures last { past.new.last ≡ past.old.last }
         ensures knows { KnowsItsPart N.frames past.new self.new }
     {
         unpin(&mut self.pins, frame);
-        match tables.words.put(past, &mut self.frame_seat, frame) {
+        match tables.words.put(past, frame) {
             Put::Last => {
                 self.back.push_back_reserved(frame);
                 Put::Last

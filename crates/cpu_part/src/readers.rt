@@ -1,21 +1,19 @@
 //! What can be read of a CPU's part.
-ghost use Rattle.std.specs.Prelude.{◌≡◌, ◌≤◌, ◌<◌, ◌+◌, ◌↔◌, [], length, IsTrue, MatchOption};
-ghost use Rattle.stock_word.specs.declared.view.Stock.TheVariants.{NoGroup};
-ghost use Rattle.stock_word.specs.Stock.{HasWord};
+ghost use Rattle.std.specs.Prelude.{◌≡◌, ◌≤◌, ◌+◌, ◌↔◌, [], length, IsTrue, MatchOption};
 ghost use Rattle.step_rules.specs.State.{times};
-ghost use Rattle.cpu_part.specs.Cpus.{IsTied, IsIdle, most_fresh, most_listed, most_pins};
+ghost use Rattle.cpu_part.specs.Cpus.{AreWithin, IsIdle, most_fresh, most_listed, most_pins};
 
 use crate::boot_name::BootName;
 use crate::cpu::Cpu;
 use crate::search::place_of;
 use frame_word::Frame;
-use stock_word::Stock;
 
 impl<N: BootName> Cpu<N> {
-    /// The CPU's number, from 1 up.
+    /// The CPU's number. Its lists and pins are within their bounds.
     pub fn number(&self) -> u32
         ensures number { result ≡ self.now.number }
-        ensures tied { IsTied N.frames N.stocks self.now }
+        ensures within { AreWithin (length self.now.list) (length self.now.fresh) (length self.now.back)
+            (length self.now.pins) }
     {
         self.number
     }
@@ -44,7 +42,7 @@ impl<N: BootName> Cpu<N> {
 
     /// A frame that is pinned, if there is one.
     pub fn first_pin(&self) -> Option<Frame>
-        ensures { MatchOption result (self.now.pins ≡ []) (λ f. (1 ≤ times f self.now.pins) × (f < N.frames.frames)) }
+        ensures { MatchOption result (self.now.pins ≡ []) (λ f. 1 ≤ times f self.now.pins) }
     {
         self.pins.first().copied()
     }
@@ -61,7 +59,6 @@ impl<N: BootName> Cpu<N> {
     pub fn fresh_len(&self) -> usize
         ensures count { result ≡ length self.now.fresh }
         ensures bound { result ≤ most_fresh }
-        ensures pages { result ≡ self.now.stock_seat.view.fresh }
     {
         self.fresh.len()
     }
@@ -71,16 +68,6 @@ impl<N: BootName> Cpu<N> {
         ensures { result ≡ length self.now.back }
     {
         self.back.len()
-    }
-
-    /// The stock that the CPU saw last; its fresh frames are of that stock's group. The stock may have been drained
-    /// since.
-    pub fn last_stock(&self) -> Stock
-        ensures last { result ≡ self.now.stock_seat.view.last }
-        ensures has_word { HasWord result }
-        ensures none_fresh { result ≡ NoGroup → self.now.fresh ≡ [] }
-    {
-        self.stock_seat.last()
     }
 
     /// How often a fresh frame was dropped to the list. Each is one drop and one return. The count stays at 2^64 - 1.

@@ -1,16 +1,24 @@
--- The laws of the reference rule: serves `laws`, and the steps that tell of hands and of what is lent.
-use Rattle.std.proofs.Common.{◌≡◌, ◌≢◌, ℕ, ◌+◌, ◌<◌, ◌≤◌, List, get_or, sym, refl, ◌∙◌, inl, inr, arith}
+-- The laws of the reference rule: serves `laws`.
+use Rattle.std.proofs.Common.{◌≡◌, ◌≢◌, ◌⊎◌, ℕ, ◌+◌, ◌<◌, ◌≤◌, List, get_or, sym, refl, ◌∙◌, inl, inr, arith}
 use mathlib.Core.Logic.{dite}
 use native.Mathlib.Decide.{ℕ_discrete}
 use Rattle.frame_word.specs.Totals.{total_over}
 use Rattle.frame_word.proofs.Totals.{total_view, total_below, total_plus}
 use Rattle.frame_word.specs.declared.view.FrameView.{FrameView}
 use Rattle.frame_word.specs.Views.{note_of, in_hands, lent_count}
-use Rattle.frame_word.specs.ReferenceRule.{only, hands_in, lent_in, lent_number, borrowed_in}
+use Rattle.frame_word.specs.ReferenceRule.{IsReferenced, IsInOneHand, IsPassing, only, hands_in, lent_in, lent_number, borrowed_in}
 use Rattle.frame_word.specs.Laws.{IsViewOf, NoFrameInTwoHands, OwnHandIsNotLent, WordsCountReferences}
 use Rattle.frame_word.proofs.Notes.{only_here, only_else, marked_else, lent_yes}
-use Rattle.frame_word.proofs.Swap.{OneCase}
-use Rattle.frame_word.proofs.Cases.{case_handed}
+
+-- what the rule says of a word, its references and its hands
+abbrev pub OneCase : ℕ → ℕ → ℕ → ℕ → Type 0
+OneCase cpus word references hands = IsReferenced word references hands ⊎ (IsInOneHand word references hands ⊎ IsPassing cpus word references hands)
+
+-- a frame in a hand
+case_handed : (cpus w r h o : ℕ) → 1 ≤ o → o ≤ h → OneCase cpus w r h → IsInOneHand w r h
+case_handed cpus w r h o one le (inl a) = let z = a.3 in absurd (omega arith)
+case_handed cpus w r h o one le (inr (inl b)) = b
+case_handed cpus w r h o one le (inr (inr d)) = let z = d.3 in absurd (omega arith)
 
 part_of : (g : FrameView → ℕ) (seats : List (List FrameView)) (v : FrameView) → IsViewOf seats v → g v ≤ total_over g seats
 part_of g seats v is = total_view g seats is.0 is.2 is.1 v is.3 is.4

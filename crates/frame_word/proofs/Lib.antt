@@ -1,12 +1,3 @@
 pub mod Notes
-pub mod Swap
-pub mod Cases
 pub mod Consequences
-pub mod ShortSteps
-pub mod Alone
-pub mod HandOvers
-pub mod Joined
-pub mod Opening
-pub mod Ending
-pub mod CallerLemmas
 pub mod Totals

@@ -2,24 +2,8 @@
 
 /// What a seat knows of one frame.
 pub struct FrameNote {
-    /// The atomic steps on the frame's word that changed this note, each by one.
-    pub steps: u64,
     /// The references that the seat has on the frame.
     pub references: u64,
-    /// The references that the seat's last put of the frame left to all seats.
-    pub left: u64,
-    /// The freezes of the seat that found another number than they asked for.
-    pub misses: u64,
-    /// The word that the last of these freezes found.
-    pub missed_word: u64,
-    /// The loads that the seat's gets made.
-    pub looks: u64,
-    /// The word that the seat's last get found: that of its load, or of its exchange, if that failed.
-    pub seen: u64,
-    /// The gets of the seat whose exchange failed.
-    pub races: u64,
-    /// The word that the load of the last of these gets saw.
-    pub raced_from: u64,
     /// 1 if the seat owns the frame, else 0. Such a frame is in its hand.
     pub own: u64,
     /// 1 if the seat has borrowed the frame, else 0. Such a frame is in its hand, too.
@@ -44,6 +28,4 @@ pub struct FrameView {
     pub notes: [FrameNote; 0],
     /// By CPU: 1 if its visit is open, else 0.
     pub opened: [u64; 0],
-    /// How often the seat opened or shut a visit.
-    pub visit_changes: u64,
 }

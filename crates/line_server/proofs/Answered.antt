@@ -2,7 +2,6 @@
 use Rattle.std.proofs.Common.{◌≡◌, ◌∙◌, ℕ, true, false, List, [], ◌∷◌, ◌++◌, Option, None, Some, Result, Ok, Err, Vec, IfOk, ap, codes, inl, inr, refl, subst, sym}
 use Rattle.std.specs.Cmp.Lexicographic.{same_text}
 use Rattle.frame_word.specs.Seats.{KnownTable}
-use Rattle.stock_word.specs.Stock.{KnownStockTable}
 use Rattle.zone_blocks.specs.declared.config.Config.{Config}
 use Rattle.script_lines.specs.Script.{IsLineText, is_skipped}
 use Rattle.script_lines.specs.declared.line.Line.{Line}
@@ -32,12 +31,12 @@ refused (Ok x) form sizes text why found is said line = record { found = found; 
 refused (Err e) form sizes text why found is said line = tt
 
 -- a line that was served in this form was answered so
-pub answered_in : {Z E : Type 0} (r : Result (Vec ℕ Z) E) (t : KnownTable) (w : KnownStockTable) (form is_form : SessionForm) (text : List ℕ) (line : Line)
-    (before after : SystemState) (answer : List ℕ) → form ≡ is_form → ServesInForm is_form t w text line before after answer
-    → IfOk r (λ found. found.items ≡ answer) → GivesAnswer r (AnswersServed (session_terms t w form) text line before after)
-answered_in r t w form is_form text line before after answer is serves found = record {
+pub answered_in : {Z E : Type 0} (r : Result (Vec ℕ Z) E) (t : KnownTable) (form is_form : SessionForm) (text : List ℕ) (line : Line)
+    (before after : SystemState) (answer : List ℕ) → form ≡ is_form → ServesInForm is_form t text line before after answer
+    → IfOk r (λ found. found.items ≡ answer) → GivesAnswer r (AnswersServed (session_terms t form) text line before after)
+answered_in r t form is_form text line before after answer is serves found = record {
   answer = answer;
-  so = subst (λ (f : SessionForm). ServesInForm f t w text line before after answer) (sym is) serves;
+  so = subst (λ (f : SessionForm). ServesInForm f t text line before after answer) (sym is) serves;
   given = found;
 }
 

@@ -2,7 +2,6 @@
 use Rattle.std.proofs.Common.{ℕ, ◌++◌, true, List, [], ◌∷◌, Option, None, Some, append_assoc, append-nil, subst, sym}
 use Rattle.std.specs.Prelude.{unwrap_or}
 use Rattle.frame_word.specs.Seats.{KnownTable}
-use Rattle.stock_word.specs.Stock.{KnownStockTable}
 use Rattle.step_rules.specs.After.{Run}
 use Rattle.script_lines.specs.declared.line.Line.{Line}
 use Rattle.script_replay.specs.History.{Past, past_line}
@@ -34,8 +33,8 @@ logged_go_on on (turn ∷ turns) before e history =
     turn_goes_on on (unwrap_or turn.text []) turn.served before e turn.answer (λ later. HasLoggedHistory on turns later e)
     (λ later rest. steps_of_logged on turns later e rest) (λ later rest. logged_go_on on turns later e rest) history
 
-pub turns_go_on : (form : SessionForm) (t : KnownTable) (w : KnownStockTable) (turns : List Turn) (before : Past) (e : SystemState)
-    (history : HasTurnsHistory form t w turns before e) → RunGoesOn (steps_of_turns form t w turns before e history) before.now e
-turns_go_on (Answers is_explained) t w turns before e history =
-    all_lines_go_on (terms t w is_explained) (lines_of turns) before e (answers_of turns) history
-turns_go_on Steps t w turns before e history = logged_go_on (terms t w true) turns before e history
+pub turns_go_on : (form : SessionForm) (t : KnownTable) (turns : List Turn) (before : Past) (e : SystemState)
+    (history : HasTurnsHistory form t turns before e) → RunGoesOn (steps_of_turns form t turns before e history) before.now e
+turns_go_on (Answers is_explained) t turns before e history =
+    all_lines_go_on (terms t is_explained) (lines_of turns) before e (answers_of turns) history
+turns_go_on Steps t turns before e history = logged_go_on (terms t true) turns before e history

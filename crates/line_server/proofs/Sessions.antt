@@ -7,7 +7,6 @@ use Rattle.std.specs.Io.Buffered.{reader_buffer, reader_capacity, reader_inner, 
 use Rattle.std.specs.Io.KnownBytes.{prepend_known}
 use Rattle.std.specs.declared.io.buffered.BufReader.{BufReader}
 use Rattle.frame_word.specs.Seats.{KnownTable}
-use Rattle.stock_word.specs.Stock.{KnownStockTable}
 use Rattle.zone_blocks.specs.declared.config.Config.{Config}
 use Rattle.script_replay.specs.Lines.{SystemState}
 use Rattle.line_server.specs.declared.fault.ServeFault.{ServeFault}
@@ -54,7 +53,7 @@ module _ (on : SessionTerms) (sizes : Config) (count : ℕ) (input left : Option
   holds so_far = record {
     reads = so_far.reads;
     answers = so_far.answers;
-    replays = turns_replayed on.form on.frames on.stocks sizes so_far.turns before between so_far.answers;
+    replays = turns_replayed on.form on.frames sizes so_far.turns before between so_far.answers;
     written = so_far.written;
   }
 
@@ -98,10 +97,10 @@ pub none_yet : (on : SessionTerms) (sizes : Config) (input : Option (List ℕ)) 
 none_yet on sizes input before output = record { turns = []; counted = refl; reads = refl; answers = refl; written = Appends-nil output }
 
 -- what holds on the terms of now holds on those of the beginning
-pub at_first : (frames : KnownTable) (stocks : KnownStockTable) (s t : KnownServer) (P : SessionTerms → Config → Type 0) → KeepsTerms s t
-    → P (terms_of frames stocks t) t.sizes → P (terms_of frames stocks s) s.sizes
-at_first frames stocks s t P keeps is =
-    subst (λ (f : SessionForm). P (session_terms frames stocks f) s.sizes) keeps.form (subst (P (terms_of frames stocks t)) keeps.sizes is)
+pub at_first : (frames : KnownTable) (s t : KnownServer) (P : SessionTerms → Config → Type 0) → KeepsTerms s t
+    → P (terms_of frames t) t.sizes → P (terms_of frames s) s.sizes
+at_first frames s t P keeps is =
+    subst (λ (f : SessionForm). P (session_terms frames f) s.sizes) keeps.form (subst (P (terms_of frames t)) keeps.sizes is)
 
 -- a session that failed before its first line
 pub none_served : (on : SessionTerms) (sizes : Config) (input : Option (List ℕ)) (before : SystemState) (output : Option (List ℕ)) (fault : ServeFault)

@@ -1,11 +1,9 @@
 -- The history of a session's turns: what their steps are, and what holds after each line that was served.
 use Rattle.std.specs.Prelude.{◌≡◌, ℕ, true, List, [], ◌∷◌, ◌++◌, Option, None, Some, unwrap_or}
 use Rattle.frame_word.specs.Seats.{KnownTable}
-use Rattle.stock_word.specs.Stock.{KnownStockTable}
 use Rattle.step_rules.specs.After.{Run, IsLegalRun}
 use Rattle.mem_machine.specs.Interleaving.{zone_of}
 use Rattle.mem_history.specs.Whole.{ShowsAll}
-use Rattle.mem_history.specs.Kept.{AreTied}
 use Rattle.mem_system.specs.Cpus.{parts_of}
 use Rattle.script_lines.specs.declared.line.Line.{Line}
 use Rattle.script_replay.specs.History.{HasHistory, HoldsPromise, Past, Replays, past, past_line, steps_of}
@@ -78,25 +76,25 @@ steps_of_logged terms (turn ∷ turns) past after history =
     history
 
 -- the history of turns in either form
-abbrev pub HasTurnsHistory : SessionForm → KnownTable → KnownStockTable → List Turn → Past → (after : SystemState)
+abbrev pub HasTurnsHistory : SessionForm → KnownTable → List Turn → Past → (after : SystemState)
     → Type 0
-HasTurnsHistory (Answers is_explained) frames stocks turns past after =
-    HasHistory (terms frames stocks is_explained) (lines_of turns) past after (answers_of turns)
-HasTurnsHistory Steps frames stocks turns past after = HasLoggedHistory (terms frames stocks true) turns past after
+HasTurnsHistory (Answers is_explained) frames turns past after =
+    HasHistory (terms frames is_explained) (lines_of turns) past after (answers_of turns)
+HasTurnsHistory Steps frames turns past after = HasLoggedHistory (terms frames true) turns past after
 
 -- the steps of all lines that were served
-abbrev pub steps_of_turns : (form : SessionForm) (frames : KnownTable) (stocks : KnownStockTable) (turns : List Turn)
-    (past : Past) (after : SystemState) → HasTurnsHistory form frames stocks turns past after → Run
-steps_of_turns (Answers is_explained) frames stocks turns past after history =
-    steps_of (terms frames stocks is_explained) (lines_of turns) past after (answers_of turns) history
-steps_of_turns Steps frames stocks turns past after history =
-    steps_of_logged (terms frames stocks true) turns past after history
+abbrev pub steps_of_turns : (form : SessionForm) (frames : KnownTable) (turns : List Turn)
+    (past : Past) (after : SystemState) → HasTurnsHistory form frames turns past after → Run
+steps_of_turns (Answers is_explained) frames turns past after history =
+    steps_of (terms frames is_explained) (lines_of turns) past after (answers_of turns) history
+steps_of_turns Steps frames turns past after history =
+    steps_of_logged (terms frames true) turns past after history
 
--- the turns have a history from each run that shows the state before them, if the parts agree with their seats
-abbrev pub ReplaysTurns : SessionForm → KnownTable → KnownStockTable → List Turn → (before after : SystemState)
+-- the turns have a history from each run that shows the state before them
+abbrev pub ReplaysTurns : SessionForm → KnownTable → List Turn → (before after : SystemState)
     → Type 0
-ReplaysTurns (Answers is_explained) frames stocks turns before after =
-    Replays (terms frames stocks is_explained) (lines_of turns) before after (answers_of turns)
-ReplaysTurns Steps frames stocks turns before after =
-    (run : Run) → ShowsAll frames run before.locked.machine (parts_of before.cpus) → AreTied frames stocks (parts_of before.cpus)
-    → HasLoggedHistory (terms frames stocks true) turns (past run before) after
+ReplaysTurns (Answers is_explained) frames turns before after =
+    Replays (terms frames is_explained) (lines_of turns) before after (answers_of turns)
+ReplaysTurns Steps frames turns before after =
+    (run : Run) → ShowsAll frames run before.locked.machine (parts_of before.cpus)
+    → HasLoggedHistory (terms frames true) turns (past run before) after

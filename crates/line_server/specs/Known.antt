@@ -1,7 +1,6 @@
 -- What contracts see of a server.
 use Rattle.std.specs.Prelude.{◌≡◌}
 use Rattle.frame_word.specs.Seats.{KnownTable}
-use Rattle.stock_word.specs.Stock.{KnownStockTable}
 use Rattle.zone_blocks.specs.declared.config.Config.{Config}
 use Rattle.script_replay.specs.Lines.{SystemState}
 use Rattle.line_server.specs.declared.form.SessionForm.{SessionForm}
@@ -14,8 +13,8 @@ pub record KnownServer : Type 0 where
   pub state : SystemState
 
 -- the terms on which it serves lines
-abbrev pub terms_of : KnownTable → KnownStockTable → KnownServer → SessionTerms
-terms_of frames stocks server = session_terms frames stocks server.form
+abbrev pub terms_of : KnownTable → KnownServer → SessionTerms
+terms_of frames server = session_terms frames server.form
 
 -- all but the state is as before
 pub record KeepsTerms (before after : KnownServer) : Type 0 where

@@ -35,7 +35,7 @@ pub record HoldsSession (on : SessionTerms) (sizes : Config) (turns : List Turn)
     (before after : SystemState) (output now : Option (List ℕ)) : Type 0 where
   pub reads : ReadsTurns turns input left
   pub answers : AnswersTurns on sizes 1 turns before after
-  pub replays : ReplaysTurns on.form on.frames on.stocks turns before after
+  pub replays : ReplaysTurns on.form on.frames turns before after
   pub written : Appends output now (session_text turns)
 
 -- a session up to its end

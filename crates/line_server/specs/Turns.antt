@@ -2,7 +2,6 @@
 use Rattle.std.specs.Prelude.{◌≡◌, ◌⊎◌, ℕ, true, false, List, [], ◌∷◌, ◌++◌, Option, None, Some, Result, IfOk, Vec}
 use Rattle.std.specs.Prelude.{codes}
 use Rattle.frame_word.specs.Seats.{KnownTable}
-use Rattle.stock_word.specs.Stock.{KnownStockTable}
 use Rattle.zone_blocks.specs.declared.config.Config.{Config}
 use Rattle.script_lines.specs.Script.{IsLineText, is_skipped}
 use Rattle.script_lines.specs.declared.line.Line.{Line}
@@ -23,18 +22,18 @@ pub record Turn : Type 0 where
   pub answer : List ℕ
 
 -- a line with this text is served, and has this answer in this form
-abbrev pub ServesInForm : SessionForm → KnownTable → KnownStockTable → (text : List ℕ) → Line
+abbrev pub ServesInForm : SessionForm → KnownTable → (text : List ℕ) → Line
     → (before after : SystemState) → (answer : List ℕ) → Type 0
-ServesInForm (Answers is_explained) frames stocks text line before after answer =
-    ServesAndKeeps (terms frames stocks is_explained) line before after answer
-ServesInForm Steps frames stocks text line before after answer =
-    LogsLine (terms frames stocks true) text line before after answer
+ServesInForm (Answers is_explained) frames text line before after answer =
+    ServesAndKeeps (terms frames is_explained) line before after answer
+ServesInForm Steps frames text line before after answer =
+    LogsLine (terms frames true) text line before after answer
 
 -- the same on these terms
 abbrev pub AnswersServed : SessionTerms → (text : List ℕ) → Line → (before after : SystemState) → (answer : List ℕ)
     → Type 0
 AnswersServed on text line before after answer =
-    ServesInForm on.form on.frames on.stocks text line before after answer
+    ServesInForm on.form on.frames text line before after answer
 
 -- Nothing is served: the line is empty or a comment, and has no answer; or it is bad, and the answer says why.
 abbrev pub AnswersUnserved : SessionForm → Config → (text answer : List ℕ) → Type 0

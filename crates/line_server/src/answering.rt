@@ -26,7 +26,7 @@ pub fn answer_line<N: BootName>(
     text: &[u8],
 ) -> Result<Vec<u8>, AllocError>
     requires there { LineInRange N.frames.frames (length cpus.old) line.now }
-    ensures served { GivesAnswer result (AnswersServed (session_terms N.frames N.stocks form) text.now line.now
+    ensures served { GivesAnswer result (AnswersServed (session_terms N.frames form) text.now line.now
         (system_state locked.old cpus.old) (system_state locked.new cpus.new)) }
 {
     match form {

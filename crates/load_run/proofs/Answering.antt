@@ -6,9 +6,7 @@ use Rattle.std.proofs.lemmas.Bool.{false≢true}
 use Rattle.std.specs.Io.KnownBytes.{Appends}
 use Rattle.std.specs.Prelude.{is_some}
 use Rattle.std.specs.Result.{result_ok}
-use Rattle.frame_word.specs.Seats.{KnownTable}
-use Rattle.stock_word.specs.Stock.{KnownStockTable}
-use Rattle.mem_system.specs.Boots.{IsSizedAs, first_cpus}
+use Rattle.mem_system.specs.Boots.{first_cpus}
 use Rattle.zone_blocks.specs.declared.config.Config.{Config}
 use Rattle.zone_blocks.specs.Config.{IsValidConfig}
 use Rattle.script_lines.specs.declared.line.Line.{Line}
@@ -60,13 +58,9 @@ joined (Ok x) P Q R follows p q = follows x p q
 joined (Err e) P Q R follows p q = tt
 
 -- so many CPUs have so many parts
-pub first_long : (t : KnownTable) (w : KnownStockTable) (p n : ℕ) → length (first_cpus t w p n) ≡ n
-first_long t w p zero = refl
-first_long t w p (suc n) = ap (λ (k : ℕ). suc k) (first_long t w (p + 1) n)
-
--- the tables under their names have the sizes
-pub sized_as : (sizes : Config) (f t : KnownTable) (s w : KnownStockTable) → IsSizedAs sizes f s → (f ≡ t) × (s ≡ w) → IsSizedAs sizes t w
-sized_as sizes f t s w sized names = subst (λ (b : KnownTable × KnownStockTable). IsSizedAs sizes b.0 b.1) (λ i. (names.0 i, names.1 i)) sized
+pub first_long : (p n : ℕ) → length (first_cpus p n) ≡ n
+first_long p zero = refl
+first_long p (suc n) = ap (λ (k : ℕ). suc k) (first_long (p + 1) n)
 
 -- what the lines of a script name is there, in a boot of the script's sizes
 pub script_of_boot : (sizes booted : Config) (bytes : List ℕ) (parsed lines : List Line) → booted ≡ sizes → lines ≡ parsed

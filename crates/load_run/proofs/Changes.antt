@@ -8,7 +8,7 @@ use Rattle.step_rules.specs.declared.step.Answer.{Answer}
 use Rattle.step_rules.specs.After.{Run}
 use Rattle.boot_words.specs.Growth.{AreChangesOf, GrewByAll, SeesMore, changes_nothing}
 use Rattle.boot_words.specs.Runs.{HasNoStepOf, OthersFollow}
-use Rattle.boot_words.specs.declared.view.Past.{Past}
+use Rattle.boot_words.specs.declared.past.Past.{Past}
 use Rattle.mem_system.proofs.Mixed.{AreBehindOthers, gained}
 use Rattle.load_run.specs.Survey.{ChangesFollow, changes_by}
 

@@ -1,19 +1,17 @@
 -- The answers of the early lines and those of the later, joined, and all steps as one run. Serves `run_by_threads`.
-use Rattle.std.proofs.Common.{◌≡◌, ◌∙◌, ◌≤◌, ℕ, zero, suc, ◌+◌, Bool, false, Some, List, [], ◌∷◌, ◌++◌, All, length, take, drop, refl, ap, sym, subst, arith, append-nil}
+use Rattle.std.proofs.Common.{◌≡◌, ◌∙◌, ℕ, zero, suc, ◌+◌, Bool, false, Some, List, [], ◌∷◌, ◌++◌, All, take, drop, refl, ap, sym, subst, append-nil}
 use Rattle.std.specs.Prelude.{option_map, slice_get}
 use Rattle.std.proofs.lemmas.List.Elements.{All-take, All-drop}
 use Rattle.std.proofs.lemmas.Option.{get_or_from_slice_get, slice_get-map}
 use Rattle.frame_word.specs.Seats.{KnownTable}
-use Rattle.stock_word.specs.Stock.{KnownStockTable}
 use Rattle.zone_blocks.specs.declared.config.Config.{Config}
 use Rattle.step_rules.specs.After.{Run}
 use Rattle.step_rules.proofs.PhaseLemmas.{none_some}
-use Rattle.boot_words.specs.declared.view.Past.{Past}
+use Rattle.boot_words.specs.declared.past.Past.{Past}
 use Rattle.boot_words.specs.Growth.{IsRunSoFar}
 use Rattle.boot_words.specs.Pasts.{own_past}
 use Rattle.boot_words.specs.Rule.{AllOf}
 use Rattle.boot_words.specs.Runs.{OthersFollow}
-use Rattle.mem_machine.specs.Interleaving.{zone_of}
 use Rattle.mem_system.specs.Boots.{IsSizedAs, KnownSystem}
 use Rattle.mem_system.specs.Cpus.{CpuInRun, pasts_of}
 use Rattle.script_lines.specs.declared.line.Line.{Line}
@@ -30,21 +28,21 @@ use Rattle.load_run.specs.Answers.{AreThreadAnswers, IsNewBootState, IsQuietSyst
 use Rattle.load_run.specs.Ending.{EndsHeld, boot_end_text}
 use Rattle.load_run.specs.Survey.{AreNumbered, HasPast, ChangesFollow, HasSeen, SeesAllPasts}
 use Rattle.load_run.proofs.Changes.{follow_both, follow_seen, grew_number, others_follow, same_changes}
-use Rattle.load_run.proofs.Starting.{boot_agrees, boot_shown, lines_there, parts_tied}
+use Rattle.load_run.proofs.Starting.{boot_agrees, boot_shown, lines_there}
 use Rattle.load_run.proofs.Surveying.{at_index}
 use Rattle.load_run.proofs.Whole.{whole_run}
 
 -- what the first of the lines name is there
-pub early_there : (sizes : Config) (t : KnownTable) (w : KnownStockTable) (n parts : ℕ) (lines early : List Line) → IsSizedAs sizes t w
+pub early_there : (sizes : Config) (t : KnownTable) (n parts : ℕ) (lines early : List Line) → IsSizedAs sizes t
     → parts ≡ t.cpus → early ≡ take n lines → All (LineInRange sizes.frames sizes.cpus) lines → All (LineInRange t.frames parts) early
-early_there sizes t w n parts lines early sized long is all =
-    subst (All (LineInRange t.frames parts)) (sym is) (All-take (LineInRange t.frames parts) n lines (lines_there sizes t w parts lines sized long all))
+early_there sizes t n parts lines early sized long is all =
+    subst (All (LineInRange t.frames parts)) (sym is) (All-take (LineInRange t.frames parts) n lines (lines_there sizes t parts lines sized long all))
 
 -- and what the others do
-pub later_there : (sizes : Config) (t : KnownTable) (w : KnownStockTable) (n parts : ℕ) (lines later : List Line) → IsSizedAs sizes t w
+pub later_there : (sizes : Config) (t : KnownTable) (n parts : ℕ) (lines later : List Line) → IsSizedAs sizes t
     → parts ≡ t.cpus → later ≡ drop n lines → All (LineInRange sizes.frames sizes.cpus) lines → All (LineInRange t.frames parts) later
-later_there sizes t w n parts lines later sized long is all =
-    subst (All (LineInRange t.frames parts)) (sym is) (All-drop (LineInRange t.frames parts) n lines (lines_there sizes t w parts lines sized long all))
+later_there sizes t n parts lines later sized long is all =
+    subst (All (LineInRange t.frames parts)) (sym is) (All-drop (LineInRange t.frames parts) n lines (lines_there sizes t parts lines sized long all))
 
 -- ---- each CPU's lines
 
@@ -134,34 +132,33 @@ same_some a b e = cc
 
 -- the early lines were served from the boot on, all pasts were looked at, the later lines were answered by CPU, all pasts
 -- were looked at again, and the boot ended: these are the answers
-pub are_answers : (sizes : Config) (is_numbered is_audited : Bool) (t : KnownTable) (w : KnownStockTable) (lines first_lines other_lines : List Line)
-    (start replayed at_go end at_end : SystemState) (early later text : List ℕ) (told : List Run) (ended : BootEnd) → IsNewBootState sizes t w start
+pub are_answers : (sizes : Config) (is_numbered is_audited : Bool) (t : KnownTable) (lines first_lines other_lines : List Line)
+    (start replayed at_go end at_end : SystemState) (early later text : List ℕ) (told : List Run) (ended : BootEnd) → IsNewBootState sizes t start
     → first_lines ≡ take (lines_before_go lines) lines → other_lines ≡ drop (lines_before_go lines) lines
-    → Replays (numbered_terms t w false is_numbered) first_lines start replayed early → SeesAllPasts t replayed at_go
-    → AreAllAnswers (boot_tables t w sizes) (workers_from 1 at_go.cpus other_lines is_numbered) end.cpus told later
-    → IsQuietSystem t w end → SeesAllPasts t end at_end → EndsHeld t w at_end ended
+    → Replays (numbered_terms t false is_numbered) first_lines start replayed early → SeesAllPasts t replayed at_go
+    → AreAllAnswers (boot_tables t sizes) (workers_from 1 at_go.cpus other_lines is_numbered) end.cpus told later
+    → IsQuietSystem t end → SeesAllPasts t end at_end → EndsHeld t at_end ended
     → text ≡ (early ++ later) ++ boot_end_text is_audited ended → AreThreadAnswers sizes is_numbered is_audited lines text
-are_answers sizes is_numbered is_audited t w lines first_lines other_lines start replayed at_go end at_end early later text told ended new is_first is_other served
+are_answers sizes is_numbered is_audited t lines first_lines other_lines start replayed at_go end at_end early later text told ended new is_first is_other served
     sees all quiet sees_end ends is =
-    let on = numbered_terms t w false is_numbered in
+    let on = numbered_terms t false is_numbered in
     let front = take (lines_before_go lines) lines in
     let replays = subst (λ (l : List Line). Replays on l start replayed early) is_first served in
-    let tells = subst (λ (l : List Line). AreAllAnswers (boot_tables t w sizes) (workers_from 1 at_go.cpus l is_numbered) end.cpus told later) is_other all in
-    let history = replays.history [] (boot_shown _ _ _ _ new) (parts_tied _ _ _ _ new) in
+    let tells = subst (λ (l : List Line). AreAllAnswers (boot_tables t sizes) (workers_from 1 at_go.cpus l is_numbered) end.cpus told later) is_other all in
+    let history = replays.history [] (boot_shown _ _ _ new) in
     let run : Run = steps_of on front (past [] start) replayed early history in
     let has : HasRun run replayed = all_lines_go_on on front (past [] start) replayed early history [] new.so_far in
     let rest = drop (lines_before_go lines) lines in
     let z = own_past at_go.locked.machine.run.past in
-    let told_at = tells_at (boot_tables t w sizes) 1 at_go.cpus end.cpus rest is_numbered told later tells in
+    let told_at = tells_at (boot_tables t sizes) 1 at_go.cpus end.cpus rest is_numbered told later tells in
     let goes = sees.goes_on run has in
-    let its_lines = all_follow sees.beginning z (boot_tables t w sizes) at_go.cpus end.cpus rest is_numbered told later sees.seen.1 run goes tells sees_end.beginning
+    let its_lines = all_follow sees.beginning z (boot_tables t sizes) at_go.cpus end.cpus rest is_numbered told later sees.seen.1 run goes tells sees_end.beginning
     sees_end.begins.1 in
-    let its_past = others_after sees.beginning z (boot_tables t w sizes) at_go.cpus end.cpus rest is_numbered told later sees.seen.1 run goes tells sees_end.beginning
+    let its_past = others_after sees.beginning z (boot_tables t sizes) at_go.cpus end.cpus rest is_numbered told later sees.seen.1 run goes tells sees_end.beginning
     sees_end.begins.1 in
-    let numbers = numbers_after sees.beginning z (boot_tables t w sizes) at_go.cpus end.cpus rest is_numbered told later sees.seen.1 run goes tells in
+    let numbers = numbers_after sees.beginning z (boot_tables t sizes) at_go.cpus end.cpus rest is_numbered told later sees.seen.1 run goes tells in
     record {
       frames = t;
-      stocks = w;
       start = start;
       replayed = replayed;
       at_go = at_go;
@@ -174,8 +171,8 @@ are_answers sizes is_numbered is_audited t w lines first_lines other_lines start
       ending = boot_end_text is_audited ended;
       first = new;
       served = replays.served;
-      history = legal_histories_keep_it on front (past [] start) replayed early history (sees.steps_legal run has) (boot_agrees _ _ _ _ new);
-      agrees = boot_agrees _ _ _ _ new;
+      history = legal_histories_keep_it on front (past [] start) replayed early history (sees.steps_legal run has) (boot_agrees _ _ _ new);
+      agrees = boot_agrees _ _ _ new;
       sees = sees;
       tells = tells;
       quiet = quiet;
@@ -183,7 +180,7 @@ are_answers sizes is_numbered is_audited t w lines first_lines other_lines start
       ends = record { ended = ended; ends = ends; text_is = refl };
       whole = sees_end.beginning ++ ends.leaves.steps;
       whole_is = refl;
-      is_whole = whole_run t w sees_end.beginning at_end ended (sees_end.is_run numbers) ends;
+      is_whole = whole_run t sees_end.beginning at_end ended (sees_end.is_run numbers) ends;
       changes = sees.changes run has;
       each = λ index cpu steps at steps_are.
           let tells = told_at index cpu at in (

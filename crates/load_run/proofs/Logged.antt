@@ -4,7 +4,6 @@ use Rattle.std.proofs.Common.{append-nil, append_assoc}
 use Rattle.std.proofs.lemmas.Result.{IfOk-weaker}
 use Rattle.std.specs.Prelude.{codes}
 use Rattle.frame_word.specs.Seats.{KnownTable}
-use Rattle.stock_word.specs.Stock.{KnownStockTable}
 use Rattle.step_rules.specs.After.{Run}
 use Rattle.mem_machine.specs.Interleaving.{zone_of}
 use Rattle.step_watch.specs.Watched.{IsNewLog, has_whole_log, log_text, steps_text}
@@ -39,13 +38,13 @@ logs_text on texts m e {line} {part} l is one = subst (λ (x : List ℕ). LogsLi
 
 -- ---- the end
 
-module _ {T E : Type 0} (r : Result T E) (t : KnownTable) (w : KnownStockTable) (before begun : SystemState) (held : ℕ) (emptied : KnownEmptiedBoot)
-    (audit : Audit) (old new : List ℕ) (renews : RenewsWatch before begun) (leaves : LeavesNothing t w begun held emptied) (closes : Closes t w emptied audit) where
+module _ {T E : Type 0} (r : Result T E) (t : KnownTable) (before begun : SystemState) (held : ℕ) (emptied : KnownEmptiedBoot)
+    (audit : Audit) (old new : List ℕ) (renews : RenewsWatch before begun) (leaves : LeavesNothing t begun held emptied) (closes : Closes t emptied audit) where
   abbrev report : List ℕ
   report = answer_comments (boot_end_text true (record { held = held; audit = audit }))
 
   -- the boot ended; the log of that was added, as far as the call succeeded
-  pub end_part : IfOk r (λ _. new ≡ old ++ (codes "# end\n" ++ (steps_text leaves.steps ++ report))) → AddsPart r old new (LogsEnd t w before)
+  pub end_part : IfOk r (λ _. new ≡ old ++ (codes "# end\n" ++ (steps_text leaves.steps ++ report))) → AddsPart r old new (LogsEnd t before)
   end_part added = record {
     part = codes "# end\n" ++ (steps_text leaves.steps ++ report);
     so = record {
@@ -59,7 +58,7 @@ module _ {T E : Type 0} (r : Result T E) (t : KnownTable) (w : KnownStockTable) 
   }
 
   pub end_logged : (both : List ℕ) → has_whole_log emptied.machine.run.watch ≡ true → both ≡ old ++ (codes "# end\n" ++ log_text emptied.machine.run.watch)
-      → OnOk r (new ≡ both ++ report) → AddsPart r old new (LogsEnd t w before)
+      → OnOk r (new ≡ both ++ report) → AddsPart r old new (LogsEnd t before)
   end_logged both whole is_both added =
       let front = codes "# end\n" in
       let made = steps_text leaves.steps in
@@ -71,10 +70,10 @@ module _ {T E : Type 0} (r : Result T E) (t : KnownTable) (w : KnownStockTable) 
 
 -- ---- both
 
-pub both_logged : (t : KnownTable) (w : KnownStockTable) (texts : List (List ℕ)) (lines : List Line) (s e : SystemState) (old mid new part : List ℕ)
-    → GrowsBy (LogsAll (terms t w true) texts lines s e) old mid → LogsEnd t w e part → new ≡ mid ++ part
-    → GrowsBy (LogsAllAndEnd t w texts lines s) old new
-both_logged t w texts lines s e old mid new part served ends added = record {
+pub both_logged : (t : KnownTable) (texts : List (List ℕ)) (lines : List Line) (s e : SystemState) (old mid new part : List ℕ)
+    → GrowsBy (LogsAll (terms t true) texts lines s e) old mid → LogsEnd t e part → new ≡ mid ++ part
+    → GrowsBy (LogsAllAndEnd t texts lines s) old new
+both_logged t texts lines s e old mid new part served ends added = record {
   text = served.text ++ part;
   so = record {
     end = e;
@@ -101,12 +100,12 @@ logs_go_on on texts (line ∷ lines) s e log logs = λ earlier has.
     (logs_go_on on texts lines logs.between e logs.rest logs.serves_rest (earlier ++ steps) (first.serves.serves.goes_on earlier begun))
 
 -- all steps of a log and of its end are those of a whole run
-pub logs_whole : (t : KnownTable) (w : KnownStockTable) (texts : List (List ℕ)) (lines : List Line) (s : SystemState) (log : List ℕ) → HasRun [] s
-    → (logs : LogsAllAndEnd t w texts lines s log)
+pub logs_whole : (t : KnownTable) (texts : List (List ℕ)) (lines : List Line) (s : SystemState) (log : List ℕ) → HasRun [] s
+    → (logs : LogsAllAndEnd t texts lines s log)
     → IsWholeRun (zone_of t) (last_words logs.ends.ends.closes)
-    (steps_of_logs (terms t w true) texts lines s logs.end logs.served_log logs.served ++ logs.ends.ends.leaves.steps)
-logs_whole t w texts lines s log has logs =
-    let run : Run = steps_of_logs (terms t w true) texts lines s logs.end logs.served_log logs.served in
-    let led : HasRun run logs.end = logs_go_on (terms t w true) texts lines s logs.end logs.served_log logs.served [] has in
+    (steps_of_logs (terms t true) texts lines s logs.end logs.served_log logs.served ++ logs.ends.ends.leaves.steps)
+logs_whole t texts lines s log has logs =
+    let run : Run = steps_of_logs (terms t true) texts lines s logs.end logs.served_log logs.served in
+    let led : HasRun run logs.end = logs_go_on (terms t true) texts lines s logs.end logs.served_log logs.served [] has in
     let begun : HasRun run logs.ends.begun = subst (HasRun run) (sym logs.ends.renews.begun_is) led in
-    whole_run t w run logs.ends.begun logs.ends.ended begun logs.ends.ends
+    whole_run t run logs.ends.begun logs.ends.ended begun logs.ends.ends

@@ -3,10 +3,8 @@ use Rattle.std.proofs.Common.{◌≡◌, ℕ, ◌<◌, Some, List, [], ◌∷◌
 use Rattle.std.specs.Prelude.{slice_get, slice_set}
 use Rattle.std.proofs.lemmas.List.Sums.{sum_by-append}
 use Rattle.frame_word.specs.Seats.{KnownTable}
-use Rattle.stock_word.specs.Stock.{KnownStockTable}
 use Rattle.frame_word.specs.declared.answers.Put.{Put}
-use Rattle.frame_word.specs.declared.answers.Put.TheVariants.{Left, Last}
-use Rattle.boot_words.specs.declared.view.Past.{Past}
+use Rattle.boot_words.specs.declared.past.Past.{Past}
 use Rattle.boot_words.specs.Pasts.{Meets, own_past}
 use Rattle.boot_words.specs.Growth.{GainsSteps, GrewByAll, IsRunSoFar}
 use Rattle.boot_words.proofs.Gaining.{gains_both, gains_go_on, none_gains}
@@ -16,16 +14,16 @@ use Rattle.step_rules.specs.After.{Run}
 use Rattle.cpu_part.specs.Cpus.{KnownCpu}
 use Rattle.cpu_part.specs.Calls.{UnpinAnswers}
 use Rattle.cpu_part.specs.Told.{steps_of_put}
-use Rattle.cpu_part.proofs.Tied.{length_parted}
 use Rattle.step_watch.specs.Watched.{Watches}
 use Rattle.step_watch.proofs.Watching.{watches_both, watches_none}
 use Rattle.mem_machine.specs.Machines.{KnownMachine, with_past}
+use Rattle.mem_system.proofs.Putting.{fewer_pins}
 use Rattle.mem_system.specs.Cpus.{CpuInRun, parts_of, pasts_of}
 use Rattle.mem_system.specs.Ends.{ForEachCpu, KnownEmptiedBoot, MachineAndCpu, MakesLastVisits, machine_and_cpu, pins_of_all}
 use Rattle.mem_system.specs.Locked.{KnownLocked}
 use Rattle.mem_system.specs.Visits.{locked_state}
 use Rattle.script_replay.specs.Answers.{OnlyWatched}
-use Rattle.script_replay.proofs.Gaining.{met_gains, met_saw, put_made, saw_both, watched_gains, watched_saw}
+use Rattle.script_replay.proofs.Gaining.{both_saw, met_gains, put_made, saw_both, watched_gains, watched_saw}
 use Rattle.script_replay.specs.Lines.{SystemState, system_state}
 use Rattle.load_run.specs.Ending.{LeavesNothing, PutsAllPins, PutsEach, PutsHeldPin, put_steps, steps_of_all_puts, steps_of_puts}
 
@@ -50,15 +48,16 @@ pub put_met : (t : KnownTable) (l l1 l2 m : KnownLocked) (c c1 c2 c3 : CpuInRun)
     → GrewByAll (own_past c1.past) (steps_of_put c1.part.number f answer) (own_past c2.past)
     → l2 ≡ record l1 { machine = with_past l1.machine l2.machine.run.past } → c3.part ≡ c2.part
     → Meets t l1.machine.run.past c2.past l2.machine.run.past c3.past → OnlyWatched (made ∷ []) l2 m
-    → made ∷ [] ≡ put_steps c.part.number f answer → PutsHeldPin f (machine_and_cpu l.machine c) (machine_and_cpu m.machine c3)
-put_met t l l1 l2 m c c1 c2 c3 f answer made in_run one same first unpins grew two still second only is =
+    → made ∷ [] ≡ put_steps c.part.number f answer → c3.last ≡ c.last → PutsHeldPin f (machine_and_cpu l.machine c) (machine_and_cpu m.machine c3)
+put_met t l l1 l2 m c c1 c2 c3 f answer made in_run one same first unpins grew two still second only is last =
     let steps = put_steps c.part.number f answer in
     let took : OnlyWatched steps l2 m = subst (λ (r : Run). OnlyWatched r l2 m) is only in
-    let saw = saw_both [] steps l l2 m (saw_both [] [] l l1 l2 (met_saw l l1 one) (met_saw l1 l2 two)) (watched_saw steps l2 m took) in
+    let saw = saw_both t [] steps l l2 m (both_saw t l l1 l2 c.past c1.past c2.past c3.past one first two second) (watched_saw t steps l2 m took) in
     let gains = met_gains t l l1 l2 c c1 c2 c3 (λ (k : ℕ). put_steps k f answer) in_run same first (put_made c1.part.number c1.past c2.past f answer grew) second in
     record {
       answer = answer;
       cpu = subst (λ (p : KnownCpu × KnownCpu). UnpinAnswers f answer p.0 p.1) (λ i. (same i, sym still i)) unpins;
+      last = last;
       machine = ap (λ (x : KnownLocked). x.machine) saw.locked;
       watched = saw.watched;
       gains = watched_gains steps steps (locked_state l c) l2 m c3 gains took;
@@ -90,12 +89,8 @@ put_more f before mid after so_far one = record {
 }
 
 -- a pin less
-fewer_left : (f : ℕ) (answer : Put) (c d : KnownCpu) → UnpinAnswers f answer c d → length d.pins < length c.pins
-fewer_left f (Left n) c d one = let parted = length_parted f c.pins d.pins one.0 in omega arith
-fewer_left f Last c d one = let parted = length_parted f c.pins d.pins one.0 in omega arith
-
-pub fewer_pins : (f : ℕ) (before after : MachineAndCpu) → PutsHeldPin f before after → length after.cpu.part.pins < length before.cpu.part.pins
-fewer_pins f before after one = fewer_left f one.answer before.cpu.part after.cpu.part one.cpu
+pub fewer_left : (f : ℕ) (before after : MachineAndCpu) → PutsHeldPin f before after → length after.cpu.part.pins < length before.cpu.part.pins
+fewer_left f before after one = fewer_pins f one.answer before.cpu.part after.cpu.part one.cpu
 
 pub lets_go : (before after : MachineAndCpu) → PutSoFar before after → after.cpu.part.pins ≡ [] → PutsAllPins before after
 lets_go before after so_far none = record { frames = so_far.frames; puts = so_far.puts; none_left = none }
@@ -181,11 +176,11 @@ puts_go_on done m (c ∷ cpus) n (d ∷ left) puts earlier so_far =
 
 -- ---- nothing is left
 
-pub leaves_nothing : (t : KnownTable) (w : KnownStockTable) (before : SystemState) (held : ℕ) (emptied : KnownEmptiedBoot) (locked : KnownLocked)
+pub leaves_nothing : (t : KnownTable) (before : SystemState) (held : ℕ) (emptied : KnownEmptiedBoot) (locked : KnownLocked)
     (cpus : List CpuInRun)
     → held ≡ pins_of_all (parts_of before.cpus) → ForEachCpu PutsAllPins before.locked.machine before.cpus locked.machine cpus → locked.sizes ≡ before.locked.sizes
-    → (held ≡ 0 → system_state locked cpus ≡ before) → MakesLastVisits t w locked cpus emptied → LeavesNothing t w before held emptied
-leaves_nothing t w before held emptied locked cpus held_are puts sizes free visits =
+    → (held ≡ 0 → system_state locked cpus ≡ before) → MakesLastVisits t locked cpus emptied → LeavesNothing t before held emptied
+leaves_nothing t before held emptied locked cpus held_are puts sizes free visits =
     let putting = steps_of_all_puts before.locked.machine before.cpus locked.machine cpus puts in
     record {
       held_are = held_are;
@@ -205,9 +200,9 @@ leaves_nothing t w before held emptied locked cpus held_are puts sizes free visi
     }
 
 -- no pin was held
-pub leaves_free : (t : KnownTable) (w : KnownStockTable) (before : SystemState) (emptied : KnownEmptiedBoot)
-    → MakesLastVisits t w before.locked before.cpus emptied
-    → LeavesNothing t w before 0 emptied
-leaves_free t w before emptied visits =
-    leaves_nothing t w before 0 emptied before.locked before.cpus (sym visits.no_pin) (none_put before.locked.machine before.cpus visits.no_pin) refl
+pub leaves_free : (t : KnownTable) (before : SystemState) (emptied : KnownEmptiedBoot)
+    → MakesLastVisits t before.locked before.cpus emptied
+    → LeavesNothing t before 0 emptied
+leaves_free t before emptied visits =
+    leaves_nothing t before 0 emptied before.locked before.cpus (sym visits.no_pin) (none_put before.locked.machine before.cpus visits.no_pin) refl
     (λ none. refl) visits

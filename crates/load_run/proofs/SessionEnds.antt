@@ -5,12 +5,10 @@ use Rattle.std.proofs.KnownBytes.{Appends-nil}
 use Rattle.std.specs.declared.alloc.AllocError.{AllocError}
 use Rattle.std.specs.Io.KnownBytes.{Appends}
 use Rattle.frame_word.specs.Seats.{KnownTable}
-use Rattle.stock_word.specs.Stock.{KnownStockTable}
 use Rattle.zone_blocks.specs.declared.config.Config.{Config}
 use Rattle.zone_blocks.specs.Config.{IsValidConfig}
 use Rattle.mem_system.specs.Cpus.{parts_of}
 use Rattle.mem_history.specs.Whole.{ShowsAll}
-use Rattle.mem_history.specs.Kept.{AreTied}
 use Rattle.step_rules.specs.After.{Run}
 use Rattle.mem_machine.specs.Interleaving.{zone_of}
 use Rattle.script_replay.specs.Lines.{HasRun, SystemState}
@@ -38,7 +36,7 @@ use Rattle.load_run.specs.Logs.{LogsEnd, log_head_text}
 use Rattle.load_run.specs.Sessions.{BeginsHead, DrivesSession, EndsInForm, EndsSession, IsOfValid, IsSameFault, IsWorkFault, LeavesSession}
 use Rattle.load_run.specs.Sessions.{LeavesWithHead, ServesInput, ServesWithHead, StopsSession, WritesHead, steps_of_end, words_of_end}
 use Rattle.line_server.specs.Writing.{AppendsBeginning}
-use Rattle.load_run.proofs.Starting.{boot_agrees, boot_shown, parts_tied}
+use Rattle.load_run.proofs.Starting.{boot_agrees, boot_shown}
 use Rattle.load_run.proofs.Whole.{whole_run}
 
 -- a fault at work has status 1
@@ -144,63 +142,61 @@ head_missed form sizes before is = subst (λ (f : SessionForm). BeginsHead f siz
 -- ---- on a boot
 
 -- turns that are replayed from a boot have their history
-history_of : (form : SessionForm) (t : KnownTable) (w : KnownStockTable) (turns : List Turn) (start end : SystemState) → ShowsAll t [] start.locked.machine (parts_of start.cpus)
-    → AreTied t w (parts_of start.cpus) → ReplaysTurns form t w turns start end → HasTurnsHistory form t w turns (past [] start) end
-history_of (Answers is_explained) t w turns start end shows tied replays = replays.history [] shows tied
-history_of Steps t w turns start end shows tied replays = replays [] shows tied
+history_of : (form : SessionForm) (t : KnownTable) (turns : List Turn) (start end : SystemState) → ShowsAll t [] start.locked.machine (parts_of start.cpus)
+    → ReplaysTurns form t turns start end → HasTurnsHistory form t turns (past [] start) end
+history_of (Answers is_explained) t turns start end shows replays = replays.history [] shows
+history_of Steps t turns start end shows replays = replays [] shows
 
 -- if a run led to the end of a session, it and the steps of the end are all steps of the boot
-end_whole : (form : SessionForm) (t : KnownTable) (w : KnownStockTable) (is_audited : Bool) (run : Run) (end : SystemState) (text : List ℕ) → HasRun run end
-    → (ends : EndsInForm form t w is_audited end text)
-    → IsWholeRun (zone_of t) (words_of_end form t w is_audited end text ends) (run ++ steps_of_end form t w is_audited end text ends)
-end_whole (Answers is_explained) t w is_audited run end text has ends = whole_run t w run end ends.ended has ends.ends
-end_whole Steps t w is_audited run end text has ends =
-    let begun : HasRun run ends.begun = subst (HasRun run) (sym ends.renews.begun_is) has in whole_run t w run ends.begun ends.ended begun ends.ends
+end_whole : (form : SessionForm) (t : KnownTable) (is_audited : Bool) (run : Run) (end : SystemState) (text : List ℕ) → HasRun run end
+    → (ends : EndsInForm form t is_audited end text)
+    → IsWholeRun (zone_of t) (words_of_end form t is_audited end text ends) (run ++ steps_of_end form t is_audited end text ends)
+end_whole (Answers is_explained) t is_audited run end text has ends = whole_run t run end ends.ended has ends.ends
+end_whole Steps t is_audited run end text has ends =
+    let begun : HasRun run ends.begun = subst (HasRun run) (sym ends.renews.begun_is) has in whole_run t run ends.begun ends.ended begun ends.ends
 
-module _ (options : Options) (form : SessionForm) (t : KnownTable) (w : KnownStockTable) (server : KnownServer) (start : SystemState)
-    (new : IsNewBootState options.sizes t w start) (sized : server.sizes ≡ options.sizes) (formed : server.form ≡ form) (stands : server.state ≡ start) where
+module _ (options : Options) (form : SessionForm) (t : KnownTable) (server : KnownServer) (start : SystemState)
+    (new : IsNewBootState options.sizes t start) (sized : server.sizes ≡ options.sizes) (formed : server.form ≡ form) (stands : server.state ≡ start) where
   -- what holds on the terms of a server holds on what it was made of
-  as_made : (P : SessionTerms → Config → SystemState → Type 0) → P (terms_of t w server) server.sizes server.state
-      → P (session_terms t w form) options.sizes start
+  as_made : (P : SessionTerms → Config → SystemState → Type 0) → P (terms_of t server) server.sizes server.state
+      → P (session_terms t form) options.sizes start
   as_made P is =
-      subst (λ (s : SystemState). P (session_terms t w form) options.sizes s) stands
-      (subst (λ (c : Config). P (session_terms t w form) c server.state) sized
-      (subst (λ (f : SessionForm). P (session_terms t w f) server.sizes server.state) formed is))
+      subst (λ (s : SystemState). P (session_terms t form) options.sizes s) stands
+      (subst (λ (c : Config). P (session_terms t form) c server.state) sized
+      (subst (λ (f : SessionForm). P (session_terms t f) server.sizes server.state) formed is))
 
   -- the server of a new boot served a session, and the boot ended
   pub session_ends : (input before middle : Option (List ℕ)) (end left : SystemState) (ending : List ℕ)
-      → ServesSession (terms_of t w server) server.sizes input server.state end before middle → left ≡ end
-      → EndsInForm form t w options.is_audited left ending → EndsSession options form input before middle ending
+      → ServesSession (terms_of t server) server.sizes input server.state end before middle → left ≡ end
+      → EndsInForm form t options.is_audited left ending → EndsSession options form input before middle ending
   session_ends input before middle end left ending serves is ends =
       let session = as_made (λ on sizes s. ServesSession on sizes input s end before middle) serves in
-      let history = history_of form t w session.turns start end (boot_shown _ _ _ _ new) (parts_tied _ _ _ _ new) session.holds.replays in
-      let end_is = subst (λ (s : SystemState). EndsInForm form t w options.is_audited s ending) is ends in
+      let history = history_of form t session.turns start end (boot_shown _ _ _ new) session.holds.replays in
+      let end_is = subst (λ (s : SystemState). EndsInForm form t options.is_audited s ending) is ends in
       record {
         frames = t;
-        stocks = w;
         start = start;
         end = end;
         first = new;
         session = session;
         history = history;
-        agrees = boot_agrees _ _ _ _ new;
+        agrees = boot_agrees _ _ _ new;
         ends = end_is;
-        whole = steps_of_turns form t w session.turns (past [] start) end history ++ steps_of_end form t w options.is_audited end ending end_is;
+        whole = steps_of_turns form t session.turns (past [] start) end history ++ steps_of_end form t options.is_audited end ending end_is;
         whole_is = refl;
-        is_whole = end_whole form t w options.is_audited (steps_of_turns form t w session.turns (past [] start) end history) end ending
-            (turns_go_on form t w session.turns (past [] start) end history [] new.so_far) end_is;
+        is_whole = end_whole form t options.is_audited (steps_of_turns form t session.turns (past [] start) end history) end ending
+            (turns_go_on form t session.turns (past [] start) end history [] new.so_far) end_is;
       }
 
   -- or the session failed
   pub session_fails : (input before after : Option (List ℕ)) (end : SystemState) (why : ServeFault) (fault : ProgramFault)
-      → IsValidConfig options.sizes → FailsSession (terms_of t w server) server.sizes input server.state end before after why → IsSameFault why fault
+      → IsValidConfig options.sizes → FailsSession (terms_of t server) server.sizes input server.state end before after why → IsSameFault why fault
       → LeavesSession options form input before after fault
   session_fails input before after end why fault valid fails is = record {
     at_work = same_at_work why fault is;
     valid = of_valid options.sizes fault valid;
     left = inr (inl (record {
       frames = t;
-      stocks = w;
       start = start;
       end = end;
       first = new;
@@ -212,23 +208,23 @@ module _ (options : Options) (form : SessionForm) (t : KnownTable) (w : KnownSto
 
 -- ---- the end
 
-module _ {Z E : Type 0} (r : Result (Vec ℕ Z) E) (t : KnownTable) (w : KnownStockTable) (form : SessionForm) (is_audited : Bool) (before : SystemState) where
+module _ {Z E : Type 0} (r : Result (Vec ℕ Z) E) (t : KnownTable) (form : SessionForm) (is_audited : Bool) (before : SystemState) where
   -- the boot ended after answers
-  pub ended_plainly : (is_explained : Bool) (ended : BootEnd) (empty : List ℕ) → form ≡ Answers is_explained → EndsHeld t w before ended → empty ≡ []
-      → IfOk r (λ text. text.items ≡ empty ++ boot_end_text is_audited ended) → GivesAnswer r (EndsInForm form t w is_audited before)
+  pub ended_plainly : (is_explained : Bool) (ended : BootEnd) (empty : List ℕ) → form ≡ Answers is_explained → EndsHeld t before ended → empty ≡ []
+      → IfOk r (λ text. text.items ≡ empty ++ boot_end_text is_audited ended) → GivesAnswer r (EndsInForm form t is_audited before)
   ended_plainly is_explained ended empty is ends none told = record {
     answer = boot_end_text is_audited ended;
-    so = subst (λ (f : SessionForm). EndsInForm f t w is_audited before (boot_end_text is_audited ended)) (sym is)
+    so = subst (λ (f : SessionForm). EndsInForm f t is_audited before (boot_end_text is_audited ended)) (sym is)
         (record { ended = ended; ends = ends; text_is = refl });
     given = IfOk-weaker r _ _ (λ text is_text. is_text ∙ ap (λ (l : List ℕ). l ++ boot_end_text is_audited ended) none) told;
   }
 
   -- or after parts of a log
-  pub ended_logged : (part : List ℕ) → form ≡ Steps → LogsEnd t w before part → IfOk r (λ found. found.items ≡ part)
-      → GivesAnswer r (EndsInForm form t w is_audited before)
+  pub ended_logged : (part : List ℕ) → form ≡ Steps → LogsEnd t before part → IfOk r (λ found. found.items ≡ part)
+      → GivesAnswer r (EndsInForm form t is_audited before)
   ended_logged part is ends found = record {
     answer = part;
-    so = subst (λ (f : SessionForm). EndsInForm f t w is_audited before part) (sym is) ends;
+    so = subst (λ (f : SessionForm). EndsInForm f t is_audited before part) (sym is) ends;
     given = found;
   }
 

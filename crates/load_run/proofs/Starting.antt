@@ -1,11 +1,10 @@
--- What stands after a boot is shown, and each part is what its seats know. Serves `replay_on_boot`, `check_on_boot`,
+-- What stands after a boot is shown. Serves `replay_on_boot`, `check_on_boot`,
 -- `steps_on_boot`, `run_by_threads`.
-use Rattle.std.proofs.Common.{◌≡◌, ℕ, ◌+◌, ◌≤◌, Some, List, [], ◌++◌, All, drop, length, refl, sym, take, ◌∙◌, ap, subst, arith, zero, suc}
+use Rattle.std.proofs.Common.{◌≡◌, ℕ, ◌+◌, Some, List, [], ◌++◌, All, drop, length, sym, take, ◌∙◌, ap, subst, arith, zero, suc}
 use Rattle.std.specs.List.{slice_get}
 use Rattle.std.proofs.lemmas.Option.{slice_get_within}
 use Rattle.frame_word.specs.Seats.{KnownTable}
-use Rattle.stock_word.specs.Stock.{KnownStockTable}
-use Rattle.cpu_part.specs.Cpus.{KnownCpu, IsTied}
+use Rattle.cpu_part.specs.Cpus.{KnownCpu, first_cpu}
 use Rattle.zone_blocks.specs.declared.config.Config.{Config}
 use Rattle.step_rules.specs.State.{Zone}
 use Rattle.step_watch.specs.Watched.{IsNewWatch, KnownWatch}
@@ -13,12 +12,11 @@ use Rattle.mem_core.specs.Shown as core
 use Rattle.mem_machine.specs.Interleaving.{zone_of}
 use Rattle.mem_machine.specs.Machines.{KnownMachine, IsFirst, with_watch}
 use Rattle.mem_history.specs.Whole.{ShowsAll}
-use Rattle.mem_history.specs.Kept.{AreTied, IsTiedPart}
 use Rattle.mem_history.proofs.Booting.{a_boot_is_shown}
-use Rattle.boot_words.specs.declared.view.Past.{Past}
+use Rattle.boot_words.specs.declared.past.Past.{Past}
 use Rattle.boot_words.specs.Pasts.{own_past}
 use Rattle.boot_words.specs.Growth.{IsRunSoFar}
-use Rattle.mem_system.specs.Boots.{IsSizedAs, part_at_first, first_cpus}
+use Rattle.mem_system.specs.Boots.{IsSizedAs, first_cpus}
 use Rattle.mem_system.specs.Cpus.{CpuInRun, parts_of, pasts_of}
 use Rattle.mem_machine.specs.Agreeing.{AgreesWithRun}
 use Rattle.mem_history.proofs.Agreeing.{a_boot_agrees}
@@ -30,71 +28,42 @@ use Rattle.script_replay.specs.Ranges.{LineInRange}
 use Rattle.load_run.specs.Starting.{IsNewBootState}
 use Rattle.load_run.proofs.Answering.{first_long}
 
-first_at : (t : KnownTable) (w : KnownStockTable) (p n k : ℕ) (c : KnownCpu) → slice_get (first_cpus t w p n) k ≡ Some c → c ≡ part_at_first t w (p + k)
-first_at t w p zero k c at = absurd (let none = slice_get_within (first_cpus t w p 0) k c at in omega arith)
-first_at t w p (suc n) zero c at = same (part_at_first t w p) c at ∙ ap (part_at_first t w) (omega arith)
+first_at : (p n k : ℕ) (c : KnownCpu) → slice_get (first_cpus p n) k ≡ Some c → c ≡ first_cpu (p + k)
+first_at p zero k c at = absurd (let none = slice_get_within (first_cpus p 0) k c at in omega arith)
+first_at p (suc n) zero c at = same (first_cpu p) c at ∙ ap first_cpu (omega arith)
   where
     same : (a b : KnownCpu) → Some a ≡ Some b → b ≡ a
     same a b e = cc
-first_at t w p (suc n) (suc k) c at = first_at t w (p + 1) n k c at ∙ ap (part_at_first t w) (omega arith)
-
-first_tied : (t : KnownTable) (w : KnownStockTable) (p : ℕ) → 1 ≤ p → p ≤ t.cpus → p ≤ w.cpus → IsTied t w (part_at_first t w p)
-first_tied t w p low high payer = record {
-  seats = record {
-    frame_table = refl;
-    frame_number = refl;
-    stock_table = refl;
-    stock_number = refl;
-    some_number = low;
-    frame_cpus = high;
-    stock_cpus = payer;
-  };
-  noted = λ f. record { borrowed_is = refl; own_is = refl; references_are = refl; once = omega arith; in_table = λ past. refl };
-  within = record { list_bound = omega arith; fresh_bound = omega arith; pin_bound = omega arith; pages_are = refl };
-}
+first_at p (suc n) (suc k) c at = first_at (p + 1) n k c at ∙ ap first_cpu (omega arith)
 
 -- the parts of a boot as they are made
-pub new_state : (booted sizes : Config) (t : KnownTable) (w : KnownStockTable) (locked : KnownLocked) (cpus : List CpuInRun) → booted ≡ sizes
-    → IsSizedAs booted t w → IsFirst t w locked.machine → locked.sizes ≡ booted → parts_of cpus ≡ first_cpus t w 1 booted.cpus
+pub new_state : (booted sizes : Config) (t : KnownTable) (locked : KnownLocked) (cpus : List CpuInRun) → booted ≡ sizes
+    → IsSizedAs booted t → IsFirst t locked.machine → locked.sizes ≡ booted → parts_of cpus ≡ first_cpus 1 booted.cpus
     → IsRunSoFar [] (own_past locked.machine.run.past) (pasts_of cpus)
-    → IsNewBootState sizes t w (system_state locked cpus)
-new_state booted sizes t w locked cpus same sized machine sizes_are are so_far =
-    subst (λ (s : Config). IsNewBootState s t w (system_state locked cpus)) same
+    → IsNewBootState sizes t (system_state locked cpus)
+new_state booted sizes t locked cpus same sized machine sizes_are are so_far =
+    subst (λ (s : Config). IsNewBootState s t (system_state locked cpus)) same
     (record { sized = sized; machine = machine; sizes_are = sizes_are; cpus = are; so_far = so_far })
 
-module _ (sizes : Config) (t : KnownTable) (w : KnownStockTable) (start : SystemState) (new : IsNewBootState sizes t w start) where
-  each_first : (k : ℕ) (c : KnownCpu) → slice_get (parts_of start.cpus) k ≡ Some c → c ≡ part_at_first t w (suc k)
+module _ (sizes : Config) (t : KnownTable) (start : SystemState) (new : IsNewBootState sizes t start) where
+  each_first : (k : ℕ) (c : KnownCpu) → slice_get (parts_of start.cpus) k ≡ Some c → c ≡ first_cpu (suc k)
   each_first k c at =
-      first_at t w 1 sizes.cpus k c (subst (λ (l : List KnownCpu). slice_get l k ≡ Some c) new.cpus at) ∙ ap (part_at_first t w) (omega arith)
-
-  cpus_long : length (parts_of start.cpus) ≡ sizes.cpus
-  cpus_long = ap length new.cpus ∙ first_long t w 1 sizes.cpus
+      first_at 1 sizes.cpus k c (subst (λ (l : List KnownCpu). slice_get l k ≡ Some c) new.cpus at) ∙ ap first_cpu (omega arith)
 
   pub boot_shown : ShowsAll t [] start.locked.machine (parts_of start.cpus)
-  boot_shown = a_boot_is_shown t w start.locked.machine (parts_of start.cpus) (record {
+  boot_shown = a_boot_is_shown t start.locked.machine (parts_of start.cpus) (record {
     machine = new.machine;
-    count = cpus_long ∙ sym new.sized.cpus;
+    count = ap length new.cpus ∙ first_long 1 sizes.cpus ∙ sym new.sized.cpus;
     each = each_first;
   })
 
-  pub parts_tied : AreTied t w (parts_of start.cpus)
-  parts_tied k c at =
-      let below = slice_get_within (parts_of start.cpus) k c at in
-      let long = cpus_long in
-      let frames = new.sized.cpus in
-      let payers = new.sized.stock_cpus in
-      subst (IsTiedPart t w) (sym (each_first k c at)) (record {
-        tied = first_tied t w (suc k) (omega arith) (omega arith) (omega arith);
-        none_fresh = λ none. refl;
-      })
-
   pub boot_agrees : AgreesWithRun t [] start.locked.machine.ledger
-  boot_agrees = a_boot_agrees t w start.locked.machine new.machine
+  boot_agrees = a_boot_agrees t start.locked.machine new.machine
 
 -- what lines name is there, also as the tables and the CPUs' parts have it
-pub lines_there : (sizes : Config) (t : KnownTable) (w : KnownStockTable) (parts : ℕ) (lines : List Line) → IsSizedAs sizes t w → parts ≡ t.cpus
+pub lines_there : (sizes : Config) (t : KnownTable) (parts : ℕ) (lines : List Line) → IsSizedAs sizes t → parts ≡ t.cpus
     → All (LineInRange sizes.frames sizes.cpus) lines → All (LineInRange t.frames parts) lines
-lines_there sizes t w parts lines sized long all =
+lines_there sizes t parts lines sized long all =
     subst (λ (b : ℕ × ℕ). All (LineInRange b.0 b.1) lines) (λ i. (sym sized.frames i, (sym sized.cpus ∙ sym long) i)) all
 
 -- the CPUs that were lent as a slice are those of the boot
@@ -110,22 +79,21 @@ pub given_back : (len : ℕ) (given lent now : List CpuInRun) → lent ≡ given
 given_back len given lent now same count long = written_back len now given (long ∙ ap length same) (sym count ∙ ap length same)
 
 -- the machine of a new boot is that of one with any watch
-pub watched_first : (t : KnownTable) (w : KnownStockTable) (m : KnownMachine) (watch : KnownWatch) → IsFirst t w m → IsFirst t w (with_watch m watch)
-watched_first t w m watch first = record {
+pub watched_first : (t : KnownTable) (m : KnownMachine) (watch : KnownWatch) → IsFirst t m → IsFirst t (with_watch m watch)
+watched_first t m watch first = record {
   frame_states = first.frame_states;
   ledger = first.ledger;
   nowhere = first.nowhere;
-  frame_seat = first.frame_seat;
-  stock_seat = first.stock_seat;
   killed = first.killed;
   counts = first.counts;
   notes = first.notes;
+  past = first.past;
 }
 
 -- a new watch of a boot's sizes is one of its tables
-pub new_watch : (booted sizes : Config) (t : KnownTable) (w : KnownStockTable) → IsSizedAs booted t w → booted ≡ sizes → (watch : KnownWatch)
+pub new_watch : (booted sizes : Config) (t : KnownTable) → IsSizedAs booted t → booted ≡ sizes → (watch : KnownWatch)
     → IsNewWatch (core.zone_of_config sizes) watch → IsNewWatch (zone_of t) watch
-new_watch booted sizes t w sized same watch new =
+new_watch booted sizes t sized same watch new =
     let frames : sizes.frames ≡ t.frames = ap (λ (s : Config). s.frames) (sym same) ∙ sym sized.frames in
     let cpus : sizes.cpus ≡ t.cpus = ap (λ (s : Config). s.cpus) (sym same) ∙ sym sized.cpus in
     subst (λ (zone : Zone). IsNewWatch zone watch) (λ i. record { frames = frames i; cpus = cpus i }) new

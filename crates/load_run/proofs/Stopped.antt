@@ -1,7 +1,6 @@
 -- Why a replay that is checked gives no answers. Serves `check_on_boot`, `answers_on_boot`.
 use Rattle.std.proofs.Common.{◌≡◌, ◌∙◌, Bool, true, List, [], Result, Ok, Err, IfErr, ap, subst, sym}
 use Rattle.frame_word.specs.Seats.{KnownTable}
-use Rattle.stock_word.specs.Stock.{KnownStockTable}
 use Rattle.zone_blocks.specs.declared.config.Config.{Config}
 use Rattle.step_watch.specs.Watched.{IsNewWatch, KnownWatch}
 use Rattle.mem_core.specs.Shown as core
@@ -29,28 +28,28 @@ use Rattle.load_run.specs.Stopping.{IsCheckFault, IsNewWatchedState, OfCheckedFo
 use Rattle.load_run.proofs.Starting.{new_watch, watched_first}
 
 -- a new boot that was given a new watch
-pub new_watched : (booted sizes : Config) (t : KnownTable) (w : KnownStockTable) (locked : KnownLocked) (cpus : List CpuInRun) (watch : KnownWatch)
-    (after : KnownLocked) → IsSizedAs booted t w → booted ≡ sizes → IsFirst t w locked.machine → locked.sizes ≡ booted
-    → parts_of cpus ≡ first_cpus t w 1 booted.cpus → IsRunSoFar [] (own_past locked.machine.run.past) (pasts_of cpus)
+pub new_watched : (booted sizes : Config) (t : KnownTable) (locked : KnownLocked) (cpus : List CpuInRun) (watch : KnownWatch)
+    (after : KnownLocked) → IsSizedAs booted t → booted ≡ sizes → IsFirst t locked.machine → locked.sizes ≡ booted
+    → parts_of cpus ≡ first_cpus 1 booted.cpus → IsRunSoFar [] (own_past locked.machine.run.past) (pasts_of cpus)
     → IsNewWatch (core.zone_of_config sizes) watch → after ≡ record locked { machine = with_watch locked.machine watch }
-    → IsNewWatchedState booted t w (system_state after cpus)
-new_watched booted sizes t w locked cpus watch after sized same first sizes_are are so_far new is = record {
+    → IsNewWatchedState booted t (system_state after cpus)
+new_watched booted sizes t locked cpus watch after sized same first sizes_are are so_far new is = record {
   first = record {
     sized = sized;
-    machine = subst (λ (l : KnownLocked). IsFirst t w l.machine) (sym is) (watched_first t w locked.machine watch first);
+    machine = subst (λ (l : KnownLocked). IsFirst t l.machine) (sym is) (watched_first t locked.machine watch first);
     sizes_are = ap (λ (l : KnownLocked). l.sizes) is ∙ sizes_are;
     cpus = are;
     so_far = subst (λ (l : KnownLocked). IsRunSoFar [] (own_past l.machine.run.past) (pasts_of cpus)) (sym is) so_far;
   };
-  watched = subst (λ (l : KnownLocked). IsNewWatch (zone_of t) l.machine.run.watch) (sym is) (new_watch booted sizes t w sized same watch new);
+  watched = subst (λ (l : KnownLocked). IsNewWatch (zone_of t) l.machine.run.watch) (sym is) (new_watch booted sizes t sized same watch new);
 }
 
 -- it stopped before the end of the lines
-pub stop_told : (sizes : Config) (form : Form) (t : KnownTable) (w : KnownStockTable) (lines : List Line) (start end : SystemState) (why : Stopped)
-    → IsNewWatchedState sizes t w start → StopsFor (form_terms t w form) lines start end why → IsCheckFault sizes form lines (fault_of_stop why)
-stop_told sizes form t w lines start end (stopped.NoMemory error) new stops = tt
-stop_told sizes form t w lines start end (stopped.NotLegal line) new stops =
-    record { frames = t; stocks = w; start = start; end = end; new = new; stops = stops }
+pub stop_told : (sizes : Config) (form : Form) (t : KnownTable) (lines : List Line) (start end : SystemState) (why : Stopped)
+    → IsNewWatchedState sizes t start → StopsFor (form_terms t form) lines start end why → IsCheckFault sizes form lines (fault_of_stop why)
+stop_told sizes form t lines start end (stopped.NoMemory error) new stops = tt
+stop_told sizes form t lines start end (stopped.NotLegal line) new stops =
+    record { frames = t; start = start; end = end; new = new; stops = stops }
 
 module _ (options : Options) (is_explained : Bool) (booted : Config) (form : Form) (lines : List Line) (asked : options.task ≡ Replay is_explained true)
     (same : booted ≡ options.sizes) (is : form ≡ form_of is_explained options.is_numbered) where

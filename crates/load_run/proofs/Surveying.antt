@@ -11,7 +11,7 @@ use Rattle.step_rules.specs.After.{Run, state_of, IsLegalRun}
 use Rattle.step_rules.proofs.Answering.{only_seats_act}
 use Rattle.step_rules.proofs.PhaseLemmas.{none_some}
 use Rattle.step_rules.proofs.Runs.{legal_more}
-use Rattle.boot_words.specs.declared.view.Past.{Past}
+use Rattle.boot_words.specs.declared.past.Past.{Past}
 use Rattle.boot_words.specs.Growth.{AreChangesOf, HasInOrder, IsRunSoFar, SeesMore, changes_nothing, changes_of}
 use Rattle.boot_words.specs.Pasts.{IsZonePast, own_past}
 use Rattle.boot_words.specs.Rule.{AllOf, IsPastOf}
@@ -25,7 +25,7 @@ use Rattle.mem_system.specs.Cpus.{CpuInRun, parts_of, pasts_of}
 use Rattle.mem_system.specs.Ends.{ForEachCpu}
 use Rattle.script_replay.specs.Lines.{SystemState}
 use Rattle.script_replay.proofs.Growing.{none_both, sees_both}
-use Rattle.load_run.specs.Survey.{AreNumbered, HasPast, HasSeen, MeetsZone, SeesAllPasts}
+use Rattle.load_run.specs.Survey.{AreNumbered, HasPast, HasSeen, MeetsZone, SeesAllPasts, lasts_of}
 
 -- ---- steps of others
 
@@ -145,6 +145,12 @@ module _ (t : KnownTable) where
   same_parts m (c ∷ cpus) n [] round = absurd round
   same_parts m (c ∷ cpus) n (d ∷ left) round = λ i. round.first.part i ∷ same_parts round.between cpus n left round.rest i
 
+  same_lasts : (m : KnownMachine) (cpus : List CpuInRun) (n : KnownMachine) (left : List CpuInRun) → Round m cpus n left → lasts_of left ≡ lasts_of cpus
+  same_lasts m [] n [] round = refl
+  same_lasts m [] n (d ∷ left) round = absurd round
+  same_lasts m (c ∷ cpus) n [] round = absurd round
+  same_lasts m (c ∷ cpus) n (d ∷ left) round = λ i. round.first.last i ∷ same_lasts round.between cpus n left round.rest i
+
   -- the run so far is still the run so far
   round_goes_on : (steps : Run) (m : KnownMachine) (cpus : List CpuInRun) (n : KnownMachine) (left : List CpuInRun) → Round m cpus n left
       → (own_past m.run.past).number ≡ 0 → IsRunSoFar steps (own_past m.run.past) (pasts_of cpus) → IsRunSoFar steps (own_past n.run.past) (pasts_of left)
@@ -221,6 +227,7 @@ sees_all t before mid after first second sizes still is_zone count =
         sizes = (still ∙ sizes) i;
       };
       parts = same_parts t n mid.cpus y after.cpus second ∙ same_parts t m before.cpus n mid.cpus first;
+      lasts = same_lasts t n mid.cpus y after.cpus second ∙ same_lasts t m before.cpus n mid.cpus first;
       beginning = z.seen;
       legal = is_zone.legal;
       begins = (begins_before (own_past m.run.past) z z.seen zone here.goes, pasts.0);

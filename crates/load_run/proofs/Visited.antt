@@ -27,16 +27,19 @@ use Rattle.boot_words.specs.Growth.{GrewByAll}
 use Rattle.boot_words.specs.Hidden.{hide}
 use Rattle.boot_words.specs.Pasts.{own_past}
 use Rattle.boot_words.specs.Runs.{HasNoStepOf, IsFast}
-use Rattle.boot_words.specs.declared.view.Past.{Past}
+use Rattle.boot_words.specs.declared.past.Past.{Past}
 use Rattle.boot_words.proofs.Hiding.{fast_is_hidden}
 use Rattle.boot_words.proofs.Holding.{allowed_at, append_none}
+use Rattle.frame_word.specs.Seats.{KnownTable}
 use Rattle.mem_machine.specs.Interleaving.{zone_of}
+use Rattle.mem_machine.specs.Machines.{KnownMachine, IsShownBy}
 use Rattle.mem_machine.specs.Steps.{cpu_makes}
 use Rattle.mem_system.specs.Cpus.{between_locks}
+use Rattle.mem_system.specs.Locked.{IsSound, KnownLocked}
 use Rattle.mem_system.proofs.Beside.{legal_front}
-use Rattle.mem_system.proofs.Mixed.{AreBehindOthers, all_own, as_many, both, cpu_and_zone, gained, has_none, just_these}
+use Rattle.mem_system.proofs.Mixed.{AreBehindOthers, all_own, as_many, both, gained, has_none, just_these}
 use Rattle.mem_system.proofs.Mixed.{no_fewer, none_of, own_is, steps_of, zone_and_cpu}
-use Rattle.load_run.specs.Threads.{PastsBegin, RunsShowFinds, RunsShowVisits}
+use Rattle.load_run.specs.Threads.{IsStateOf, PastsBegin, RunsShowFinds, RunsShowVisits}
 
 -- ---- where a visit begins
 
@@ -105,7 +108,7 @@ behind_both cpu lock steps z c z' c' zone_is cpu_is zone_grew cpu_grew same =
             rest = ch.1;
             others = has_none 0 (zh.0 ++ h.0) (omega (arith, all, least, is, parts, before, joined));
             is = z_is ∙ ap (λ (l : Run). z.seen ++ (zh.0 ++ l)) h.2 ∙ ap (λ (l : Run). z.seen ++ l) (sym (append_assoc zh.0 h.0 (lock ∷ ch.1)));
-            own = just_these cpu cpu 0 (cpu_and_zone cpu) (lock ∷ steps) (lock ∷ ch.1) cpu_run (omega (arith, all, is, parts));
+            own = just_these cpu cpu 0 (λ seat not_cpu not_zone. zone_and_cpu cpu seat not_zone not_cpu) (lock ∷ steps) (lock ∷ ch.1) cpu_run (omega (arith, all, is, parts));
           }
     ]
 
@@ -235,15 +238,18 @@ still_hidden zone seen rest legal none free again =
     ∙ ap (λ (h : Hold). record (hide s) { hold = h }) (sym (free_is s.hold free))
 
 -- what a visit of the run found, right before its Lock
-pub visit_in_run : (zone : Zone) (cpu : ℕ) (steps seen run : Run) → IsLegalRun zone run → is_unheld (state_of zone seen).hold ≡ true
-    → (b : IsBehind cpu (record { seat = cpu; action = Lock }, Done) steps seen run) → hide (state_of zone (seen ++ b.gap)) ≡ hide (state_of zone seen)
-visit_in_run zone cpu steps seen run legal free b =
+pub visit_in_run : (t : KnownTable) (m : KnownMachine) (cpu : ℕ) (steps seen run : Run) → IsLegalRun (zone_of t) run → IsStateOf t m (state_of (zone_of t) seen)
+    → (b : IsBehind cpu (record { seat = cpu; action = Lock }, Done) steps seen run) → IsStateOf t m (state_of (zone_of t) (seen ++ b.gap))
+visit_in_run t m cpu steps seen run legal found b =
+    let zone = zone_of t in
     let lock : Step × Answer = (record { seat = cpu; action = Lock }, Done) in
     let front = seen ++ b.gap in
     let whole : IsLegalRun zone (front ++ lock ∷ b.rest) =
     subst (IsLegalRun zone) (b.is ∙ sym (append_assoc seen b.gap (lock ∷ b.rest))) legal in
     let made : IsMade (state_of zone front) cpu Lock Done = allowed_at zone front lock b.rest whole in
-    still_hidden zone seen b.gap (legal_front zone front (lock ∷ b.rest) whole) b.others free (lock_tests (state_of zone front) cpu made.legal).1
+    let free = (lock_tests (state_of zone front) cpu made.legal).1 in
+    let same = still_hidden zone seen b.gap (legal_front zone front (lock ∷ b.rest) whole) b.others found.free free in
+    record { free = free; shown = subst (IsShownBy t m) (sym same) found.shown }
 
 -- ---- the law
 
@@ -256,8 +262,12 @@ own_between cpu steps all =
     ∙ ap (λ (l : Run). lock ∷ l) (filter-append (λ d. is_own cpu d.0.seat) steps unlock ∙ ap (λ (l : Run). l ++ own_steps cpu unlock) all
     ∙ ap (λ (t : Bool). steps ++ cond t unlock []) mine)
 
+-- what is behind the lock is what the zone's past left
+found_behind : (t : KnownTable) (found : KnownLocked) → IsSound t found → IsStateOf t found.machine (state_of (zone_of t) (own_past found.machine.run.past).seen)
+found_behind t found sound = record { free = sound.quiet.rests.free; shown = sound.consistent.shown }
+
 pub runs_show_visits : RunsShowVisits
-runs_show_visits table stock_table cmd reply before after run sound served left begins =
+runs_show_visits table cmd reply before after run sound served left begins =
     let zone = zone_of table in
     let cpu = before.cpu.part.number in
     let visit = served.run in
@@ -274,17 +284,18 @@ runs_show_visits table stock_table cmd reply before after run sound served left 
       during = during;
       after = begins.rest;
       is = begins.is ∙ ap (λ (l : Run). l ++ begins.rest) (sym visit.same ∙ is) ∙ append_assoc (z.seen ++ b.gap) during begins.rest;
-      found_is = visit_in_run zone cpu _ z.seen z_after.seen rests_after.past_is.legal rests.free b ∙ rests.left;
-      own = b.own ∙ own_between cpu served.steps (all_own cpu _ served.steps _ served.makes.leads);
-      left_is = ap (λ (l : Run). hide (state_of zone l)) (sym is) ∙ rests_after.left;
+      found_is = visit_in_run table before.locked.machine cpu _ z.seen z_after.seen rests_after.past_is.legal (found_behind table before.locked sound) b;
+      own = b.own ∙ own_between cpu served.steps (subst (λ (q : ℕ). own_steps q served.steps ≡ served.steps) served.taken.holds.who
+          (all_own _ _ served.steps _ served.makes.leads));
+      left_is = subst (λ (l : Run). IsStateOf table after.locked.machine (state_of zone l)) is (found_behind table after.locked left);
     }
 
 pub runs_show_finds : RunsShowFinds
-runs_show_finds table stock_table found after run sound same begins = record {
+runs_show_finds table found after run sound same begins = record {
   before = (own_past found.machine.run.past).seen;
   after = begins.rest;
   is = begins.is ∙ ap (λ (l : Run). l ++ begins.rest) (sym same);
-  found_is = sound.quiet.rests.left;
+  found_is = found_behind table found sound;
 }
 
 pub pasts_begin : PastsBegin

@@ -3,7 +3,6 @@ use Rattle.std.specs.Prelude.{◌≡◌, ℕ, suc, ◌+◌, Bool, false, true, �
 use Rattle.std.specs.Prelude.{codes, decimal, drop, length, slice_get, take}
 use Rattle.std.specs.Io.KnownBytes.{Appends}
 use Rattle.frame_word.specs.Seats.{KnownTable}
-use Rattle.stock_word.specs.Stock.{KnownStockTable}
 use Rattle.zone_blocks.specs.declared.config.Config.{Config}
 use Rattle.zone_blocks.specs.Config.{IsValidConfig}
 use Rattle.step_rules.specs.After.{Run as StepRun}
@@ -43,17 +42,16 @@ bytes_read input = take (longest_script + 1) input
 pub record AreReplayAnswers (sizes : Config) (form : Form) (is_audited : Bool) (lines : List Line) (text : List ℕ)
     : Type 0 where
   pub frames : KnownTable
-  pub stocks : KnownStockTable
   pub start : SystemState
   pub end : SystemState
   pub run : StepRun
   pub answers : List ℕ
   pub ending : List ℕ
-  pub first : IsNewBootState sizes frames stocks start
-  pub served : ServesAll (form_terms frames stocks form) lines start end answers
-  pub history : KeepsHistory (form_terms frames stocks form) lines (past [] start) (past run end) answers
+  pub first : IsNewBootState sizes frames start
+  pub served : ServesAll (form_terms frames form) lines start end answers
+  pub history : KeepsHistory (form_terms frames form) lines (past [] start) (past run end) answers
   pub agrees : AgreesWithRun frames [] start.locked.machine.ledger
-  pub ends : WritesEnd frames stocks is_audited end ending
+  pub ends : WritesEnd frames is_audited end ending
   pub whole : StepRun
   pub whole_is : whole ≡ run ++ ends.ends.leaves.steps
   pub is_whole : IsWholeRun (zone_of frames) (last_words ends.ends.closes) whole
@@ -72,8 +70,8 @@ pub record AreCheckedAnswers (sizes : Config) (form : Form) (is_audited : Bool) 
   pub text_is : text ≡ shown ++ checked_text (length replay.whole)
 
 -- no visit is open behind the lock, and there are as many parts as CPUs
-pub record IsQuietSystem (frames : KnownTable) (stock_table : KnownStockTable) (now : SystemState) : Type 0 where
-  pub quiet : IsQuiet frames stock_table now.locked
+pub record IsQuietSystem (frames : KnownTable) (now : SystemState) : Type 0 where
+  pub quiet : IsQuiet frames now.locked
   pub count : length now.cpus ≡ frames.cpus
 
 -- What a boot with these sizes answers to the lines by threads. Those before `go` are served one after the other, as a
@@ -87,7 +85,6 @@ pub record IsQuietSystem (frames : KnownTable) (stock_table : KnownStockTable) (
 pub record AreThreadAnswers (sizes : Config) (is_numbered is_audited : Bool) (lines : List Line) (text : List ℕ)
     : Type 0 where
   pub frames : KnownTable
-  pub stocks : KnownStockTable
   pub start : SystemState
   pub replayed : SystemState
   pub at_go : SystemState
@@ -98,18 +95,18 @@ pub record AreThreadAnswers (sizes : Config) (is_numbered is_audited : Bool) (li
   pub early : List ℕ
   pub later : List ℕ
   pub ending : List ℕ
-  pub first : IsNewBootState sizes frames stocks start
-  pub served : ServesAll (numbered_terms frames stocks false is_numbered) (take (lines_before_go lines) lines) start
+  pub first : IsNewBootState sizes frames start
+  pub served : ServesAll (numbered_terms frames false is_numbered) (take (lines_before_go lines) lines) start
       replayed early
-  pub history : KeepsHistory (numbered_terms frames stocks false is_numbered) (take (lines_before_go lines) lines)
+  pub history : KeepsHistory (numbered_terms frames false is_numbered) (take (lines_before_go lines) lines)
       (past [] start) (past run replayed) early
   pub agrees : AgreesWithRun frames [] start.locked.machine.ledger
   pub sees : SeesAllPasts frames replayed at_go
-  pub tells : AreAllAnswers (boot_tables frames stocks sizes)
+  pub tells : AreAllAnswers (boot_tables frames sizes)
       (workers_from 1 at_go.cpus (drop (lines_before_go lines) lines) is_numbered) end.cpus told later
-  pub quiet : IsQuietSystem frames stocks end
+  pub quiet : IsQuietSystem frames end
   pub sees_end : SeesAllPasts frames end at_end
-  pub ends : WritesEnd frames stocks is_audited at_end ending
+  pub ends : WritesEnd frames is_audited at_end ending
   pub whole : StepRun
   pub whole_is : whole ≡ sees_end.beginning ++ ends.ends.leaves.steps
   pub is_whole : IsWholeRun (zone_of frames) (last_words ends.ends.closes) whole

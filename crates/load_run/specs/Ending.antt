@@ -3,8 +3,9 @@ use Rattle.std.specs.Prelude.{◌≡◌, ℕ, Bool, true, false, List, [], ◌�
 use Rattle.std.specs.Fmt.{decimal}
 use Rattle.frame_word.specs.declared.answers.Put.{Put}
 use Rattle.frame_word.specs.Seats.{KnownTable}
-use Rattle.stock_word.specs.Stock.{KnownStockTable}
 use Rattle.boot_words.specs.Pasts.{own_past}
+use Rattle.boot_words.specs.Rule.{words_in}
+use Rattle.boot_words.specs.Seats.{zone_of_boot}
 use Rattle.boot_words.specs.Words.{IsRunOf, Words}
 use Rattle.boot_words.specs.Growth.{GainsSteps, IsRunSoFar}
 use Rattle.cpu_part.specs.Calls.{UnpinAnswers}
@@ -33,6 +34,7 @@ put_steps cpu frame answer = cpu_makes cpu (step.Put frame) (put_answer answer) 
 pub record PutsHeldPin (frame : ℕ) (before after : MachineAndCpu) : Type 0 where
   pub answer : Put
   pub cpu : UnpinAnswers frame answer before.cpu.part after.cpu.part
+  pub last : after.cpu.last ≡ before.cpu.last
   pub machine : after.machine ≡ with_run before.machine after.machine.run
   pub watched : Watches before.machine.run.watch (put_steps before.cpu.part.number frame answer) after.machine.run.watch
   pub gains : GainsSteps (own_past before.machine.run.past) (own_past before.cpu.past)
@@ -74,7 +76,7 @@ steps_of_all_puts before (cpu ∷ cpus) after (cpu_left ∷ left) puts =
 -- Nothing is left at any CPU, after so many pins were held. Every pin is put, one CPU after the other, and then the
 -- last visits are made. These are all steps, in order, and the machine's watch took them. If earlier steps were the run
 -- so far, these go on from there.
-pub record LeavesNothing (table : KnownTable) (stock_table : KnownStockTable) (before : SystemState) (held : ℕ)
+pub record LeavesNothing (table : KnownTable) (before : SystemState) (held : ℕ)
     (emptied : KnownEmptiedBoot) : Type 0 where
   pub held_are : held ≡ pins_of_all (parts_of before.cpus)
   pub locked : KnownLocked
@@ -82,7 +84,7 @@ pub record LeavesNothing (table : KnownTable) (stock_table : KnownStockTable) (b
   pub puts : ForEachCpu PutsAllPins before.locked.machine before.cpus locked.machine cpus
   pub sizes : locked.sizes ≡ before.locked.sizes
   pub free : held ≡ 0 → system_state locked cpus ≡ before
-  pub visits : MakesLastVisits table stock_table locked cpus emptied
+  pub visits : MakesLastVisits table locked cpus emptied
   pub steps : Run
   pub steps_are : steps
       ≡ steps_of_all_puts before.locked.machine before.cpus locked.machine cpus puts ++ visits.steps
@@ -92,16 +94,16 @@ pub record LeavesNothing (table : KnownTable) (stock_table : KnownStockTable) (b
 
 -- The boot ended, and says how many pins were held. Every pin was put, the last visits were made, and then the table
 -- was closed.
-pub record EndsHeld (table : KnownTable) (stock_table : KnownStockTable) (before : SystemState)
+pub record EndsHeld (table : KnownTable) (before : SystemState)
     (ended : BootEnd) : Type 0 where
   pub emptied : KnownEmptiedBoot
-  pub leaves : LeavesNothing table stock_table before ended.held emptied
-  pub closes : Closes table stock_table emptied ended.audit
+  pub leaves : LeavesNothing table before ended.held emptied
+  pub closes : Closes table emptied ended.audit
 
 -- the words of the table when it was closed
-abbrev pub last_words : {table : KnownTable} {stock_table : KnownStockTable} {emptied : KnownEmptiedBoot} {audit : Audit}
-    → Closes table stock_table emptied audit → Words
-last_words closes = record { frames = closes.frame_words; stocks = closes.stock_words }
+abbrev pub last_words : {table : KnownTable} {emptied : KnownEmptiedBoot} {audit : Audit}
+    → Closes table emptied audit → Words
+last_words {table} closes = words_in (zone_of_boot table) closes.words
 
 -- All steps of a boot, up to its end: a legal run, which led to these words of the boot's table. The promise holds after
 -- each beginning of the run that leaves the lock free.
@@ -110,10 +112,10 @@ pub record IsWholeRun (zone : Zone) (words : Words) (run : Run) : Type 0 where
   pub promise : AlwaysKeepsPromise zone run
 
 -- a boot ended from this state, and this is what the machine's watch saw of all steps
-pub record EndsChecked (table : KnownTable) (stock_table : KnownStockTable) (before : SystemState) (ended : BootEnd)
+pub record EndsChecked (table : KnownTable) (before : SystemState) (ended : BootEnd)
     (seen : CheckedSteps)
     : Type 0 where
-  pub ends : EndsHeld table stock_table before ended
+  pub ends : EndsHeld table before ended
   pub is_legal : seen.is_legal ≡ has_legal_steps ends.emptied.machine.run.watch
   pub steps : seen.steps ≡ steps_seen ends.emptied.machine.run.watch
 
@@ -143,8 +145,8 @@ boot_end_text true ended = held_text ended.held ++ audit_text ended.audit
 boot_end_text false ended = []
 
 -- a boot ended from this state, and the text is what is written about that
-pub record WritesEnd (table : KnownTable) (stock_table : KnownStockTable) (is_audited : Bool) (before : SystemState)
+pub record WritesEnd (table : KnownTable) (is_audited : Bool) (before : SystemState)
     (text : List ℕ) : Type 0 where
   pub ended : BootEnd
-  pub ends : EndsHeld table stock_table before ended
+  pub ends : EndsHeld table before ended
   pub text_is : text ≡ boot_end_text is_audited ended

@@ -1,7 +1,6 @@
 -- What the steps of a script are as a log: the sizes; then of each line its part of the log; then that of the end.
 use Rattle.std.specs.Prelude.{◌≡◌, ℕ, ◌-◌, ◌==◌, if◌then◌else◌, true, List, [], ◌∷◌, ◌++◌, codes, decimal, get_or}
 use Rattle.frame_word.specs.Seats.{KnownTable}
-use Rattle.stock_word.specs.Stock.{KnownStockTable}
 use Rattle.zone_blocks.specs.declared.config.Config.{Config}
 use Rattle.step_rules.specs.After.{Run}
 use Rattle.step_watch.specs.Watched.{steps_text}
@@ -52,24 +51,24 @@ LogsAll terms texts lines before after log = InOrder (LogsNext terms texts) line
 
 -- The log of the end: a comment, the steps that leave nothing at any CPU, and what an audited run writes about the end.
 -- The watch is new for it.
-pub record LogsEnd (table : KnownTable) (stock_table : KnownStockTable) (before : SystemState)
+pub record LogsEnd (table : KnownTable) (before : SystemState)
     (log : List ℕ) : Type 0 where
   pub begun : SystemState
   pub renews : RenewsWatch before begun
   pub ended : BootEnd
-  pub ends : EndsHeld table stock_table begun ended
+  pub ends : EndsHeld table begun ended
   pub log_is : log
       ≡ codes "# end\n" ++ (steps_text ends.leaves.steps ++ answer_comments (boot_end_text true ended))
 
 -- the log of lines that are served one after the other, each with its explanation, and then of the end
-pub record LogsAllAndEnd (table : KnownTable) (stock_table : KnownStockTable) (texts : List (List ℕ))
+pub record LogsAllAndEnd (table : KnownTable) (texts : List (List ℕ))
     (lines : List Line)
     (before : SystemState) (log : List ℕ) : Type 0 where
   pub end : SystemState
   pub served_log : List ℕ
-  pub served : LogsAll (terms table stock_table true) texts lines before end served_log
+  pub served : LogsAll (terms table true) texts lines before end served_log
   pub ending : List ℕ
-  pub ends : LogsEnd table stock_table end ending
+  pub ends : LogsEnd table end ending
   pub log_is : log ≡ served_log ++ ending
 
 -- the steps of these lines
@@ -84,13 +83,12 @@ steps_of_logs terms texts (line ∷ lines) before after log logs = logs.serves_f
 -- boot on; and then the steps of the end, and what is reported of it with `--audit`. `whole` is all these steps.
 pub record AreLoggedSteps (sizes : Config) (script : List ℕ) (lines : List Line) (text : List ℕ) : Type 0 where
   pub frames : KnownTable
-  pub stocks : KnownStockTable
   pub start : SystemState
-  pub first : IsNewBootState sizes frames stocks start
+  pub first : IsNewBootState sizes frames start
   pub log : List ℕ
-  pub logs : LogsAllAndEnd frames stocks (texts_of script) lines start log
+  pub logs : LogsAllAndEnd frames (texts_of script) lines start log
   pub whole : Run
-  pub whole_is : whole ≡ steps_of_logs (terms frames stocks true) (texts_of script) lines start logs.end logs.served_log
+  pub whole_is : whole ≡ steps_of_logs (terms frames true) (texts_of script) lines start logs.end logs.served_log
       logs.served ++ logs.ends.ends.leaves.steps
   pub is_whole : IsWholeRun (zone_of frames) (last_words logs.ends.ends.closes) whole
   pub text_is : text ≡ log_head_text sizes ++ log

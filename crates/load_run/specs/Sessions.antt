@@ -2,7 +2,6 @@
 use Rattle.std.specs.Prelude.{◌≡◌, ◌⊎◌, ℕ, ◌≤◌, Bool, List, [], ◌++◌, Option, Some, ⊤}
 use Rattle.std.specs.Io.KnownBytes.{Appends}
 use Rattle.frame_word.specs.Seats.{KnownTable}
-use Rattle.stock_word.specs.Stock.{KnownStockTable}
 use Rattle.zone_blocks.specs.declared.config.Config.{Config}
 use Rattle.zone_blocks.specs.Config.{IsValidConfig}
 use Rattle.boot_words.specs.Words.{Words}
@@ -30,22 +29,22 @@ use Rattle.load_run.specs.Logs.{LogsEnd, log_head_text}
 use Rattle.line_server.specs.Writing.{AppendsBeginning}
 
 -- a boot ended from this state after a session of this form, and this is what is written about that
-abbrev pub EndsInForm : SessionForm → KnownTable → KnownStockTable → (is_audited : Bool) → (before : SystemState)
+abbrev pub EndsInForm : SessionForm → KnownTable → (is_audited : Bool) → (before : SystemState)
     → (text : List ℕ) → Type 0
-EndsInForm (Answers is_explained) frames stocks is_audited before text = WritesEnd frames stocks is_audited before text
-EndsInForm Steps frames stocks is_audited before text = LogsEnd frames stocks before text
+EndsInForm (Answers is_explained) frames is_audited before text = WritesEnd frames is_audited before text
+EndsInForm Steps frames is_audited before text = LogsEnd frames before text
 
 -- the steps of the end of a session of this form
-abbrev pub steps_of_end : (form : SessionForm) (frames : KnownTable) (stocks : KnownStockTable) (is_audited : Bool)
-    (before : SystemState) (text : List ℕ) → EndsInForm form frames stocks is_audited before text → Run
-steps_of_end (Answers is_explained) frames stocks is_audited before text ends = ends.ends.leaves.steps
-steps_of_end Steps frames stocks is_audited before text ends = ends.ends.leaves.steps
+abbrev pub steps_of_end : (form : SessionForm) (frames : KnownTable) (is_audited : Bool)
+    (before : SystemState) (text : List ℕ) → EndsInForm form frames is_audited before text → Run
+steps_of_end (Answers is_explained) frames is_audited before text ends = ends.ends.leaves.steps
+steps_of_end Steps frames is_audited before text ends = ends.ends.leaves.steps
 
 -- the words of the boot's table after a session of this form, when it was closed
-abbrev pub words_of_end : (form : SessionForm) (frames : KnownTable) (stocks : KnownStockTable) (is_audited : Bool)
-    (before : SystemState) (text : List ℕ) → EndsInForm form frames stocks is_audited before text → Words
-words_of_end (Answers is_explained) frames stocks is_audited before text ends = last_words ends.ends.closes
-words_of_end Steps frames stocks is_audited before text ends = last_words ends.ends.closes
+abbrev pub words_of_end : (form : SessionForm) (frames : KnownTable) (is_audited : Bool)
+    (before : SystemState) (text : List ℕ) → EndsInForm form frames is_audited before text → Words
+words_of_end (Answers is_explained) frames is_audited before text ends = last_words ends.ends.closes
+words_of_end Steps frames is_audited before text ends = last_words ends.ends.closes
 
 -- A new boot served a session on an input, and ended. `middle` is what the output holds after the session, and `ending`
 -- the text of the end, if there is one. `whole` is all steps of the lines that were served, and then of the end, from the
@@ -54,18 +53,17 @@ words_of_end Steps frames stocks is_audited before text ends = last_words ends.e
 pub record EndsSession (options : Options) (form : SessionForm) (input before middle : Option (List ℕ))
     (ending : List ℕ) : Type 0 where
   pub frames : KnownTable
-  pub stocks : KnownStockTable
   pub start : SystemState
   pub end : SystemState
-  pub first : IsNewBootState options.sizes frames stocks start
-  pub session : ServesSession (session_terms frames stocks form) options.sizes input start end before middle
-  pub history : HasTurnsHistory form frames stocks session.turns (past [] start) end
+  pub first : IsNewBootState options.sizes frames start
+  pub session : ServesSession (session_terms frames form) options.sizes input start end before middle
+  pub history : HasTurnsHistory form frames session.turns (past [] start) end
   pub agrees : AgreesWithRun frames [] start.locked.machine.ledger
-  pub ends : EndsInForm form frames stocks options.is_audited end ending
+  pub ends : EndsInForm form frames options.is_audited end ending
   pub whole : Run
-  pub whole_is : whole ≡ steps_of_turns form frames stocks session.turns (past [] start) end history
-      ++ steps_of_end form frames stocks options.is_audited end ending ends
-  pub is_whole : IsWholeRun (zone_of frames) (words_of_end form frames stocks options.is_audited end ending ends) whole
+  pub whole_is : whole ≡ steps_of_turns form frames session.turns (past [] start) end history
+      ++ steps_of_end form frames options.is_audited end ending ends
+  pub is_whole : IsWholeRun (zone_of frames) (words_of_end form frames options.is_audited end ending ends) whole
 
 -- a session ended, and all of the text of its end was written behind its answers
 pub record ServesInput (options : Options) (form : SessionForm) (input before after : Option (List ℕ)) : Type 0 where
@@ -92,13 +90,12 @@ IsSameFault why fault = ⊥
 pub record FailsOnBoot (options : Options) (form : SessionForm) (input before after : Option (List ℕ))
     (fault : ProgramFault) : Type 0 where
   pub frames : KnownTable
-  pub stocks : KnownStockTable
   pub start : SystemState
   pub end : SystemState
-  pub first : IsNewBootState options.sizes frames stocks start
+  pub first : IsNewBootState options.sizes frames start
   pub why : ServeFault
   pub same : IsSameFault why fault
-  pub fails : FailsSession (session_terms frames stocks form) options.sizes input start end before after why
+  pub fails : FailsSession (session_terms frames form) options.sizes input start end before after why
 
 -- a fault at work
 abbrev pub IsWorkFault : ProgramFault → Type 0

@@ -1,19 +1,18 @@
 -- The state after a boot.
 use Rattle.std.specs.Prelude.{◌≡◌, []}
 use Rattle.frame_word.specs.Seats.{KnownTable}
-use Rattle.stock_word.specs.Stock.{KnownStockTable}
 use Rattle.zone_blocks.specs.declared.config.Config.{Config}
 use Rattle.mem_machine.specs.Machines.{IsFirst}
 use Rattle.mem_system.specs.Boots.{IsSizedAs, first_cpus}
 use Rattle.mem_system.specs.Cpus.{parts_of}
 use Rattle.script_replay.specs.Lines.{HasRun, SystemState}
 
--- the state after a boot with these sizes, under these tables: a new machine, CPUs that did nothing yet, and no step of
+-- the state after a boot with these sizes and this table: a new machine, CPUs that did nothing yet, and no step of
 -- the run so far
-pub record IsNewBootState (sizes : Config) (table : KnownTable) (stock_table : KnownStockTable)
+pub record IsNewBootState (sizes : Config) (table : KnownTable)
     (first : SystemState) : Type 0 where
-  pub sized : IsSizedAs sizes table stock_table
-  pub machine : IsFirst table stock_table first.locked.machine
+  pub sized : IsSizedAs sizes table
+  pub machine : IsFirst table first.locked.machine
   pub sizes_are : first.locked.sizes ≡ sizes
-  pub cpus : parts_of first.cpus ≡ first_cpus table stock_table 1 sizes.cpus
+  pub cpus : parts_of first.cpus ≡ first_cpus 1 sizes.cpus
   pub so_far : HasRun [] first

@@ -1,7 +1,6 @@
 -- Why a boot whose steps are checked gives no answers.
 use Rattle.std.specs.Prelude.{◌≡◌, ℕ, Bool, true, false, List, ⊤}
 use Rattle.frame_word.specs.Seats.{KnownTable}
-use Rattle.stock_word.specs.Stock.{KnownStockTable}
 use Rattle.zone_blocks.specs.declared.config.Config.{Config}
 use Rattle.step_watch.specs.Watched.{IsNewWatch, has_legal_steps}
 use Rattle.mem_machine.specs.Interleaving.{zone_of}
@@ -21,32 +20,30 @@ use Rattle.load_run.specs.Ending.{EndsHeld}
 use Rattle.load_run.specs.Starting.{IsNewBootState}
 
 -- the state after a boot with these sizes whose watch checks each step from the first on
-pub record IsNewWatchedState (sizes : Config) (table : KnownTable) (stock_table : KnownStockTable)
+pub record IsNewWatchedState (sizes : Config) (table : KnownTable)
     (start : SystemState) : Type 0 where
-  pub first : IsNewBootState sizes table stock_table start
+  pub first : IsNewBootState sizes table start
   pub watched : IsNewWatch (zone_of table) start.locked.machine.run.watch
 
 -- A boot with these sizes served the lines up to one with a step that the watch didn't allow, and no line after it.
 -- That line has this number.
 pub record StopsAtIllegalLine (sizes : Config) (form : Form) (lines : List Line) (number : ℕ) : Type 0 where
   pub frames : KnownTable
-  pub stocks : KnownStockTable
   pub start : SystemState
   pub end : SystemState
-  pub new : IsNewWatchedState sizes frames stocks start
-  pub stops : StopsFor (form_terms frames stocks form) lines start end (stopped.NotLegal number)
+  pub new : IsNewWatchedState sizes frames start
+  pub stops : StopsFor (form_terms frames form) lines start end (stopped.NotLegal number)
 
 -- A boot with these sizes served the lines by legal steps, and ended. The watch didn't allow a step of the end.
 pub record StopsAtIllegalEnd (sizes : Config) (form : Form) (lines : List Line) : Type 0 where
   pub frames : KnownTable
-  pub stocks : KnownStockTable
   pub start : SystemState
   pub end : SystemState
   pub answers : List ℕ
   pub ended : BootEnd
-  pub new : IsNewWatchedState sizes frames stocks start
-  pub history : HasLegalHistory (form_terms frames stocks form) lines start end answers
-  pub ends : EndsHeld frames stocks end ended
+  pub new : IsNewWatchedState sizes frames start
+  pub history : HasLegalHistory (form_terms frames form) lines start end answers
+  pub ends : EndsHeld frames end ended
   pub not_legal : has_legal_steps ends.emptied.machine.run.watch ≡ false
 
 -- why a boot with these sizes gives no answers to the lines

@@ -1,15 +1,16 @@
 -- What a look at all pasts together shows, and what a seat changes in a run.
-use Rattle.std.specs.Prelude.{◌≡◌, ℕ, suc, ◌==◌, ◌&&◌, not, Some, List, ◌∷◌, ◌++◌, filter, slice_get}
+use Rattle.std.specs.Prelude.{◌≡◌, ℕ, suc, ◌==◌, ◌&&◌, not, Some, List, ◌∷◌, ◌++◌, filter, map, slice_get}
 use Rattle.frame_word.specs.Seats.{KnownTable}
 use Rattle.step_rules.specs.After.{Run, IsLegalRun}
-use Rattle.boot_words.specs.declared.view.Past.{Past}
+use Rattle.boot_words.specs.declared.past.Past.{Past}
 use Rattle.boot_words.specs.Growth.{AreChangesOf, changes_nothing}
 use Rattle.boot_words.specs.Pasts.{Meets, own_past}
 use Rattle.boot_words.specs.Rule.{AllOf}
 use Rattle.boot_words.specs.Runs.{OthersFollow}
+use Rattle.stock_word.specs.declared.view.Stock.{Stock}
 use Rattle.mem_machine.specs.Interleaving.{zone_of}
 use Rattle.mem_machine.specs.Machines.{with_past}
-use Rattle.mem_system.specs.Cpus.{parts_of, pasts_of}
+use Rattle.mem_system.specs.Cpus.{CpuInRun, parts_of, pasts_of}
 use Rattle.mem_system.specs.Ends.{MachineAndCpu}
 use Rattle.script_replay.specs.Lines.{HasRun, SystemState}
 
@@ -28,7 +29,12 @@ pub record ChangesFollow (seat : ℕ) (seen steps run : Run) : Type 0 where
 pub record MeetsZone (table : KnownTable) (before after : MachineAndCpu) : Type 0 where
   pub machine : after.machine ≡ with_past before.machine after.machine.run.past
   pub part : after.cpu.part ≡ before.cpu.part
+  pub last : after.cpu.last ≡ before.cpu.last
   pub meets : Meets table before.machine.run.past before.cpu.past after.machine.run.past after.cpu.past
+
+-- the stocks that the CPUs saw last
+abbrev pub lasts_of : List CpuInRun → List Stock
+lasts_of cpus = map (λ cpu. cpu.last) cpus
 
 -- the run is this past and then others' steps
 abbrev pub HasPast : Run → Past → Type 0
@@ -50,6 +56,7 @@ pub record SeesAllPasts (table : KnownTable) (before after : SystemState) : Type
   pub locked : after.locked
       ≡ record before.locked { machine = with_past before.locked.machine after.locked.machine.run.past }
   pub parts : parts_of after.cpus ≡ parts_of before.cpus
+  pub lasts : lasts_of after.cpus ≡ lasts_of before.cpus
   pub beginning : Run
   pub legal : IsLegalRun (zone_of table) beginning
   pub begins : AllOf (HasPast beginning) (own_past before.locked.machine.run.past ∷ pasts_of before.cpus)

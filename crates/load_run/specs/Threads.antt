@@ -1,14 +1,13 @@
 -- The steps of all threads as one legal run, and what it shows of each visit and of what was found.
-use Rattle.std.specs.Prelude.{◌≡◌, ℕ, ◌++◌}
+use Rattle.std.specs.Prelude.{◌≡◌, ℕ, ◌++◌, true}
 use Rattle.frame_word.specs.Seats.{KnownTable}
-use Rattle.stock_word.specs.Stock.{KnownStockTable}
 use Rattle.step_rules.specs.After.{Run, state_of}
+use Rattle.step_rules.specs.State.{State, is_unheld}
 use Rattle.step_rules.specs.Reaches.{own_steps}
 use Rattle.boot_words.specs.Hidden.{hide}
 use Rattle.boot_words.specs.Pasts.{KnownPasts, own_past}
 use Rattle.mem_machine.specs.Interleaving.{zone_of}
-use Rattle.mem_machine.specs.Machines.{KnownMachine}
-use Rattle.mem_machine.specs.Resting.{hidden_of}
+use Rattle.mem_machine.specs.Machines.{KnownMachine, IsShownBy}
 use Rattle.mem_system.specs.declared.command.Cmd.{Cmd}
 use Rattle.mem_system.specs.declared.command.Reply.{Reply}
 use Rattle.mem_system.specs.Cpus.{CpuInRun, between_locks}
@@ -21,39 +20,43 @@ pub record IsBeginning (front run : Run) : Type 0 where
   pub rest : Run
   pub is : run ≡ front ++ rest
 
--- A run has a visit of this CPU. With every CPU's own part hidden, the run shows before it what was found, and after it
--- what was left; the lock is free then. Meanwhile the CPU and the zone's seat make just the Lock, the steps of the visit
--- and the Unlock.
+-- The state leaves the lock free. With every CPU's own part hidden, it is what the machine shows.
+pub record IsStateOf (table : KnownTable) (machine : KnownMachine) (state : State) : Type 0 where
+  pub free : is_unheld state.hold ≡ true
+  pub shown : IsShownBy table machine (hide state)
+
+-- A run has a visit of this CPU. Before it the run shows what was found, and after it what was left. Meanwhile the CPU and
+-- the zone's seat make just the Lock, the steps of the visit and the Unlock.
 pub record ShowsVisit (table : KnownTable) (run : Run) (cpu : ℕ) (steps : Run) (found left : KnownMachine)
     : Type 0 where
   pub before : Run
   pub during : Run
   pub after : Run
   pub is : run ≡ before ++ (during ++ after)
-  pub found_is : hide (state_of (zone_of table) before) ≡ hidden_of table found
+  pub found_is : IsStateOf table found (state_of (zone_of table) before)
   pub own : own_steps cpu during ≡ between_locks cpu steps
-  pub left_is : hide (state_of (zone_of table) (before ++ during)) ≡ hidden_of table left
+  pub left_is : IsStateOf table left (state_of (zone_of table) (before ++ during))
 
 -- If a command was served in a visit, and the CPU's past after it is a beginning of a run, then this run shows the visit.
 abbrev pub RunsShowVisits : Type 0
-RunsShowVisits = (table : KnownTable) (stock_table : KnownStockTable) (cmd : Cmd) (reply : Reply)
-    (before after : LockedState) (run : Run) → IsSound table stock_table before.locked
-    → (served : IsServed table cmd reply before after) → IsSound table stock_table after.locked
+RunsShowVisits = (table : KnownTable) (cmd : Cmd) (reply : Reply)
+    (before after : LockedState) (run : Run) → IsSound table before.locked
+    → (served : IsServed table cmd reply before after) → IsSound table after.locked
     → IsBeginning (own_past after.cpu.past).seen run
     → ShowsVisit table run before.cpu.part.number served.steps before.locked.machine after.locked.machine
 
--- With every CPU's own part hidden, the run shows this at some beginning of it that leaves the lock free.
+-- the run shows this at some beginning of it
 pub record ShowsFound (table : KnownTable) (run : Run) (found : KnownMachine) : Type 0 where
   pub before : Run
   pub after : Run
   pub is : run ≡ before ++ after
-  pub found_is : hide (state_of (zone_of table) before) ≡ hidden_of table found
+  pub found_is : IsStateOf table found (state_of (zone_of table) before)
 
 -- If a CPU has seen the run that led to what was found behind the lock, which is sound (`SeenBehindLock`), and the CPU's
 -- past then is a beginning of a run, then this run shows what was found, such as its groups.
 abbrev pub RunsShowFinds : Type 0
-RunsShowFinds = (table : KnownTable) (stock_table : KnownStockTable) (found : KnownLocked) (after : CpuInRun) (run : Run)
-    → IsSound table stock_table found → (own_past found.machine.run.past).seen ≡ (own_past after.past).seen
+RunsShowFinds = (table : KnownTable) (found : KnownLocked) (after : CpuInRun) (run : Run)
+    → IsSound table found → (own_past found.machine.run.past).seen ≡ (own_past after.past).seen
     → IsBeginning (own_past after.past).seen run → ShowsFound table run found.machine
 
 -- A CPU's past is a beginning of its past after more steps.

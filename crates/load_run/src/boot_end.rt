@@ -79,7 +79,7 @@ pub(crate) fn empty_cpus<N: BootName>(
     cpus: Vec<Cpu<N>>,
 ) -> (u64, EmptiedBoot<N>)
     requires count { length cpus.items ≡ N.frames.cpus }
-    ensures leaves { LeavesNothing N.frames N.stocks (system_state locked cpus.items) result.0 result.1 }
+    ensures leaves { LeavesNothing N.frames (system_state locked cpus.items) result.0 result.1 }
 {
     match make_last_visits(locked, tables, cpus) {
         Ok(emptied) => (0, emptied),
@@ -102,7 +102,7 @@ pub(crate) fn empty_cpus<N: BootName>(
 /// Ends a boot. Pins that are still held are put first.
 pub fn end_boot<N: BootName>(locked: Locked<N>, tables: Tables<N>, cpus: Vec<Cpu<N>>) -> BootEnd
     requires count { length cpus.items ≡ N.frames.cpus }
-    ensures ends { EndsHeld N.frames N.stocks (system_state locked cpus.items) result }
+    ensures ends { EndsHeld N.frames (system_state locked cpus.items) result }
 {
     let (held, emptied) = empty_cpus(locked, tables, cpus);
     let audit = emptied.close();
@@ -116,7 +116,7 @@ pub fn end_checked_boot<N: BootName>(
     cpus: Vec<Cpu<N>>,
 ) -> (BootEnd, CheckedSteps)
     requires count { length cpus.items ≡ N.frames.cpus }
-    ensures ends { EndsChecked N.frames N.stocks (system_state locked cpus.items) result.0 result.1 }
+    ensures ends { EndsChecked N.frames (system_state locked cpus.items) result.0 result.1 }
 {
     let (held, emptied) = empty_cpus(locked, tables, cpus);
     let seen = CheckedSteps {

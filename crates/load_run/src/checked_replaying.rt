@@ -30,7 +30,6 @@ pub fn check_on_boot<N: BootName>(
     is_audited: bool,
 ) -> Result<Vec<u8>, ProgramFault>
     requires frames { boot.frames ≡ N.frames }
-    requires stocks { boot.stocks ≡ N.stocks }
     requires sizes { boot.sizes ≡ sizes }
     requires valid { IsValidConfig sizes }
     requires lines { All (LineInRange boot.sizes.frames boot.sizes.cpus) lines.now }

@@ -69,7 +69,7 @@ fn log_each<N: BootName>(
     log: &mut Vec<u8>,
 ) -> Result<(), AllocError>
     requires there { All (LineInRange N.frames.frames (length cpus.old)) lines.now }
-    ensures logged { OnOk result (GrowsBy (LogsAll (terms N.frames N.stocks true) (map (λ text. text.now) texts.now)
+    ensures logged { OnOk result (GrowsBy (LogsAll (terms N.frames true) (map (λ text. text.now) texts.now)
         lines.now (system_state locked.old cpus.old) (system_state locked.new cpus.new)) log.old.items log.new.items) }
 {
     for next in lines {
@@ -106,7 +106,7 @@ pub(crate) fn log_end<N: BootName>(
 ) -> Result<(), AllocError>
     requires count { length cpus.items ≡ N.frames.cpus }
     ensures logged { AddsPart result log.old.items log.new.items
-        (LogsEnd N.frames N.stocks (system_state locked cpus.items)) }
+        (LogsEnd N.frames (system_state locked cpus.items)) }
 {
     locked.set_watch(Watch::logging(alloc));
     let (held, emptied) = empty_cpus(locked, tables, cpus);
@@ -152,7 +152,6 @@ pub fn steps_on_boot<N: BootName>(
     lines: &[Line<'_>],
 ) -> Result<Vec<u8>, AllocError>
     requires frames { boot.frames ≡ N.frames }
-    requires stocks { boot.stocks ≡ N.stocks }
     requires sizes { boot.sizes ≡ sizes }
     requires lines { All (LineInRange boot.sizes.frames boot.sizes.cpus) lines.now }
     ensures steps { IfOk result (λ text. AreLoggedSteps boot.sizes script.now lines.now text.items) }

@@ -203,7 +203,6 @@ fn answers_on_boot<N: BootName + Send + Sync, R: Threads + Wait + Sync>(
 ) -> Result<Vec<u8>, ProgramFault>
     requires task { IsOnScript options.now.task }
     requires frames { boot.frames ≡ N.frames }
-    requires stocks { boot.stocks ≡ N.stocks }
     requires sizes { boot.sizes ≡ options.now.sizes }
     requires valid { IsValidConfig options.now.sizes }
     requires lines { All (LineInRange boot.sizes.frames boot.sizes.cpus) lines.now }

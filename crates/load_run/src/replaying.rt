@@ -23,7 +23,6 @@ pub fn replay_on_boot<N: BootName>(
     is_audited: bool,
 ) -> Result<Vec<u8>, AllocError>
     requires frames { boot.frames ≡ N.frames }
-    requires stocks { boot.stocks ≡ N.stocks }
     requires lines { All (LineInRange boot.sizes.frames boot.sizes.cpus) lines.now }
     ensures answers { IfOk result (λ text. AreReplayAnswers boot.sizes form is_audited lines.now text.items) }
 {

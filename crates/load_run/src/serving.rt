@@ -99,7 +99,6 @@ fn serve_on_boot<N: BootName, I: Read, O: Write>(
     output: &mut O,
 ) -> Result<(), ProgramFault>
     requires frames { boot.frames ≡ N.frames }
-    requires stocks { boot.stocks ≡ N.stocks }
     requires sizes { boot.sizes ≡ options.now.sizes }
     requires valid { IsValidConfig options.now.sizes }
     requires in_range { HasSizesInRange options.now.sizes }
@@ -131,7 +130,7 @@ fn end_session<N: BootName>(
 ) -> Result<Vec<u8>, AllocError>
     requires count { length cpus.items ≡ N.frames.cpus }
     ensures ended { GivesAnswer result
-        (EndsInForm form N.frames N.stocks is_audited (system_state locked cpus.items)) }
+        (EndsInForm form N.frames is_audited (system_state locked cpus.items)) }
 {
     match form {
         SessionForm::Answers { .. } => {

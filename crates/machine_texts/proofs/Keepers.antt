@@ -5,7 +5,6 @@ use Rattle.group_tree.specs.declared.group.Group.{Group}
 use Rattle.group_tree.specs.Groups.{has_group}
 use Rattle.group_charge.specs.Charges.{AreCharges}
 use Rattle.frame_word.specs.Seats.{KnownTable}
-use Rattle.stock_word.specs.Stock.{KnownStockTable}
 use Rattle.mem_machine.specs.declared.frame_state.FrameState.{FrameState}
 use Rattle.mem_machine.specs.declared.frame_state.FrameState.TheVariants as frame_state
 use Rattle.mem_machine.specs.declared.frame_state.Place.{Place}
@@ -21,9 +20,9 @@ there_by groups Free known = tt
 there_by groups (Lent q) known = tt
 there_by groups (Charged g) known = known g refl
 
-pub frame_states_there : (t : KnownTable) (w : KnownStockTable) (m : KnownMachine) → IsConsistent t w m → AreCharges m.ledger
+pub frame_states_there : (t : KnownTable) (m : KnownMachine) → IsConsistent t m → AreCharges m.ledger
     → (k : ℕ) (d : FrameState) → k < length m.frame_states → FrameGroupExists m.ledger.groups (get_or m.frame_states k d)
-frame_states_there t w m good legal k d inside =
+frame_states_there t m good legal k d inside =
     let same : get_or m.frame_states k d ≡ get_or m.frame_states k frame_state.Free = get_or_default m.frame_states k d frame_state.Free inside in
     there_by m.ledger.groups (place_of (get_or m.frame_states k d)) λ g is.
-    keeper_there t w m k g good legal (let e : k < t.frames = omega (arith, good.sizes.frame_states) in e) (sym (ap place_of same) ∙ is)
+    keeper_there t m k g good legal (let e : k < t.frames = omega (arith, good.sizes.frame_states) in e) (sym (ap place_of same) ∙ is)

@@ -1,20 +1,19 @@
 -- The lines of kept units, one after the other, and the looks at their words. Serves `write_list` and `write_units`.
-use Rattle.std.proofs.Common.{◌≡◌, ℕ, zero, suc, ◌+◌, ◌<◌, Option, Some, None, List, [], ◌∷◌, ◌++◌, All, length, map, refl, sym, ap, ◌∙◌, subst, arith}
+use Rattle.std.proofs.Common.{◌≡◌, ℕ, ◌+◌, ◌<◌, Option, Some, None, List, [], ◌∷◌, ◌++◌, length, map, refl, sym, ap, ◌∙◌, subst, arith}
 use Rattle.std.proofs.Common.{Result, Ok, Err, IfOk, IsOk}
-use Rattle.std.proofs.lemmas.List.Elements.{All-append}
 use Rattle.std.proofs.lemmas.List.{append-nil, append_assoc, length-append, map-append}
 use Rattle.frame_word.specs.ReferenceRule.{most_references}
-use Rattle.frame_word.specs.Seats.{KnownTable, KnownSeat}
-use Rattle.stock_word.specs.Stock.{KnownStockTable}
+use Rattle.frame_word.specs.Seats.{KnownTable}
+use Rattle.boot_words.specs.Looking.{LoadsReferences}
+use Rattle.boot_words.specs.Pasts.{own_past}
+use Rattle.boot_words.specs.Seats.{zone_of_boot}
 use Rattle.lru_lists.specs.declared.record.Entry.{Entry}
 use Rattle.lru_lists.specs.declared.record.LruList.{LruList}
 use Rattle.lru_lists.specs.Lists.{entry_after, first_entry}
 use Rattle.mem_machine.specs.Machines.{KnownMachine, IsConsistent, home_of}
-use Rattle.mem_machine.specs.FrameStates.{frame_state_at, headed_unit}
-use Rattle.mem_machine.specs.Showing.{ListedUnit, entries_in, listed, seat_with_look, seat_with_looks, units_in, with_look_at, with_looks_at}
+use Rattle.mem_machine.specs.Showing.{ListedUnit, entries_in, listed, units_in}
 use Rattle.mem_machine.proofs.Listing.{IsListed, apart_mid, after_mid, has_mid, home_inside, listed_is}
-use Rattle.machine_texts.specs.Units.{LooksAtAll, ReadsLines, ReadsUnits, lines_text, order_at, unit_text, units_text}
-use Rattle.std.specs.Option.{option_map_or}
+use Rattle.machine_texts.specs.Units.{ArePinsOf, ReadsLines, ReadsUnits, lines_text, order_at, unit_text, units_text}
 use Rattle.lru_lists.specs.declared.record.LruList.TheVariants.{Inactive, Active}
 
 -- ---- some units and then others
@@ -29,44 +28,23 @@ lines_append m (u ∷ us) vs (p ∷ ps) qs same =
     let s : length (p ∷ ps) ≡ length (u ∷ us) = same in
     ap (λ (t : List ℕ). line ++ t) (lines_append m us vs ps qs (omega (arith, s))) ∙ sym (append_assoc line (lines_text m us ps) (lines_text m vs qs))
 
-looks_append : (s : KnownSeat) (us vs : List ListedUnit) (ps qs : List ℕ) → length ps ≡ length us
-    → seat_with_looks s (us ++ vs) (ps ++ qs) ≡ seat_with_looks (seat_with_looks s us ps) vs qs
-looks_append s [] vs [] qs same = refl
-looks_append s [] vs (p ∷ ps) qs same = absurd (omega (arith, same))
-looks_append s (u ∷ us) vs [] qs same = absurd (omega (arith, same))
-looks_append s (u ∷ us) vs (p ∷ ps) qs same =
-    let e : length (p ∷ ps) ≡ length (u ∷ us) = same in
-    looks_append (seat_with_look s u.entry.number p) us vs ps qs (omega (arith, e))
+pub pins_both : (t : KnownTable) (m : KnownMachine) (us vs : List ListedUnit) (ps qs : List ℕ) → ArePinsOf t m us ps → ArePinsOf t m vs qs
+    → ArePinsOf t m (us ++ vs) (ps ++ qs)
+pins_both t m [] vs [] qs first second = second
+pins_both t m [] vs (p ∷ ps) qs first second = absurd first
+pins_both t m (u ∷ us) vs [] qs first second = absurd first
+pins_both t m (u ∷ us) vs (p ∷ ps) qs first second = (first.0, first.1, pins_both t m us vs ps qs first.2 second)
 
-pub looks_both : (us vs : List ListedUnit) (ps qs : List ℕ) (a b d : KnownMachine) → LooksAtAll us ps a b → LooksAtAll vs qs b d
-    → LooksAtAll (us ++ vs) (ps ++ qs) a d
-looks_both us vs ps qs a b d first second = record {
-  count =
-      let x = first.count in
-      let y = second.count in
-      let l = length-append ps qs in
-      let r = length-append us vs in
-      omega (arith, x, y, l, r);
-  most = All-append (λ found. found < most_references) ps qs first.most second.most;
-  machine = second.machine ∙ ap (λ (x : KnownMachine). with_looks_at x vs qs) first.machine
-      ∙ (λ i. record a { frame_seat = sym (looks_append a.frame_seat us vs ps qs first.count) i });
-}
-
-pub looks_none : (m : KnownMachine) → LooksAtAll [] [] m m
-looks_none m = record { count = refl; most = λ k d h. absurd (omega (arith, h)); machine = refl }
-
--- one more look
-looks_one : (m n : KnownMachine) (u : ListedUnit) (p : ℕ) → p < most_references → n ≡ with_look_at m u.entry.number p → LooksAtAll (u ∷ []) (p ∷ []) m n
-looks_one m n u p few is = record { count = refl; most = one; machine = is }
-  where
-    one : All (λ found. found < most_references) (p ∷ [])
-    one zero d h = few
-    one (suc k) d h = absurd (omega (arith, h))
+pub pins_count : (t : KnownTable) (m : KnownMachine) (us : List ListedUnit) (ps : List ℕ) → ArePinsOf t m us ps → length ps ≡ length us
+pins_count t m [] [] are = refl
+pins_count t m [] (p ∷ ps) are = absurd are
+pins_count t m (u ∷ us) [] are = absurd are
+pins_count t m (u ∷ us) (p ∷ ps) are = let more = pins_count t m us ps are.2 in omega (arith, more)
 
 -- ---- the walk over one list
 
 -- The units that were met have their lines, and the others are still to be met.
-pub record MetSoFar (g : ℕ) (list : LruList) (before : KnownMachine) (i : ℕ) (next : Option Entry) (now : KnownMachine)
+pub record MetSoFar (t : KnownTable) (g : ℕ) (list : LruList) (before : KnownMachine) (i : ℕ) (next : Option Entry) (now : KnownMachine)
     (tells : List ℕ → Type 0) : Type 0 where
   pub met : List Entry
   pub todo : List Entry
@@ -74,19 +52,21 @@ pub record MetSoFar (g : ℕ) (list : LruList) (before : KnownMachine) (i : ℕ)
   pub count : length met ≡ i
   pub next_is : next ≡ first_entry todo
   pub pins : List ℕ
-  pub looks : LooksAtAll (map (listed list) met) pins before now
+  pub looks : ArePinsOf t before (map (listed list) met) pins
+  pub same : now ≡ before
   pub told : tells (lines_text before (map (listed list) met) pins)
 
-pub met_none : (g : ℕ) (list : LruList) (m : KnownMachine) (next : Option Entry) (tells : List ℕ → Type 0) → next ≡ first_entry (entries_in m g list)
-    → tells [] → MetSoFar g list m 0 next m tells
-met_none g list m next tells is none = record {
+pub met_none : (t : KnownTable) (g : ℕ) (list : LruList) (m : KnownMachine) (next : Option Entry) (tells : List ℕ → Type 0) → next ≡ first_entry (entries_in m g list)
+    → tells [] → MetSoFar t g list m 0 next m tells
+met_none t g list m next tells is none = record {
   met = [];
   todo = entries_in m g list;
   are = refl;
   count = refl;
   next_is = is;
   pins = [];
-  looks = looks_none m;
+  looks = tt;
+  same = refl;
   told = none;
 }
 
@@ -105,40 +85,42 @@ ahead_is next (e ∷ es) u is some = (es, let s : Some e ≡ Some u = sym is ∙
     same : (a b : Entry) → Some a ≡ Some b → a ≡ b
     same a b e = cc
 
-module _ (t : KnownTable) (w : KnownStockTable) (g : ℕ) (fits : g < 64) (list : LruList) (before : KnownMachine) (i : ℕ) (next : Option Entry) (now : KnownMachine)
-    (tells : List ℕ → Type 0) (ok : IsConsistent t w now) (s : MetSoFar g list before i next now tells) where
+module _ (t : KnownTable) (g : ℕ) (fits : g < 64) (list : LruList) (before : KnownMachine) (i : ℕ) (next : Option Entry) (now : KnownMachine)
+    (tells : List ℕ → Type 0) (ok : IsConsistent t now) (s : MetSoFar t g list before i next now tells) where
   same_entries : entries_in now g list ≡ entries_in before g list
-  same_entries = ap (λ (x : KnownMachine). entries_in x g list) s.looks.machine
+  same_entries = ap (λ (x : KnownMachine). entries_in x g list) s.same
 
   pub is_met : (u : Entry) → next ≡ Some u → IsMet t g list before now s.met s.todo u
   is_met u some =
       let a = ahead_is next s.todo u s.next_is some in
       let are : entries_in now g list ≡ s.met ++ u ∷ a.0 = same_entries ∙ s.are ∙ ap (λ (l : List Entry). s.met ++ l) a.1 in
-      let is : IsListed now g list (s.met ++ u ∷ a.0) = subst (IsListed now g list) are (listed_is t w now ok g fits list) in
+      let is : IsListed now g list (s.met ++ u ∷ a.0) = subst (IsListed now g list) are (listed_is t now ok g fits list) in
       let home = is.homes u.number (has_mid s.met a.0 u u.number refl) in
       record {
         rest = a.0;
         ahead = a.1;
         home = home;
-        inside = home_inside t w now ok u.number (record { owner = g; list = list }) home;
+        inside = home_inside t now ok u.number (record { owner = g; list = list }) home;
         newer = ap (λ (l : List Entry). entry_after u.number l) are ∙ after_mid s.met a.0 u (apart_mid s.met a.0 u is.apart);
       }
 
   pub met_more : (u : Entry) (some : next ≡ Some u) (newer : Option Entry) → newer ≡ entry_after u.number (entries_in now g list) → (pins : ℕ) → pins < most_references
-      → (n : KnownMachine) → n ≡ with_look_at now u.number pins → (more : List ℕ → Type 0)
-      → ((text : List ℕ) → tells text → more (text ++ unit_text (order_at now u.number) (listed list u) pins)) → MetSoFar g list before (i + 1) newer n more
-  met_more u some newer is pins few n looked more line =
+      → LoadsReferences (zone_of_boot t) (own_past now.run.past) u.number (pins + 1) → (n : KnownMachine) → n ≡ now → (more : List ℕ → Type 0)
+      → ((text : List ℕ) → tells text → more (text ++ unit_text (order_at now u.number) (listed list u) pins)) → MetSoFar t g list before (i + 1) newer n more
+  met_more u some newer is pins few loads n kept more line =
       let h = is_met u some in
       let units : List ListedUnit = map (listed list) s.met in
       let both : map (listed list) (s.met ++ u ∷ []) ≡ units ++ listed list u ∷ [] = map-append (listed list) s.met (u ∷ []) in
-      let looks : LooksAtAll (units ++ listed list u ∷ []) (s.pins ++ pins ∷ []) before n =
-      looks_both units (listed list u ∷ []) s.pins (pins ∷ []) before now n s.looks (looks_one now n (listed list u) pins few looked) in
-      let order : order_at now u.number ≡ order_at before u.number = ap (λ (x : KnownMachine). order_at x u.number) s.looks.machine in
+      let one : LoadsReferences (zone_of_boot t) (own_past before.run.past) u.number (pins + 1)
+      = subst (λ (x : KnownMachine). LoadsReferences (zone_of_boot t) (own_past x.run.past) u.number (pins + 1)) s.same loads in
+      let looks : ArePinsOf t before (units ++ listed list u ∷ []) (s.pins ++ pins ∷ []) =
+      pins_both t before units (listed list u ∷ []) s.pins (pins ∷ []) s.looks (few, one, tt) in
+      let order : order_at now u.number ≡ order_at before u.number = ap (λ (x : KnownMachine). order_at x u.number) s.same in
       let lines : lines_text before units s.pins ++ unit_text (order_at now u.number) (listed list u) pins
       ≡ lines_text before (units ++ listed list u ∷ []) (s.pins ++ pins ∷ []) =
       ap (λ (k : ℕ). lines_text before units s.pins ++ unit_text k (listed list u) pins) order
       ∙ ap (λ (l : List ℕ). lines_text before units s.pins ++ l) (sym (append-nil (unit_text (order_at before u.number) (listed list u) pins)))
-      ∙ sym (lines_append before units (listed list u ∷ []) s.pins (pins ∷ []) s.looks.count) in
+      ∙ sym (lines_append before units (listed list u ∷ []) s.pins (pins ∷ []) (pins_count t before units s.pins s.looks)) in
       record {
         met = s.met ++ u ∷ [];
         todo = h.rest;
@@ -146,7 +128,8 @@ module _ (t : KnownTable) (w : KnownStockTable) (g : ℕ) (fits : g < 64) (list 
         count = let c = s.count in let l = length-append s.met (u ∷ []) in omega (arith, c, l);
         next_is = is ∙ h.newer;
         pins = s.pins ++ pins ∷ [];
-        looks = subst (λ (l : List ListedUnit). LooksAtAll l (s.pins ++ pins ∷ []) before n) (sym both) looks;
+        looks = subst (λ (l : List ListedUnit). ArePinsOf t before l (s.pins ++ pins ∷ [])) (sym both) looks;
+        same = kept ∙ s.same;
         told = subst (λ (l : List ListedUnit). more (lines_text before l (s.pins ++ pins ∷ []))) (sym both)
             (subst more lines (line (lines_text before units s.pins) s.told));
       }
@@ -164,32 +147,27 @@ joined (Ok x) (Ok y) (Ok z) start now new text line a b told added =
 
 -- ---- both lists of a group
 
-lines_same : (m n : KnownMachine) → n.frame_states ≡ m.frame_states → (us : List ListedUnit) (ps : List ℕ) → lines_text n us ps ≡ lines_text m us ps
-lines_same m n same [] ps = refl
-lines_same m n same (u ∷ us) [] = refl
-lines_same m n same (u ∷ us) (p ∷ ps) = λ i.
-    unit_text (option_map_or (λ unit. unit.order) (headed_unit (frame_state_at (same i) u.entry.number)) 0) u p ++ lines_same m n same us ps i
-
 has_lines : (m : KnownMachine) (us : List ListedUnit) (ps : List ℕ) → 0 < length us → units_text m us ps ≡ lines_text m us ps
 has_lines m [] ps some = absurd (omega (arith, some))
 has_lines m (u ∷ us) ps some = refl
 
 -- the lines of the inactive units and then those of the active ones
-pub both_lists : (g : ℕ) (m between n : KnownMachine) (first second all : List ℕ → Type 0) → 0 < length (units_in m g) → ReadsLines g Inactive first m between
-    → ReadsLines g Active second between n → ((one other : List ℕ) → first one → second other → all (one ++ other)) → ReadsUnits g all m n
-both_lists g m between n first second all some inactive active together =
+pub both_lists : (t : KnownTable) (g : ℕ) (m between n : KnownMachine) (first second all : List ℕ → Type 0) → 0 < length (units_in m g)
+    → ReadsLines t g Inactive first m between → ReadsLines t g Active second between n
+    → ((one other : List ℕ) → first one → second other → all (one ++ other)) → ReadsUnits t g all m n
+both_lists t g m between n first second all some inactive active together =
     let one : List ListedUnit = map (listed Inactive) (entries_in m g Inactive) in
     let other : List ListedUnit = map (listed Active) (entries_in m g Active) in
-    let same : entries_in between g Active ≡ entries_in m g Active = ap (λ (x : KnownMachine). entries_in x g Active) inactive.looks.machine in
-    let looks : LooksAtAll other active.pins between n = subst (λ (es : List Entry). LooksAtAll (map (listed Active) es) active.pins between n) same active.looks in
-    let told : second (lines_text m other active.pins) =
-    subst second (ap (λ (es : List Entry). lines_text between (map (listed Active) es) active.pins) same
-    ∙ lines_same m between (ap (λ (x : KnownMachine). x.frame_states) inactive.looks.machine) other active.pins) active.told in
+    let looks : ArePinsOf t m other active.pins
+    = subst (λ (x : KnownMachine). ArePinsOf t x (map (listed Active) (entries_in x g Active)) active.pins) inactive.same active.looks in
+    let told : second (lines_text m other active.pins)
+    = subst (λ (x : KnownMachine). second (lines_text x (map (listed Active) (entries_in x g Active)) active.pins)) inactive.same active.told in
     record {
       pins = inactive.pins ++ active.pins;
-      looks = looks_both one other inactive.pins active.pins m between n inactive.looks looks;
-      told = subst all (sym (lines_append m one other inactive.pins active.pins inactive.looks.count)
+      looks = pins_both t m one other inactive.pins active.pins inactive.looks looks;
+      told = subst all (sym (lines_append m one other inactive.pins active.pins (pins_count t m one inactive.pins inactive.looks))
           ∙ sym (has_lines m (one ++ other) (inactive.pins ++ active.pins) some)) (together _ _ inactive.told told);
+      same = active.same ∙ inactive.same;
     }
 
 -- two texts, one behind the other

@@ -8,8 +8,9 @@ use Rattle.stock_word.specs.declared.view.Stock.{Stock}
 use Rattle.stock_word.specs.declared.view.Stock.TheVariants.{NoGroup, HeldBy, DrainedOf}
 use Rattle.control_files.specs.Limit.{page_bytes}
 use Rattle.cpu_part.specs.Cpus.{KnownCpu}
-use Rattle.mem_machine.specs.Machines.{VisitState}
-use Rattle.mem_machine.specs.Showing.{stock_now}
+use Rattle.frame_word.specs.Seats.{KnownTable}
+use Rattle.mem_machine.specs.Machines.{KnownMachine}
+use Rattle.mem_machine.specs.Showing.{stock_left}
 use Rattle.machine_texts.specs.Characters.{characters}
 
 -- the path of the group of this number; a hyphen if there is no such group
@@ -35,6 +36,6 @@ cpu_text groups cpu stock =
     codes "cpu " ++ decimal cpu.number ++ codes " stock "
     ++ (stock_text groups stock ++ (counts_text cpu ++ codes "\n"))
 
--- what is written for `stock`: the line about the CPU with its stock as it is now
-abbrev pub stock_line_text : VisitState → List ℕ
-stock_line_text now = cpu_text now.machine.ledger.groups now.cpu (stock_now now)
+-- what is written for `stock`: the line about the CPU with its stock after the machine's past
+abbrev pub stock_line_text : KnownTable → KnownMachine → KnownCpu → List ℕ
+stock_line_text table machine cpu = cpu_text machine.ledger.groups cpu (stock_left table machine cpu.number)

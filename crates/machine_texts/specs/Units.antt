@@ -1,15 +1,19 @@
 -- The text of the kept units of a group.
-use Rattle.std.specs.Prelude.{◌≡◌, ℕ, ◌<◌, ◌==◌, Bool, List, [], ◌∷◌, ◌++◌, codes, All, length, map}
+use Rattle.std.specs.Prelude.{◌≡◌, ℕ, ◌+◌, ◌<◌, ◌==◌, Bool, List, [], ◌∷◌, ◌++◌, codes, map}
 use Rattle.std.specs.Prelude.{if◌then◌else◌}
 use Rattle.std.specs.Option.{option_map_or}
 use Rattle.std.specs.Fmt.{decimal}
 use Rattle.frame_word.specs.ReferenceRule.{most_references}
+use Rattle.frame_word.specs.Seats.{KnownTable}
+use Rattle.boot_words.specs.Looking.{LoadsReferences}
+use Rattle.boot_words.specs.Pasts.{own_past}
+use Rattle.boot_words.specs.Seats.{zone_of_boot}
 use Rattle.lru_lists.specs.declared.record.Entry.{Entry}
 use Rattle.lru_lists.specs.declared.record.LruList.{LruList}
 use Rattle.lru_lists.specs.declared.record.LruList.TheVariants.{Inactive, Active}
 use Rattle.mem_machine.specs.FrameStates.{frame_state_at, headed_unit}
 use Rattle.mem_machine.specs.Machines.{KnownMachine}
-use Rattle.mem_machine.specs.Showing.{ListedUnit, entries_in, listed, units_in, with_looks_at}
+use Rattle.mem_machine.specs.Showing.{ListedUnit, entries_in, listed, units_in}
 
 -- the list that a unit is on
 abbrev pub list_text : LruList → List ℕ
@@ -51,24 +55,26 @@ abbrev pub units_text : KnownMachine → List ListedUnit → List ℕ → List �
 units_text machine [] pins = codes "none\n"
 units_text machine (unit ∷ units) pins = lines_text machine (unit ∷ units) pins
 
--- The zone's seat looked once at the word of each of these units, in order, and found these numbers of pins. Nothing
--- else changed.
-pub record LooksAtAll (units : List ListedUnit) (pins : List ℕ) (before after : KnownMachine) : Type 0 where
-  pub count : length pins ≡ length units
-  pub most : All (λ found. found < most_references) pins
-  pub machine : after ≡ with_looks_at before units pins
+-- each of these units had this number of pins at a load of its word
+abbrev pub ArePinsOf : KnownTable → KnownMachine → List ListedUnit → List ℕ → Type 0
+ArePinsOf table machine [] [] = Unit {0}
+ArePinsOf table machine (unit ∷ units) (found ∷ pins) = (found < most_references)
+    × LoadsReferences (zone_of_boot table) (own_past machine.run.past) unit.entry.number (found + 1)
+    × ArePinsOf table machine units pins
+ArePinsOf table machine units pins = ⊥
 
--- The zone's seat looked once at the word of each kept unit of the group, in order. `tells` holds of the text of these
--- units, with the numbers of pins that the looks found.
-pub record ReadsUnits (group : ℕ) (tells : List ℕ → Type 0) (before after : KnownMachine) : Type 0 where
+-- The word of each kept unit of the group was loaded once, in order. `tells` holds of the text of these units, with the
+-- numbers of pins that the loads found. Nothing changed.
+pub record ReadsUnits (table : KnownTable) (group : ℕ) (tells : List ℕ → Type 0) (before after : KnownMachine) : Type 0 where
   pub pins : List ℕ
-  pub looks : LooksAtAll (units_in before group) pins before after
+  pub looks : ArePinsOf table before (units_in before group) pins
   pub told : tells (units_text before (units_in before group) pins)
+  pub same : after ≡ before
 
--- The zone's seat looked once at the word of each unit of one of the group's lists, in order. `tells` holds of the
--- lines of these units, with the numbers of pins that the looks found.
-pub record ReadsLines (group : ℕ) (list : LruList) (tells : List ℕ → Type 0)
+-- The same of one of the group's lists alone.
+pub record ReadsLines (table : KnownTable) (group : ℕ) (list : LruList) (tells : List ℕ → Type 0)
     (before after : KnownMachine) : Type 0 where
   pub pins : List ℕ
-  pub looks : LooksAtAll (map (listed list) (entries_in before group list)) pins before after
+  pub looks : ArePinsOf table before (map (listed list) (entries_in before group list)) pins
   pub told : tells (lines_text before (map (listed list) (entries_in before group list)) pins)
+  pub same : after ≡ before

@@ -2,6 +2,7 @@
 
 ghost use Rattle.std.specs.Prelude.{◌≡◌, ◌<◌, [], false, true, IfOk, IsOk, length};
 ghost use Rattle.control_files.specs.Strings.{AddsBytes};
+ghost use Rattle.mem_machine.specs.Resting.{Rests};
 ghost use Rattle.mem_machine.specs.Showing.{listed, units_in};
 ghost use Rattle.machine_texts.specs.Units.{ReadsLines, ReadsUnits, list_text, order_at, pins_text, rest_text};
 ghost use Rattle.machine_texts.specs.Units.{text_if, unit_text};
@@ -23,7 +24,8 @@ pub fn write_units<N: BootName>(
     group: GroupId,
     text: &mut String,
 ) -> Result<(), AllocError>
-    ensures units { ReadsUnits group
+    requires rests { Rests N.frames machine.old }
+    ensures units { ReadsUnits N.frames group
         (λ shown. AddsBytes result text.old text.new shown) machine.old machine.new }
 {
     if keeps_none(machine, group) {
@@ -53,7 +55,8 @@ fn write_list<N: BootName>(
     list: LruList,
     text: &mut String,
 ) -> Result<(), AllocError>
-    ensures lines { ReadsLines group list
+    requires rests { Rests N.frames machine.old }
+    ensures lines { ReadsLines N.frames group list
         (λ shown. AddsBytes result text.old text.new shown) machine.old machine.new }
 {
     let count = machine.list_len(group, list);

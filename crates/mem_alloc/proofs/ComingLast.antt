@@ -1,25 +1,26 @@
 -- Laws of kills and refills. Serves `laws`, and those of the commands.
-use Rattle.std.proofs.Common.{◌≡◌, ℕ, ◌+◌, ◌⊎◌, Bool, true, false, List, Option, Some, None, length, refl, sym, ap, ◌∙◌, inl, inr, arith}
+use Rattle.std.proofs.Common.{◌≡◌, ℕ, ◌+◌, ◌⊎◌, Bool, true, false, List, [], ◌∷◌, ◌++◌, Option, Some, None, length, refl, sym, ap, ◌∙◌, inl, inr, arith}
 use Rattle.std.proofs.Common.{length-append}
 use Rattle.std.proofs.lemmas.Bool.{cases_lt, false≢true}
+use Rattle.std.proofs.lemmas.List.{append_assoc, append-nil}
 use Rattle.frame_word.specs.Seats.{KnownTable}
 use Rattle.group_tree.specs.declared.group.Group.{Group}
 use Rattle.cpu_part.specs.Cpus.{KnownCpu}
 use Rattle.step_rules.specs.After.{Run}
 use Rattle.mem_machine.specs.Machines.{KnownMachine, is_killed}
+use Rattle.mem_machine.specs.Local.{VisitState}
+use Rattle.mem_machine.specs.Lending.{LendsMany}
 use Rattle.mem_alloc.specs.Kills.{IsAlive, KillsUntilRoom, has_room_at}
 use Rattle.mem_reclaim.specs.Victim.{IsVictim}
 use Rattle.mem_alloc.specs.Laws.{ChargesKillLast, KillsComeLast, KillsEndInTime, RefillsAreWhole, WasLast}
 use Rattle.mem_alloc.specs.NoRash.{IsChargedBelow, MayKillAfter}
-use Rattle.mem_alloc.proofs.Filling.{lent_part}
 
 -- the steps before the first kill of a set were the last to be tried
-abbrev pub was_last : (MayAsk : List Group → ℕ → ℕ → Type 0) (t : KnownTable) (start : KnownMachine) (cpu : KnownCpu) (before : Run) (g : ℕ) (rest : Run)
-    (after : MayKillAfter t MayAsk start cpu before g rest) → WasLast MayAsk t start cpu after.tried after.killed
-was_last MayAsk t start cpu before g rest after = record {
+abbrev pub was_last : (MayAsk : List Group → ℕ → ℕ → Type 0) (t : KnownTable) (start : KnownMachine) (before : Run) (g : ℕ) (rest : Run)
+    (after : MayKillAfter t MayAsk start before g rest) → WasLast MayAsk t start after.tried after.killed
+was_last MayAsk t start before g rest after = record {
   now = after.now;
   leads = after.leads;
-  stock_table = after.may.stock_table;
   consistent = after.may.consistent;
   charges = after.may.charges;
   limited = after.may.limited;
@@ -37,7 +38,7 @@ was_last MayAsk t start cpu before g rest after = record {
 }
 
 pub kills_come_last : (MayAsk : List Group → ℕ → ℕ → Type 0) → KillsComeLast MayAsk
-kills_come_last MayAsk t start cpu steps before rest made g none is kills =
+kills_come_last MayAsk t start steps before rest made g none is kills =
     let after = none before rest made g is kills in
     record {
       tried = after.tried;
@@ -45,7 +46,7 @@ kills_come_last MayAsk t start cpu steps before rest made g none is kills =
       killed = after.killed;
       left = after.left;
       steps_are = after.steps_are;
-      last = was_last MayAsk t start cpu before g rest after;
+      last = was_last MayAsk t start before g rest after;
       set_is = after.set_is;
     }
 
@@ -78,11 +79,16 @@ kills_end_in_time requester g pages call kills = by_room (has_room_at call.befor
     by_room true is = inl (ap (λ (m : KnownMachine). has_room_at m.ledger g pages) (kills.room is).machine ∙ is)
     by_room false is = at_end (kills.over is) (has_room_at call.after.ledger g pages) refl
 
+-- the frames that were lent are at the end of the list
+lent_list : (frames : List ℕ) (a b : VisitState) → LendsMany frames a b → b.cpu.list ≡ a.cpu.list ++ frames
+lent_list [] a b h = ap (λ (e : KnownCpu). e.list) h.cpu ∙ sym (append-nil a.cpu.list)
+lent_list (f ∷ frames) a b h =
+    lent_list frames h.between b h.rest ∙ ap (λ (e : KnownCpu). e.list ++ frames) h.first.lends.cpu ∙ append_assoc a.cpu.list (f ∷ []) frames
+
 pub refills_are_whole : RefillsAreWhole
 refills_are_whole batch call refill =
-    let part = lent_part refill.frames call.before.machine call.after.machine call.before.cpu call.after.cpu refill.lends in
     let long : length call.after.cpu.list ≡ length call.before.cpu.list + length refill.frames =
-    ap length part.list ∙ length-append call.before.cpu.list refill.frames in
+    ap length (lent_list refill.frames call.before call.after refill.lends) ∙ length-append call.before.cpu.list refill.frames in
     let most = refill.at_most in
     elim (cases_lt (length refill.frames) batch) [
       | inl fewer ↦ inr (refill.fewer fewer)

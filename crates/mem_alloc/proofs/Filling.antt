@@ -1,6 +1,6 @@
 -- What is kept on the way to a frame, and how the parts of an allocation fit together. Serves `fill_drained_stock`,
 -- `pay_for_frame`, `fill_list` and `alloc_frame`.
-use Rattle.std.proofs.Common.{◌≡◌, ℕ, zero, suc, ◌+◌, ◌<◌, ◌≤◌, true, false, List, [], ◌∷◌, ◌++◌, length, refl, sym, ap, ◌∙◌, subst, inl, inr}
+use Rattle.std.proofs.Common.{◌≡◌, ℕ, zero, suc, ◌+◌, ◌-◌, ◌<◌, ◌≤◌, true, false, List, [], ◌∷◌, ◌++◌, length, refl, sym, ap, ◌∙◌, subst, inl, inr}
 use Rattle.std.proofs.Common.{arith, length-append}
 use Rattle.std.specs.Prelude.{Result, Ok, Err, IsErr, IfErr, OnOk}
 use Rattle.std.proofs.lemmas.List.{append_assoc, append-nil}
@@ -8,70 +8,59 @@ use Rattle.zone_blocks.specs.Areas.{HasNoneFrom}
 use Rattle.frame_word.specs.Seats.{KnownTable}
 use Rattle.group_tree.specs.Room.{IsLowestOver}
 use Rattle.group_charge.specs.Charges.{current_of}
-use Rattle.stock_word.specs.declared.view.StockAccount.{StockAccount}
-use Rattle.stock_word.specs.Stock.{account_of}
+use Rattle.stock_word.specs.declared.view.Stock.TheVariants.{HeldBy}
 use Rattle.cpu_part.specs.Cpus.{KnownCpu}
 use Rattle.zone_blocks.specs.declared.config.Config.{Config}
 use Rattle.zone_blocks.specs.Config.{IsValidConfig}
 use Rattle.step_rules.specs.After.{Run}
 use Rattle.group_charge.specs.declared.note.Note.TheVariants.{Zone}
 use Rattle.mem_machine.specs.Machines.{KnownMachine, is_killed, with_note, with_run}
-use Rattle.mem_machine.specs.Local.{Visits}
-use Rattle.mem_machine.specs.Local.{VisitState, visit_state, MakesAs, Makes}
+use Rattle.boot_words.specs.Pasts.{IsHeld}
+use Rattle.mem_machine.specs.Local.{Makes, VisitMakes, Visits, visit_state}
 use Rattle.mem_machine.specs.Lending.{LendsMany, Refills}
 use Rattle.mem_machine.specs.Paying.{HoldsPage, PaysForFront}
-use Rattle.mem_machine.specs.Stocks.{Drains, Fills, stock_group, with_look}
+use Rattle.mem_machine.specs.Showing.{stock_now}
+use Rattle.mem_machine.specs.Stocks.{Drains, Fills, stock_group}
 use Rattle.mem_machine.specs.Steps.{drain_steps, fill_steps, over_steps, refill_steps, take_front_steps}
-use Rattle.mem_machine.proofs.Draining.{looked_visits}
-use Rattle.mem_machine.proofs.Prepaying.{filled_account, filled_at}
+use Rattle.mem_machine.proofs.StocksKept.{filled_stock, has_stock_step, stock_kept, stock_left}
+use Rattle.boot_words.specs.Words.{stock_in}
+use Rattle.mem_reclaim.specs.Staying.{Keeps}
 use Rattle.mem_alloc.specs.declared.faults.AllocFault.{AllocFault}
 use Rattle.mem_alloc.specs.declared.faults.AllocFault.TheVariants.{Over, NoFrames, RequesterKilled}
-use Rattle.mem_machine.specs.Transitions.{BySteps, Finds, InTurn, OfMachineAlone, Transition, transition}
-use Rattle.mem_alloc.specs.Room.{AfterRoom, IsRefusedAt, IsRefusedFor, IsRefusedAtSome, MakesRoom}
+use Rattle.mem_machine.specs.Transitions.{BySteps, Finds, transition}
+use Rattle.mem_alloc.specs.Room.{IsRefusedAt, IsRefusedFor, MakesRoom}
 use Rattle.mem_alloc.specs.Charging.{ChargesAfterDrain, FillsDrainedStock, ChargesOne, DrainsStock, FillsStock, AfterBatchRefused, PaysForFrame}
 use Rattle.mem_alloc.specs.Rounds.{FailsInRounds}
 use Rattle.mem_alloc.specs.Frames.{AllocatesFrame, FillsList, HasNoFreeFrame, LendsBatch, LendsNoFrame, RefillsInRounds, RefillsList}
 use Rattle.mem_alloc.proofs.Making.{answer_is}
-use Rattle.mem_alloc.proofs.Lowering.{Lowers, lowers_none, lowers_both, drain_lowers, looked_lowers, run_lowers}
+use Rattle.mem_alloc.proofs.Lowering.{Lowers, lowers_none, lowers_both, run_lowers}
 use Rattle.mem_alloc.proofs.Killing.{relieves_lower}
-use Rattle.mem_alloc.proofs.Rounding.{Spares, FailureSpares, InTheEnd, spares_same, noted_fails_spare, noted_in_the_end}
-use Rattle.mem_machine.proofs.Followed.{makes_both, makes_stay}
+use Rattle.mem_alloc.proofs.Rounding.{FailureSpares, InTheEnd, spares_same, noted_fails_spare, noted_in_the_end}
+use Rattle.mem_machine.proofs.Followed.{makes_both, makes_none}
 
 -- ---- what is kept
 
--- the visits, and the CPU's number and lists
-pub record KeepsPart (m : KnownMachine) (c : KnownCpu) (n : KnownMachine) (d : KnownCpu) : Type 0 where
-  pub opened : n.frame_seat.view.opened ≡ m.frame_seat.view.opened
+-- the CPU's number and lists
+pub record KeepsPart (c d : KnownCpu) : Type 0 where
   pub number : d.number ≡ c.number
   pub list : d.list ≡ c.list
   pub fresh : d.fresh ≡ c.fresh
   pub back : d.back ≡ c.back
 
-pub keeps_both : (m x n : KnownMachine) (c y d : KnownCpu) → KeepsPart m c x y → KeepsPart x y n d → KeepsPart m c n d
-keeps_both m x n c y d a b = record {
-  opened = b.opened ∙ a.opened;
+pub keeps_both : (c y d : KnownCpu) → KeepsPart c y → KeepsPart y d → KeepsPart c d
+keeps_both c y d a b = record {
   number = b.number ∙ a.number;
   list = b.list ∙ a.list;
   fresh = b.fresh ∙ a.fresh;
   back = b.back ∙ a.back;
 }
 
-pub lowers_keep : (t : KnownTable) (m n : KnownMachine) (c d : KnownCpu) → Lowers t m n → d ≡ c → KeepsPart m c n d
-lowers_keep t m n c d l same = record {
-  opened = l.opened;
+same_keeps : (c d : KnownCpu) → d ≡ c → KeepsPart c d
+same_keeps c d same = record {
   number = ap (λ (e : KnownCpu). e.number) same;
   list = ap (λ (e : KnownCpu). e.list) same;
   fresh = ap (λ (e : KnownCpu). e.fresh) same;
   back = ap (λ (e : KnownCpu). e.back) same;
-}
-
-fills_keep : (g k : ℕ) (m n : KnownMachine) (c d : KnownCpu) → Fills g k (visit_state m c) (visit_state n d) → KeepsPart m c n d
-fills_keep g k m n c d f = record {
-  opened = ap (λ (y : KnownMachine). y.frame_seat.view.opened) f.machine;
-  number = ap (λ (e : KnownCpu). e.number) f.cpu;
-  list = ap (λ (e : KnownCpu). e.list) f.cpu;
-  fresh = ap (λ (e : KnownCpu). e.fresh) f.cpu;
-  back = ap (λ (e : KnownCpu). e.back) f.cpu;
 }
 
 pub refused_lowers : (t : KnownTable) (g pages over : ℕ) (answer : Result (Unit {0}) AllocFault) (m n : KnownMachine) (steps : Run)
@@ -86,220 +75,170 @@ makes_lower t g pages (over ∷ later) m n steps h =
     lowers_both t m h.between n (refused_lowers t g pages over (Ok tt) m h.between h.earlier h.first)
     (makes_lower t g pages later h.between n h.later h.second)
 
--- after room was made, what is kept is what the rest keeps
-after_room_keeps : (t : KnownTable) (g pages : ℕ) (Does : Transition VisitState → Type 0) (m n : KnownMachine) (c d : KnownCpu) (steps : Run)
-    → ((x : KnownMachine) (later : Run) → Does (transition t (visit_state x c) later (visit_state n d)) → KeepsPart x c n d)
-    → AfterRoom g pages Does (transition t (visit_state m c) steps (visit_state n d)) → KeepsPart m c n d
-after_room_keeps t g pages Does m n c d steps keeps h =
-    keeps_both m h.cleared n c c d (lowers_keep t m h.cleared c c (makes_lower t g pages h.refused_at m h.cleared h.making h.makes) refl)
-    (keeps h.cleared h.later h.does)
-
 refusal_keeps : (t : KnownTable) (g pages : ℕ) (cause : AllocFault) (m n : KnownMachine) (c d : KnownCpu) (steps : Run)
-    → IsRefusedFor g pages cause (transition t (visit_state m c) steps (visit_state n d)) → KeepsPart m c n d
-refusal_keeps t g pages cause m n c d steps h =
-    after_room_keeps t g pages (OfMachineAlone (IsRefusedAtSome g pages cause)) m n c d steps
-    (λ x later r. lowers_keep t x n c d (refused_lowers t g pages r.does.0 (Err cause) x n later r.does.1) r.cpu) h
+    → IsRefusedFor g pages cause (transition t (visit_state m c) steps (visit_state n d)) → KeepsPart c d
+refusal_keeps t g pages cause m n c d steps h = same_keeps c d h.does.cpu
 
 one_keeps : (t : KnownTable) (g : ℕ) (r : Result (Unit {0}) AllocFault) (m n : KnownMachine) (c d : KnownCpu) (steps : Run)
-    → ChargesOne g r (transition t (visit_state m c) steps (visit_state n d)) → KeepsPart m c n d
-one_keeps t g (Ok v) m n c d steps h =
-    after_room_keeps t g 1 (FillsStock g 1) m n c d steps (λ x later f. fills_keep g 1 x n c d f.fills) h
+    → ChargesOne g r (transition t (visit_state m c) steps (visit_state n d)) → KeepsPart c d
+one_keeps t g (Ok v) m n c d steps h = same_keeps c d h.does.cpu
 one_keeps t g (Err e) m n c d steps h = refusal_keeps t g 1 e m n c d steps h
 
 charges_keep : (t : KnownTable) (sizes : Config) (g : ℕ) (r : Result (Unit {0}) AllocFault) (m n : KnownMachine) (c d : KnownCpu) (steps : Run)
-    → FillsDrainedStock sizes g r (transition t (visit_state m c) steps (visit_state n d)) → KeepsPart m c n d
-charges_keep t sizes g (Ok v) m n c d steps (inl h) = fills_keep g sizes.stock m n c d h.fills
-charges_keep t sizes g (Ok v) m n c d steps (inr h) =
-    let x = with_run m h.seen in
-    keeps_both m x n c c d (lowers_keep t m x c c (run_lowers t m h.seen) refl) (one_keeps t g (Ok v) x n c d h.later h.does)
-charges_keep t sizes g (Err e) m n c d steps h =
-    let x = with_run m h.seen in
-    keeps_both m x n c c d (lowers_keep t m x c c (run_lowers t m h.seen) refl) (one_keeps t g (Err e) x n c d h.later h.does)
+    → FillsDrainedStock sizes g r (transition t (visit_state m c) steps (visit_state n d)) → KeepsPart c d
+charges_keep t sizes g (Ok v) m n c d steps (inl h) = same_keeps c d h.cpu
+charges_keep t sizes g (Ok v) m n c d steps (inr h) = one_keeps t g (Ok v) (with_run m h.seen) n c d h.later h.does
+charges_keep t sizes g (Err e) m n c d steps h = one_keeps t g (Err e) (with_run m h.seen) n c d h.later h.does
 
-own_drain_keeps : (t : KnownTable) (m n : KnownMachine) (c d : KnownCpu) (steps : Run) → DrainsStock (transition t (visit_state m c) steps (visit_state n d)) → KeepsPart m c n d
-own_drain_keeps t m n c d steps h = lowers_keep t m n c d (drain_lowers t m n c.number h.drained h.drains) h.cpu
+own_drain_keeps : (t : KnownTable) (m n : KnownMachine) (c d : KnownCpu) (steps : Run) → DrainsStock (transition t (visit_state m c) steps (visit_state n d)) → KeepsPart c d
+own_drain_keeps t m n c d steps h = same_keeps c d h.cpu
 
 drain_charges_keep : (t : KnownTable) (sizes : Config) (g : ℕ) (r : Result (Unit {0}) AllocFault) (m n : KnownMachine) (c d : KnownCpu) (steps : Run)
-    → ChargesAfterDrain sizes g r (transition t (visit_state m c) steps (visit_state n d)) → KeepsPart m c n d
+    → ChargesAfterDrain sizes g r (transition t (visit_state m c) steps (visit_state n d)) → KeepsPart c d
 drain_charges_keep t sizes g r m n c d steps h =
     let x = h.does.between in
-    let k = with_look m in
-    keeps_both m k n c c d (lowers_keep t m k c c (looked_lowers t m) refl)
-    (keeps_both k x.machine n c x.cpu d (own_drain_keeps t k x.machine c x.cpu h.does.earlier h.does.first)
-    (charges_keep t sizes g r x.machine n x.cpu d h.does.later h.does.second))
+    keeps_both c x.cpu d (own_drain_keeps t m x.machine c x.cpu h.does.earlier h.does.first)
+    (charges_keep t sizes g r x.machine n x.cpu d h.does.later h.does.second)
 
 pub pays_keep : (t : KnownTable) (sizes : Config) (g : ℕ) (r : Result (Unit {0}) AllocFault) (m n : KnownMachine) (c d : KnownCpu) (steps : Run)
-    → PaysForFrame sizes g r (transition t (visit_state m c) steps (visit_state n d)) → KeepsPart m c n d
-pays_keep t sizes g (Ok v) m n c d steps (inl h) =
-    lowers_keep t m n c d (subst (λ (x : KnownMachine). Lowers t m x) (sym h.does.machine) (looked_lowers t m)) h.does.cpu
+    → PaysForFrame sizes g r (transition t (visit_state m c) steps (visit_state n d)) → KeepsPart c d
+pays_keep t sizes g (Ok v) m n c d steps (inl h) = same_keeps c d h.does.cpu
 pays_keep t sizes g (Ok v) m n c d steps (inr h) = drain_charges_keep t sizes g (Ok v) m n c d steps h
 pays_keep t sizes g (Err e) m n c d steps h = drain_charges_keep t sizes g (Err e) m n c d steps h
 
 -- ---- the stock holds a page
 
-filled_page : (g k : ℕ) (m n : KnownMachine) (c d : KnownCpu) → Fills g k (visit_state m c) (visit_state n d) → 1 ≤ k → c.fresh ≡ [] → HoldsPage (visit_state n d) g
-filled_page g k m n c d f some none =
-    let at : account_of n.stock_seat.view d.number ≡ filled_account m.stock_seat.view c.number g k =
-    (λ i. account_of (f.machine i).stock_seat.view (f.cpu i).number) ∙ filled_at m.stock_seat.view c.number g k in
-    let book : (account_of n.stock_seat.view d.number).book ≡ (account_of m.stock_seat.view c.number).book + k = ap (λ (a : StockAccount). a.book) at in
-    let fresh : length d.fresh ≡ 0 = ap (λ (e : KnownCpu). length e.fresh) f.cpu ∙ ap length none in
-    record { group = ap (λ (a : StockAccount). a.group) at; held = ap (λ (a : StockAccount). a.filled) at; some = omega (arith, book, fresh, some) }
+filled_page : (t : KnownTable) (g k : ℕ) (m n : KnownMachine) (c d : KnownCpu) (steps : Run) → Visits t (visit_state n d)
+    → FillsStock g k (transition t (visit_state m c) steps (visit_state n d)) → 1 ≤ k → c.fresh ≡ [] → HoldsPage t (visit_state n d) g
+filled_page t g k m n c d steps visit f some none =
+    let number = ap (λ (e : KnownCpu). e.number) f.cpu in
+    let fills : Fills t d.number g k m n = subst (λ (p : ℕ). Fills t p g k m n) (sym number) f.fills in
+    let all : k - 1 + 1 ≡ k = omega (arith, some) in
+    (k - 1, filled_stock t m n d g k visit (ap (λ (e : KnownCpu). e.fresh) f.cpu ∙ none) fills ∙ ap (HeldBy g) (sym all))
 
 pub charged_page : (t : KnownTable) (sizes : Config) (g : ℕ) (r : Result (Unit {0}) AllocFault) (m n : KnownMachine) (c d : KnownCpu) (steps : Run)
-    → IsValidConfig sizes → FillsDrainedStock sizes g r (transition t (visit_state m c) steps (visit_state n d)) → c.fresh ≡ []
-    → OnOk r (HoldsPage (visit_state n d) g)
-charged_page t sizes g (Ok v) m n c d steps valid (inl h) none = filled_page g sizes.stock m n c d h.fills valid.stock_low none
-charged_page t sizes g (Ok v) m n c d steps valid (inr h) none =
-    filled_page g 1 h.does.cleared n c d h.does.does.fills (omega arith) none
-charged_page t sizes g (Err e) m n c d steps valid h none = tt
+    → IsValidConfig sizes → Visits t (visit_state n d) → FillsDrainedStock sizes g r (transition t (visit_state m c) steps (visit_state n d)) → c.fresh ≡ []
+    → OnOk r (HoldsPage t (visit_state n d) g)
+charged_page t sizes g (Ok v) m n c d steps valid visit (inl h) none = filled_page t g sizes.stock m n c d steps visit h valid.stock_low none
+charged_page t sizes g (Ok v) m n c d steps valid visit (inr h) none =
+    filled_page t g 1 h.does.cleared n c d h.does.later visit h.does.does (omega arith) none
+charged_page t sizes g (Err e) m n c d steps valid visit h none = tt
 
--- ---- a look at the own stock
+-- ---- the own stock has a page
 
-module _ (t : KnownTable) (m n : KnownMachine) (c d : KnownCpu) (seen : n ≡ with_look m) (mine : d ≡ c) where
-  pub looked_visit : Visits t (visit_state m c) → Visits t (visit_state n d)
-  looked_visit visit = subst (λ (z : KnownMachine × KnownCpu). Visits t (visit_state z.0 z.1)) (λ i. (sym seen i, sym mine i))
-      (looked_visits t m m refl (with_look m).stock_seat refl c visit)
-
-  pub looked_page : (g : ℕ) → HoldsPage (visit_state m c) g → HoldsPage (visit_state n d) g
-  looked_page g page = subst (λ (z : KnownMachine × KnownCpu). HoldsPage (visit_state z.0 z.1) g) (λ i. (sym seen i, sym mine i))
-      (record { group = page.group; held = page.held; some = page.some })
-
-  -- it shows a page of the group
-  pub pays_none : (sizes : Config) (g : ℕ) → HoldsPage (visit_state m c) g → BySteps Makes t (PaysForFrame sizes g (Ok tt)) (visit_state m c) (visit_state n d)
-  pays_none sizes g page = record {
-    steps = [];
-    does = inl (record { is = page; does = record { machine = seen; cpu = mine; steps_are = refl } });
-    makes = subst (λ (z : KnownMachine × KnownCpu). MakesAs t c.number (visit_state m c) [] (visit_state z.0 z.1)) (λ i. (sym seen i, sym mine i))
-        (makes_stay t m (with_look m) c c refl refl refl refl);
-  }
+-- it had one before
+pub pays_none : (t : KnownTable) (m n : KnownMachine) (c : KnownCpu) → n ≡ m → (sizes : Config) (g : ℕ) → HoldsPage t (visit_state m c) g
+    → BySteps VisitMakes t (PaysForFrame sizes g (Ok tt)) (visit_state m c) (visit_state n c)
+pays_none t m n c same sizes g page = record {
+  steps = [];
+  does = inl (record { is = page; does = record { machine = same; cpu = refl; steps_are = refl } });
+  makes = subst (λ (z : KnownMachine). Makes t m [] z) (sym same) (makes_none t m);
+}
 
 -- ---- frames that are lent
 
 pub record LentPart (frames : List ℕ) (m : KnownMachine) (c : KnownCpu) (n : KnownMachine) (d : KnownCpu) : Type 0 where
-  pub opened : n.frame_seat.view.opened ≡ m.frame_seat.view.opened
   pub number : d.number ≡ c.number
   pub list : d.list ≡ c.list ++ frames
   pub fresh : d.fresh ≡ c.fresh
   pub back : d.back ≡ c.back
-  pub stock_seat : n.stock_seat ≡ m.stock_seat
 
 pub lent_part : (frames : List ℕ) (m n : KnownMachine) (c d : KnownCpu) → LendsMany frames (visit_state m c) (visit_state n d) → LentPart frames m c n d
 lent_part [] m n c d h = record {
-  opened = ap (λ (y : KnownMachine). y.frame_seat.view.opened) h.machine;
   number = ap (λ (e : KnownCpu). e.number) h.cpu;
   list = ap (λ (e : KnownCpu). e.list) h.cpu ∙ sym (append-nil c.list);
   fresh = ap (λ (e : KnownCpu). e.fresh) h.cpu;
   back = ap (λ (e : KnownCpu). e.back) h.cpu;
-  stock_seat = ap (λ (y : KnownMachine). y.stock_seat) h.machine;
 }
 lent_part (f ∷ frames) m n c d h =
     let one = h.first.lends in
     let more = lent_part frames h.between.machine n h.between.cpu d h.rest in
     record {
-      opened = more.opened ∙ ap (λ (y : KnownMachine). y.frame_seat.view.opened) one.machine;
       number = more.number ∙ ap (λ (e : KnownCpu). e.number) one.cpu;
       list = more.list ∙ ap (λ (e : KnownCpu). e.list ++ frames) one.cpu ∙ append_assoc c.list (f ∷ []) frames;
       fresh = more.fresh ∙ ap (λ (e : KnownCpu). e.fresh) one.cpu;
       back = more.back ∙ ap (λ (e : KnownCpu). e.back) one.cpu;
-      stock_seat = more.stock_seat ∙ ap (λ (y : KnownMachine). y.stock_seat) one.machine;
     }
 
-pub lent_page : (frames : List ℕ) (g : ℕ) (m n : KnownMachine) (c d : KnownCpu) → LendsMany frames (visit_state m c) (visit_state n d) → HoldsPage (visit_state m c) g → HoldsPage (visit_state n d) g
-lent_page frames g m n c d lends page =
-    let l = lent_part frames m n c d lends in
-    let at : account_of n.stock_seat.view d.number ≡ account_of m.stock_seat.view c.number = λ i. account_of (l.stock_seat i).view (l.number i) in
-    let book : (account_of n.stock_seat.view d.number).book ≡ (account_of m.stock_seat.view c.number).book = ap (λ (a : StockAccount). a.book) at in
-    let fresh : length d.fresh ≡ length c.fresh = ap length l.fresh in
-    let some = page.some in
-    record {
-      group = ap (λ (a : StockAccount). a.group) at ∙ page.group;
-      held = ap (λ (a : StockAccount). a.filled) at ∙ page.held;
-      some = omega (arith, book, fresh, some);
-    }
+lent_calm : (p : ℕ) (frames : List ℕ) → has_stock_step (refill_steps p frames) ≡ false
+lent_calm p [] = refl
+lent_calm p (f ∷ frames) = lent_calm p frames
+
+-- the stock has the same pages
+pub lent_stock : (t : KnownTable) (frames : List ℕ) (m n : KnownMachine) (c d : KnownCpu) → IsHeld t m.run.past → Makes t m (refill_steps c.number frames) n
+    → LendsMany frames (visit_state m c) (visit_state n d) → stock_now t (visit_state n d) ≡ stock_now t (visit_state m c)
+lent_stock t frames m n c d held makes lends =
+    stock_kept t m n (refill_steps c.number frames) held makes (lent_calm c.number frames) c d (lent_part frames m n c d lends).number
+
+-- a reclaim leaves its pages
+pub spared_stock : (t : KnownTable) (m n : KnownMachine) (c : KnownCpu) → Visits t (visit_state m c) → Keeps t m n → c.fresh ≡ []
+    → stock_now t (visit_state n c) ≡ stock_now t (visit_state m c)
+spared_stock t m n c visit keeps none =
+    let later = keeps.visit c visit in
+    stock_left t n c later.held later.own none ∙ ap stock_in (keeps.stocks c.number) ∙ sym (stock_left t m c visit.held visit.own none)
 
 -- ---- the parts put together
 
 -- the batch fits
-pub batch_fits : (t : KnownTable) (sizes : Config) (g : ℕ) (m n : KnownMachine) (c d : KnownCpu) → Fills g sizes.stock (visit_state m c) (visit_state n d)
-    → MakesAs t c.number (visit_state m c) (fill_steps c.number g sizes.stock) (visit_state n d)
-    → BySteps Makes t (FillsDrainedStock sizes g (Ok tt)) (visit_state m c) (visit_state n d)
-batch_fits t sizes g m n c d fills steps = record { steps = fill_steps c.number g sizes.stock; does = inl (record { fills = fills; steps_are = refl }); makes = steps }
+pub batch_fits : (t : KnownTable) (sizes : Config) (g : ℕ) (m n : KnownMachine) (c : KnownCpu) → Fills t c.number g sizes.stock m n
+    → Makes t m (fill_steps c.number g sizes.stock) n → BySteps VisitMakes t (FillsDrainedStock sizes g (Ok tt)) (visit_state m c) (visit_state n c)
+batch_fits t sizes g m n c fills steps =
+    record { steps = fill_steps c.number g sizes.stock; does = inl (record { fills = fills; cpu = refl; steps_are = refl }); makes = steps }
 
 -- the batch doesn't fit, and then one page is charged, or is refused
-module _ (t : KnownTable) (sizes : Config) (g over : ℕ) (m x n : KnownMachine) (c y d : KnownCpu) (stays : x ≡ with_run m x.run) (its : y ≡ c)
-    (lowest : IsLowestOver m.ledger.groups (current_of m.ledger) g sizes.stock over)
-    (refused : MakesAs t c.number (visit_state m c) (over_steps g sizes.stock over) (visit_state x y)) where
-  lacks : (r : Result (Unit {0}) AllocFault) → BySteps Makes t (ChargesOne g r) (visit_state x y) (visit_state n d)
-      → BySteps Makes t (AfterBatchRefused sizes g (ChargesOne g r)) (visit_state m c) (visit_state n d)
+module _ (t : KnownTable) (sizes : Config) (g over : ℕ) (m x n : KnownMachine) (c d : KnownCpu) (stays : x ≡ with_run m x.run)
+    (lowest : IsLowestOver m.ledger.groups (current_of m.ledger) g sizes.stock over) (refused : Makes t m (over_steps g sizes.stock over) x) where
+  lacks : (r : Result (Unit {0}) AllocFault) → BySteps VisitMakes t (ChargesOne g r) (visit_state x c) (visit_state n d)
+      → BySteps VisitMakes t (AfterBatchRefused sizes g (ChargesOne g r)) (visit_state m c) (visit_state n d)
   lacks r b =
-      let here = subst (λ (z : KnownMachine × KnownCpu). BySteps Makes t (ChargesOne g r) (visit_state z.0 z.1) (visit_state n d)) (λ i. (stays i, its i)) b in record {
+      let here = subst (λ (z : KnownMachine). BySteps VisitMakes t (ChargesOne g r) (visit_state z c) (visit_state n d)) stays b in
+      let first = subst (λ (z : KnownMachine). Makes t m (over_steps g sizes.stock over) z) stays refused in record {
         steps = over_steps g sizes.stock over ++ here.steps;
-        does = record { over = over; batch = lowest; later = here.steps; seen = x.run; does = here.does; steps_are = refl };
-        makes = makes_both t c.number (over_steps g sizes.stock over) here.steps (visit_state m c) (visit_state (with_run m x.run) c) (visit_state n d)
-            (subst (λ (z : KnownMachine × KnownCpu). MakesAs t c.number (visit_state m c) (over_steps g sizes.stock over) (visit_state z.0 z.1))
-            (λ i. (stays i, its i)) refused) here.makes;
+        does = record { over = over; batch = lowest; later = here.steps; seen = x.run; refuses = first; does = here.does; steps_are = refl };
+        makes = makes_both t (over_steps g sizes.stock over) here.steps m (with_run m x.run) n first here.makes;
       }
 
-  pub one_charged : (r : Result (Unit {0}) AllocFault) → BySteps Makes t (ChargesOne g r) (visit_state x y) (visit_state n d)
-      → BySteps Makes t (FillsDrainedStock sizes g r) (visit_state m c) (visit_state n d)
+  pub one_charged : (r : Result (Unit {0}) AllocFault) → BySteps VisitMakes t (ChargesOne g r) (visit_state x c) (visit_state n d)
+      → BySteps VisitMakes t (FillsDrainedStock sizes g r) (visit_state m c) (visit_state n d)
   one_charged (Ok v) b = let l = lacks (Ok v) b in record { steps = l.steps; does = inr l.does; makes = l.makes }
   one_charged (Err e) b = lacks (Err e) b
 
 -- the own stock is drained first
-module _ (t : KnownTable) (pages q : ℕ) (m k x : KnownMachine) (c e : KnownCpu) (same : k ≡ m) (mine : e ≡ c) (named : q ≡ e.number)
-    (drains : Drains q pages k x) (draining : (h : KnownCpu) → MakesAs t h.number (visit_state k h)
-    (drain_steps q (stock_group k q) pages) (visit_state x h)) where
-  number_is : q ≡ c.number
-  number_is = named ∙ ap (λ (h : KnownCpu). h.number) mine
-
+module _ (t : KnownTable) (pages q : ℕ) (m k x : KnownMachine) (c : KnownCpu) (same : k ≡ m) (named : q ≡ c.number)
+    (drains : Drains t q pages k x) (draining : Makes t k (drain_steps q (stock_group t k q) pages) x) where
   abbrev own_steps : Run
-  own_steps = drain_steps c.number (stock_group m c.number) pages
+  own_steps = drain_steps c.number (stock_group t m c.number) pages
 
-  by_drain : MakesAs t c.number (visit_state m c) own_steps (visit_state x c)
-  by_drain = subst (λ (z : KnownMachine × ℕ). MakesAs t c.number (visit_state z.0 c) (drain_steps z.1 (stock_group z.0 z.1) pages) (visit_state x c))
-      (λ i. (same i, number_is i)) (draining c)
+  by_drain : Makes t m own_steps x
+  by_drain = subst (λ (z : KnownMachine × ℕ). Makes t z.0 (drain_steps z.1 (stock_group t z.0 z.1) pages) x) (λ i. (same i, named i)) draining
 
   drains_own : DrainsStock (transition t (visit_state m c) own_steps (visit_state x c))
   drains_own = record {
     drained = pages;
-    drains = subst (λ (z : KnownMachine × ℕ). Drains z.1 pages z.0 x) (λ i. (same i, number_is i)) drains;
+    drains = subst (λ (z : KnownMachine × ℕ). Drains t z.1 pages z.0 x) (λ i. (same i, named i)) drains;
     cpu = refl;
     runs = by_drain;
     steps_are = refl;
   }
 
-  pub drained_own : BySteps Makes t DrainsStock (visit_state m c) (visit_state x c)
+  pub drained_own : BySteps VisitMakes t DrainsStock (visit_state m c) (visit_state x c)
   drained_own = record { steps = own_steps; does = drains_own; makes = by_drain }
 
-  -- after a look, which showed no page of the group
-  module _ (sizes : Config) (g : ℕ) (n : KnownMachine) (d : KnownCpu) (start : KnownMachine) (seen : m ≡ with_look start)
-      (lacks : ¬ HoldsPage (visit_state start c) g) where
-    charges_anew : (r : Result (Unit {0}) AllocFault) → BySteps Makes t (FillsDrainedStock sizes g r) (visit_state x e) (visit_state n d)
-        → BySteps Makes t (ChargesAfterDrain sizes g r) (visit_state start c) (visit_state n d)
-    charges_anew r b =
-        let here = subst (λ (z : KnownCpu). BySteps Makes t (FillsDrainedStock sizes g r) (visit_state x z) (visit_state n d)) mine b in
-        let all = own_steps ++ here.steps in
-        let made = makes_both t c.number own_steps here.steps (visit_state m c) (visit_state x c) (visit_state n d) by_drain here.makes in
-        let looked : MakesAs t c.number (visit_state (with_look start) c) all (visit_state n d) =
-        subst (λ (z : KnownMachine). MakesAs t c.number (visit_state z c) all (visit_state n d)) seen made in record {
-          steps = all;
-          does = record {
-            is = lacks;
-            does = subst (λ (z : KnownMachine). InTurn DrainsStock (FillsDrainedStock sizes g r) (transition t (visit_state z c) all (visit_state n d))) seen
-                (record {
-                  between = visit_state x c;
-                  earlier = own_steps;
-                  later = here.steps;
-                  first = drains_own;
-                  second = here.does;
-                  steps_are = refl;
-                });
-          };
-          makes = record { leads = looked.leads; follows = looked.follows; counts = looked.counts; noted = looked.noted };
-        }
+  -- it had no page of the group
+  module _ (sizes : Config) (g : ℕ) (n : KnownMachine) (d : KnownCpu) (lacks : ¬ HoldsPage t (visit_state m c) g) where
+    charges_anew : (r : Result (Unit {0}) AllocFault) → BySteps VisitMakes t (FillsDrainedStock sizes g r) (visit_state x c) (visit_state n d)
+        → BySteps VisitMakes t (ChargesAfterDrain sizes g r) (visit_state m c) (visit_state n d)
+    charges_anew r b = record {
+      steps = own_steps ++ b.steps;
+      does = record {
+        is = lacks;
+        does = record { between = visit_state x c; earlier = own_steps; later = b.steps; first = drains_own; second = b.does; steps_are = refl };
+      };
+      makes = makes_both t own_steps b.steps m x n by_drain b.makes;
+    }
 
-    pub pays_anew : (r : Result (Unit {0}) AllocFault) → BySteps Makes t (FillsDrainedStock sizes g r) (visit_state x e) (visit_state n d)
-        → BySteps Makes t (PaysForFrame sizes g r) (visit_state start c) (visit_state n d)
+    pub pays_anew : (r : Result (Unit {0}) AllocFault) → BySteps VisitMakes t (FillsDrainedStock sizes g r) (visit_state x c) (visit_state n d)
+        → BySteps VisitMakes t (PaysForFrame sizes g r) (visit_state m c) (visit_state n d)
     pays_anew (Ok v) b = let h = charges_anew (Ok v) b in record { steps = h.steps; does = inr h.does; makes = h.makes }
     pays_anew (Err cause) b = charges_anew (Err cause) b
 
@@ -311,13 +250,12 @@ none_lent (f ∷ frames) m n c d none h = absurd (omega (arith, none))
 
 -- no frame was lent, since none is free
 no_steps : (t : KnownTable) (frames : List ℕ) (m n : KnownMachine) (c d : KnownCpu) → length frames ≡ 0
-    → MakesAs t c.number (visit_state m c) (refill_steps c.number frames) (visit_state n d)
-    → MakesAs t c.number (visit_state m c) [] (visit_state n d)
+    → Makes t m (refill_steps c.number frames) n → Makes t m [] n
 no_steps t [] m n c d none run = run
 no_steps t (f ∷ frames) m n c d none run = absurd (omega (arith, none))
 
 pub lent_none : (t : KnownTable) (count batch : ℕ) (m n : KnownMachine) (c d : KnownCpu) → Refills t count (visit_state m c) (visit_state n d)
-    → count ≤ 0 → (count < batch → HasNoneFrom n.blocks 0) → 1 ≤ batch → BySteps Makes t LendsNoFrame (visit_state m c) (visit_state n d)
+    → count ≤ 0 → (count < batch → HasNoneFrom n.blocks 0) → 1 ≤ batch → BySteps VisitMakes t LendsNoFrame (visit_state m c) (visit_state n d)
 lent_none t count batch m n c d refills few fewer some =
     let all = refills.all in
     let none : length refills.frames ≡ 0 = omega (arith, few, all) in
@@ -361,18 +299,15 @@ none_after t (suc more) m n c d steps none (inr h) =
 
 -- no frame is free, also after rounds of reclaim, and the stock is drained
 module _ (t : KnownTable) (sizes : Config) (m k x n : KnownMachine) (c e y : KnownCpu) (empty : c.list ≡ [])
-    (first : BySteps Makes t LendsNoFrame (visit_state m c) (visit_state k e)) where
+    (first : BySteps VisitMakes t LendsNoFrame (visit_state m c) (visit_state k e)) where
   from_first : (P : KnownMachine → KnownCpu → Type 0) → P k e → P m c
   from_first P p = subst (λ (z : KnownMachine × KnownCpu). P z.0 z.1) (λ i. (first.does.does.machine i, first.does.does.cpu i)) p
 
-  pub no_frame : (pages q : ℕ) → BySteps Makes t (RefillsInRounds sizes.batch false) (visit_state k e) (visit_state x y) → q ≡ y.number → Drains q pages x n
-      → ((h : KnownCpu) → MakesAs t h.number (visit_state x h) (drain_steps q (stock_group x q) pages) (visit_state n h))
-      → BySteps Makes t (FillsList sizes (Err NoFrames)) (visit_state m c) (visit_state n y)
+  pub no_frame : (pages q : ℕ) → BySteps VisitMakes t (RefillsInRounds sizes.batch false) (visit_state k e) (visit_state x y) → q ≡ y.number → Drains t q pages x n
+      → Makes t x (drain_steps q (stock_group t x q) pages) n → BySteps VisitMakes t (FillsList sizes (Err NoFrames)) (visit_state m c) (visit_state n y)
   no_frame pages q rounds named drains steps =
-      let there = from_first (λ u v. BySteps Makes t (RefillsInRounds sizes.batch false) (visit_state u v) (visit_state x y)) rounds in
-      let cpu : y ≡ c = (noted_fails_spare t 1 LendsNoFrame (no_frame_spares t) 0 m x c y there.steps there.does).cpu in
-      let last = drained_own t pages q x x n y y refl refl named drains steps in
-      let number = ap (λ (h : KnownCpu). h.number) cpu in record {
+      let there = from_first (λ u v. BySteps VisitMakes t (RefillsInRounds sizes.batch false) (visit_state u v) (visit_state x y)) rounds in
+      let last = drained_own t pages q x x n y refl named drains steps in record {
         steps = there.steps ++ last.steps;
         does = record {
           is = empty;
@@ -388,53 +323,34 @@ module _ (t : KnownTable) (sizes : Config) (m k x n : KnownMachine) (c e y : Kno
             };
           };
         };
-        makes = makes_both t c.number there.steps last.steps (visit_state m c) (visit_state x y) (visit_state n y) there.makes
-            (subst (λ (p : ℕ). MakesAs t p (visit_state x y) last.steps (visit_state n y)) number last.makes);
+        makes = makes_both t there.steps last.steps m x n there.makes last.makes;
       }
 
   -- or free frames come to the list after rounds
-  pub reclaims_for : BySteps Makes t (RefillsInRounds sizes.batch true) (visit_state k e) (visit_state x y)
-      → BySteps Makes t (Finds HasNoFreeFrame (RefillsInRounds sizes.batch true)) (visit_state m c) (visit_state x y)
+  pub reclaims_for : BySteps VisitMakes t (RefillsInRounds sizes.batch true) (visit_state k e) (visit_state x y)
+      → BySteps VisitMakes t (Finds HasNoFreeFrame (RefillsInRounds sizes.batch true)) (visit_state m c) (visit_state x y)
   reclaims_for rounds =
-      let here = from_first (λ u v. BySteps Makes t (RefillsInRounds sizes.batch true) (visit_state u v) (visit_state x y)) rounds in record {
+      let here = from_first (λ u v. BySteps VisitMakes t (RefillsInRounds sizes.batch true) (visit_state u v) (visit_state x y)) rounds in record {
         steps = here.steps;
         does = record { is = first.does.is; does = here.does };
         makes = here.makes;
       }
 
 pub no_frame_keeps : (t : KnownTable) (sizes : Config) (cause : AllocFault) (m n : KnownMachine) (c d : KnownCpu) (steps : Run)
-    → FillsList sizes (Err cause) (transition t (visit_state m c) steps (visit_state n d)) → KeepsPart m c n d
+    → FillsList sizes (Err cause) (transition t (visit_state m c) steps (visit_state n d)) → KeepsPart c d
 no_frame_keeps t sizes (Over over) m n c d steps h = absurd h
 no_frame_keeps t sizes RequesterKilled m n c d steps h = absurd h
 no_frame_keeps t sizes NoFrames m n c d steps h =
     let all = h.does.does in
     let x = all.between in
     let rounds = noted_fails_spare t 1 LendsNoFrame (no_frame_spares t) 0 m x.machine c x.cpu all.earlier all.first in
-    keeps_both m x.machine n c x.cpu d (lowers_keep t m x.machine c x.cpu rounds.lowers rounds.cpu)
+    keeps_both c x.cpu d (same_keeps c x.cpu rounds.cpu)
     (own_drain_keeps t x.machine n x.cpu d all.later all.second.does)
-
--- a reclaim leaves the stock's page
-spared_page : (t : KnownTable) (g : ℕ) (m n : KnownMachine) (c d : KnownCpu) → Spares t m c n d → HoldsPage (visit_state m c) g → HoldsPage (visit_state n d) g
-spared_page t g m n c d s page =
-    let at : account_of n.stock_seat.view d.number ≡ account_of m.stock_seat.view c.number = λ i. account_of (s.stock_seat i).view (s.cpu i).number in
-    let book : (account_of n.stock_seat.view d.number).book ≡ (account_of m.stock_seat.view c.number).book = ap (λ (a : StockAccount). a.book) at in
-    let fresh : length d.fresh ≡ length c.fresh = ap (λ (e : KnownCpu). length e.fresh) s.cpu in
-    let some = page.some in
-    record {
-      group = ap (λ (a : StockAccount). a.group) at ∙ page.group;
-      held = ap (λ (a : StockAccount). a.filled) at ∙ page.held;
-      some = omega (arith, book, fresh, some);
-    }
 
 module _ (t : KnownTable) (sizes : Config) (m n : KnownMachine) (c d : KnownCpu) (steps : Run)
     (h : Finds HasNoFreeFrame (RefillsInRounds sizes.batch true) (transition t (visit_state m c) steps (visit_state n d))) where
   abbrev last : InTheEnd t 1 LendsNoFrame (no_frame_spares t) (LendsBatch sizes.batch) m c (visit_state n d)
   last = noted_in_the_end t 1 LendsNoFrame (no_frame_spares t) 0 (LendsBatch sizes.batch) m c (visit_state n d) steps h.does
-
-  pub reclaimed_page : (g : ℕ) → HoldsPage (visit_state m c) g → HoldsPage (visit_state n d) g
-  reclaimed_page g page =
-      lent_page last.succeeds.frames g last.before n last.cpu d last.succeeds.lends
-      (spared_page t g m last.before c last.cpu last.spares page)
 
   pub reclaimed_front : 1 ≤ length d.list
   reclaimed_front =
@@ -445,7 +361,6 @@ module _ (t : KnownTable) (sizes : Config) (m n : KnownMachine) (c d : KnownCpu)
 
 -- what a list that has a frame leaves
 pub record FilledPart (sizes : Config) (m : KnownMachine) (c : KnownCpu) (n : KnownMachine) (d : KnownCpu) : Type 0 where
-  pub opened : n.frame_seat.view.opened ≡ m.frame_seat.view.opened
   pub number : d.number ≡ c.number
   pub fresh : d.fresh ≡ c.fresh
   pub back : d.back ≡ c.back
@@ -456,7 +371,6 @@ batch_part : (t : KnownTable) (sizes : Config) (m n : KnownMachine) (c d : Known
 batch_part t sizes m n c d steps valid empty h =
     let l = lent_part h.frames m n c d h.lends in
     record {
-      opened = l.opened;
       number = l.number;
       fresh = l.fresh;
       back = l.back;
@@ -476,7 +390,6 @@ refilled_part t sizes m n c d steps valid empty (inr h) =
     let cpu = e.spares.cpu in
     let b = batch_part t sizes e.before n e.cpu d e.trying valid (ap (λ (y : KnownCpu). y.list) cpu ∙ empty) e.succeeds in
     record {
-      opened = b.opened ∙ e.spares.lowers.opened;
       number = b.number ∙ ap (λ (y : KnownCpu). y.number) cpu;
       fresh = b.fresh ∙ ap (λ (y : KnownCpu). y.fresh) cpu;
       back = b.back ∙ ap (λ (y : KnownCpu). y.back) cpu;
@@ -486,7 +399,6 @@ refilled_part t sizes m n c d steps valid empty (inr h) =
 pub filled_part : (t : KnownTable) (sizes : Config) (m n : KnownMachine) (c d : KnownCpu) (steps : Run) → IsValidConfig sizes → FillsList sizes (Ok tt) (transition t (visit_state m c) steps (visit_state n d))
     → FilledPart sizes m c n d
 filled_part t sizes m n c d steps valid (inl h) = record {
-  opened = ap (λ (y : KnownMachine). y.frame_seat.view.opened) h.does.machine;
   number = ap (λ (e : KnownCpu). e.number) h.does.cpu;
   fresh = ap (λ (e : KnownCpu). e.fresh) h.does.cpu;
   back = ap (λ (e : KnownCpu). e.back) h.does.cpu;
@@ -498,23 +410,23 @@ filled_part t sizes m n c d steps valid (inr h) = refilled_part t sizes m n c d 
 
 module _ (t : KnownTable) (sizes : Config) (g : ℕ) (m : KnownMachine) (c : KnownCpu) (alive : is_killed m.killed g ≡ false) where
   -- a charge is refused for good
-  refused_for : (x : AllocFault) (n : KnownMachine) (d : KnownCpu) → BySteps Makes t (PaysForFrame sizes g (Err x)) (visit_state m c) (visit_state n d)
-      → BySteps Makes t (AllocatesFrame sizes g (Err x)) (visit_state m c) (visit_state n d)
+  refused_for : (x : AllocFault) (n : KnownMachine) (d : KnownCpu) → BySteps VisitMakes t (PaysForFrame sizes g (Err x)) (visit_state m c) (visit_state n d)
+      → BySteps VisitMakes t (AllocatesFrame sizes g (Err x)) (visit_state m c) (visit_state n d)
   refused_for (Over over) n d b = record { steps = b.steps; does = record { is = alive; does = b.does }; makes = b.makes }
   refused_for NoFrames n d b = absurd b.does.does.second.does.does.does.1.room
   refused_for RequesterKilled n d b = record { steps = b.steps; does = inr (record { is = alive; does = b.does }); makes = b.makes }
 
   pub not_paid : (r : Result ℕ AllocFault) (x : AllocFault) (n : KnownMachine) (d : KnownCpu) → IsErr r → IfErr r (λ e. e ≡ x)
-      → BySteps Makes t (PaysForFrame sizes g (Err x)) (visit_state m c) (visit_state n d) → BySteps Makes t (AllocatesFrame sizes g r) (visit_state m c) (visit_state n d)
+      → BySteps VisitMakes t (PaysForFrame sizes g (Err x)) (visit_state m c) (visit_state n d) → BySteps VisitMakes t (AllocatesFrame sizes g r) (visit_state m c) (visit_state n d)
   not_paid r x n d not is b =
-      subst (λ (z : Result ℕ AllocFault). BySteps Makes t (AllocatesFrame sizes g z) (visit_state m c) (visit_state n d))
+      subst (λ (z : Result ℕ AllocFault). BySteps VisitMakes t (AllocatesFrame sizes g z) (visit_state m c) (visit_state n d))
       (sym (answer_is r x not is))
       (refused_for x n d b)
 
-  module _ (k : KnownMachine) (y : KnownCpu) (number : y.number ≡ c.number) (pays : BySteps Makes t (PaysForFrame sizes g (Ok tt)) (visit_state m c) (visit_state k y)) where
+  module _ (k : KnownMachine) (y : KnownCpu) (pays : BySteps VisitMakes t (PaysForFrame sizes g (Ok tt)) (visit_state m c) (visit_state k y)) where
     -- no frame is free
-    none_found : (x : AllocFault) (n : KnownMachine) (d : KnownCpu) → BySteps Makes t (FillsList sizes (Err x)) (visit_state k y) (visit_state n d)
-        → BySteps Makes t (AllocatesFrame sizes g (Err x)) (visit_state m c) (visit_state n d)
+    none_found : (x : AllocFault) (n : KnownMachine) (d : KnownCpu) → BySteps VisitMakes t (FillsList sizes (Err x)) (visit_state k y) (visit_state n d)
+        → BySteps VisitMakes t (AllocatesFrame sizes g (Err x)) (visit_state m c) (visit_state n d)
     none_found (Over over) n d b = absurd b.does
     none_found RequesterKilled n d b = absurd b.does
     none_found NoFrames n d b = record {
@@ -523,26 +435,22 @@ module _ (t : KnownTable) (sizes : Config) (g : ℕ) (m : KnownMachine) (c : Kno
         is = alive;
         does = record { between = visit_state k y; earlier = pays.steps; later = b.steps; first = pays.does; second = b.does; steps_are = refl };
       };
-      makes = makes_both t c.number pays.steps b.steps (visit_state m c) (visit_state k y) (visit_state n d) pays.makes
-          (subst (λ (p : ℕ). MakesAs t p (visit_state k y) b.steps (visit_state n d)) number b.makes);
+      makes = makes_both t pays.steps b.steps m k n pays.makes b.makes;
     }
 
     pub not_found : (r : Result ℕ AllocFault) (x : AllocFault) (n : KnownMachine) (d : KnownCpu) → IsErr r → IfErr r (λ e. e ≡ x)
-        → BySteps Makes t (FillsList sizes (Err x)) (visit_state k y) (visit_state n d) → BySteps Makes t (AllocatesFrame sizes g r) (visit_state m c) (visit_state n d)
+        → BySteps VisitMakes t (FillsList sizes (Err x)) (visit_state k y) (visit_state n d) → BySteps VisitMakes t (AllocatesFrame sizes g r) (visit_state m c) (visit_state n d)
     not_found r x n d not is b =
-        subst (λ (z : Result ℕ AllocFault). BySteps Makes t (AllocatesFrame sizes g z) (visit_state m c) (visit_state n d))
+        subst (λ (z : Result ℕ AllocFault). BySteps VisitMakes t (AllocatesFrame sizes g z) (visit_state m c) (visit_state n d))
         (sym (answer_is r x not is))
         (none_found x n d b)
 
     -- the front of the list is paid for
-    pub gets_frame : (f : ℕ) (l n : KnownMachine) (z d : KnownCpu) → z.number ≡ y.number → BySteps Makes t (FillsList sizes (Ok tt)) (visit_state k y) (visit_state l z)
-        → PaysForFront g f (visit_state l z) (visit_state n d) → MakesAs t z.number (visit_state l z) (take_front_steps z.number g) (visit_state n d)
-        → BySteps Makes t (AllocatesFrame sizes g (Ok f)) (visit_state m c) (visit_state n d)
+    pub gets_frame : (f : ℕ) (l n : KnownMachine) (z d : KnownCpu) → z.number ≡ c.number → BySteps VisitMakes t (FillsList sizes (Ok tt)) (visit_state k y) (visit_state l z)
+        → PaysForFront t g f (visit_state l z) (visit_state n d) → Makes t l (take_front_steps z.number g) n
+        → BySteps VisitMakes t (AllocatesFrame sizes g (Ok f)) (visit_state m c) (visit_state n d)
     gets_frame f l n z d named fills takes steps =
-        let last : MakesAs t c.number (visit_state l z) (take_front_steps c.number g) (visit_state n d) =
-        subst (λ (p : ℕ). MakesAs t p (visit_state l z) (take_front_steps p g) (visit_state n d)) (named ∙ number) steps in
-        let next : MakesAs t c.number (visit_state k y) fills.steps (visit_state l z) =
-        subst (λ (p : ℕ). MakesAs t p (visit_state k y) fills.steps (visit_state l z)) number fills.makes in record {
+        let last : Makes t l (take_front_steps c.number g) n = subst (λ (p : ℕ). Makes t l (take_front_steps p g) n) named steps in record {
           steps = pays.steps ++ (fills.steps ++ take_front_steps c.number g);
           does = record {
             is = alive;
@@ -557,6 +465,6 @@ module _ (t : KnownTable) (sizes : Config) (g : ℕ) (m : KnownMachine) (c : Kno
               steps_are = refl;
             };
           };
-          makes = makes_both t c.number pays.steps (fills.steps ++ take_front_steps c.number g) (visit_state m c) (visit_state k y) (visit_state n d) pays.makes
-              (makes_both t c.number fills.steps (take_front_steps c.number g) (visit_state k y) (visit_state l z) (visit_state n d) next last);
+          makes = makes_both t pays.steps (fills.steps ++ take_front_steps c.number g) m k n pays.makes
+              (makes_both t fills.steps (take_front_steps c.number g) k l n fills.makes last);
         }

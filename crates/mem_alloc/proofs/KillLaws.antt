@@ -73,7 +73,7 @@ begins_at_once (x ∷ since) others e g kill (inl none) = absurd (let long = ap 
 begins_at_once (x ∷ since) others e g kill (inr first) = first
 
 pub die_with_their_sets : (MayAsk : List Group → ℕ → ℕ → Type 0) → GroupsDieWithTheirSets MayAsk
-die_with_their_sets MayAsk t start cpu steps before rest made g none is kills =
+die_with_their_sets MayAsk t start steps before rest made g none is kills =
     let after = none before rest made g is kills in
     let set = first_kills rest after.left after.later after.others_die in
     record {
@@ -84,7 +84,7 @@ die_with_their_sets MayAsk t start cpu steps before rest made g none is kills =
       killed = after.killed;
       before_is = after.steps_are;
       rest_is = set.steps_are;
-      last = was_last MayAsk t start cpu before g rest after;
+      last = was_last MayAsk t start before g rest after;
       at_once = begins_at_once after.since set.first made g kills after.at_once;
       whole = kills_both after.since (made ∷ set.first)
           ∙ ap (λ (one : List ℕ). kills_in after.since ++ (one ++ kills_in set.first)) (ap killed_by kills)
@@ -108,8 +108,8 @@ over_limit l g pages over = by_limit (limit_of l.groups g) refl
         record { limit = limit; limit_is = is; over = omega (arith, more) }
 
 pub charges_kill_over_limits : ChargesKillOverLimits
-charges_kill_over_limits g pages t start cpu steps before rest made v none is kills =
-    let come = kills_come_last (IsChargedBelow g pages) t start cpu steps before rest made v none is kills in
+charges_kill_over_limits g pages t start steps before rest made v none is kills =
+    let come = kills_come_last (IsChargedBelow g pages) t start steps before rest made v none is kills in
     let last = come.last in
     record {
       comes_last = come;

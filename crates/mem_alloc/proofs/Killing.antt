@@ -13,13 +13,12 @@ use Rattle.group_charge.specs.Charges.{AreCharges, current_of, usage_charged, wi
 use Rattle.group_charge.proofs.CallerLemmas.{sum-map_same}
 use Rattle.group_charge.proofs.KeptLemmas.{number_below}
 use Rattle.group_charge.proofs.SumLemmas.{share}
-use Rattle.stock_word.specs.Stock.{KnownStockTable}
+use Rattle.boot_words.specs.Pasts.{IsHeld}
 use Rattle.step_rules.specs.State.{sum_to}
 use Rattle.step_rules.specs.After.{Run}
 use Rattle.group_charge.specs.declared.note.Note.TheVariants as notes
-use Rattle.group_charge.specs.Notes.{noted}
 use Rattle.mem_machine.specs.Machines.{IsConsistent, KnownMachine, is_killed, with_run, with_note}
-use Rattle.mem_machine.specs.Local.{MakesForAny, SomeSeenByRun, StaysVisited, visit_state}
+use Rattle.mem_machine.specs.Local.{Makes, StaysVisited}
 use Rattle.mem_machine.specs.Steps.{note_oom_steps}
 use Rattle.mem_reclaim.specs.declared.sets.Killed.{Killed}
 use Rattle.mem_reclaim.specs.Killing.{IsKilledBy, OnlyDrains, OnlyReleases, with_all_killed}
@@ -32,8 +31,8 @@ use Rattle.mem_alloc.specs.Kills.{NeedsRoom, KillsVictims, KillsForRoom, KillsOn
 use Rattle.mem_alloc.specs.Room.{KillsForFewPages, RelievesLimit}
 use Rattle.mem_alloc.proofs.Lowering.{Lowers, lowers_none, lowers_both, clears_lower, keeps_lower, sum_less}
 use Rattle.mem_machine.proofs.Followed.{makes_both, makes_none}
-use Rattle.mem_machine.proofs.Watched.{visits_noted}
-use Rattle.mem_reclaim.proofs.Shown.{shown_after}
+use Rattle.mem_machine.proofs.Made.{visit_same}
+use Rattle.mem_reclaim.proofs.Grown.{held_after}
 use Rattle.mem_machine.specs.Noted.{KnownRun}
 
 -- ---- what is kept
@@ -50,21 +49,19 @@ all_stay_marked : (groups : List ℕ) (marks : List Bool) (j : ℕ) → is_kille
 all_stay_marked [] marks j dead = dead
 all_stay_marked (v ∷ groups) marks j dead = all_stay_marked groups (slice_set marks v true) j (stays_marked marks v j dead)
 
-pub one_lowers : (t : KnownTable) (groups : List ℕ) (m n : KnownMachine) → n.killed ≡ with_all_killed m.killed groups → OnlyDrains m n → OnlyReleases t m n
+pub one_lowers : (t : KnownTable) (groups : List ℕ) (m n : KnownMachine) → n.killed ≡ with_all_killed m.killed groups → OnlyReleases t m n
     → Lowers t m n
-one_lowers t groups m n marked stocks keeps = record {
+one_lowers t groups m n marked keeps = record {
   groups = keeps.groups;
   killed = λ j dead. ap (λ (k : List Bool). is_killed k j) marked ∙ all_stay_marked groups m.killed j dead;
-  opened = keeps.opened;
   falls = keeps.usage;
-  emptied = stocks.drained;
 }
 
 pub each_lowers : (r : Option ℕ) (t : KnownTable) (g pages : ℕ) (victims : List Killed) (m n : KnownMachine) (steps : Run)
     → KillsVictims r g pages victims (transition t m steps n) → Lowers t m n
 each_lowers r t g pages [] m n steps h = subst (λ (x : KnownMachine). Lowers t m x) (sym h.machine) (lowers_none t m)
 each_lowers r t g pages (killed ∷ later) m n steps h =
-    lowers_both t m h.between n (one_lowers t (kill_set m killed) m h.between h.first.marked h.first.stocks h.first.keeps)
+    lowers_both t m h.between n (one_lowers t (kill_set m killed) m h.between h.first.marked h.first.keeps)
     (each_lowers r t g pages later h.between n h.later h.second)
 
 usage_noted : (groups : List Group) (xs : List charge.Account) (g m : ℕ) → usage_charged groups (map (with_event_at Oom groups g) xs) m ≡ usage_charged groups xs m
@@ -75,11 +72,9 @@ pub oom_lowers : (t : KnownTable) (m : KnownMachine) (g : ℕ) (w : KnownRun) �
 oom_lowers t m g w = record {
   groups = refl;
   killed = λ v dead. dead;
-  opened = refl;
   falls = λ h.
       let a : current_of (with_oom_noted_at m g).ledger h ≡ current_of m.ledger h = usage_noted m.ledger.groups m.ledger.accounts g h in
       omega (arith, a);
-  emptied = λ p is. is;
 }
 
 stays_lower : (t : KnownTable) (m n : KnownMachine) (steps : Run) → MachineStays (transition t m steps n) → Lowers t m n
@@ -108,7 +103,7 @@ relieves_lower t r g pages m n steps h =
     lowers_both t m x n (clears_lower t g pages m x h.earlier h.first)
     (lowers_both t x y n (keeps_lower t x y h.second.first.keeps) (few_lower t r g pages y n h.second.later h.second.second))
 
-pub relieving_lowers : (t : KnownTable) (r g pages : ℕ) (m n : KnownMachine) → BySteps MakesForAny t (RelievesLimit r g pages) m n → Lowers t m n
+pub relieving_lowers : (t : KnownTable) (r g pages : ℕ) (m n : KnownMachine) → BySteps Makes t (RelievesLimit r g pages) m n → Lowers t m n
 relieving_lowers t r g pages m n b = relieves_lower t r g pages m n b.steps b.does
 
 -- ---- the loop of kills
@@ -146,10 +141,10 @@ all_marked (x ∷ groups) marks v (suc k) inside low is =
     let long = length-set marks x true in
     all_marked groups (slice_set marks x true) v k (omega (arith, inside, long)) (omega (arith, low)) is
 
-pub fewer_alive : (t : KnownTable) (w : KnownStockTable) (m n : KnownMachine) (g : ℕ) (killed : Killed) → IsConsistent t w m → AreCharges m.ledger
+pub fewer_alive : (t : KnownTable) (m n : KnownMachine) (g : ℕ) (killed : Killed) → IsConsistent t m → AreCharges m.ledger
     → IsVictim m g (Some killed.victim) → IsKilledRoot m.ledger.groups g killed → n.killed ≡ with_all_killed m.killed (kill_set m killed)
     → count_alive n < count_alive m
-fewer_alive t w m n g killed whole charges most head marked =
+fewer_alive t m n g killed whole charges most head marked =
     let v = killed.victim in
     let groups = kill_set m killed in
     let now = with_all_killed m.killed groups in
@@ -188,35 +183,35 @@ kills_more r t g pages killed (u ∷ victims) m x n first last each one = record
 -- Nothing else happened.
 pub record KillsSoFar (r : Option ℕ) (t : KnownTable) (g pages : ℕ) (m n : KnownMachine) : Type 0 where
   pub seen : KnownRun
-  pub notes : MakesForAny t m (note_oom_steps g) (with_run (with_oom_noted_at m g) seen)
+  pub notes : Makes t m (note_oom_steps g) (with_run (with_oom_noted_at m g) seen)
   pub victims : List Killed
   pub killing : Run
   pub kills : KillsVictims r g pages victims (transition t (with_run (with_oom_noted_at m g) seen) killing n)
-  pub runs : MakesForAny t (with_run (with_oom_noted_at m g) seen) killing n
+  pub runs : Makes t (with_run (with_oom_noted_at m g) seen) killing n
   pub visit : StaysVisited t m n
 
 -- the note, after the event
 pub so_far_nobody : (r : Option ℕ) (t : KnownTable) (g pages : ℕ) (m x n : KnownMachine)
-    → x ≡ record m { ledger = with_oom_noted m.ledger g; run = x.run } → MakesForAny t m (note_oom_steps g) x → StaysVisited t m x
+    → x ≡ record m { ledger = with_oom_noted m.ledger g; run = x.run } → Makes t m (note_oom_steps g) x → StaysVisited t m x
     → n ≡ with_note x (notes.Oom g) → KillsSoFar r t g pages m n
 so_far_nobody r t g pages m x n event noting visit told =
     let counted : KnownMachine = record m { ledger = with_oom_noted m.ledger g; run = x.run } in
-    let noting_m : MakesForAny t m (note_oom_steps g) counted =
-    subst (λ (y : KnownMachine). MakesForAny t m (note_oom_steps g) y) event noting in
+    let noting_m : Makes t m (note_oom_steps g) counted =
+    subst (λ (y : KnownMachine). Makes t m (note_oom_steps g) y) event noting in
     subst (λ (y : KnownMachine). KillsSoFar r t g pages m y) (sym (told ∙ (λ i. with_note (event i) (notes.Oom g)))) (record {
       seen = x.run;
-      notes = λ c. record { leads = (noting_m c).leads; follows = (noting_m c).follows; counts = (noting_m c).counts; noted = (noting_m c).noted };
+      notes = record { holder = noting_m.holder; leads = noting_m.leads; follows = noting_m.follows; counts = noting_m.counts; noted = noting_m.noted };
       victims = [];
       killing = [];
       kills = record { machine = refl; steps_are = refl };
-      runs = λ c. makes_none t c.number (visit_state (with_run (with_oom_noted_at m g) x.run) c);
-      visit = λ c v. visits_noted t counted c (noted counted.notes (notes.Oom g)) (subst (StaysVisited t m) event visit c v);
+      runs = makes_none t (with_run (with_oom_noted_at m g) x.run);
+      visit = λ c v. visit_same t counted (with_note counted (notes.Oom g)) c refl (subst (StaysVisited t m) event visit c v);
     })
 
-pub so_far_killed : (r : Option ℕ) (t : KnownTable) (w : KnownStockTable) (g pages : ℕ) (killed : Killed) (m x n : KnownMachine) → KillsSoFar r t g pages m x
-    → NeedsRoom r g pages x → IsConsistent t w x → AreCharges x.ledger → IsVictim x g (Some killed.victim) → IsKilledBy t g killed x n
-    → n.killed ≡ with_all_killed x.killed (kill_set x killed) → OnlyDrains x n → OnlyReleases t x n → KillsSoFar r t g pages m n
-so_far_killed r t w g pages killed m x n so_far needs_room whole charges chosen kills marked stocks keeps = record {
+pub so_far_killed : (r : Option ℕ) (t : KnownTable) (g pages : ℕ) (killed : Killed) (m x n : KnownMachine) → KillsSoFar r t g pages m x
+    → NeedsRoom r g pages x → IsConsistent t x → AreCharges x.ledger → IsVictim x g (Some killed.victim) → IsKilledBy t g killed x n
+    → n.killed ≡ with_all_killed x.killed (kill_set x killed) → OnlyDrains t x n → OnlyReleases t x n → KillsSoFar r t g pages m n
+so_far_killed r t g pages killed m x n so_far needs_room whole charges chosen kills marked stocks keeps = record {
   seen = so_far.seen;
   notes = so_far.notes;
   victims = so_far.victims ++ killed ∷ [];
@@ -224,7 +219,6 @@ so_far_killed r t w g pages killed m x n so_far needs_room whole charges chosen 
   kills = kills_more r t g pages killed so_far.victims (with_run (with_oom_noted_at m g) so_far.seen) x n so_far.killing kills.steps so_far.kills (record {
     needs_room = needs_room;
     chosen = chosen;
-    stock_table = w;
     consistent = whole;
     charges = charges;
     kills = kills;
@@ -233,16 +227,15 @@ so_far_killed r t w g pages killed m x n so_far needs_room whole charges chosen 
     stocks = stocks;
     keeps = keeps;
   });
-  runs = λ c. makes_both t c.number so_far.killing kills.steps (visit_state (with_run (with_oom_noted_at m g) so_far.seen) c) (visit_state x c)
-      (visit_state n c) (so_far.runs c) (kills.runs c);
+  runs = makes_both t so_far.killing kills.steps (with_run (with_oom_noted_at m g) so_far.seen) x n so_far.runs kills.runs;
   visit = λ c v. keeps.visit c (so_far.visit c v);
 }
 
--- what the CPU sees then
-pub so_far_shown : (r : Option ℕ) (t : KnownTable) (g pages : ℕ) (m n : KnownMachine) → KillsSoFar r t g pages m n → SomeSeenByRun t m → SomeSeenByRun t n
-so_far_shown r t g pages m n so_far shown =
+-- who holds the lock then
+pub so_far_held : (r : Option ℕ) (t : KnownTable) (g pages : ℕ) (m n : KnownMachine) → KillsSoFar r t g pages m n → IsHeld t m.run.past → IsHeld t n.run.past
+so_far_held r t g pages m n so_far held =
     let x = with_run (with_oom_noted_at m g) so_far.seen in
-    shown_after t x so_far.killing n so_far.runs (shown_after t m (note_oom_steps g) x so_far.notes shown)
+    held_after t x so_far.killing n so_far.runs (held_after t m (note_oom_steps g) x so_far.notes held)
 
 pub so_far_there : (r : Option ℕ) (t : KnownTable) (g pages : ℕ) (m n : KnownMachine) → KillsSoFar r t g pages m n → has_group m.ledger.groups g ≡ true
     → has_group n.ledger.groups g ≡ true
@@ -252,7 +245,7 @@ so_far_there r t g pages m n so_far there =
 
 -- the kills are over
 pub kills_end : (r : Option ℕ) (t : KnownTable) (g pages : ℕ) (m n : KnownMachine) → has_room_at m.ledger g pages ≡ false
-    → KillsSoFar r t g pages m n → (NeedsRoom r g pages n → IsVictim n g None) → BySteps MakesForAny t (KillsForRoom r g pages) m n
+    → KillsSoFar r t g pages m n → (NeedsRoom r g pages n → IsVictim n g None) → BySteps Makes t (KillsForRoom r g pages) m n
 kills_end r t g pages m n over so_far ended = record {
   steps = note_oom_steps g ++ so_far.killing;
   does = record {
@@ -267,29 +260,28 @@ kills_end r t g pages m n over so_far ended = record {
       steps_are = refl;
     };
   };
-  makes = λ c. makes_both t c.number (note_oom_steps g) so_far.killing (visit_state m c) (visit_state (with_run (with_oom_noted_at m g) so_far.seen) c)
-      (visit_state n c) (so_far.notes c) (so_far.runs c);
+  makes = makes_both t (note_oom_steps g) so_far.killing m (with_run (with_oom_noted_at m g) so_far.seen) n so_far.notes so_far.runs;
 }
 
 -- ---- kills for a few pages alone
 
-pub few_kills : (t : KnownTable) (r g pages : ℕ) (m n : KnownMachine) → pages ≤ 8 → BySteps MakesForAny t (KillsForRoom (Some r) g pages) m n
-    → BySteps MakesForAny t (KillsForFewPages r g pages) m n
+pub few_kills : (t : KnownTable) (r g pages : ℕ) (m n : KnownMachine) → pages ≤ 8 → BySteps Makes t (KillsForRoom (Some r) g pages) m n
+    → BySteps Makes t (KillsForFewPages r g pages) m n
 few_kills t r g pages m n few kills = record { steps = kills.steps; does = record { few = λ _. kills.does; many = λ many. absurd (omega (arith, few, many)) }; makes = kills.makes }
 
-pub many_rest : (t : KnownTable) (r g pages : ℕ) (m : KnownMachine) → 8 < pages → BySteps MakesForAny t (KillsForFewPages r g pages) m m
+pub many_rest : (t : KnownTable) (r g pages : ℕ) (m : KnownMachine) → 8 < pages → BySteps Makes t (KillsForFewPages r g pages) m m
 many_rest t r g pages m many = record {
   steps = [];
   does = record { few = λ few. absurd (omega (arith, few, many)); many = λ _. record { machine = refl; steps_are = refl } };
-  makes = λ c. makes_none t c.number (visit_state m c);
+  makes = makes_none t m;
 }
 
 -- ---- no kill at all
 
 pub enough_room : (r : Option ℕ) (t : KnownTable) (g pages : ℕ) (m : KnownMachine) → has_room_at m.ledger g pages ≡ true
-    → BySteps MakesForAny t (KillsForRoom r g pages) m m
+    → BySteps Makes t (KillsForRoom r g pages) m m
 enough_room r t g pages m room = record {
   steps = [];
   does = record { room = λ _. record { machine = refl; steps_are = refl }; over = λ over. absurd (false≢true (sym over ∙ room)) };
-  makes = λ c. makes_none t c.number (visit_state m c);
+  makes = makes_none t m;
 }

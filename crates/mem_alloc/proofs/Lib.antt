@@ -1,12 +1,13 @@
 pub mod Lowering
 pub mod Killing
+pub mod Emptied
 pub mod Making
 pub mod Filling
 pub mod Rounding
 pub mod Taking
 pub mod NoRash
 pub mod NoRashAllocs
-pub mod Missing
+pub mod Calm
 pub mod CallerLemmas
 pub mod ComingLast
 pub mod KillLaws

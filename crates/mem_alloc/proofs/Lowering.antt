@@ -1,5 +1,5 @@
--- What notes and drains keep: usage is no higher, no stock is filled, and groups stay. Serves all calls.
-use Rattle.std.proofs.Common.{◌≡◌, ℕ, zero, suc, ◌+◌, ◌-◌, ◌<◌, ◌≤◌, ◌==◌, Bool, true, false, Option, List, [], ◌∷◌, map, refl, sym, ap, ◌∙◌, rules}
+-- What notes and drains keep: usage is no higher, and groups stay. Serves all calls.
+use Rattle.std.proofs.Common.{◌≡◌, ℕ, zero, suc, ◌+◌, ◌-◌, ◌<◌, ◌≤◌, ◌==◌, Bool, true, false, Option, List, [], ◌∷◌, map, refl, sym, ap, ◌∙◌}
 use Rattle.std.proofs.Common.{subst, inl, inr, arith, cond, eq-eqb}
 use Rattle.std.specs.List.{sum_by}
 use Rattle.std.proofs.lemmas.Bool.{cases_eq, cases_lt, ne_eqb, cond-true, cond-false, false≢true}
@@ -12,87 +12,42 @@ use Rattle.group_charge.specs.declared.account.Account as charge
 use Rattle.group_charge.specs.Charges.{Ledger, current_of, usage_charged, max_noted, added, taken, peaked, charged, with_charge, with_uncharge}
 use Rattle.group_charge.proofs.CallerLemmas.{sum-map_same}
 use Rattle.group_charge.proofs.SumLemmas.{share}
-use Rattle.stock_word.specs.declared.view.StockAccount.{StockAccount}
-use Rattle.stock_word.specs.declared.view.StockView.{StockView}
-use Rattle.stock_word.specs.Stock.{KnownStockSeat, account_of}
-use Rattle.stock_word.specs.Kinds.{zone_after_drain}
 use Rattle.step_rules.specs.State.{sum_to}
 use Rattle.step_rules.specs.After.{Run}
 use Rattle.mem_machine.specs.Machines.{KnownMachine, is_killed, with_run}
 use Rattle.mem_machine.specs.Paying.{HasRoomFor}
 use Rattle.mem_machine.specs.Steps.{Drain}
-use Rattle.mem_machine.specs.Stocks.{Drains, DrainsBelow, DrainsAllBelow, stock_group, uncharged, with_look}
-use Rattle.mem_machine.proofs.Draining.{groups_stay, drained_at, drained_else}
-use Rattle.mem_machine.proofs.Prepaying.{current_falls}
+use Rattle.mem_machine.specs.Stocks.{DrainsAllBelow, of_subtree}
+use Rattle.mem_reclaim.proofs.LettingGo.{drains_leave}
 use Rattle.mem_reclaim.specs.Staying.{Keeps}
 use Rattle.mem_machine.specs.Transitions.{transition}
 use Rattle.mem_alloc.specs.Room.{ClearsBelow, has_room_at, with_max_noted_at}
 use Rattle.mem_machine.specs.Noted.{KnownRun}
 
--- the groups stay, no visit is opened or shut, who was killed stays killed, no usage is higher, and no stock is filled that
--- wasn't
+-- the groups stay, who was killed stays killed, and no usage is higher
 pub record Lowers (t : KnownTable) (m n : KnownMachine) : Type 0 where
   pub groups : n.ledger.groups ≡ m.ledger.groups
   pub killed : (v : ℕ) → is_killed m.killed v ≡ true → is_killed n.killed v ≡ true
-  pub opened : n.frame_seat.view.opened ≡ m.frame_seat.view.opened
   pub falls : (h : ℕ) → current_of n.ledger h ≤ current_of m.ledger h
-  pub emptied : (p : ℕ) → (account_of m.stock_seat.view p).filled ≡ false → (account_of n.stock_seat.view p).filled ≡ false
 
 pub lowers_none : (t : KnownTable) (m : KnownMachine) → Lowers t m m
 lowers_none t m = record {
   groups = refl;
   killed = λ v dead. dead;
-  opened = refl;
   falls = λ h. omega arith;
-  emptied = λ p is. is;
 }
 
 pub lowers_both : (t : KnownTable) (m x n : KnownMachine) → Lowers t m x → Lowers t x n → Lowers t m n
 lowers_both t m x n a b = record {
   groups = b.groups ∙ a.groups;
   killed = λ v dead. b.killed v (a.killed v dead);
-  opened = b.opened ∙ a.opened;
   falls = λ h. let u = a.falls h in let v = b.falls h in omega (arith, u, v);
-  emptied = λ p is. b.emptied p (a.emptied p is);
 }
 
-emptied_at : (view : StockView) (q k p : ℕ) → (account_of view p).filled ≡ false → (account_of (zone_after_drain view q k) p).filled ≡ false
-emptied_at view q k p is = elim (cases_eq p q) [
-  | inl e ↦ ap (λ (j : ℕ). (account_of (zone_after_drain view q k) j).filled) e ∙ ap (λ (a : StockAccount). a.filled) (drained_at view q k)
-  | inr ne ↦ ap (λ (a : StockAccount). a.filled) (drained_else view q k p ne) ∙ is
-]
-
-pub drain_lowers : (t : KnownTable) (m n : KnownMachine) (q k : ℕ) → Drains q k m n → Lowers t m n
-drain_lowers t m n q k d = record {
-  killed = λ v dead. ap (λ (y : KnownMachine). is_killed y.killed v) d.machine ∙ dead;
-  opened = ap (λ (y : KnownMachine). y.frame_seat.view.opened) d.machine;
-  groups = ap (λ (y : KnownMachine). y.ledger.groups) d.machine ∙ groups_stay m.ledger (stock_group m q) k;
-  falls = λ h.
-      let a : current_of n.ledger h ≡ current_of (uncharged m.ledger (stock_group m q) k) h = ap (λ (y : KnownMachine). current_of y.ledger h) d.machine in
-      let b = current_falls m.ledger (stock_group m q) k h in
-      omega (arith, a, b);
-  emptied = λ p is. ap (λ (y : KnownMachine). (account_of y.stock_seat.view p).filled) d.machine ∙ emptied_at m.stock_seat.view q k p is;
-}
-
--- a look at a stock
-pub looked_lowers : (t : KnownTable) (m : KnownMachine) → Lowers t m (with_look m)
-looked_lowers t m = record {
-  killed = λ v dead. dead;
-  opened = refl;
-  groups = refl;
-  falls = λ h. omega arith;
-  emptied = λ p e. e;
-}
-
-below_lowers : (t : KnownTable) (g q : ℕ) (m n : KnownMachine) (drains : List Drain) → DrainsBelow g q drains m n → Lowers t m n
-below_lowers t g q m n [] h = subst (λ (x : KnownMachine). Lowers t m x) (sym h.1) (lowers_none t m)
-below_lowers t g q m n (drain ∷ []) h =
-    let l = drain_lowers t m (record n { notes = m.notes }) q drain.pages h.1.drains.drains in search rules
-below_lowers t g q m n (one ∷ two ∷ more) h = absurd h
-
-pub all_lower : (t : KnownTable) (g k : ℕ) (m n : KnownMachine) (drains : List Drain) → DrainsAllBelow g k drains m n → Lowers t m n
-all_lower t g zero m n drains h = subst (λ (x : KnownMachine). Lowers t m x) (sym h.1) (lowers_none t m)
-all_lower t g (suc k) m n drains h = lowers_both t m h.between n (all_lower t g k m h.between h.first h.makes_first) (below_lowers t g (suc k) h.between n h.last h.makes_last)
+pub all_lower : (t : KnownTable) (g k : ℕ) (m n : KnownMachine) (drains : List Drain) → DrainsAllBelow t g k drains m n → Lowers t m n
+all_lower t g k m n drains h =
+    let l = drains_leave t (of_subtree g) k m n drains h in
+    record { groups = l.groups; killed = λ v dead. ap (λ (y : List Bool). is_killed y v) l.killed ∙ dead; falls = l.usage }
 
 usage_noted : (groups : List Group) (xs : List charge.Account) (g m : ℕ) → usage_charged groups (map (max_noted groups g) xs) m ≡ usage_charged groups xs m
 unfolding usage_charged
@@ -103,20 +58,16 @@ pub run_lowers : (t : KnownTable) (m : KnownMachine) (w : KnownRun) → Lowers t
 run_lowers t m w = record {
   groups = refl;
   killed = λ v dead. dead;
-  opened = refl;
   falls = λ h. omega arith;
-  emptied = λ p is. is;
 }
 
 pub note_lowers : (t : KnownTable) (m : KnownMachine) (g pages : ℕ) (w : KnownRun) → Lowers t m (with_run (with_max_noted_at m g pages) w)
 note_lowers t m g pages w = record {
   groups = refl;
   killed = λ v dead. dead;
-  opened = refl;
   falls = λ h.
       let a : current_of (with_max_noted_at m g pages).ledger h ≡ current_of m.ledger h = usage_noted m.ledger.groups m.ledger.accounts g h in
       omega (arith, a);
-  emptied = λ p is. is;
 }
 
 pub clears_lower : (t : KnownTable) (g pages : ℕ) (m n : KnownMachine) (steps : Run) → ClearsBelow g pages (transition t m steps n) → Lowers t m n
@@ -129,9 +80,7 @@ pub keeps_lower : (t : KnownTable) (m n : KnownMachine) → Keeps t m n → Lowe
 keeps_lower t m n keeps = record {
   groups = keeps.groups;
   killed = λ v dead. ap (λ (k : List Bool). is_killed k v) keeps.killed ∙ dead;
-  opened = keeps.opened;
   falls = keeps.usage;
-  emptied = λ p is. ap (λ (s : KnownStockSeat). (account_of s.view p).filled) keeps.stock_seat ∙ is;
 }
 
 -- ---- what stays

@@ -4,13 +4,14 @@ use Rattle.std.specs.Prelude.{Result, Ok, Err, IsErr, IfErr, IfOk, MatchResult}
 use Rattle.std.proofs.lemmas.Bool.{false≢true}
 use Rattle.std.proofs.lemmas.List.{append_assoc, append-nil}
 use Rattle.frame_word.specs.Seats.{KnownTable}
+use Rattle.boot_words.specs.Pasts.{IsHeld}
 use Rattle.group_tree.specs.Groups.{limit_of}
 use Rattle.group_tree.specs.Room.{IsLowestOver, fits_limit}
 use Rattle.group_charge.specs.Charges.{current_of, with_max_noted}
 use Rattle.cpu_part.specs.Cpus.{KnownCpu}
 use Rattle.step_rules.specs.After.{Run}
 use Rattle.mem_machine.specs.Machines.{KnownMachine, is_killed, with_run}
-use Rattle.mem_machine.specs.Local.{MakesForAny, SomeSeenByRun, StaysVisited, Visits, VisitState, visit_state, MakesAs, Makes}
+use Rattle.mem_machine.specs.Local.{Makes, StaysVisited, VisitMakes, Visits, VisitState, visit_state}
 use Rattle.mem_machine.specs.Steps.{over_steps, note_max_steps, drain_stocks_steps, fill_steps}
 use Rattle.mem_machine.specs.Stocks.{Fills, DrainsSubtree, DrainsAllBelow, AreDrained}
 use Rattle.mem_machine.specs.Transitions.{BySteps, Transition, transition}
@@ -25,48 +26,43 @@ use Rattle.mem_alloc.specs.Charging.{ChargesOne, FillsStock}
 use Rattle.mem_alloc.proofs.Lowering.{Lowers, lowers_none, lowers_both, run_lowers}
 use Rattle.mem_alloc.proofs.Killing.{relieving_lowers}
 use Rattle.mem_machine.proofs.Followed.{makes_both, makes_none}
-use Rattle.mem_machine.proofs.Reached.{shown_same}
-use Rattle.mem_machine.proofs.Watched.{visits_noted}
+use Rattle.mem_machine.proofs.Made.{visit_same}
 
 -- the note of a limit makes no step
 pub limit_visits : (t : KnownTable) (g pages : ℕ) (m x : KnownMachine) → x ≡ with_limit_noted m g pages → StaysVisited t m x
 limit_visits t g pages m x is =
-    subst (StaysVisited t m) (sym is) (λ c v. visits_noted t m c (with_limit_noted m g pages).notes v)
+    subst (StaysVisited t m) (sym is) (λ c v. visit_same t m (with_limit_noted m g pages) c refl v)
 
-pub limit_shown : (t : KnownTable) (g pages : ℕ) (m x : KnownMachine) → x ≡ with_limit_noted m g pages → SomeSeenByRun t m → SomeSeenByRun t x
-limit_shown t g pages m x is shown =
-    let c = shown.cpu in
-    subst (SomeSeenByRun t) (sym is) (record { cpu = c; is = shown_same t (visit_state m c) (visit_state (with_limit_noted m g pages) c) shown.is refl refl refl })
-
-note_then_drains : (t : KnownTable) (g pages : ℕ) (m x n : KnownMachine) → MakesForAny t m (note_max_steps g) x → (drains : DrainsSubtree t g pages x n)
-    → MakesForAny t m (note_max_steps g ++ drain_stocks_steps drains.drains) n
-note_then_drains t g pages m x n noting drains c =
-    makes_both t c.number (note_max_steps g) (drain_stocks_steps drains.drains) (visit_state m c) (visit_state x c) (visit_state n c) (noting c) (drains.steps c)
+pub limit_held : (t : KnownTable) (g pages : ℕ) (m x : KnownMachine) → x ≡ with_limit_noted m g pages → IsHeld t m.run.past → IsHeld t x.run.past
+limit_held t g pages m x is held = subst (λ (y : KnownMachine). IsHeld t y.run.past) (sym is) held
 
 -- the notes, and then the drains. Serves `make_room`
 pub clears_by : (t : KnownTable) (g pages back : ℕ) (m y x n : KnownMachine) → y ≡ with_limit_noted m g pages → x ≡ record y { ledger = with_max_noted y.ledger g; run = x.run }
-    → MakesForAny t y (note_max_steps g) x → DrainsSubtree t g back x n → AreDrained g t.cpus n → BySteps MakesForAny t (ClearsBelow g pages) m n
+    → Makes t y (note_max_steps g) x → DrainsSubtree t g back x n → AreDrained t g n → BySteps Makes t (ClearsBelow g pages) m n
 clears_by t g pages back m y x n told noted noting_y drains drained =
     let both : x ≡ with_run (with_max_noted_at m g pages) x.run =
     noted ∙ ap (λ (k : KnownMachine). record k { ledger = with_max_noted k.ledger g; run = x.run }) told in
-    let noting_told : MakesForAny t (with_limit_noted m g pages) (note_max_steps g) x =
-    subst (λ (k : KnownMachine). MakesForAny t k (note_max_steps g) x) told noting_y in
-    let noting : MakesForAny t m (note_max_steps g) x = λ c. record { leads = (noting_told c).leads; follows = (noting_told c).follows; counts = (noting_told c).counts; noted = (noting_told c).noted } in record {
+    let noting_told : Makes t (with_limit_noted m g pages) (note_max_steps g) x =
+    subst (λ (k : KnownMachine). Makes t k (note_max_steps g) x) told noting_y in
+    let noting : Makes t m (note_max_steps g) x =
+    record { holder = noting_told.holder; leads = noting_told.leads; follows = noting_told.follows; counts = noting_told.counts; noted = noting_told.noted } in
+    let both_made = makes_both t (note_max_steps g) (drain_stocks_steps drains.drains) m x n noting drains.steps in record {
       steps = note_max_steps g ++ drain_stocks_steps drains.drains;
       does = record {
         drains = drains.drains;
         seen = x.run;
-        all = subst (λ (k : KnownMachine). DrainsAllBelow g t.cpus drains.drains k n) both drains.all;
+        notes = subst (Makes t m (note_max_steps g)) both noting;
+        all = subst (λ (k : KnownMachine). DrainsAllBelow t g t.cpus drains.drains k n) both drains.all;
         drained = drained;
         steps_are = refl;
-        runs = λ c. note_then_drains t g back m x n noting drains c;
+        runs = both_made;
       };
-      makes = λ c. note_then_drains t g back m x n noting drains c;
+      makes = both_made;
     }
 
 -- and then the rounds, and the kills
-pub relieves_by : (t : KnownTable) (r g pages : ℕ) (m x y n : KnownMachine) → BySteps MakesForAny t (ClearsBelow g pages) m x → BySteps MakesForAny t (ReclaimsFor g pages) x y
-    → BySteps MakesForAny t (KillsForFewPages r g pages) y n → BySteps MakesForAny t (RelievesLimit r g pages) m n
+pub relieves_by : (t : KnownTable) (r g pages : ℕ) (m x y n : KnownMachine) → BySteps Makes t (ClearsBelow g pages) m x → BySteps Makes t (ReclaimsFor g pages) x y
+    → BySteps Makes t (KillsForFewPages r g pages) y n → BySteps Makes t (RelievesLimit r g pages) m n
 relieves_by t r g pages m x y n first next last = record {
   steps = first.steps ++ (next.steps ++ last.steps);
   does = record {
@@ -77,12 +73,11 @@ relieves_by t r g pages m x y n first next last = record {
     second = record { between = y; earlier = next.steps; later = last.steps; first = next.does; second = last.does; steps_are = refl };
     steps_are = refl;
   };
-  makes = λ c. makes_both t c.number first.steps (next.steps ++ last.steps) (visit_state m c) (visit_state x c) (visit_state n c) (first.makes c)
-      (makes_both t c.number next.steps last.steps (visit_state x c) (visit_state y c) (visit_state n c) (next.makes c) (last.makes c));
+  makes = makes_both t first.steps (next.steps ++ last.steps) m x n first.makes (makes_both t next.steps last.steps x y n next.makes last.makes);
 }
 
 -- there is no limit
-pub no_rounds : (t : KnownTable) (g pages : ℕ) (m : KnownMachine) → limit_of m.ledger.groups g ≡ None → BySteps MakesForAny t (ReclaimsFor g pages) m m
+pub no_rounds : (t : KnownTable) (g pages : ℕ) (m : KnownMachine) → limit_of m.ledger.groups g ≡ None → BySteps Makes t (ReclaimsFor g pages) m m
 no_rounds t g pages m none = record {
   steps = [];
   does = record {
@@ -92,7 +87,7 @@ no_rounds t g pages m none = record {
     keeps = keeps_none t m;
     moves = moves_rest t m;
   };
-  makes = λ c. makes_none t c.number (visit_state m c);
+  makes = makes_none t m;
 }
 
 -- charges that were refused, and then one more
@@ -120,7 +115,7 @@ pub record RoomSoFar (t : KnownTable) (g pages : ℕ) (c : KnownCpu) (m n : Know
   pub refused_at : List ℕ
   pub making : Run
   pub makes : MakesRoom g refused_at pages (transition t m making n)
-  pub runs : MakesAs t c.number (visit_state m c) making (visit_state n c)
+  pub runs : Makes t m making n
   pub visit : Visits t (visit_state m c) → Visits t (visit_state n c)
   pub lowers : Lowers t m n
   pub alive : is_killed n.killed g ≡ false
@@ -130,7 +125,7 @@ so_far_none t g pages c m alive = record {
   refused_at = [];
   making = [];
   makes = record { machine = refl; steps_are = refl };
-  runs = makes_none t c.number (visit_state m c);
+  runs = makes_none t m;
   visit = λ v. v;
   lowers = lowers_none t m;
   alive = alive;
@@ -140,13 +135,14 @@ module _ (t : KnownTable) (g pages : ℕ) (c : KnownCpu) (m x : KnownMachine) (s
   -- one more charge was refused, by its steps
   module _ (y z n : KnownMachine) (d e : KnownCpu) (over : ℕ) (same : y ≡ with_run x y.run) (mine : d ≡ c) (mine_after : e ≡ c)
       (low : IsLowestOver z.ledger.groups (current_of z.ledger) g pages over) (before_it : z ≡ x)
-      (refusing : MakesAs t d.number (visit_state z d) (over_steps g pages over) (visit_state y e)) (relieves : BySteps MakesForAny t (RelievesLimit g over pages) y n) where
+      (refusing : Makes t z (over_steps g pages over) y) (relieves : BySteps Makes t (RelievesLimit g over pages) y n) where
     refused : (answer : Result (Unit {0}) AllocFault) → IsRoomAnswer g over pages answer n
         → IsRefusedAt g over pages answer (transition t x (over_steps g pages over ++ relieves.steps) n)
     refused answer room = record {
       lowest = subst (λ (k : KnownMachine). IsLowestOver k.ledger.groups (current_of k.ledger) g pages over) before_it low;
       relieving = relieves.steps;
       seen = y.run;
+      refuses = subst (λ (k : KnownMachine × KnownMachine). Makes t k.0 (over_steps g pages over) k.1) (λ i. (before_it i, same i)) refusing;
       relieves = subst (λ (k : KnownMachine). RelievesLimit g over pages (transition t k relieves.steps n)) same relieves.does;
       room = room;
       steps_are = refl;
@@ -155,15 +151,10 @@ module _ (t : KnownTable) (g pages : ℕ) (c : KnownCpu) (m x : KnownMachine) (s
     lowered : Lowers t x n
     lowered = lowers_both t x y n (subst (λ (k : KnownMachine). Lowers t x k) (sym same) (run_lowers t x y.run)) (relieving_lowers t g over pages y n relieves)
 
-    runs_on : MakesAs t c.number (visit_state m c) (so_far.making ++ (over_steps g pages over ++ relieves.steps))
-        (visit_state n c)
-    runs_on = makes_both t c.number so_far.making (over_steps g pages over ++ relieves.steps) (visit_state m c)
-        (visit_state x c) (visit_state n c) so_far.runs
-        (makes_both t c.number (over_steps g pages over) relieves.steps (visit_state x c) (visit_state y c)
-        (visit_state n c)
-        (subst (λ (k : KnownMachine × KnownCpu × KnownCpu). MakesAs t k.1.number (visit_state k.0 k.1) (over_steps g pages over) (visit_state y k.2))
-        (λ i. (before_it i, mine i, mine_after i)) refusing)
-        (relieves.makes c))
+    runs_on : Makes t m (so_far.making ++ (over_steps g pages over ++ relieves.steps)) n
+    runs_on = makes_both t so_far.making (over_steps g pages over ++ relieves.steps) m x n so_far.runs
+        (makes_both t (over_steps g pages over) relieves.steps x y n
+        (subst (λ (k : KnownMachine). Makes t k (over_steps g pages over) y) before_it refusing) relieves.makes)
 
     -- and its group has room now
     pub so_far_more : HasMadeRoom g over pages n → Visits t (visit_state n e) → RoomSoFar t g pages c m n
@@ -179,7 +170,7 @@ module _ (t : KnownTable) (g pages : ℕ) (c : KnownCpu) (m x : KnownMachine) (s
     }
 
     -- or it is refused for good
-    pub so_far_over : (cause : AllocFault) → IsRoomAnswer g over pages (Err cause) n → BySteps Makes t (IsRefusedFor g pages cause) (visit_state m c) (visit_state n c)
+    pub so_far_over : (cause : AllocFault) → IsRoomAnswer g over pages (Err cause) n → BySteps VisitMakes t (IsRefusedFor g pages cause) (visit_state m c) (visit_state n c)
     so_far_over cause is = record {
       steps = so_far.making ++ (over_steps g pages over ++ relieves.steps);
       does = record {
@@ -195,8 +186,8 @@ module _ (t : KnownTable) (g pages : ℕ) (c : KnownCpu) (m x : KnownMachine) (s
     }
 
   -- this is done by steps of its own, now that there is room
-  pub so_far_does : (Does : Transition VisitState → Type 0) (n : KnownMachine) (d : KnownCpu) → BySteps Makes t Does (visit_state x c) (visit_state n d)
-      → BySteps Makes t (AfterRoom g pages Does) (visit_state m c) (visit_state n d)
+  pub so_far_does : (Does : Transition VisitState → Type 0) (n : KnownMachine) (d : KnownCpu) → BySteps VisitMakes t Does (visit_state x c) (visit_state n d)
+      → BySteps VisitMakes t (AfterRoom g pages Does) (visit_state m c) (visit_state n d)
   so_far_does Does n d b = record {
     steps = so_far.making ++ b.steps;
     does = record {
@@ -208,17 +199,15 @@ module _ (t : KnownTable) (g pages : ℕ) (c : KnownCpu) (m x : KnownMachine) (s
       does = b.does;
       steps_are = refl;
     };
-    makes = makes_both t c.number so_far.making b.steps (visit_state m c) (visit_state x c) (visit_state n d) so_far.runs b.makes;
+    makes = makes_both t so_far.making b.steps m x n so_far.runs b.makes;
   }
 
   -- the pages are granted, and fill the stock
-  pub so_far_fills : (y : KnownCpu) → y ≡ c → (n : KnownMachine) (d : KnownCpu) → Fills g pages (visit_state x y) (visit_state n d)
-      → MakesAs t y.number (visit_state x y) (fill_steps y.number g pages) (visit_state n d)
-      → BySteps Makes t (AfterRoom g pages (FillsStock g pages)) (visit_state m c) (visit_state n d)
-  so_far_fills y mine n d fills steps =
-      let there : BySteps Makes t (FillsStock g pages) (visit_state x y) (visit_state n d) =
-      record { steps = fill_steps y.number g pages; does = record { fills = fills; steps_are = refl }; makes = steps } in
-      so_far_does (FillsStock g pages) n d (subst (λ (k : KnownCpu). BySteps Makes t (FillsStock g pages) (visit_state x k) (visit_state n d)) mine there)
+  pub so_far_fills : (n : KnownMachine) → Fills t c.number g pages x n → Makes t x (fill_steps c.number g pages) n
+      → BySteps VisitMakes t (AfterRoom g pages (FillsStock g pages)) (visit_state m c) (visit_state n c)
+  so_far_fills n fills steps =
+      so_far_does (FillsStock g pages) n c
+      (record { steps = fill_steps c.number g pages; does = record { fills = fills; cpu = refl; steps_are = refl }; makes = steps })
 
 -- an answer that is a refusal, of this cause
 pub refused_with : {T E : Type 0} (r : Result T E) (x : E) (P : T → Type 0) (Q : E → Type 0) → IsErr r → IfErr r (λ e. e ≡ x)
@@ -233,9 +222,9 @@ answer_is (Err e) x not is = ap (λ (z : AllocFault). Err z) is
 
 -- a refusal for good of a charge of one page
 pub refuses_one : (t : KnownTable) (g : ℕ) (r : Result (Unit {0}) AllocFault) (cause : AllocFault) (m : KnownMachine) (c : KnownCpu) (n : KnownMachine) (d : KnownCpu)
-    → r ≡ Err cause → d ≡ c → BySteps Makes t (IsRefusedFor g 1 cause) (visit_state m c) (visit_state n c) → BySteps Makes t (ChargesOne g r) (visit_state m c) (visit_state n d)
+    → r ≡ Err cause → d ≡ c → BySteps VisitMakes t (IsRefusedFor g 1 cause) (visit_state m c) (visit_state n c) → BySteps VisitMakes t (ChargesOne g r) (visit_state m c) (visit_state n d)
 refuses_one t g r cause m c n d is cpu b =
-    subst (λ (z : KnownCpu × Result (Unit {0}) AllocFault). BySteps Makes t (ChargesOne g z.1) (visit_state m c) (visit_state n z.0))
+    subst (λ (z : KnownCpu × Result (Unit {0}) AllocFault). BySteps VisitMakes t (ChargesOne g z.1) (visit_state m c) (visit_state n z.0))
     (λ i. (sym cpu i, sym is i)) b
 
 pub if_ok_none : {T E : Type 0} (r : Result T E) (P : T → Type 0) → IsErr r → IfOk r P

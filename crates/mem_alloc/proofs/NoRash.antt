@@ -1,13 +1,13 @@
 -- No kill comes before everything else was tried. Serves the calls that name a command's steps.
-use Rattle.std.proofs.Common.{◌≡◌, ◌≢◌, ℕ, zero, suc, ◌+◌, ◌≤◌, Bool, true, false, Option, Some, None, List, [], ◌∷◌, ◌++◌, refl, sym, ap, ◌∙◌}
+use Rattle.std.proofs.Common.{◌≡◌, ◌≢◌, ℕ, ◌≤◌, Bool, true, false, Option, Some, None, List, [], ◌∷◌, ◌++◌, refl, sym, ap, ◌∙◌}
 use Rattle.std.proofs.Common.{subst, inl, inr, arith, eq-eqb, ◌==◌, ◌||◌, ◌⊎◌}
 use Rattle.std.specs.Prelude.{Result, Ok, Err}
 use Rattle.std.proofs.lemmas.Option.{none-some}
 use Rattle.std.proofs.lemmas.Bool.{cases_Bool, cases_lt, false≢true}
 use Rattle.std.proofs.lemmas.List.{append_assoc, append-nil}
 use Rattle.std.proofs.lemmas.List.Folds.{list_any-append}
-use Rattle.frame_word.specs.Seats.{KnownTable, misses_of}
-use Rattle.stock_word.specs.Stock.{KnownStockSeat, account_of}
+use Rattle.frame_word.specs.Seats.{KnownTable}
+use Rattle.boot_words.specs.Pasts.{IsHeld}
 use Rattle.group_tree.specs.declared.group.Group.{Group}
 use Rattle.group_tree.specs.Groups.{in_subtree, is_oom_group}
 use Rattle.lru_lists.specs.declared.record.Link.{Link}
@@ -18,28 +18,29 @@ use Rattle.cpu_part.specs.Cpus.{KnownCpu}
 use Rattle.step_rules.specs.declared.step.Action.TheVariants.{Kill}
 use Rattle.step_rules.specs.declared.step.Answer.{Answer}
 use Rattle.step_rules.specs.declared.step.Step.{Step}
-use Rattle.step_rules.specs.State.{State}
-use Rattle.step_rules.specs.After.{Run, after}
-use Rattle.mem_machine.specs.Machines.{KnownMachine, home_of, with_note, with_run}
-use Rattle.mem_machine.specs.Local.{IsLocalRun, MakesForAny, VisitState, local_of, visit_state}
-use Rattle.mem_machine.specs.Steps.{Drain, drain_stocks_steps, note_group_kill_steps, note_max_steps, note_oom_steps, over_steps}
-use Rattle.mem_machine.specs.Stocks.{AreDrained, Drains, DrainsBelow, DrainsAllBelow, of_subtree, stock_group}
+use Rattle.step_rules.specs.State.{Part}
+use Rattle.step_rules.specs.After.{Run}
+use Rattle.mem_machine.specs.Machines.{HeadsKeptUnit, KnownMachine, home_of, part_at, with_note, with_run}
+use Rattle.mem_machine.specs.Local.{Makes, VisitState, visit_state}
+use Rattle.mem_machine.specs.Steps.{note_group_kill_steps, note_oom_steps, over_steps}
+use Rattle.mem_machine.specs.Stocks.{AreDrained, HasDrained, Drains, of_subtree, stock_group}
 use Rattle.mem_machine.proofs.Draining.{groups_stay}
-use Rattle.mem_machine.proofs.Reaching.{run_both}
+use Rattle.mem_machine.proofs.Followed.{makes_both, makes_none}
 use Rattle.mem_reclaim.specs.declared.sets.Killed.{Killed}
-use Rattle.mem_reclaim.specs.Moves.{has_kill, is_kill, killed_by, kills_in, missed_in}
+use Rattle.mem_reclaim.specs.Moves.{has_kill, is_kill, killed_by, kills_in}
 use Rattle.mem_reclaim.specs.Staying.{Keeps, MissedAll}
 use Rattle.mem_reclaim.specs.Killing.{IsKilledBy, KillsGroups, KillsRootOrVictim, OnlyDrains, OnlyReleases}
 use Rattle.mem_reclaim.specs.Sets.{alive_in_subtree, group_kill_note, kill_set}
 use Rattle.mem_reclaim.specs.Victim.{victim_note}
-use Rattle.mem_reclaim.proofs.KillSets.{kills_both, missed_both}
-use Rattle.mem_reclaim.proofs.LettingGo.{AreQuiet, quiet_both, quiet_drains}
+use Rattle.mem_reclaim.proofs.KillSets.{kills_both}
+use Rattle.mem_reclaim.proofs.Grown.{held_after, misses_after, parts_after}
+use Rattle.mem_reclaim.proofs.LettingGo.{drains_leave, quiet_drains}
 use Rattle.mem_machine.specs.Transitions.{MachineStays, OfMachineAlone, Transition, transition}
 use Rattle.mem_alloc.specs.Kills.{KillsVictims, KillsForRoom, KillsOneVictim, KillsUntilRoom, has_room_at, with_oom_noted_at}
 use Rattle.mem_alloc.specs.Room.{AfterRoom, ClearsBelow, IsRefusedAt, IsRefusedFor, IsRefusedAtSome, KillsForFewPages, MakesRoom, ReclaimsFor, RelievesLimit}
 use Rattle.mem_alloc.specs.Room.{with_max_noted_at}
 use Rattle.mem_alloc.specs.declared.faults.AllocFault.{AllocFault}
-use Rattle.mem_alloc.specs.NoRash.{IsLeftBySteps, MayKill, MayKillAfter, begins_with_kill, has_oom_note, is_oom_note}
+use Rattle.mem_alloc.specs.NoRash.{MayKill, MayKillAfter, begins_with_kill, has_oom_note, is_oom_note}
 
 -- ---- the place of a pair in a list
 
@@ -126,137 +127,72 @@ set_first true t g killed m steps n h =
     (with_note m (group_kill_note m killed.killed_root)) h.killing h.between h.kills)
 set_first false t g killed m steps n h = inr (ap begins_with_kill h.kills.steps_are)
 
--- ---- lists of local steps
-
-pub run_rest : (p : ℕ) (one two : Run) (a b z : State) → IsLocalRun p a one b → IsLocalRun p a (one ++ two) z → IsLocalRun p b two z
-run_rest p [] two a b z first whole = subst (λ (s : State). IsLocalRun p s two z) first whole
-run_rest p (e ∷ one) two a b z first whole = run_rest p one two (after a e.0.seat e.0.action e.1) b z first.1 whole.1
-
--- a refused grant changes nothing
-pub over_runs : (p g n over : ℕ) (rest : Run) (a z : State) → IsLocalRun p a (over_steps g n over ++ rest) z → IsLocalRun p a (over_steps g n over) a
-over_runs p g n over rest a z whole = (whole.0, refl)
-
 -- ---- what steps leave of the machine
 
--- the steps lead there; the misses grew by those among them; and no unit came onto a list or changed its dirt
-pub record Passes (t : KnownTable) (c : KnownCpu) (m : KnownMachine) (steps : Run) (n : KnownMachine) : Type 0 where
-  pub runs : IsLocalRun c.number (local_of t m c) steps (local_of t n c)
-  pub tied : IsLeftBySteps (transition t m steps n)
+-- the steps lead there, and no unit came onto a list or changed its dirt
+pub record Passes (t : KnownTable) (m : KnownMachine) (steps : Run) (n : KnownMachine) : Type 0 where
+  pub runs : Makes t m steps n
+  pub owners : (f : ℕ) → HeadsKeptUnit n f → owner_of (home_of n.links f) ≡ owner_of (home_of m.links f)
+  pub dirt : (f : ℕ) → HeadsKeptUnit n f → (link_at n.links f).is_dirty ≡ (link_at m.links f).is_dirty
 
-pub passes_none : (t : KnownTable) (c : KnownCpu) (m : KnownMachine) → Passes t c m [] m
-passes_none t c m = record {
-  runs = refl;
-  tied = record { misses = λ f. omega arith; owners = λ f is. refl; dirt = λ f is. refl };
-}
+pub passes_none : (t : KnownTable) (m : KnownMachine) → Passes t m [] m
+passes_none t m = record { runs = makes_none t m; owners = λ f is. refl; dirt = λ f is. refl }
 
 owned : (o was : Option Home) → o ≢ None → owner_of o ≡ owner_of was → was ≢ None
 owned None was kept same none = kept refl
 owned (Some h) was kept same none = none-some h.owner (sym (same ∙ ap owner_of none))
 
-was_kept : (t : KnownTable) (m n : KnownMachine) (steps : Run) → IsLeftBySteps (transition t m steps n) → (f : ℕ) → home_of n.links f ≢ None → home_of m.links f ≢ None
-was_kept t m n steps tied f is = owned (home_of n.links f) (home_of m.links f) is (tied.owners f is)
+was_kept : (t : KnownTable) (m n : KnownMachine) (steps : Run) → Passes t m steps n → (f : ℕ) → home_of n.links f ≢ None → home_of m.links f ≢ None
+was_kept t m n steps p f is = owned (home_of n.links f) (home_of m.links f) is (p.owners f is)
 
-pub passes_both : (t : KnownTable) (c : KnownCpu) (m x n : KnownMachine) (one two : Run) → Passes t c m one x → Passes t c x two n
-    → Passes t c m (one ++ two) n
-passes_both t c m x n one two a b = record {
-  runs = run_both c.number one two (local_of t m c) (local_of t x c) (local_of t n c) a.runs b.runs;
-  tied = record {
-    misses = λ f.
-        let p = a.tied.misses f in
-        let q = b.tied.misses f in
-        let r = missed_both f one two in
-        omega (arith, p, q, r);
-    owners = λ f is. b.tied.owners f is ∙ a.tied.owners f (was_kept t x n two b.tied f is);
-    dirt = λ f is. b.tied.dirt f is ∙ a.tied.dirt f (was_kept t x n two b.tied f is);
-  };
+pub passes_both : (t : KnownTable) (m x n : KnownMachine) (one two : Run) → Passes t m one x → Passes t x two n → Passes t m (one ++ two) n
+passes_both t m x n one two a b = record {
+  runs = makes_both t one two m x n a.runs b.runs;
+  owners = λ f is. b.owners f is ∙ a.owners f (was_kept t x n two b f is);
+  dirt = λ f is. b.dirt f is ∙ a.dirt f (was_kept t x n two b f is);
 }
 
--- steps without a freeze that missed, if neither the zone's seat nor the lists changed
-pub passes_same : (t : KnownTable) (c : KnownCpu) (m n : KnownMachine) (steps : Run) → IsLocalRun c.number (local_of t m c) steps (local_of t n c)
-    → n.frame_seat ≡ m.frame_seat → n.links ≡ m.links → AreQuiet steps → Passes t c m steps n
-passes_same t c m n steps runs seat links quiet = record {
+-- steps by which the lists stay
+pub passes_same : (t : KnownTable) (m n : KnownMachine) (steps : Run) → Makes t m steps n → n.links ≡ m.links → Passes t m steps n
+passes_same t m n steps runs links = record {
   runs = runs;
-  tied = record {
-    misses = λ f.
-        let p : misses_of n.frame_seat f ≡ misses_of m.frame_seat f = ap (λ s. misses_of s f) seat in
-        let q = quiet.no_miss f in
-        omega (arith, p, q);
-    owners = λ f is. ap (λ (l : List Link). owner_of (home_of l f)) links;
-    dirt = λ f is. ap (λ (l : List Link). (link_at l f).is_dirty) links;
-  };
+  owners = λ f is. ap (λ (l : List Link). owner_of (home_of l f)) links;
+  dirt = λ f is. ap (λ (l : List Link). (link_at l f).is_dirty) links;
 }
 
 -- ---- drains
 
--- the zone's seat, the lists and the groups are the same
+-- the lists and the groups are the same
 pub record SameUnits (m n : KnownMachine) : Type 0 where
-  pub frame_seat : n.frame_seat ≡ m.frame_seat
   pub links : n.links ≡ m.links
   pub groups : n.ledger.groups ≡ m.ledger.groups
 
-pub drain_same : (m n : KnownMachine) (q k : ℕ) → Drains q k m n → SameUnits m n
-drain_same m n q k d = record {
-  frame_seat = ap (λ (x : KnownMachine). x.frame_seat) d.machine;
+pub drain_same : (t : KnownTable) (m n : KnownMachine) (q k : ℕ) → Drains t q k m n → SameUnits m n
+drain_same t m n q k d = record {
   links = ap (λ (x : KnownMachine). x.links) d.machine;
-  groups = ap (λ (x : KnownMachine). x.ledger.groups) d.machine ∙ groups_stay m.ledger (stock_group m q) k;
+  groups = ap (λ (x : KnownMachine). x.ledger.groups) d.machine ∙ groups_stay m.ledger (stock_group t m q) k;
 }
-
-one_same : (g q : ℕ) (m n : KnownMachine) (drains : List Drain) → DrainsBelow g q drains m n → SameUnits m n
-one_same g q m n [] h = record {
-  frame_seat = ap (λ (x : KnownMachine). x.frame_seat) h.1;
-  links = ap (λ (x : KnownMachine). x.links) h.1;
-  groups = ap (λ (x : KnownMachine). x.ledger.groups) h.1;
-}
-one_same g q m n (drain ∷ []) h =
-    let same = drain_same m (record n { notes = m.notes }) q drain.pages h.1.drains.drains in
-    record { frame_seat = same.frame_seat; links = same.links; groups = same.groups }
-one_same g q m n (one ∷ two ∷ more) h = absurd h
-
-pub all_same : (g k : ℕ) (m n : KnownMachine) (drains : List Drain) → DrainsAllBelow g k drains m n → SameUnits m n
-all_same g zero m n drains h = record {
-  frame_seat = ap (λ (x : KnownMachine). x.frame_seat) h.1;
-  links = ap (λ (x : KnownMachine). x.links) h.1;
-  groups = ap (λ (x : KnownMachine). x.ledger.groups) h.1;
-}
-all_same g (suc k) m n drains h =
-    let one = one_same g (suc k) h.between n h.last h.makes_last in
-    let rest = all_same g k m h.between h.first h.makes_first in
-    record { frame_seat = one.frame_seat ∙ rest.frame_seat; links = one.links ∙ rest.links; groups = one.groups ∙ rest.groups }
-
-pub drains_pass : (t : KnownTable) (c : KnownCpu) (g k : ℕ) (m n : KnownMachine) (drains : List Drain) → DrainsAllBelow g k drains m n
-    → IsLocalRun c.number (local_of t m c) (drain_stocks_steps drains) (local_of t n c) → Passes t c m (drain_stocks_steps drains) n
-drains_pass t c g k m n drains all runs =
-    let same = all_same g k m n drains all in
-    passes_same t c m n (drain_stocks_steps drains) runs same.frame_seat same.links (quiet_drains drains)
 
 -- ---- rounds of reclaim
 
-pub keeps_pass : (t : KnownTable) (c : KnownCpu) (m n : KnownMachine) (steps : Run) → MakesForAny t m steps n → Keeps t m n
-    → ((f : ℕ) → misses_of n.frame_seat f ≡ misses_of m.frame_seat f + missed_in f steps) → Passes t c m steps n
-keeps_pass t c m n steps runs keeps misses = record {
-  runs = (runs c).leads;
-  tied = record {
-    misses = misses;
-    owners = keeps.owners;
-    dirt = keeps.dirt;
-  };
-}
+pub keeps_pass : (t : KnownTable) (m n : KnownMachine) (steps : Run) → Makes t m steps n → Keeps t m n → Passes t m steps n
+keeps_pass t m n steps runs keeps = record { runs = runs; owners = keeps.owners; dirt = keeps.dirt }
 
 -- ---- no kill too early, in a part of a call's steps
 
 -- each kill among these steps of a call, which made other steps before them, comes when its group may be killed
-abbrev pub RashFree : KnownTable → (List Group → ℕ → ℕ → Type 0) → KnownMachine → KnownCpu → Run → Run → Type 0
-RashFree t MayAsk start c made steps =
+abbrev pub RashFree : KnownTable → (List Group → ℕ → ℕ → Type 0) → KnownMachine → Run → Run → Type 0
+RashFree t MayAsk start made steps =
     (before rest : Run) (e : Step × Answer) (group : ℕ) → steps ≡ before ++ e ∷ rest → e.0.action ≡ Kill group
-    → MayKillAfter t MayAsk start c (made ++ before) group rest
+    → MayKillAfter t MayAsk start (made ++ before) group rest
 
-module _ (t : KnownTable) (MayAsk : List Group → ℕ → ℕ → Type 0) (s : KnownMachine) (c : KnownCpu) where
-  pub rash_quiet : (made steps : Run) → has_kill steps ≡ false → RashFree t MayAsk s c made steps
+module _ (t : KnownTable) (MayAsk : List Group → ℕ → ℕ → Type 0) (s : KnownMachine) (held_there : IsHeld t s.run.past) where
+  pub rash_quiet : (made steps : Run) → has_kill steps ≡ false → RashFree t MayAsk s made steps
   rash_quiet made steps quiet before rest e v is kill =
       absurd (false≢true (sym quiet ∙ ap has_kill is ∙ kills_there before rest e v kill))
 
   -- more steps come after
-  may_longer : (before rest two : Run) (v : ℕ) → MayKillAfter t MayAsk s c before v rest → MayKillAfter t MayAsk s c before v (rest ++ two)
+  may_longer : (before rest two : Run) (v : ℕ) → MayKillAfter t MayAsk s before v rest → MayKillAfter t MayAsk s before v (rest ++ two)
   may_longer before rest two v may = record {
     tried = may.tried;
     since = may.since;
@@ -273,21 +209,21 @@ module _ (t : KnownTable) (MayAsk : List Group → ℕ → ℕ → Type 0) (s : 
         kills_both rest two ∙ ap (λ (k : List ℕ). k ++ kills_in two) may.others_die ∙ append_assoc may.left may.later (kills_in two);
   }
 
-  pub rash_both : (made one two : Run) → RashFree t MayAsk s c made one → RashFree t MayAsk s c (made ++ one) two
-      → RashFree t MayAsk s c made (one ++ two)
+  pub rash_both : (made one two : Run) → RashFree t MayAsk s made one → RashFree t MayAsk s (made ++ one) two
+      → RashFree t MayAsk s made (one ++ two)
   rash_both made one two first last before rest e v is kill = elim (stands_in one two before rest e is) [
     | inl here ↦
-        subst (λ (r : Run). MayKillAfter t MayAsk s c (made ++ before) v r) here.2
+        subst (λ (r : Run). MayKillAfter t MayAsk s (made ++ before) v r) here.2
         (may_longer (made ++ before) here.0 two v (first before here.0 e v here.1 kill))
     | inr there ↦
         let same : (made ++ one) ++ there.0 ≡ made ++ before =
         append_assoc made one there.0 ∙ ap (λ (r : Run). made ++ r) (sym there.1) in
-        subst (λ (done : Run). MayKillAfter t MayAsk s c done v rest) same (last there.0 rest e v there.2 kill)
+        subst (λ (done : Run). MayKillAfter t MayAsk s done v rest) same (last there.0 rest e v there.2 kill)
   ]
 
   -- the steps kill just the groups of a set, the first of them at once
-  rash_set : (made steps : Run) (m : KnownMachine) (killed : Killed) → IsLocalRun c.number (local_of t s c) made (local_of t m c)
-      → MayKill MayAsk (transition t s made m) killed → KillsFirst steps → kills_in steps ≡ kill_set m killed → RashFree t MayAsk s c made steps
+  rash_set : (made steps : Run) (m : KnownMachine) (killed : Killed) → Makes t s made m
+      → MayKill MayAsk (transition t s made m) killed → KillsFirst steps → kills_in steps ≡ kill_set m killed → RashFree t MayAsk s made steps
   rash_set made steps m killed runs may first these before rest e v is kill = record {
     tried = made;
     since = before;
@@ -296,7 +232,7 @@ module _ (t : KnownTable) (MayAsk : List Group → ℕ → ℕ → Type 0) (s : 
     left = kills_in rest;
     later = [];
     steps_are = refl;
-    leads = runs;
+    leads = runs.leads;
     may = may;
     at_once = comes_at_once steps before rest e v first is kill;
     set_is = sym these ∙ ap kills_in is ∙ kills_both before (e ∷ rest)
@@ -306,21 +242,21 @@ module _ (t : KnownTable) (MayAsk : List Group → ℕ → ℕ → Type 0) (s : 
 
   -- what a part of the call's steps leaves, and that no kill among them is too early
   pub record Tame (made : Run) (m : KnownMachine) (steps : Run) (n : KnownMachine) : Type 0 where
-    pub rash : RashFree t MayAsk s c made steps
-    pub passes : Passes t c m steps n
+    pub rash : RashFree t MayAsk s made steps
+    pub passes : Passes t m steps n
     pub groups : n.ledger.groups ≡ m.ledger.groups
 
-  pub tame_quiet : (made : Run) (m : KnownMachine) (steps : Run) (n : KnownMachine) → Passes t c m steps n → n.ledger.groups ≡ m.ledger.groups
+  pub tame_quiet : (made : Run) (m : KnownMachine) (steps : Run) (n : KnownMachine) → Passes t m steps n → n.ledger.groups ≡ m.ledger.groups
       → has_kill steps ≡ false → Tame made m steps n
   tame_quiet made m steps n passes groups quiet = record { rash = rash_quiet made steps quiet; passes = passes; groups = groups }
 
   pub tame_none : (made : Run) (m : KnownMachine) → Tame made m [] m
-  tame_none made m = tame_quiet made m [] m (passes_none t c m) refl refl
+  tame_none made m = tame_quiet made m [] m (passes_none t m) refl refl
 
   pub tame_both : (made : Run) (m x n : KnownMachine) (one two : Run) → Tame made m one x → Tame (made ++ one) x two n → Tame made m (one ++ two) n
   tame_both made m x n one two a b = record {
     rash = rash_both made one two a.rash b.rash;
-    passes = passes_both t c m x n one two a.passes b.passes;
+    passes = passes_both t m x n one two a.passes b.passes;
     groups = b.groups ∙ a.groups;
   }
 
@@ -332,9 +268,9 @@ module _ (t : KnownTable) (MayAsk : List Group → ℕ → ℕ → Type 0) (s : 
 
   -- what makes the next kill one that may come
   pub record Ready (limited : ℕ) (made : Run) (m : KnownMachine) : Type 0 where
-    pub since : Passes t c s made m
+    pub since : Passes t s made m
     pub noted : has_oom_note limited made ≡ true
-    pub drained : AreDrained limited t.cpus m
+    pub drained : AreDrained t limited m
     pub missed : MissedAll limited s m
 
   noted_more : (g : ℕ) (one two : Run) → has_oom_note g one ≡ true → has_oom_note g (one ++ two) ≡ true
@@ -350,22 +286,16 @@ module _ (t : KnownTable) (MayAsk : List Group → ℕ → ℕ → Type 0) (s : 
   is_kept (Some h) kept = (h, refl)
 
   -- the steps of a victim's kill, with all who die with it
-  kill_passes : (g : ℕ) (killed : Killed) (m n : KnownMachine) (kills : IsKilledBy t g killed m n) → OnlyReleases t m n → Passes t c m kills.steps n
+  kill_passes : (g : ℕ) (killed : Killed) (m n : KnownMachine) (kills : IsKilledBy t g killed m n) → OnlyReleases t m n → Passes t m kills.steps n
   kill_passes g killed m n kills keeps = record {
-    runs = (kills.runs c).leads;
-    tied = record {
-      misses = λ f.
-          let p = keeps.misses f in
-          let q = kills.these.no_miss f in
-          omega (arith, p, q);
-      owners = λ f is.
-          let there = is_kept (home_of n.links f) is in
-          ap owner_of (there.1 ∙ sym (keeps.leaves f there.0 there.1));
-      dirt = keeps.dirt;
-    };
+    runs = kills.runs;
+    owners = λ f is.
+        let there = is_kept (home_of n.links f) is in
+        ap owner_of (there.1 ∙ sym (keeps.leaves f there.0 there.1));
+    dirt = keeps.dirt;
   }
 
-  still_drained : (g : ℕ) (m n : KnownMachine) → n.ledger.groups ≡ m.ledger.groups → OnlyDrains m n → AreDrained g t.cpus m → AreDrained g t.cpus n
+  still_drained : (g : ℕ) (m n : KnownMachine) → n.ledger.groups ≡ m.ledger.groups → OnlyDrains t m n → AreDrained t g m → AreDrained t g n
   still_drained g m n groups stocks drained q low high is =
       stocks.drained q (drained q low high
       (ap (λ (z : List Group × Option ℕ). of_subtree g z.0 z.1) (λ i. (sym groups i, sym (stocks.of q) i)) ∙ is))
@@ -381,9 +311,9 @@ module _ (t : KnownTable) (MayAsk : List Group → ℕ → ℕ → Type 0) (s : 
   ready_more : (r : Option ℕ) (g pages : ℕ) (killed : Killed) (made : Run) (m : KnownMachine) (steps : Run) (n : KnownMachine) → Ready g made m
       → (one : KillsOneVictim r g pages killed (transition t m steps n)) → Ready g (made ++ steps) n
   ready_more r g pages killed made m steps n ready one =
-      let passes = subst (λ (k : Run). Passes t c m k n) (sym one.steps_are) (kill_passes g killed m n one.kills one.keeps) in
+      let passes = subst (λ (k : Run). Passes t m k n) (sym one.steps_are) (kill_passes g killed m n one.kills one.keeps) in
       record {
-        since = passes_both t c s m n made steps ready.since passes;
+        since = passes_both t s m n made steps ready.since passes;
         noted = noted_more g made steps ready.noted;
         drained = still_drained g m n one.keeps.groups one.stocks ready.drained;
         missed = still_missed g m n one.keeps ready.missed;
@@ -401,10 +331,13 @@ module _ (t : KnownTable) (MayAsk : List Group → ℕ → ℕ → Type 0) (s : 
     missed = ready.missed;
     chosen = one.chosen;
     killed_root_is = one.kills.killed_root_is;
-    stock_table = one.stock_table;
     consistent = one.consistent;
     charges = one.charges;
-    tied = ready.since.tied;
+    tied = record {
+      misses = misses_after t s made m ready.since.runs held_there;
+      owners = ready.since.owners;
+      dirt = ready.since.dirt;
+    };
   }
 
   tame_one : (r : Option ℕ) (g pages : ℕ) (killed : Killed) (made : Run) (m : KnownMachine) (steps : Run) (n : KnownMachine)
@@ -430,24 +363,34 @@ module _ (t : KnownTable) (MayAsk : List Group → ℕ → ℕ → Type 0) (s : 
       let rest = tame_each r g pages later (made ++ first) x each.later n still (ready_more r g pages killed made m first x ready each.first) each.second in
       subst (λ (k : Run). Tame made m k n) (sym each.steps_are) (tame_both made m x n first each.later one rest)
 
+  -- where each part of a CPU stays, each stock of the subtree stays drained
+  pub drained_on : (g : ℕ) (m n : KnownMachine) → n.ledger.groups ≡ m.ledger.groups → ((q : ℕ) → part_at t n q ≡ part_at t m q) → AreDrained t g m → AreDrained t g n
+  drained_on g m n groups stock drained q low high is =
+      subst HasDrained (sym (stock q))
+      (drained q low high (ap (λ (z : List Group × Part). of_subtree g z.0 z.1.stock.group) (λ i. (sym groups i, sym (stock q) i)) ∙ is))
+
   -- everything was tried, and one more `oom` is noted after that
   tame_victims : (r : Option ℕ) (g pages : ℕ) (made : Run) (m : KnownMachine) (steps : Run) (n : KnownMachine) → MayAsk m.ledger.groups g pages
-      → Passes t c s made m → AreDrained g t.cpus m → MissedAll g s m → KillsUntilRoom r g pages (transition t m steps n) → Tame made m steps n
+      → Passes t s made m → AreDrained t g m → MissedAll g s m → KillsUntilRoom r g pages (transition t m steps n) → Tame made m steps n
   tame_victims r g pages made m steps n asked since drained missed h =
       let x = with_run (with_oom_noted_at m g) h.seen in
-      let note = passes_same t c m x (note_oom_steps g) (h.notes c).leads refl refl (record { no_kill = refl; no_miss = λ f. refl }) in
+      let note = passes_same t m x (note_oom_steps g) h.notes refl in
+      let here = held_after t s made m since.runs held_there in
       let ready : Ready g (made ++ note_oom_steps g) x = record {
-        since = passes_both t c s m x made (note_oom_steps g) since note;
+        since = passes_both t s m x made (note_oom_steps g) since note;
         noted = noted_last g made (note_oom_steps g) (or_left (g == g) false (eq-eqb g g refl));
-        drained = drained;
-        missed = missed;
+        drained = drained_on g m x refl (λ q. parts_after t m (note_oom_steps g) x h.notes here q refl) drained;
+        missed = λ f home inside is clean.
+            let p = missed f home inside is clean in
+            let q = misses_after t m (note_oom_steps g) x h.notes here f in
+            omega (arith, p, q);
       } in
       subst (λ (k : Run). Tame made m k n) (sym h.steps_are) (tame_both made m x n (note_oom_steps g) h.killing
       (tame_quiet made m (note_oom_steps g) x note refl refl)
       (tame_each r g pages h.victims (made ++ note_oom_steps g) x h.killing n asked ready h.kills))
 
   pub tame_kills : (r : Option ℕ) (g pages : ℕ) (made : Run) (m : KnownMachine) (steps : Run) (n : KnownMachine) → MayAsk m.ledger.groups g pages
-      → Passes t c s made m → AreDrained g t.cpus m → (has_room_at m.ledger g pages ≡ false → MissedAll g s m)
+      → Passes t s made m → AreDrained t g m → (has_room_at m.ledger g pages ≡ false → MissedAll g s m)
       → KillsForRoom r g pages (transition t m steps n) → Tame made m steps n
   tame_kills r g pages made m steps n asked since drained missed h = elim (cases_Bool (has_room_at m.ledger g pages)) [
     | inl room ↦ tame_stays made m steps n (h.room room)
@@ -456,32 +399,24 @@ module _ (t : KnownTable) (MayAsk : List Group → ℕ → ℕ → Type 0) (s : 
 
   -- ---- a limit without room
 
-  -- after reclaim each stock of the subtree is drained; if there is no room, each clean unit was tried
-  pub drained_on : (g : ℕ) (m n : KnownMachine) → n.ledger.groups ≡ m.ledger.groups → n.stock_seat ≡ m.stock_seat → AreDrained g t.cpus m → AreDrained g t.cpus n
-  drained_on g m n groups stock drained q low high is =
-      ap (λ (z : KnownStockSeat). (account_of z.view q).filled) stock
-      ∙ drained q low high (ap (λ (z : List Group × KnownStockSeat). of_subtree g z.0 (account_of z.1.view q).group) (λ i. (sym groups i, sym stock i)) ∙ is)
-
-  pub missed_since : (g : ℕ) (made : Run) (m n : KnownMachine) → Passes t c s made m → MissedAll g m n → MissedAll g s n
+  pub missed_since : (g : ℕ) (made : Run) (m n : KnownMachine) → Passes t s made m → MissedAll g m n → MissedAll g s n
   missed_since g made m n since missed f h inside is clean =
       let p = missed f h inside is clean in
-      let q = since.tied.misses f in
+      let q = misses_after t s made m since.runs held_there f in
       omega (arith, p, q)
 
   clears_tame : (g pages : ℕ) (made : Run) (m : KnownMachine) (steps : Run) (n : KnownMachine) → ClearsBelow g pages (transition t m steps n) → Tame made m steps n
   clears_tame g pages made m steps n h =
-      let same = all_same g t.cpus (with_run (with_max_noted_at m g pages) h.seen) n h.drains h.all in
-      let quiet = quiet_both (note_max_steps g) (drain_stocks_steps h.drains) (record { no_kill = refl; no_miss = λ f. refl }) (quiet_drains h.drains) in
-      let here = subst AreQuiet (sym h.steps_are) quiet in
-      tame_quiet made m steps n (passes_same t c m n steps (h.runs c).leads same.frame_seat same.links here) same.groups here.no_kill
+      let same = drains_leave t (of_subtree g) t.cpus (with_run (with_max_noted_at m g pages) h.seen) n h.drains h.all in
+      tame_quiet made m steps n (passes_same t m n steps h.runs same.links) same.groups (ap has_kill h.steps_are ∙ (quiet_drains h.drains).no_kill)
 
   reclaims_tame : (g pages : ℕ) (made : Run) (m : KnownMachine) (steps : Run) (n : KnownMachine) → ReclaimsFor g pages (transition t m steps n)
       → Tame made m steps n
   reclaims_tame g pages made m steps n h =
-      tame_quiet made m steps n (keeps_pass t c m n steps h.moves.runs h.keeps h.moves.misses) h.keeps.groups h.moves.no_kill
+      tame_quiet made m steps n (keeps_pass t m n steps h.moves.runs h.keeps) h.keeps.groups h.moves.no_kill
 
   few_tame : (r g pages : ℕ) (made : Run) (m : KnownMachine) (steps : Run) (n : KnownMachine) → (pages ≤ 8 → MayAsk m.ledger.groups g pages)
-      → Passes t c s made m → AreDrained g t.cpus m → (has_room_at m.ledger g pages ≡ false → MissedAll g s m)
+      → Passes t s made m → AreDrained t g m → (has_room_at m.ledger g pages ≡ false → MissedAll g s m)
       → KillsForFewPages r g pages (transition t m steps n) → Tame made m steps n
   few_tame r g pages made m steps n asked since drained missed h = elim (cases_lt 8 pages) [
     | inl many ↦ tame_stays made m steps n (h.many many)
@@ -489,16 +424,16 @@ module _ (t : KnownTable) (MayAsk : List Group → ℕ → ℕ → Type 0) (s : 
   ]
 
   relieves_tame : (r g pages : ℕ) (made : Run) (m : KnownMachine) (steps : Run) (n : KnownMachine) → (pages ≤ 8 → MayAsk m.ledger.groups g pages)
-      → Passes t c s made m → RelievesLimit r g pages (transition t m steps n) → Tame made m steps n
+      → Passes t s made m → RelievesLimit r g pages (transition t m steps n) → Tame made m steps n
   relieves_tame r g pages made m steps n asked since h =
       let x = h.between in
       let next = h.second in
       let y = next.between in
       let one = clears_tame g pages made m h.earlier x h.first in
-      let after_one = passes_both t c s m x made h.earlier since one.passes in
+      let after_one = passes_both t s m x made h.earlier since one.passes in
       let two = reclaims_tame g pages (made ++ h.earlier) x next.earlier y next.first in
-      let after_two = passes_both t c s x y (made ++ h.earlier) next.earlier after_one two.passes in
-      let drained = drained_on g x y next.first.keeps.groups next.first.keeps.stock_seat h.first.drained in
+      let after_two = passes_both t s x y (made ++ h.earlier) next.earlier after_one two.passes in
+      let drained = drained_on g x y next.first.keeps.groups next.first.keeps.stocks h.first.drained in
       let still = λ (few : pages ≤ 8). subst (λ (l : List Group). MayAsk l g pages) (sym (two.groups ∙ one.groups)) (asked few) in
       let three = few_tame r g pages ((made ++ h.earlier) ++ next.earlier) y next.later n still after_two drained
       (λ over. missed_since g (made ++ h.earlier) x y after_one (next.first.missed over)) next.second in
@@ -510,63 +445,54 @@ module _ (t : KnownTable) (MayAsk : List Group → ℕ → ℕ → Type 0) (s : 
 
   module _ (g pages : ℕ) (base : List Group) (asks : (over : ℕ) → in_subtree base over g ≡ true → pages ≤ 8 → MayAsk base over pages) where
     -- the charge is refused, and the named group has room afterwards or not
-    refused_tame : (over : ℕ) (answer : Result (Unit {0}) AllocFault) (made : Run) (m : KnownMachine) (steps rest : Run) (n : KnownMachine) (z : State) → m.ledger.groups ≡ base → Passes t c s made m
-        → IsLocalRun c.number (local_of t m c) (steps ++ rest) z → IsRefusedAt g over pages answer (transition t m steps n) → Tame made m steps n
-    refused_tame over answer made m steps rest n z is since whole h =
+    refused_tame : (over : ℕ) (answer : Result (Unit {0}) AllocFault) (made : Run) (m : KnownMachine) (steps : Run) (n : KnownMachine) → m.ledger.groups ≡ base → Passes t s made m
+        → IsRefusedAt g over pages answer (transition t m steps n) → Tame made m steps n
+    refused_tame over answer made m steps n is since h =
         let first = over_steps g pages over in
-        let grant = over_runs c.number g pages over (h.relieving ++ rest) (local_of t m c) z
-        (subst (λ (k : Run). IsLocalRun c.number (local_of t m c) (k ++ rest) z) h.steps_are whole) in
         let x = with_run m h.seen in
-        let refused = passes_same t c m x first grant refl refl (record { no_kill = refl; no_miss = λ f. refl }) in
+        let refused = passes_same t m x first h.refuses refl in
         let here : in_subtree base over g ≡ true = ap (λ (l : List Group). in_subtree l over g) (sym is) ∙ h.lowest.on_path in
         let asked = λ (few : pages ≤ 8). subst (λ (l : List Group). MayAsk l over pages) (sym is) (asks over here few) in
-        let relieved = relieves_tame g over pages (made ++ first) x h.relieving n asked (passes_both t c s m x made first since refused) h.relieves in
+        let relieved = relieves_tame g over pages (made ++ first) x h.relieving n asked (passes_both t s m x made first since refused) h.relieves in
         subst (λ (k : Run). Tame made m k n) (sym h.steps_are) (tame_both made m x n first h.relieving (tame_quiet made m first x refused refl refl) relieved)
 
-    pub makes_tame : (refused : List ℕ) (made : Run) (m : KnownMachine) (steps rest : Run) (n : KnownMachine) (z : State) → m.ledger.groups ≡ base → Passes t c s made m
-        → IsLocalRun c.number (local_of t m c) (steps ++ rest) z → MakesRoom g refused pages (transition t m steps n) → Tame made m steps n
-    makes_tame [] made m steps rest n z is since whole h =
+    pub makes_tame : (refused : List ℕ) (made : Run) (m : KnownMachine) (steps : Run) (n : KnownMachine) → m.ledger.groups ≡ base → Passes t s made m
+        → MakesRoom g refused pages (transition t m steps n) → Tame made m steps n
+    makes_tame [] made m steps n is since h =
         subst (λ (y : Run × KnownMachine). Tame made m y.0 y.1) (λ i. (sym h.steps_are i, sym h.machine i)) (tame_none made m)
-    makes_tame (over ∷ later) made m steps rest n z is since whole h =
+    makes_tame (over ∷ later) made m steps n is since h =
         let x = h.between in
         let first = h.earlier in
-        let last = h.later in
-        let all : IsLocalRun c.number (local_of t m c) (first ++ (last ++ rest)) z =
-        subst (λ (k : Run). IsLocalRun c.number (local_of t m c) k z) (ap (λ (k : Run). k ++ rest) h.steps_are ∙ append_assoc first last rest) whole in
-        let one = refused_tame over (Ok tt) made m first (last ++ rest) x z is since all h.first in
-        let on = run_rest c.number first (last ++ rest) (local_of t m c) (local_of t x c) z one.passes.runs all in
-        let two = makes_tame later (made ++ first) x last rest n z (one.groups ∙ is) (passes_both t c s m x made first since one.passes) on h.second in
-        subst (λ (k : Run). Tame made m k n) (sym h.steps_are) (tame_both made m x n first last one two)
+        let one = refused_tame over (Ok tt) made m first x is since h.first in
+        let two = makes_tame later (made ++ first) x h.later n (one.groups ∙ is) (passes_both t s m x made first since one.passes) h.second in
+        subst (λ (k : Run). Tame made m k n) (sym h.steps_are) (tame_both made m x n first h.later one two)
 
     -- this is done after room was made for the charge, and comes no kill of it too early
-    pub after_room_rash : (Does : Transition VisitState → Type 0) (made : Run) (m : KnownMachine) (steps rest : Run) (n : VisitState) (z : State) → m.ledger.groups ≡ base
-        → Passes t c s made m → IsLocalRun c.number (local_of t m c) (steps ++ rest) z
-        → ((done later : Run) (x : KnownMachine) → x.ledger.groups ≡ base → Passes t c s done x → IsLocalRun c.number (local_of t x c) (later ++ rest) z
-        → Does (transition t (visit_state x c) later n) → RashFree t MayAsk s c done later)
-        → AfterRoom g pages Does (transition t (visit_state m c) steps n) → RashFree t MayAsk s c made steps
-    after_room_rash Does made m steps rest n z is since whole free h =
+    pub after_room_rash : (Does : Transition VisitState → Type 0) (made : Run) (m : KnownMachine) (c : KnownCpu) (steps : Run) (n : VisitState) → m.ledger.groups ≡ base
+        → Passes t s made m
+        → ((done later : Run) (x : KnownMachine) → x.ledger.groups ≡ base → Passes t s done x
+        → Does (transition t (visit_state x c) later n) → RashFree t MayAsk s done later)
+        → AfterRoom g pages Does (transition t (visit_state m c) steps n) → RashFree t MayAsk s made steps
+    after_room_rash Does made m c steps n is since free h =
         let x = h.cleared in
-        let all : IsLocalRun c.number (local_of t m c) (h.making ++ (h.later ++ rest)) z =
-        subst (λ (k : Run). IsLocalRun c.number (local_of t m c) k z) (ap (λ (k : Run). k ++ rest) h.steps_are ∙ append_assoc h.making h.later rest) whole in
-        let one = makes_tame h.refused_at made m h.making (h.later ++ rest) x z is since all h.makes in
-        let on = run_rest c.number h.making (h.later ++ rest) (local_of t m c) (local_of t x c) z one.passes.runs all in
-        let done = passes_both t c s m x made h.making since one.passes in
-        subst (λ (k : Run). RashFree t MayAsk s c made k) (sym h.steps_are) (rash_both made h.making h.later one.rash
-        (free (made ++ h.making) h.later x (one.groups ∙ is) done on h.does))
+        let one = makes_tame h.refused_at made m h.making x is since h.makes in
+        let done = passes_both t s m x made h.making since one.passes in
+        subst (λ (k : Run). RashFree t MayAsk s made k) (sym h.steps_are) (rash_both made h.making h.later one.rash
+        (free (made ++ h.making) h.later x (one.groups ∙ is) done h.does))
 
     -- the same if what is done after that kills nobody
-    pub quiet_after_room : (Does : Transition VisitState → Type 0) (made : Run) (m : KnownMachine) (steps rest : Run) (n : VisitState) (z : State) → m.ledger.groups ≡ base
-        → Passes t c s made m → IsLocalRun c.number (local_of t m c) (steps ++ rest) z → ((call : Transition VisitState) → Does call → has_kill call.steps ≡ false)
-        → AfterRoom g pages Does (transition t (visit_state m c) steps n) → RashFree t MayAsk s c made steps
-    quiet_after_room Does made m steps rest n z is since whole quiet h =
-        after_room_rash Does made m steps rest n z is since whole
-        (λ done later x groups passes on does. rash_quiet done later (quiet (transition t (visit_state x c) later n) does)) h
+    pub quiet_after_room : (Does : Transition VisitState → Type 0) (made : Run) (m : KnownMachine) (c : KnownCpu) (steps : Run) (n : VisitState) → m.ledger.groups ≡ base
+        → Passes t s made m → ((call : Transition VisitState) → Does call → has_kill call.steps ≡ false)
+        → AfterRoom g pages Does (transition t (visit_state m c) steps n) → RashFree t MayAsk s made steps
+    quiet_after_room Does made m c steps n is since quiet h =
+        after_room_rash Does made m c steps n is since
+        (λ done later x groups passes does. rash_quiet done later (quiet (transition t (visit_state x c) later n) does)) h
 
     -- the same if the charge is refused for good
-    pub refusal_rash : (cause : AllocFault) (made : Run) (m : KnownMachine) (steps rest : Run) (n : VisitState) (z : State) → m.ledger.groups ≡ base
-        → Passes t c s made m → IsLocalRun c.number (local_of t m c) (steps ++ rest) z → IsRefusedFor g pages cause (transition t (visit_state m c) steps n)
-        → RashFree t MayAsk s c made steps
-    refusal_rash cause made m steps rest n z is since whole h =
-        after_room_rash (OfMachineAlone (IsRefusedAtSome g pages cause)) made m steps rest n z is since whole
-        (λ done later x groups passes on does.
-        (refused_tame does.does.0 (Err cause) done x later rest n.machine z groups passes on does.does.1).rash) h
+    pub refusal_rash : (cause : AllocFault) (made : Run) (m : KnownMachine) (c : KnownCpu) (steps : Run) (n : VisitState) → m.ledger.groups ≡ base
+        → Passes t s made m → IsRefusedFor g pages cause (transition t (visit_state m c) steps n)
+        → RashFree t MayAsk s made steps
+    refusal_rash cause made m c steps n is since h =
+        after_room_rash (OfMachineAlone (IsRefusedAtSome g pages cause)) made m c steps n is since
+        (λ done later x groups passes does.
+        (refused_tame does.does.0 (Err cause) done x later n.machine groups passes does.does.1).rash) h

@@ -7,10 +7,8 @@ use Rattle.cpu_part.specs.Cpus.{KnownCpu}
 use Rattle.step_rules.specs.After.{Run}
 use Rattle.group_charge.specs.declared.note.Note.{Note}
 use Rattle.group_charge.specs.declared.note.Note.TheVariants.{Zone}
-use Rattle.group_charge.specs.Notes.{noted}
 use Rattle.mem_machine.specs.Machines.{KnownMachine, with_note}
-use Rattle.mem_machine.specs.Local.{Visits}
-use Rattle.mem_machine.specs.Local.{VisitState, visit_state, MakesAs, Makes}
+use Rattle.mem_machine.specs.Local.{Makes, VisitMakes, Visits, VisitState, visit_state}
 use Rattle.mem_reclaim.specs.Wanted.{progress}
 use Rattle.mem_reclaim.specs.Moves.{FreesBySteps}
 use Rattle.mem_reclaim.specs.Rounds.{ReclaimsRound}
@@ -19,25 +17,23 @@ use Rattle.mem_machine.specs.Transitions.{BySteps, Transition, transition}
 use Rattle.mem_alloc.specs.Rounds.{AfterZoneNote, FailsInRounds, FreesInRound, MakesRound, SucceedsInRounds}
 use Rattle.mem_alloc.proofs.Lowering.{Lowers, lowers_none, lowers_both, keeps_lower}
 use Rattle.mem_machine.proofs.Followed.{makes_both, makes_none}
-use Rattle.mem_machine.proofs.Watched.{visits_noted}
+use Rattle.mem_machine.proofs.Made.{visit_same}
 
 -- ---- what a failed try keeps
 
--- the machine as after a note, a drain or a reclaim, with the stocks as they were; and the CPU's part stays
+-- the machine as after a note, a drain or a reclaim; and the CPU's part stays
 pub record Spares (t : KnownTable) (m : KnownMachine) (c : KnownCpu) (n : KnownMachine) (d : KnownCpu) : Type 0 where
   pub lowers : Lowers t m n
   pub killed : n.killed ≡ m.killed
-  pub stock_seat : n.stock_seat ≡ m.stock_seat
   pub cpu : d ≡ c
 
 pub spares_none : (t : KnownTable) (m : KnownMachine) (c : KnownCpu) → Spares t m c m c
-spares_none t m c = record { lowers = lowers_none t m; killed = refl; stock_seat = refl; cpu = refl }
+spares_none t m c = record { lowers = lowers_none t m; killed = refl; cpu = refl }
 
 pub spares_both : (t : KnownTable) (m x n : KnownMachine) (c y d : KnownCpu) → Spares t m c x y → Spares t x y n d → Spares t m c n d
 spares_both t m x n c y d a b = record {
   lowers = lowers_both t m x n a.lowers b.lowers;
   killed = b.killed ∙ a.killed;
-  stock_seat = b.stock_seat ∙ a.stock_seat;
   cpu = b.cpu ∙ a.cpu;
 }
 
@@ -45,12 +41,11 @@ pub spares_same : (t : KnownTable) (m n : KnownMachine) (c d : KnownCpu) → n �
 spares_same t m n c d machine cpu = record {
   lowers = subst (λ (x : KnownMachine). Lowers t m x) (sym machine) (lowers_none t m);
   killed = ap (λ (x : KnownMachine). x.killed) machine;
-  stock_seat = ap (λ (x : KnownMachine). x.stock_seat) machine;
   cpu = cpu;
 }
 
 spares_reclaim : (t : KnownTable) (m n : KnownMachine) (c : KnownCpu) → Keeps t m n → Spares t m c n c
-spares_reclaim t m n c keeps = record { lowers = keeps_lower t m n keeps; killed = keeps.killed; stock_seat = keeps.stock_seat; cpu = refl }
+spares_reclaim t m n c keeps = record { lowers = keeps_lower t m n keeps; killed = keeps.killed; cpu = refl }
 
 -- a try that fails keeps this
 abbrev pub FailureSpares : KnownTable → (Transition VisitState → Type 0) → Type 0
@@ -113,18 +108,18 @@ spares_after_note t m n c d note s = search rules
 
 -- a visit stays open at a note
 pub noted_visit : (t : KnownTable) (m : KnownMachine) (c : KnownCpu) (note : Note) → Visits t (visit_state m c) → Visits t (visit_state (with_note m note) c)
-noted_visit t m c note v = visits_noted t m c (noted m.notes note) v
+noted_visit t m c note v = visit_same t m (with_note m note) c refl v
 
 -- a note of the zone, and then what follows it
 pub zone_noted : (t : KnownTable) (order : ℕ) (Does : Transition VisitState → Type 0) (m x : KnownMachine) (c : KnownCpu) (n : VisitState)
-    → x ≡ with_note m (Zone order) → BySteps Makes t Does (visit_state x c) n → BySteps Makes t (AfterZoneNote order Does) (visit_state m c) n
+    → x ≡ with_note m (Zone order) → BySteps VisitMakes t Does (visit_state x c) n → BySteps VisitMakes t (AfterZoneNote order Does) (visit_state m c) n
 zone_noted t order Does m x c n noted by =
-    let here = subst (λ (y : KnownMachine). BySteps Makes t Does (visit_state y c) n) noted by in
+    let here = subst (λ (y : KnownMachine). BySteps VisitMakes t Does (visit_state y c) n) noted by in
     let k = here.makes in
     record {
       steps = here.steps;
       does = here.does;
-      makes = record { leads = k.leads; follows = k.follows; counts = k.counts; noted = k.noted };
+      makes = record { holder = k.holder; leads = k.leads; follows = k.follows; counts = k.counts; noted = k.noted };
     }
 
 module _ (t : KnownTable) (want : ℕ) (Fails : Transition VisitState → Type 0) (failure : FailureSpares t Fails) (order : ℕ) where
@@ -158,7 +153,7 @@ pub record RoundsSoFar (t : KnownTable) (want : ℕ) (Fails : Transition VisitSt
   pub succeeds : (k : ℕ) (rest : Run) (n : VisitState)
       → SucceedsInRounds (16 - made) want (Succeeds k) Fails (transition t (visit_state now d) rest n)
       → SucceedsInRounds 16 want (Succeeds k) Fails (transition t (visit_state m c) (steps ++ rest) n)
-  pub runs : MakesAs t c.number (visit_state m c) steps (visit_state now d)
+  pub runs : Makes t m steps now
   pub visit : Visits t (visit_state m c) → Visits t (visit_state now d)
   pub spares : Spares t m c now d
 
@@ -169,14 +164,14 @@ module _ (t : KnownTable) (want : ℕ) (Fails : Transition VisitState → Type 0
     steps = [];
     fails = λ rest n h. h;
     succeeds = λ k rest n h. h;
-    runs = makes_none t c.number (visit_state m c);
+    runs = makes_none t m;
     visit = λ v. v;
     spares = spares_none t m c;
   }
 
   module _ (made : ℕ) (now : KnownMachine) (d : KnownCpu) (so : RoundsSoFar t want Fails Succeeds m c made now d) where
     -- it failed in all rounds
-    pub rounds_done : 16 ≤ made → BySteps Makes t (FailsInRounds 16 want Fails) (visit_state m c) (visit_state now d)
+    pub rounds_done : 16 ≤ made → BySteps VisitMakes t (FailsInRounds 16 want Fails) (visit_state m c) (visit_state now d)
     rounds_done all =
         let e : 0 ≡ 16 - made = omega (arith, all) in
         let none : FailsInRounds 0 want Fails (transition t (visit_state now d) [] (visit_state now d)) =
@@ -184,13 +179,13 @@ module _ (t : KnownTable) (want : ℕ) (Fails : Transition VisitState → Type 0
           steps = so.steps ++ [];
           does = so.fails [] (visit_state now d)
               (subst (λ (k : ℕ). FailsInRounds k want Fails (transition t (visit_state now d) [] (visit_state now d))) e none);
-          makes = subst (λ (r : Run). MakesAs t c.number (visit_state m c) r (visit_state now d)) (sym (append-nil so.steps)) so.runs;
+          makes = subst (λ (r : Run). Makes t m r now) (sym (append-nil so.steps)) so.runs;
         }
 
     -- one round more
     module _ (left : made < 16) (freed : ℕ) (x : KnownMachine) (leads : FreesBySteps t freed now x (ReclaimsRound 0 (made + 1) want))
         (missed : freed < want → MissedAll 0 now x) (keeps : Keeps t now x) (then : KnownMachine) (e : KnownCpu) (trying : Run)
-        (tries : MakesAs t d.number (visit_state x d) trying (visit_state then e)) where
+        (tries : Makes t x trying then) where
       next_left : suc (16 - (made + 1)) ≡ 16 - made
       next_left = omega (arith, left)
 
@@ -214,16 +209,12 @@ module _ (t : KnownTable) (want : ℕ) (Fails : Transition VisitState → Type 0
         steps_are = refl;
       }
 
-      runs_on : MakesAs t c.number (visit_state m c) (so.steps ++ first) (visit_state then e)
-      runs_on =
-          let number = ap (λ (y : KnownCpu). y.number) so.spares.cpu in
-          makes_both t c.number so.steps first (visit_state m c) (visit_state now d) (visit_state then e) so.runs
-          (subst (λ (p : ℕ). MakesAs t p (visit_state now d) first (visit_state then e)) number
-          (makes_both t d.number leads.steps trying (visit_state now d) (visit_state x d) (visit_state then e) (leads.moves.runs d) tries))
+      runs_on : Makes t m (so.steps ++ first) then
+      runs_on = makes_both t so.steps first m now then so.runs (makes_both t leads.steps trying now x then leads.moves.runs tries)
 
       -- in which it succeeded
       pub rounds_succeed : (k : ℕ) → Succeeds k (transition t (visit_state x d) trying (visit_state then e))
-          → BySteps Makes t (SucceedsInRounds 16 want (Succeeds k) Fails) (visit_state m c) (visit_state then e)
+          → BySteps VisitMakes t (SucceedsInRounds 16 want (Succeeds k) Fails) (visit_state m c) (visit_state then e)
       rounds_succeed k does = record {
         steps = so.steps ++ first;
         does = so.succeeds k first (visit_state then e)
@@ -234,7 +225,7 @@ module _ (t : KnownTable) (want : ℕ) (Fails : Transition VisitState → Type 0
 
       module _ (does : Fails (transition t (visit_state x d) trying (visit_state then e))) where
         -- the try failed, and no page was freed
-        pub rounds_end : freed ≡ 0 → BySteps Makes t (FailsInRounds 16 want Fails) (visit_state m c) (visit_state then e)
+        pub rounds_end : freed ≡ 0 → BySteps VisitMakes t (FailsInRounds 16 want Fails) (visit_state m c) (visit_state then e)
         rounds_end none =
             let last : FailsInRounds (suc (16 - (made + 1))) want Fails (transition t (visit_state now d) first (visit_state then e)) =
             inl (subst (λ (k : ℕ). MakesRound (16 - (16 - (made + 1))) want k Fails (transition t (visit_state now d) first (visit_state then e))) none (round Fails does)) in record {

@@ -9,14 +9,13 @@ use Rattle.group_tree.specs.Groups.{has_group}
 use Rattle.group_tree.specs.Room.{PathHasRoom, IsLowestOver}
 use Rattle.group_charge.specs.declared.charges.Over.{Over as OverLimit}
 use Rattle.group_charge.specs.Charges.{current_of, with_charge, with_uncharge}
-use Rattle.stock_word.specs.Stock.{account_of}
 use Rattle.cpu_part.specs.Cpus.{KnownCpu}
 use Rattle.step_rules.specs.After.{Run}
 use Rattle.mem_machine.specs.declared.blocks.TakeFault.{TakeFault}
 use Rattle.mem_machine.specs.declared.blocks.TakeFault.TheVariants as fault
 use Rattle.group_charge.specs.declared.note.Note.{Note}
 use Rattle.mem_machine.specs.Machines.{KnownMachine, is_killed, with_note, with_run}
-use Rattle.mem_machine.specs.Local.{visit_state, MakesAs, VisitState, Makes}
+use Rattle.mem_machine.specs.Local.{Makes, VisitMakes, VisitState, visit_state}
 use Rattle.mem_machine.specs.Lending.{UnlistsMany}
 use Rattle.mem_machine.specs.Blocks.{TakesBlock, TakesNoBlock, RefusesBlock, block_steps, taken_steps, unplaced_steps}
 use Rattle.mem_machine.specs.Paying.{HasRoomFor}
@@ -29,7 +28,7 @@ use Rattle.mem_alloc.specs.Blocks.{AllocatesBlock, ChargesBlock, FindsNoBlock, M
 use Rattle.mem_alloc.specs.Blocks.{TakesAfterDrain, TakesFreeBlock, TakesInRounds, TakesOrReclaims}
 use Rattle.mem_alloc.proofs.Lowering.{lowered_fits, usage_back, room_back}
 use Rattle.mem_alloc.proofs.Making.{RoomSoFar, so_far_does, so_far_none}
-use Rattle.mem_alloc.proofs.Rounding.{FailureSpares, noted_fails_spare, noted_in_the_end}
+use Rattle.mem_alloc.proofs.Rounding.{FailureSpares}
 use Rattle.mem_machine.proofs.Followed.{makes_both}
 
 -- ---- one try
@@ -39,33 +38,33 @@ pub is_refused : (m n : KnownMachine) (g k : ℕ) (e : TakeFault) (o : OverLimit
     → IsLowestOver m.ledger.groups (current_of m.ledger) g (2 ^ k) o.group × (n ≡ with_run m n.run)
 is_refused m n g k e o is refuses = subst (λ (x : TakeFault). RefusesBlock g k x m n) is refuses
 
-pub by_refusal : {t : KnownTable} (p g k : ℕ) (a b : VisitState) (e : TakeFault) (o : OverLimit) → e ≡ fault.Over o → MakesAs t p a (block_steps g k (Err e)) b
-    → MakesAs t p a (over_steps g (2 ^ k) o.group) b
-by_refusal {t = t} p g k a b e o is steps = subst (λ (x : TakeFault). MakesAs t p a (block_steps g k (Err x)) b) is steps
+pub by_refusal : {t : KnownTable} (g k : ℕ) (a b : KnownMachine) (e : TakeFault) (o : OverLimit) → e ≡ fault.Over o → Makes t a (block_steps g k (Err e)) b
+    → Makes t a (over_steps g (2 ^ k) o.group) b
+by_refusal {t = t} g k a b e o is steps = subst (λ (x : TakeFault). Makes t a (block_steps g k (Err x)) b) is steps
 
 -- no block was free
 pub is_none : (m n : KnownMachine) (g k : ℕ) (e : TakeFault) → e ≡ fault.NoBlock → RefusesBlock g k e m n → TakesNoBlock g k m n
 is_none m n g k e is refuses = subst (λ (x : TakeFault). RefusesBlock g k x m n) is refuses
 
-pub by_none : {t : KnownTable} (p g k : ℕ) (a b : VisitState) (e : TakeFault) → e ≡ fault.NoBlock → MakesAs t p a (block_steps g k (Err e)) b
-    → MakesAs t p a (unplaced_steps g k) b
-by_none {t = t} p g k a b e is steps = subst (λ (x : TakeFault). MakesAs t p a (block_steps g k (Err x)) b) is steps
+pub by_none : {t : KnownTable} (g k : ℕ) (a b : KnownMachine) (e : TakeFault) → e ≡ fault.NoBlock → Makes t a (block_steps g k (Err e)) b
+    → Makes t a (unplaced_steps g k) b
+by_none {t = t} g k a b e is steps = subst (λ (x : TakeFault). Makes t a (block_steps g k (Err x)) b) is steps
 
 -- ---- after the tries that were refused
 
 module _ (t : KnownTable) (g k : ℕ) (c : KnownCpu) (m x : KnownMachine) (so_far : RoomSoFar t g (2 ^ k) c m x) (y : KnownCpu) (mine : y ≡ c)
     (n : KnownMachine) (d : KnownCpu) where
-  does_here : (Does : Transition VisitState → Type 0) → BySteps Makes t Does (visit_state x y) (visit_state n d) → BySteps Makes t (AfterRoom g (2 ^ k) Does) (visit_state m c) (visit_state n d)
-  does_here Does b = so_far_does t g (2 ^ k) c m x so_far Does n d (subst (λ (e : KnownCpu). BySteps Makes t Does (visit_state x e) (visit_state n d)) mine b)
+  does_here : (Does : Transition VisitState → Type 0) → BySteps VisitMakes t Does (visit_state x y) (visit_state n d) → BySteps VisitMakes t (AfterRoom g (2 ^ k) Does) (visit_state m c) (visit_state n d)
+  does_here Does b = so_far_does t g (2 ^ k) c m x so_far Does n d (subst (λ (e : KnownCpu). BySteps VisitMakes t Does (visit_state x e) (visit_state n d)) mine b)
 
-  pub so_far_takes : (head : ℕ) → TakesBlock g k head x n → d ≡ y → MakesAs t y.number (visit_state x y) (taken_steps g k head) (visit_state n d)
-      → BySteps Makes t (AfterRoom g (2 ^ k) (TakesFreeBlock g k head)) (visit_state m c) (visit_state n d)
+  pub so_far_takes : (head : ℕ) → TakesBlock g k head x n → d ≡ y → Makes t x (taken_steps g k head) n
+      → BySteps VisitMakes t (AfterRoom g (2 ^ k) (TakesFreeBlock g k head)) (visit_state m c) (visit_state n d)
   so_far_takes head takes cpu run =
       does_here (TakesFreeBlock g k head)
       (record { steps = taken_steps g k head; does = record { takes = takes; cpu = cpu; steps_are = refl }; makes = run })
 
-  pub so_far_no_block : TakesNoBlock g k x n → d ≡ y → MakesAs t y.number (visit_state x y) (unplaced_steps g k) (visit_state n d)
-      → BySteps Makes t (AfterRoom g (2 ^ k) (FindsNoBlock g k)) (visit_state m c) (visit_state n d)
+  pub so_far_no_block : TakesNoBlock g k x n → d ≡ y → Makes t x (unplaced_steps g k) n
+      → BySteps VisitMakes t (AfterRoom g (2 ^ k) (FindsNoBlock g k)) (visit_state m c) (visit_state n d)
   so_far_no_block none cpu run =
       does_here (FindsNoBlock g k)
       (record { steps = unplaced_steps g k; does = record { none = none; cpu = cpu; steps_are = refl }; makes = run })
@@ -86,20 +85,17 @@ module _ (t : KnownTable) (g k : ℕ) (c : KnownCpu) (m x : KnownMachine) (so_fa
         room = subst (λ l. PathHasRoom l.groups (current_of l) g (2 ^ k)) (sym ledger) (room_back x.ledger g (2 ^ k) none.room);
       }
 
-  pub none_opened : TakesNoBlock g k x n → n.frame_seat.view.opened ≡ m.frame_seat.view.opened
-  none_opened none = ap (λ (z : KnownMachine). z.frame_seat.view.opened) none.machine ∙ so_far.lowers.opened
-
 -- a charge is refused for good
 charges_refused : (t : KnownTable) (g k : ℕ) (e : AllocFault) (a b : VisitState)
-    → BySteps Makes t (IsRefusedFor g (2 ^ k) e) a b → BySteps Makes t (ChargesBlock g k (Err e)) a b
+    → BySteps VisitMakes t (IsRefusedFor g (2 ^ k) e) a b → BySteps VisitMakes t (ChargesBlock g k (Err e)) a b
 charges_refused t g k (Over over) a b by = by
 charges_refused t g k NoFrames a b by = absurd by.does.does.does.1.room
 charges_refused t g k RequesterKilled a b by = by
 
 pub over_charges : (t : KnownTable) (g k : ℕ) (r : Result ℕ AllocFault) (x : AllocFault) (m n : KnownMachine) (c d : KnownCpu) → r ≡ Err x
-    → d ≡ c → BySteps Makes t (IsRefusedFor g (2 ^ k) x) (visit_state m c) (visit_state n c) → BySteps Makes t (ChargesBlock g k r) (visit_state m c) (visit_state n d)
+    → d ≡ c → BySteps VisitMakes t (IsRefusedFor g (2 ^ k) x) (visit_state m c) (visit_state n c) → BySteps VisitMakes t (ChargesBlock g k r) (visit_state m c) (visit_state n d)
 over_charges t g k r x m n c d is cpu by =
-    subst (λ (z : KnownCpu × Result ℕ AllocFault). BySteps Makes t (ChargesBlock g k z.1) (visit_state m c) (visit_state n z.0)) (λ i. (sym cpu i, sym is i))
+    subst (λ (z : KnownCpu × Result ℕ AllocFault). BySteps VisitMakes t (ChargesBlock g k z.1) (visit_state m c) (visit_state n z.0)) (λ i. (sym cpu i, sym is i))
     (charges_refused t g k x (visit_state m c) (visit_state n c) by)
 
 abbrev fault_of : Result ℕ AllocFault → AllocFault
@@ -120,7 +116,6 @@ pub record BackPart (frames : List ℕ) (m : KnownMachine) (c : KnownCpu) (n : K
   pub number : d.number ≡ c.number
   pub fresh : d.fresh ≡ c.fresh
   pub back : d.back ≡ c.back
-  pub opened : n.frame_seat.view.opened ≡ m.frame_seat.view.opened
   pub ledger : n.ledger ≡ m.ledger
   pub killed : n.killed ≡ m.killed
 
@@ -130,7 +125,6 @@ back_part [] m n c d h = record {
   number = ap (λ (e : KnownCpu). e.number) h.cpu;
   fresh = ap (λ (e : KnownCpu). e.fresh) h.cpu;
   back = ap (λ (e : KnownCpu). e.back) h.cpu;
-  opened = ap (λ (z : KnownMachine). z.frame_seat.view.opened) h.machine;
   ledger = ap (λ (z : KnownMachine). z.ledger) h.machine;
   killed = ap (λ (z : KnownMachine). z.killed) h.machine;
 }
@@ -142,7 +136,6 @@ back_part (f ∷ frames) m n c d h =
       number = more.number ∙ ap (λ (e : KnownCpu). e.number) one.cpu;
       fresh = more.fresh ∙ ap (λ (e : KnownCpu). e.fresh) one.cpu;
       back = more.back ∙ ap (λ (e : KnownCpu). e.back) one.cpu;
-      opened = more.opened ∙ ap (λ (z : KnownMachine). z.frame_seat.view.opened) one.machine;
       ledger = more.ledger ∙ ap (λ (z : KnownMachine). z.ledger) one.machine;
       killed = more.killed ∙ ap (λ (z : KnownMachine). z.killed) one.machine;
     }
@@ -167,15 +160,12 @@ none_spares t g k m n c d steps h = record {
   lowers = record {
     groups = ap (λ (y : KnownMachine). y.ledger.groups) h.none.machine;
     killed = λ v dead. ap (λ (y : KnownMachine). is_killed y.killed v) h.none.machine ∙ dead;
-    opened = ap (λ (y : KnownMachine). y.frame_seat.view.opened) h.none.machine;
     falls = λ j.
         let ledger = ap (λ (y : KnownMachine). current_of y.ledger j) h.none.machine in
         let back : current_of n.ledger j ≡ current_of m.ledger j = ledger ∙ usage_back m.ledger g (2 ^ k) j in
         omega (arith, back);
-    emptied = λ p is. ap (λ (y : KnownMachine). (account_of y.stock_seat.view p).filled) h.none.machine ∙ is;
   };
   killed = ap (λ (y : KnownMachine). y.killed) h.none.machine;
-  stock_seat = ap (λ (y : KnownMachine). y.stock_seat) h.none.machine;
   cpu = h.cpu;
 }
 
@@ -191,24 +181,10 @@ noted_room m note g k may = record {
   room = may.room;
 }
 
--- rounds open and shut no visit
-taken_opens : (m n : KnownMachine) (g k head : ℕ) → TakesBlock g k head m n → n.frame_seat.view.opened ≡ m.frame_seat.view.opened
-taken_opens m n g k head takes = ap (λ (y : KnownMachine). y.frame_seat.view.opened) takes.machine
-
-rounds_open : (t : KnownTable) (g k : ℕ) (r : Result ℕ AllocFault) (m n : KnownMachine) (c d : KnownCpu) (steps : Run)
-    → TakesInRounds g k r (transition t (visit_state m c) steps (visit_state n d)) → n.frame_seat.view.opened ≡ m.frame_seat.view.opened
-rounds_open t g k (Ok head) m n c d steps h =
-    let last = noted_in_the_end t (2 ^ k) (FindsNoBlock g k) (none_spares t g k) k (TakesFreeBlock g k head) m c (visit_state n d) steps h in
-    taken_opens last.before n g k head last.succeeds.takes ∙ last.spares.lowers.opened
-rounds_open t g k (Err NoFrames) m n c d steps h =
-    (noted_fails_spare t (2 ^ k) (FindsNoBlock g k) (none_spares t g k) k m n c d steps h).lowers.opened
-rounds_open t g k (Err (Over over)) m n c d steps h = absurd h
-rounds_open t g k (Err RequesterKilled) m n c d steps h = absurd h
-
 -- ---- what the second try leaves
 module _ (t : KnownTable) (g k : ℕ) (m x n : KnownMachine) (c y d : KnownCpu) (count listed : ℕ) (counts : listed ≡ length c.list) (few : count ≤ listed)
     (gives : UnlistsMany (take count c.list) (visit_state m c) (visit_state x y)) (rest : count < listed → y.list ≡ []) (stays : d ≡ y)
-    (giving : MakesAs t c.number (visit_state m c) (drain_list_steps c.number (take count c.list)) (visit_state x y)) where
+    (giving : Makes t m (drain_list_steps c.number (take count c.list)) x) where
   part : BackPart (take count c.list) m c x y
   part = back_part (take count c.list) m x c y gives
 
@@ -218,16 +194,14 @@ module _ (t : KnownTable) (g k : ℕ) (m x n : KnownMachine) (c y d : KnownCpu) 
   given : UnlistsMany c.list (visit_state m c) (visit_state x d)
   given = subst (λ (z : List ℕ × KnownCpu). UnlistsMany z.0 (visit_state m c) (visit_state x z.1)) (λ i. (whole i, sym stays i)) gives
 
-  by_giving : MakesAs t c.number (visit_state m c) (drain_list_steps c.number c.list) (visit_state x y)
-  by_giving = subst (λ (z : List ℕ). MakesAs t c.number (visit_state m c) (drain_list_steps c.number z) (visit_state x y)) whole giving
+  by_giving : Makes t m (drain_list_steps c.number c.list) x
+  by_giving = subst (λ (z : List ℕ). Makes t m (drain_list_steps c.number z) x) whole giving
 
-  then : (steps : Run) → MakesAs t y.number (visit_state x y) steps (visit_state n d)
-      → MakesAs t c.number (visit_state m c) (drain_list_steps c.number c.list ++ steps) (visit_state n d)
-  then steps run = makes_both t c.number (drain_list_steps c.number c.list) steps (visit_state m c) (visit_state x y) (visit_state n d) by_giving
-      (subst (λ (p : ℕ). MakesAs t p (visit_state x y) steps (visit_state n d)) part.number run)
+  then : (steps : Run) → Makes t x steps n → Makes t m (drain_list_steps c.number c.list ++ steps) n
+  then steps run = makes_both t (drain_list_steps c.number c.list) steps m x n by_giving run
 
-  takes_drained : (r : Result ℕ AllocFault) → BySteps Makes t (TakesOrReclaims g k r) (visit_state x y) (visit_state n d)
-      → BySteps Makes t (TakesAfterDrain g k r) (visit_state m c) (visit_state n d)
+  takes_drained : (r : Result ℕ AllocFault) → BySteps VisitMakes t (TakesOrReclaims g k r) (visit_state x y) (visit_state n d)
+      → BySteps VisitMakes t (TakesAfterDrain g k r) (visit_state m c) (visit_state n d)
   takes_drained r b = record {
     steps = drain_list_steps c.number c.list ++ b.steps;
     does = record {
@@ -241,19 +215,19 @@ module _ (t : KnownTable) (g k : ℕ) (m x n : KnownMachine) (c y d : KnownCpu) 
   }
 
   -- it takes the block
-  pub takes_after : (head : ℕ) → TakesBlock g k head x n → MakesAs t y.number (visit_state x y) (taken_steps g k head) (visit_state n d)
-      → BySteps Makes t (TakesAfterDrain g k (Ok head)) (visit_state m c) (visit_state n d)
+  pub takes_after : (head : ℕ) → TakesBlock g k head x n → Makes t x (taken_steps g k head) n
+      → BySteps VisitMakes t (TakesAfterDrain g k (Ok head)) (visit_state m c) (visit_state n d)
   takes_after head takes run =
       takes_drained (Ok head)
       (record { steps = taken_steps g k head; does = inl (record { takes = takes; cpu = stays; steps_are = refl }); makes = run })
 
   -- or finds none, and rounds of reclaim follow
   module _ (w : KnownMachine) (z : KnownCpu) (none : TakesNoBlock g k x w) (same : z ≡ y)
-      (vain : MakesAs t y.number (visit_state x y) (unplaced_steps g k) (visit_state w z)) where
-    in_rounds : (r : Result ℕ AllocFault) → BySteps Makes t (TakesInRounds g k r) (visit_state w z) (visit_state n d) → BySteps Makes t (TakesOrReclaims g k r) (visit_state x y) (visit_state n d)
+      (vain : Makes t x (unplaced_steps g k) w) where
+    in_rounds : (r : Result ℕ AllocFault) → BySteps VisitMakes t (TakesInRounds g k r) (visit_state w z) (visit_state n d) → BySteps VisitMakes t (TakesOrReclaims g k r) (visit_state x y) (visit_state n d)
     in_rounds r there =
-        let rounds = subst (λ (u : KnownCpu). BySteps Makes t (TakesInRounds g k r) (visit_state w u) (visit_state n d)) same there in
-        let first = subst (λ (u : KnownCpu). MakesAs t y.number (visit_state x y) (unplaced_steps g k) (visit_state w u)) same vain in record {
+        let rounds = subst (λ (u : KnownCpu). BySteps VisitMakes t (TakesInRounds g k r) (visit_state w u) (visit_state n d)) same there in
+        record {
           steps = unplaced_steps g k ++ rounds.steps;
           does = inr (record {
             between = visit_state w y;
@@ -263,15 +237,11 @@ module _ (t : KnownTable) (g k : ℕ) (m x n : KnownMachine) (c y d : KnownCpu) 
             second = rounds.does;
             steps_are = refl;
           });
-          makes = makes_both t y.number (unplaced_steps g k) rounds.steps (visit_state x y) (visit_state w y) (visit_state n d) first rounds.makes;
+          makes = makes_both t (unplaced_steps g k) rounds.steps x w n vain rounds.makes;
         }
 
-    pub reclaims_after : (r : Result ℕ AllocFault) → BySteps Makes t (TakesInRounds g k r) (visit_state w z) (visit_state n d) → BySteps Makes t (TakesAfterDrain g k r) (visit_state m c) (visit_state n d)
+    pub reclaims_after : (r : Result ℕ AllocFault) → BySteps VisitMakes t (TakesInRounds g k r) (visit_state w z) (visit_state n d) → BySteps VisitMakes t (TakesAfterDrain g k r) (visit_state m c) (visit_state n d)
     reclaims_after r there = takes_drained r (in_rounds r there)
-
-    pub reclaims_open : (r : Result ℕ AllocFault) → BySteps Makes t (TakesInRounds g k r) (visit_state w z) (visit_state n d) → n.frame_seat.view.opened ≡ m.frame_seat.view.opened
-    reclaims_open r there =
-        rounds_open t g k r w n z d there.steps there.does ∙ ap (λ (u : KnownMachine). u.frame_seat.view.opened) none.machine ∙ part.opened
 
   pub list_shrinks : length d.list ≤ length c.list
   list_shrinks =
@@ -295,7 +265,7 @@ no_kill g k call h = elim h.takes [
 ]
 
 module _ (t : KnownTable) (g k : ℕ) (m : KnownMachine) (c : KnownCpu) (alive : is_killed m.killed g ≡ false) where
-  by_answer : (r : Result ℕ AllocFault) (n : VisitState) → BySteps Makes t (RetriesBlock g k r) (visit_state m c) n → BySteps Makes t (AllocatesBlock g k r) (visit_state m c) n
+  by_answer : (r : Result ℕ AllocFault) (n : VisitState) → BySteps VisitMakes t (RetriesBlock g k r) (visit_state m c) n → BySteps VisitMakes t (AllocatesBlock g k r) (visit_state m c) n
   by_answer (Ok head) n b = record { steps = b.steps; does = inr (record { is = alive; does = b.does }); makes = b.makes }
   by_answer (Err NoFrames) n b = record { steps = b.steps; does = record { is = alive; does = b.does }; makes = b.makes }
   by_answer (Err (Over over)) n b = absurd (no_over g k over _ b.does.second)
@@ -303,11 +273,10 @@ module _ (t : KnownTable) (g k : ℕ) (m : KnownMachine) (c : KnownCpu) (alive :
 
   -- no block is free at first, and what comes of the drained list decides
   pub decides_drained : (r : Result ℕ AllocFault) (cause : AllocFault) (x n : KnownMachine) (y d : KnownCpu) → cause ≡ NoFrames → y ≡ c
-      → BySteps Makes t (ChargesBlock g k (Err cause)) (visit_state m c) (visit_state x y)
-      → BySteps Makes t (TakesAfterDrain g k r) (visit_state x y) (visit_state n d) → BySteps Makes t (AllocatesBlock g k r) (visit_state m c) (visit_state n d)
+      → BySteps VisitMakes t (ChargesBlock g k (Err cause)) (visit_state m c) (visit_state x y)
+      → BySteps VisitMakes t (TakesAfterDrain g k r) (visit_state x y) (visit_state n d) → BySteps VisitMakes t (AllocatesBlock g k r) (visit_state m c) (visit_state n d)
   decides_drained r cause x n y d named mine charged drained =
-      let first = subst (λ (f : AllocFault). BySteps Makes t (ChargesBlock g k (Err f)) (visit_state m c) (visit_state x y)) named charged in
-      let number = ap (λ (z : KnownCpu). z.number) mine in
+      let first = subst (λ (f : AllocFault). BySteps VisitMakes t (ChargesBlock g k (Err f)) (visit_state m c) (visit_state x y)) named charged in
       by_answer r (visit_state n d) (record {
         steps = first.steps ++ drained.steps;
         does = record {
@@ -318,6 +287,5 @@ module _ (t : KnownTable) (g k : ℕ) (m : KnownMachine) (c : KnownCpu) (alive :
           second = drained.does;
           steps_are = refl;
         };
-        makes = makes_both t c.number first.steps drained.steps (visit_state m c) (visit_state x y) (visit_state n d) first.makes
-            (subst (λ (p : ℕ). MakesAs t p (visit_state x y) drained.steps (visit_state n d)) number drained.makes);
+        makes = makes_both t first.steps drained.steps m x n first.makes drained.makes;
       })

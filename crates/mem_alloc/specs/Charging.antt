@@ -3,7 +3,7 @@ use Rattle.std.specs.Prelude.{◌≡◌, ◌⊎◌, ℕ, Result, Ok, Err, ◌++�
 use Rattle.zone_blocks.specs.declared.config.Config.{Config}
 use Rattle.step_rules.specs.After.{Run}
 use Rattle.mem_machine.specs.Machines.{LacksRoom, with_run}
-use Rattle.mem_machine.specs.Stocks.{Drains, Fills, stock_group, with_look}
+use Rattle.mem_machine.specs.Stocks.{Drains, Fills, stock_group}
 use Rattle.mem_machine.specs.Steps.{drain_steps, fill_steps, over_steps}
 use Rattle.mem_machine.specs.Paying.{HoldsPage}
 use Rattle.mem_machine.specs.Local.{Makes, VisitState, visit_state}
@@ -14,7 +14,8 @@ use Rattle.mem_machine.specs.Noted.{KnownRun}
 
 -- the limits have room for this many pages, which are charged to the group and fill the CPU's stock
 pub record FillsStock (group pages : ℕ) (call : Transition VisitState) : Type 0 where
-  pub fills : Fills group pages call.before call.after
+  pub fills : Fills call.table call.before.cpu.number group pages call.before.machine call.after.machine
+  pub cpu : call.after.cpu ≡ call.before.cpu
   pub steps_are : call.steps ≡ fill_steps call.before.cpu.number group pages
 
 -- As soon as every limit has room, one page is charged to the group and fills the CPU's stock. Otherwise its charge is
@@ -31,6 +32,8 @@ pub record AfterBatchRefused (sizes : Config) (group : ℕ) (Does : Transition V
   pub batch : LacksRoom call.before.machine group sizes.stock over
   pub later : Run
   pub seen : KnownRun
+  pub refuses : Makes call.table call.before.machine (over_steps group sizes.stock over)
+      (with_run call.before.machine seen)
   pub does : Does
       (transition call.table (visit_state (with_run call.before.machine seen) call.before.cpu) later call.after)
   pub steps_are : call.steps ≡ over_steps group sizes.stock over ++ later
@@ -45,26 +48,19 @@ FillsDrainedStock sizes group (Err cause) call = AfterBatchRefused sizes group (
 -- the CPU's own stock is drained of `drained` pages, which are uncharged from their group
 pub record DrainsStock (call : Transition VisitState) : Type 0 where
   pub drained : ℕ
-  pub drains : Drains call.before.cpu.number drained call.before.machine call.after.machine
+  pub drains : Drains call.table call.before.cpu.number drained call.before.machine call.after.machine
   pub cpu : call.after.cpu ≡ call.before.cpu
-  pub runs : Makes call.table call.before call.steps call.after
+  pub runs : Makes call.table call.before.machine call.steps call.after.machine
   pub steps_are : call.steps
-      ≡ drain_steps call.before.cpu.number (stock_group call.before.machine call.before.cpu.number) drained
+      ≡ drain_steps call.before.cpu.number (stock_group call.table call.before.machine call.before.cpu.number) drained
 
--- the zone's seat looks once at the CPU's stock, and then `Does` holds
-abbrev pub AfterLook : (Transition VisitState → Type 0) → Transition VisitState → Type 0
-AfterLook Does call =
-    Does (transition call.table (visit_state (with_look call.before.machine) call.before.cpu) call.steps call.after)
-
--- A look shows that the CPU's stock has no page of the group. The stock is drained, and then pages of the group are
--- charged.
+-- The CPU's stock has no page of the group. It is drained, and then pages of the group are charged.
 abbrev pub ChargesAfterDrain : Config → ℕ → Result (Unit {0}) AllocFault → Transition VisitState → Type 0
 ChargesAfterDrain sizes group answer call =
-    Finds (λ now. ¬ HoldsPage now group) (AfterLook (InTurn DrainsStock (FillsDrainedStock sizes group answer))) call
+    Finds (λ now. ¬ HoldsPage call.table now group) (InTurn DrainsStock (FillsDrainedStock sizes group answer)) call
 
--- The CPU's stock has a page of the group: a look shows that it had one before, or one is charged. Or that charge is
--- refused.
+-- The CPU's stock has a page of the group: it had one before, or one is charged. Or that charge is refused.
 abbrev pub PaysForFrame : Config → ℕ → Result (Unit {0}) AllocFault → Transition VisitState → Type 0
 PaysForFrame sizes group (Ok done) call =
-    Finds (λ now. HoldsPage now group) (AfterLook Stays) call ⊎ ChargesAfterDrain sizes group (Ok done) call
+    Finds (λ now. HoldsPage call.table now group) Stays call ⊎ ChargesAfterDrain sizes group (Ok done) call
 PaysForFrame sizes group (Err cause) call = ChargesAfterDrain sizes group (Err cause) call

@@ -71,7 +71,7 @@ pub record GetsFrame (sizes : Config) (group frame : ℕ) (call : Transition Vis
   pub filling : Run
   pub pays : PaysForFrame sizes group (Ok tt) (transition call.table call.before paying paid)
   pub fills : FillsList sizes (Ok tt) (transition call.table paid filling filled)
-  pub takes : PaysForFront group frame filled call.after
+  pub takes : PaysForFront call.table group frame filled call.after
   pub steps_are : call.steps ≡ paying ++ (filling ++ take_front_steps call.before.cpu.number group)
 
 -- the group isn't killed, and `Does` holds

@@ -2,12 +2,11 @@
 use Rattle.std.specs.Prelude.{◌≡◌, ℕ, Bool, true, false, Option, Some, None, List, [], ◌∷◌, ◌++◌}
 use Rattle.group_tree.specs.Room.{has_room}
 use Rattle.group_charge.specs.Charges.{AreCharges, Ledger, current_of, with_oom_noted}
-use Rattle.stock_word.specs.Stock.{KnownStockTable}
 use Rattle.step_rules.specs.After.{Run}
 use Rattle.group_charge.specs.declared.note.Note.TheVariants.{Oom}
 use Rattle.group_charge.specs.Notes.{noted}
 use Rattle.mem_machine.specs.Machines.{IsConsistent, KnownMachine, is_killed, with_run}
-use Rattle.mem_machine.specs.Local.{MakesForAny}
+use Rattle.mem_machine.specs.Local.{Makes}
 use Rattle.mem_machine.specs.Steps.{note_oom_steps}
 use Rattle.mem_reclaim.specs.declared.sets.Killed.{Killed}
 use Rattle.mem_reclaim.specs.Killing.{IsKilledBy, OnlyDrains, OnlyReleases, with_all_killed}
@@ -48,13 +47,12 @@ pub record KillsOneVictim (requester : Option ℕ) (limited pages : ℕ) (killed
     (call : Transition KnownMachine) : Type 0 where
   pub needs_room : NeedsRoom requester limited pages call.before
   pub chosen : IsVictim call.before limited (Some killed.victim)
-  pub stock_table : KnownStockTable
-  pub consistent : IsConsistent call.table stock_table call.before
+  pub consistent : IsConsistent call.table call.before
   pub charges : AreCharges call.before.ledger
   pub kills : IsKilledBy call.table limited killed call.before call.after
   pub steps_are : call.steps ≡ kills.steps
   pub marked : call.after.killed ≡ with_all_killed call.before.killed (kill_set call.before killed)
-  pub stocks : OnlyDrains call.before call.after
+  pub stocks : OnlyDrains call.table call.before call.after
   pub keeps : OnlyReleases call.table call.before call.after
 
 -- these victims are killed like this, one after the other
@@ -70,7 +68,7 @@ pub record KillsUntilRoom (requester : Option ℕ) (limited pages : ℕ) (call :
   pub victims : List Killed
   pub killing : Run
   pub seen : KnownRun
-  pub notes : MakesForAny call.table call.before (note_oom_steps limited)
+  pub notes : Makes call.table call.before (note_oom_steps limited)
       (with_run (with_oom_noted_at call.before limited) seen)
   pub kills : KillsVictims requester limited pages victims
       (transition call.table (with_run (with_oom_noted_at call.before limited) seen) killing call.after)

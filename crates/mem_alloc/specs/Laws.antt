@@ -1,19 +1,17 @@
 -- What holds of each charge that kills and of each refill, whichever function makes it.
 use Rattle.std.specs.Prelude.{◌≡◌, ℕ, ◌+◌, ◌≤◌, ◌⊎◌, true, false, Option, Some, None, List, ◌∷◌, ◌++◌, length}
 use Rattle.frame_word.specs.Seats.{KnownTable}
-use Rattle.stock_word.specs.Stock.{KnownStockTable}
 use Rattle.group_tree.specs.declared.group.Group.{Group}
 use Rattle.group_tree.specs.Groups.{in_subtree}
 use Rattle.group_charge.specs.Charges.{AreCharges}
 use Rattle.lru_lists.specs.declared.record.Home.{Home}
 use Rattle.lru_lists.specs.Queue.{link_at}
-use Rattle.cpu_part.specs.Cpus.{KnownCpu}
 use Rattle.step_rules.specs.declared.step.Action.TheVariants.{Kill}
 use Rattle.step_rules.specs.declared.step.Answer.{Answer}
 use Rattle.step_rules.specs.declared.step.Step.{Step}
 use Rattle.step_rules.specs.After.{Run}
 use Rattle.mem_machine.specs.Machines.{IsConsistent, KnownMachine, home_of}
-use Rattle.mem_machine.specs.Local.{IsLocalRun, VisitState, local_of}
+use Rattle.mem_machine.specs.Local.{IsLocalRun, VisitState, lock_holder, local_of}
 use Rattle.mem_machine.specs.Stocks.{AreDrained}
 use Rattle.mem_reclaim.specs.declared.sets.Killed.{Killed}
 use Rattle.mem_reclaim.specs.Moves.{kills_in, missed_in}
@@ -28,19 +26,18 @@ use Rattle.mem_machine.specs.Transitions.{Transition}
 -- The steps lead to a consistent machine. One of them notes `oom` there, and each stock of the subtree is drained. For
 -- each clean unit that the subtree still keeps, one of these steps is a freeze that missed. `killed` is the victim for
 -- this limit, with its killed root.
-pub record WasLast (MayAsk : List Group → ℕ → ℕ → Type 0) (table : KnownTable) (start : KnownMachine) (cpu : KnownCpu)
+pub record WasLast (MayAsk : List Group → ℕ → ℕ → Type 0) (table : KnownTable) (start : KnownMachine)
     (tried : Run) (killed : Killed) : Type 0 where
   pub now : KnownMachine
-  pub leads : IsLocalRun cpu.number (local_of table start cpu) tried (local_of table now cpu)
-  pub stock_table : KnownStockTable
-  pub consistent : IsConsistent table stock_table now
+  pub leads : IsLocalRun (lock_holder start) (local_of table start) tried (local_of table now)
+  pub consistent : IsConsistent table now
   pub charges : AreCharges now.ledger
   pub limited : ℕ
   pub need : ℕ
   pub asked : MayAsk now.ledger.groups limited need
   pub over : has_room_at now.ledger limited need ≡ false
   pub noted : has_oom_note limited tried ≡ true
-  pub drained : AreDrained limited table.cpus now
+  pub drained : AreDrained table limited now
   pub frozen : (frame : ℕ) (home : Home) → in_subtree now.ledger.groups limited home.owner ≡ true
       → home_of now.links frame ≡ Some home → (link_at now.links frame).is_dirty ≡ false → 1 ≤ missed_in frame tried
   pub chosen : IsVictim now limited (Some killed.victim)
@@ -48,22 +45,22 @@ pub record WasLast (MayAsk : List Group → ℕ → ℕ → Type 0) (table : Kno
 
 -- The group dies with a victim, after these steps of a call. The steps `tried` came before the first kill of the set,
 -- when everything else was tried. The groups killed since are the beginning of the set, and this group is next.
-pub record ComesLast (MayAsk : List Group → ℕ → ℕ → Type 0) (table : KnownTable) (start : KnownMachine) (cpu : KnownCpu)
+pub record ComesLast (MayAsk : List Group → ℕ → ℕ → Type 0) (table : KnownTable) (start : KnownMachine)
     (before : Run) (group : ℕ) : Type 0 where
   pub tried : Run
   pub since : Run
   pub killed : Killed
   pub left : List ℕ
   pub steps_are : before ≡ tried ++ since
-  pub last : WasLast MayAsk table start cpu tried killed
+  pub last : WasLast MayAsk table start tried killed
   pub set_is : kill_set last.now killed ≡ kills_in since ++ group ∷ left
 
 -- in the steps of a call without a rash kill, each kill comes last
 abbrev pub KillsComeLast : (List Group → ℕ → ℕ → Type 0) → Type 0
 KillsComeLast MayAsk =
-    (table : KnownTable) (start : KnownMachine) (cpu : KnownCpu) (steps before rest : Run) (made : Step × Answer)
-    (group : ℕ) → NoRashKill table MayAsk start cpu steps → steps ≡ before ++ made ∷ rest → made.0.action ≡ Kill group
-    → ComesLast MayAsk table start cpu before group
+    (table : KnownTable) (start : KnownMachine) (steps before rest : Run) (made : Step × Answer)
+    (group : ℕ) → NoRashKill table MayAsk start steps → steps ≡ before ++ made ∷ rest → made.0.action ≡ Kill group
+    → ComesLast MayAsk table start before group
 
 -- each kill of a charge comes last, for any group and any number of pages
 abbrev pub ChargesKillLast : Type 0

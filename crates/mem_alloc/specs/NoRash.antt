@@ -3,20 +3,18 @@
 use Rattle.std.specs.Prelude.{◌≡◌, ℕ, ◌≤◌, ◌==◌, ◌⊎◌, Bool, true, false, Some, List, [], ◌∷◌, ◌++◌}
 use Rattle.std.specs.List.{list_any}
 use Rattle.frame_word.specs.Seats.{KnownTable}
-use Rattle.stock_word.specs.Stock.{KnownStockTable}
 use Rattle.group_tree.specs.declared.group.Group.{Group}
 use Rattle.group_tree.specs.Groups.{in_subtree}
 use Rattle.group_charge.specs.Charges.{AreCharges}
 use Rattle.lru_lists.specs.Lists.{owner_of}
 use Rattle.lru_lists.specs.Queue.{link_at}
-use Rattle.cpu_part.specs.Cpus.{KnownCpu}
 use Rattle.step_rules.specs.declared.step.Action.{Action}
 use Rattle.step_rules.specs.declared.step.Action.TheVariants.{Kill, NoteOom}
 use Rattle.step_rules.specs.declared.step.Answer.{Answer}
 use Rattle.step_rules.specs.declared.step.Step.{Step}
 use Rattle.step_rules.specs.After.{Run}
 use Rattle.mem_machine.specs.Machines.{HeadsKeptUnit, IsConsistent, KnownMachine, home_of}
-use Rattle.mem_machine.specs.Local.{IsLocalRun, local_of}
+use Rattle.mem_machine.specs.Local.{IsLocalRun, lock_holder, local_of}
 use Rattle.mem_machine.specs.Stocks.{AreDrained}
 use Rattle.mem_reclaim.specs.declared.sets.Killed.{Killed}
 use Rattle.mem_reclaim.specs.Moves.{is_kill, kills_in}
@@ -65,12 +63,11 @@ pub record MayKill (MayAsk : List Group → ℕ → ℕ → Type 0) (call : Tran
   pub asked : MayAsk call.after.ledger.groups limited need
   pub over : has_room_at call.after.ledger limited need ≡ false
   pub noted : has_oom_note limited call.steps ≡ true
-  pub drained : AreDrained limited call.table.cpus call.after
+  pub drained : AreDrained call.table limited call.after
   pub missed : MissedAll limited call.before call.after
   pub chosen : IsVictim call.after limited (Some killed.victim)
   pub killed_root_is : IsKilledRoot call.after.ledger.groups limited killed
-  pub stock_table : KnownStockTable
-  pub consistent : IsConsistent call.table stock_table call.after
+  pub consistent : IsConsistent call.table call.after
   pub charges : AreCharges call.after.ledger
   pub tied : IsLeftBySteps call
 
@@ -84,7 +81,7 @@ begins_with_kill (entry ∷ later) = is_kill entry.0.action
 -- right after `tried`. Since then exactly the groups of the set before this one were killed, in order. The others of
 -- the set, `left`, are killed next, before any other group.
 pub record MayKillAfter (table : KnownTable) (MayAsk : List Group → ℕ → ℕ → Type 0) (start : KnownMachine)
-    (cpu : KnownCpu) (before : Run) (group : ℕ) (rest : Run) : Type 0 where
+    (before : Run) (group : ℕ) (rest : Run) : Type 0 where
   pub tried : Run
   pub since : Run
   pub now : KnownMachine
@@ -92,7 +89,7 @@ pub record MayKillAfter (table : KnownTable) (MayAsk : List Group → ℕ → �
   pub left : List ℕ
   pub later : List ℕ
   pub steps_are : before ≡ tried ++ since
-  pub leads : IsLocalRun cpu.number (local_of table start cpu) tried (local_of table now cpu)
+  pub leads : IsLocalRun (lock_holder start) (local_of table start) tried (local_of table now)
   pub may : MayKill MayAsk (transition table start tried now) killed
   pub at_once : (since ≡ []) ⊎ (begins_with_kill since ≡ true)
   pub set_is : kill_set now killed ≡ kills_in since ++ group ∷ left
@@ -100,7 +97,7 @@ pub record MayKillAfter (table : KnownTable) (MayAsk : List Group → ℕ → �
 
 -- Each kill among the steps of a call comes when its group may be killed. This holds for each place in the list: the
 -- kill there may follow the steps before it, and precede the steps after it.
-abbrev pub NoRashKill : KnownTable → (List Group → ℕ → ℕ → Type 0) → KnownMachine → KnownCpu → Run → Type 0
-NoRashKill table MayAsk start cpu steps =
+abbrev pub NoRashKill : KnownTable → (List Group → ℕ → ℕ → Type 0) → KnownMachine → Run → Type 0
+NoRashKill table MayAsk start steps =
     (before rest : Run) (made : Step × Answer) (group : ℕ)
-    → steps ≡ before ++ made ∷ rest → made.0.action ≡ Kill group → MayKillAfter table MayAsk start cpu before group rest
+    → steps ≡ before ++ made ∷ rest → made.0.action ≡ Kill group → MayKillAfter table MayAsk start before group rest

@@ -7,7 +7,7 @@ use Rattle.group_charge.specs.declared.note.Note.TheVariants.{Limit}
 use Rattle.group_charge.specs.Notes.{KnownNotes, noted}
 use Rattle.step_rules.specs.After.{Run}
 use Rattle.mem_machine.specs.Machines.{KnownMachine, LacksRoom, is_killed, with_run}
-use Rattle.mem_machine.specs.Local.{MakesForAny, VisitState, visit_state}
+use Rattle.mem_machine.specs.Local.{Makes, VisitState, visit_state}
 use Rattle.mem_machine.specs.Steps.{Drain, over_steps, note_max_steps, drain_stocks_steps}
 use Rattle.mem_machine.specs.Stocks.{DrainsAllBelow, AreDrained}
 use Rattle.mem_reclaim.specs.Wanted.{FreesNothing, Reclaiming, progress}
@@ -44,11 +44,13 @@ with_max_noted_at machine group pages = record machine {
 pub record ClearsBelow (limited pages : ℕ) (call : Transition KnownMachine) : Type 0 where
   pub drains : List Drain
   pub seen : KnownRun
-  pub all : DrainsAllBelow limited call.table.cpus drains
+  pub notes : Makes call.table call.before (note_max_steps limited)
+      (with_run (with_max_noted_at call.before limited pages) seen)
+  pub all : DrainsAllBelow call.table limited call.table.cpus drains
       (with_run (with_max_noted_at call.before limited pages) seen) call.after
-  pub drained : AreDrained limited call.table.cpus call.after
+  pub drained : AreDrained call.table limited call.after
   pub steps_are : call.steps ≡ note_max_steps limited ++ drain_stocks_steps drains
-  pub runs : MakesForAny call.table call.before call.steps call.after
+  pub runs : Makes call.table call.before call.steps call.after
 
 -- what is reclaimed from the group's subtree for this limit: nothing if there is no limit, else as many pages as are
 -- missing, in at most `max_rounds` rounds
@@ -101,6 +103,7 @@ pub record IsRefusedAt (requester limited pages : ℕ) (answer : Result (Unit {0
   pub lowest : LacksRoom call.before requester pages limited
   pub relieving : Run
   pub seen : KnownRun
+  pub refuses : Makes call.table call.before (over_steps requester pages limited) (with_run call.before seen)
   pub relieves : RelievesLimit requester limited pages
       (transition call.table (with_run call.before seen) relieving call.after)
   pub room : IsRoomAnswer requester limited pages answer call.after

@@ -9,7 +9,7 @@ ghost use Rattle.mem_machine.specs.Transitions.{BySteps};
 ghost use Rattle.mem_machine.specs.Settling.{IsSettled};
 ghost use Rattle.mem_alloc.specs.Blocks.{AllocatesBlock, ChargesBlock, MayHaveBlock};
 ghost use Rattle.mem_alloc.specs.Blocks.{MakesTakeRounds, TakesAfterDrain};
-ghost use Rattle.mem_machine.specs.Local.{visit_state, Makes};
+ghost use Rattle.mem_machine.specs.Local.{VisitMakes, visit_state};
 
 use crate::faults::AllocFault;
 use crate::reclaims::reclaim_anywhere;
@@ -33,11 +33,10 @@ fn charge_block<N: BootName>(
     requires visit { Visits N.frames (visit_state machine.old cpu.old) }
     requires may_charge { MayCharge machine.old group (2 ^ order) }
     requires settled { IsSettled cpu.old }
-    ensures charges { BySteps Makes N.frames (ChargesBlock group order result)
+    ensures charges { BySteps VisitMakes N.frames (ChargesBlock group order result)
         (visit_state machine.old cpu.old) (visit_state machine.new cpu.new) }
     ensures cpu { cpu.new ≡ cpu.old }
     ensures visit { Visits N.frames (visit_state machine.new cpu.new) }
-    ensures opened { machine.new.frame_seat.view.opened ≡ machine.old.frame_seat.view.opened }
     ensures room { result ≡ Err NoFrames → MayHaveBlock machine.new group order }
 {
     let pages = order.frames();
@@ -62,7 +61,7 @@ fn reclaim_until_taken<N: BootName>(
     requires visit { Visits N.frames (visit_state machine.old cpu.old) }
     requires room { MayHaveBlock machine.old group order }
     requires settled { IsSettled cpu.old }
-    ensures takes { BySteps Makes N.frames (MakesTakeRounds group order result)
+    ensures takes { BySteps VisitMakes N.frames (MakesTakeRounds group order result)
         (visit_state machine.old cpu.old) (visit_state machine.new cpu.new) }
     ensures cpu { cpu.new ≡ cpu.old }
     ensures visit { Visits N.frames (visit_state machine.new cpu.new) }
@@ -92,7 +91,7 @@ fn take_after_drain<N: BootName>(
     requires visit { Visits N.frames (visit_state machine.old cpu.old) }
     requires room { MayHaveBlock machine.old group order }
     requires settled { IsSettled cpu.old }
-    ensures takes { BySteps Makes N.frames (TakesAfterDrain group order result)
+    ensures takes { BySteps VisitMakes N.frames (TakesAfterDrain group order result)
         (visit_state machine.old cpu.old) (visit_state machine.new cpu.new) }
     ensures stays { KeepsVisit N.frames (visit_state machine.old cpu.old) (visit_state machine.new cpu.new) }
     ensures fresh { cpu.new.fresh ≡ [] }
@@ -134,7 +133,7 @@ pub fn alloc_block<N: BootName>(
     requires size { IsOfSize N.frames }
     requires there { IsTrue (has_group machine.old.ledger.groups group) }
     requires settled { IsSettled cpu.old }
-    ensures allocates { BySteps Makes N.frames (AllocatesBlock group order result)
+    ensures allocates { BySteps VisitMakes N.frames (AllocatesBlock group order result)
         (visit_state machine.old cpu.old) (visit_state machine.new cpu.new) }
     ensures stays { KeepsVisit N.frames (visit_state machine.old cpu.old) (visit_state machine.new cpu.new) }
     ensures fresh { cpu.new.fresh ≡ [] }

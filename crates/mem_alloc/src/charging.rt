@@ -4,12 +4,12 @@ ghost use Rattle.std.specs.Prelude.{◌≡◌, ◌↔◌, [], IsTrue, false, OnO
 ghost use Rattle.zone_blocks.specs.Config.{IsValidConfig};
 ghost use Rattle.group_tree.specs.Groups.{has_group};
 ghost use Rattle.mem_machine.specs.Machines.{is_killed};
-ghost use Rattle.mem_machine.specs.Local.{Visits};
+ghost use Rattle.mem_machine.specs.Local.{Holds, Visits};
 ghost use Rattle.mem_machine.specs.Paying.{HoldsPage, IsOfSize, MayCharge};
-ghost use Rattle.mem_machine.specs.Stocks.{IsDrained, with_look};
+ghost use Rattle.mem_machine.specs.Stocks.{IsDrained};
 ghost use Rattle.mem_machine.specs.Transitions.{BySteps};
 ghost use Rattle.mem_alloc.specs.Charging.{ChargesOne, FillsDrainedStock, PaysForFrame};
-ghost use Rattle.mem_machine.specs.Local.{visit_state, Makes};
+ghost use Rattle.mem_machine.specs.Local.{VisitMakes, visit_state};
 
 use crate::faults::AllocFault;
 use crate::room::make_room;
@@ -19,16 +19,16 @@ use mem_machine::Machine;
 use stock_word::Stock;
 use zone_blocks::config::Config;
 
-// Whether the CPU's stock has a page of the group, as one look shows.
+// Whether the CPU's stock has a page of the group.
 fn holds_page<N: BootName>(
     machine: &mut Machine<N>,
     tables: &Tables<N>,
-    cpu: &mut Cpu<N>,
+    cpu: &Cpu<N>,
     group: GroupId,
 ) -> bool
-    ensures holds { IsTrue result ↔ HoldsPage (visit_state machine.old cpu.old) group }
-    ensures machine { machine.new ≡ with_look machine.old }
-    ensures cpu { cpu.new ≡ cpu.old }
+    requires holds { Holds N.frames (visit_state machine.old cpu.now) }
+    ensures holds { IsTrue result ↔ HoldsPage N.frames (visit_state machine.old cpu.now) group }
+    ensures machine { machine.new ≡ machine.old }
 {
     let number = group.number();
     match machine.look_at_stock(tables, cpu) {
@@ -41,16 +41,16 @@ fn holds_page<N: BootName>(
 fn fill_one<N: BootName>(
     machine: &mut Machine<N>,
     tables: &Tables<N>,
-    cpu: &mut Cpu<N>,
+    cpu: &Cpu<N>,
     group: GroupId,
 ) -> Result<(), AllocFault>
-    requires visit { Visits N.frames (visit_state machine.old cpu.old) }
+    requires visit { Visits N.frames (visit_state machine.old cpu.now) }
     requires may_charge { MayCharge machine.old group 1 }
-    requires none_fresh { cpu.old.fresh ≡ [] }
-    requires drained { IsDrained machine.old cpu.old.number }
-    ensures charges { BySteps Makes N.frames (ChargesOne group result)
-        (visit_state machine.old cpu.old) (visit_state machine.new cpu.new) }
-    ensures visit { Visits N.frames (visit_state machine.new cpu.new) }
+    requires none_fresh { cpu.now.fresh ≡ [] }
+    requires drained { IsDrained N.frames machine.old cpu.now.number }
+    ensures charges { BySteps VisitMakes N.frames (ChargesOne group result)
+        (visit_state machine.old cpu.now) (visit_state machine.new cpu.now) }
+    ensures visit { Visits N.frames (visit_state machine.new cpu.now) }
 {
     'tries: loop {
         let Err(over) = machine.fill_stock(tables, cpu, group, 1) else {
@@ -65,20 +65,20 @@ fn fill_one<N: BootName>(
 fn fill_drained_stock<N: BootName>(
     machine: &mut Machine<N>,
     tables: &Tables<N>,
-    cpu: &mut Cpu<N>,
+    cpu: &Cpu<N>,
     sizes: Config,
     group: GroupId,
 ) -> Result<(), AllocFault>
-    requires visit { Visits N.frames (visit_state machine.old cpu.old) }
+    requires visit { Visits N.frames (visit_state machine.old cpu.now) }
     requires size { IsOfSize N.frames }
     requires sizes { IsValidConfig sizes }
     requires there { IsTrue (has_group machine.old.ledger.groups group) }
     requires alive { is_killed machine.old.killed group ≡ false }
-    requires none_fresh { cpu.old.fresh ≡ [] }
-    requires drained { IsDrained machine.old cpu.old.number }
-    ensures charges { BySteps Makes N.frames (FillsDrainedStock sizes group result)
-        (visit_state machine.old cpu.old) (visit_state machine.new cpu.new) }
-    ensures visit { Visits N.frames (visit_state machine.new cpu.new) }
+    requires none_fresh { cpu.now.fresh ≡ [] }
+    requires drained { IsDrained N.frames machine.old cpu.now.number }
+    ensures charges { BySteps VisitMakes N.frames (FillsDrainedStock sizes group result)
+        (visit_state machine.old cpu.now) (visit_state machine.new cpu.now) }
+    ensures visit { Visits N.frames (visit_state machine.new cpu.now) }
 {
     machine.prove_room();
     let Err(_batch) = machine.fill_stock(tables, cpu, group, sizes.stock) else {
@@ -91,20 +91,20 @@ fn fill_drained_stock<N: BootName>(
 pub(crate) fn pay_for_frame<N: BootName>(
     machine: &mut Machine<N>,
     tables: &Tables<N>,
-    cpu: &mut Cpu<N>,
+    cpu: &Cpu<N>,
     sizes: Config,
     group: GroupId,
 ) -> Result<(), AllocFault>
-    requires visit { Visits N.frames (visit_state machine.old cpu.old) }
+    requires visit { Visits N.frames (visit_state machine.old cpu.now) }
     requires size { IsOfSize N.frames }
     requires sizes { IsValidConfig sizes }
     requires there { IsTrue (has_group machine.old.ledger.groups group) }
     requires alive { is_killed machine.old.killed group ≡ false }
-    requires none_fresh { cpu.old.fresh ≡ [] }
-    ensures pays { BySteps Makes N.frames (PaysForFrame sizes group result)
-        (visit_state machine.old cpu.old) (visit_state machine.new cpu.new) }
-    ensures visit { Visits N.frames (visit_state machine.new cpu.new) }
-    ensures page { OnOk result (HoldsPage (visit_state machine.new cpu.new) group) }
+    requires none_fresh { cpu.now.fresh ≡ [] }
+    ensures pays { BySteps VisitMakes N.frames (PaysForFrame sizes group result)
+        (visit_state machine.old cpu.now) (visit_state machine.new cpu.now) }
+    ensures visit { Visits N.frames (visit_state machine.new cpu.now) }
+    ensures page { OnOk result (HoldsPage N.frames (visit_state machine.new cpu.now) group) }
 {
     if holds_page(machine, tables, cpu, group) {
         return Ok(());

@@ -6,11 +6,12 @@ ghost use Rattle.zone_blocks.specs.Config.{IsValidConfig};
 ghost use Rattle.group_tree.specs.Groups.{has_group};
 ghost use Rattle.mem_machine.specs.Local.{KeepsVisit, Visits};
 ghost use Rattle.mem_machine.specs.Paying.{HoldsPage, IsOfSize};
+ghost use Rattle.mem_machine.specs.Showing.{stock_now};
 ghost use Rattle.mem_machine.specs.Transitions.{BySteps};
 ghost use Rattle.mem_machine.specs.Settling.{IsSettled};
 ghost use Rattle.mem_machine.specs.Lending.{HasListRoom};
 ghost use Rattle.mem_alloc.specs.Frames.{AllocatesFrame, FillsList, MakesRefillRounds, RefillsInRounds};
-ghost use Rattle.mem_machine.specs.Local.{visit_state, Makes};
+ghost use Rattle.mem_machine.specs.Local.{visit_state, VisitMakes};
 
 use crate::charging::pay_for_frame;
 use crate::faults::AllocFault;
@@ -34,9 +35,12 @@ fn make_refill_rounds<N: BootName>(
     requires visit { Visits N.frames (visit_state machine.old cpu.old) }
     requires room { HasListRoom cpu.old batch }
     requires some { 1 ≤ batch }
-    ensures refills { BySteps Makes N.frames (MakesRefillRounds batch result)
+    requires none_fresh { cpu.old.fresh ≡ [] }
+    ensures refills { BySteps VisitMakes N.frames (MakesRefillRounds batch result)
         (visit_state machine.old cpu.old) (visit_state machine.new cpu.new) }
     ensures visit { Visits N.frames (visit_state machine.new cpu.new) }
+    ensures stock { stock_now N.frames (visit_state machine.new cpu.new)
+        ≡ stock_now N.frames (visit_state machine.old cpu.old) }
 {
     for round in 0..MAX_ROUNDS {
         let freed = reclaim_anywhere(machine, tables, round + 1, 1);
@@ -61,9 +65,12 @@ fn refill_in_rounds<N: BootName>(
     requires visit { Visits N.frames (visit_state machine.old cpu.old) }
     requires room { HasListRoom cpu.old batch }
     requires some { 1 ≤ batch }
-    ensures refills { BySteps Makes N.frames (RefillsInRounds batch result)
+    requires none_fresh { cpu.old.fresh ≡ [] }
+    ensures refills { BySteps VisitMakes N.frames (RefillsInRounds batch result)
         (visit_state machine.old cpu.old) (visit_state machine.new cpu.new) }
     ensures visit { Visits N.frames (visit_state machine.new cpu.new) }
+    ensures stock { stock_now N.frames (visit_state machine.new cpu.new)
+        ≡ stock_now N.frames (visit_state machine.old cpu.old) }
 {
     machine.note(Note::Zone { order: 0 });
     make_refill_rounds(machine, tables, cpu, batch)
@@ -81,11 +88,11 @@ fn fill_list<N: BootName>(
     requires visit { Visits N.frames (visit_state machine.old cpu.old) }
     requires sizes { IsValidConfig sizes }
     requires none_fresh { cpu.old.fresh ≡ [] }
-    requires page { HoldsPage (visit_state machine.old cpu.old) group }
-    ensures fills { BySteps Makes N.frames (FillsList sizes result)
+    requires page { HoldsPage N.frames (visit_state machine.old cpu.old) group }
+    ensures fills { BySteps VisitMakes N.frames (FillsList sizes result)
         (visit_state machine.old cpu.old) (visit_state machine.new cpu.new) }
     ensures visit { Visits N.frames (visit_state machine.new cpu.new) }
-    ensures page { OnOk result (HoldsPage (visit_state machine.new cpu.new) group) }
+    ensures page { OnOk result (HoldsPage N.frames (visit_state machine.new cpu.new) group) }
     ensures front { OnOk result (1 ≤ length cpu.new.list) }
 {
     if cpu.list_len() > 0 {
@@ -125,7 +132,7 @@ pub fn alloc_frame<N: BootName>(
     requires sizes { IsValidConfig sizes }
     requires there { IsTrue (has_group machine.old.ledger.groups group) }
     requires settled { IsSettled cpu.old }
-    ensures allocates { BySteps Makes N.frames (AllocatesFrame sizes group result)
+    ensures allocates { BySteps VisitMakes N.frames (AllocatesFrame sizes group result)
         (visit_state machine.old cpu.old) (visit_state machine.new cpu.new) }
     ensures stays { KeepsVisit N.frames (visit_state machine.old cpu.old) (visit_state machine.new cpu.new) }
     ensures fresh { MatchResult result (λ f. cpu.new.fresh ≡ f ∷ []) (λ cause. cpu.new.fresh ≡ []) }

@@ -2,9 +2,10 @@
 
 ghost use Rattle.std.specs.Prelude.{◌≡◌, ◌↔◌, IsTrue};
 ghost use Rattle.group_tree.specs.Groups.{has_group};
+ghost use Rattle.boot_words.specs.Pasts.{IsHeld};
 ghost use Rattle.mem_alloc.specs.Kills.{KillsForRoom, NeedsRoom, has_room_at};
 ghost use Rattle.mem_alloc.specs.Room.{KillsForFewPages};
-ghost use Rattle.mem_machine.specs.Local.{MakesForAny, SomeSeenByRun, StaysVisited};
+ghost use Rattle.mem_machine.specs.Local.{Makes, StaysVisited};
 ghost use Rattle.mem_machine.specs.Transitions.{BySteps};
 
 use cpu_part::{BootName, Tables};
@@ -60,8 +61,8 @@ pub fn kill_for<N: BootName>(
     pages: u32,
 )
     requires there { IsTrue (has_group machine.old.ledger.groups limited) }
-    requires shown { SomeSeenByRun N.frames machine.old }
-    ensures kills { BySteps MakesForAny N.frames (KillsForRoom requester limited pages) machine.old machine.new }
+    requires held { IsHeld N.frames machine.old.run.past }
+    ensures kills { BySteps Makes N.frames (KillsForRoom requester limited pages) machine.old machine.new }
     ensures visit { StaysVisited N.frames machine.old machine.new }
 {
     if has_room_at(machine.charges(), limited, pages) {
@@ -91,8 +92,8 @@ pub(crate) fn kill_for_few_pages<N: BootName>(
     pages: u32,
 )
     requires there { IsTrue (has_group machine.old.ledger.groups limited) }
-    requires shown { SomeSeenByRun N.frames machine.old }
-    ensures kills { BySteps MakesForAny N.frames (KillsForFewPages requester limited pages) machine.old machine.new }
+    requires held { IsHeld N.frames machine.old.run.past }
+    ensures kills { BySteps Makes N.frames (KillsForFewPages requester limited pages) machine.old machine.new }
     ensures visit { StaysVisited N.frames machine.old machine.new }
 {
     if pages <= MAX_KILLED_FOR {

@@ -1,7 +1,7 @@
 //! Rounds of reclaim from the units of all groups, if no frame is free.
 
 ghost use Rattle.std.specs.Prelude.{◌<◌};
-ghost use Rattle.mem_machine.specs.Local.{SomeSeenByRun};
+ghost use Rattle.boot_words.specs.Pasts.{IsHeld};
 ghost use Rattle.mem_reclaim.specs.Moves.{FreesBySteps};
 ghost use Rattle.mem_reclaim.specs.Rounds.{ReclaimsRound};
 ghost use Rattle.mem_reclaim.specs.Staying.{Keeps, MissedAll};
@@ -19,7 +19,7 @@ pub(crate) fn reclaim_anywhere<N: BootName>(
     number: u32,
     want: u64,
 ) -> u64
-    requires shown { SomeSeenByRun N.frames machine.old }
+    requires held { IsHeld N.frames machine.old.run.past }
     ensures reclaims { FreesBySteps N.frames result machine.old machine.new (ReclaimsRound 0 number want) }
     ensures missed { result < want → MissedAll 0 machine.old machine.new }
     ensures keeps { Keeps N.frames machine.old machine.new }

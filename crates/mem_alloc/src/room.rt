@@ -3,7 +3,8 @@
 ghost use Rattle.std.specs.Prelude.{◌≡◌, ◌<◌, IsTrue};
 ghost use Rattle.group_tree.specs.Bounds.{most_groups};
 ghost use Rattle.group_tree.specs.Groups.{has_group};
-ghost use Rattle.mem_machine.specs.Local.{MakesForAny, SomeSeenByRun, StaysVisited};
+ghost use Rattle.boot_words.specs.Pasts.{IsHeld};
+ghost use Rattle.mem_machine.specs.Local.{Makes, StaysVisited};
 ghost use Rattle.mem_machine.specs.Transitions.{BySteps};
 ghost use Rattle.mem_alloc.specs.Room.{IsRoomAnswer, ReclaimsFor, RelievesLimit, with_limit_noted};
 
@@ -23,8 +24,8 @@ fn reclaim_for<N: BootName>(
     pages: u32,
 )
     requires there { IsTrue (has_group machine.old.ledger.groups limited) }
-    requires shown { SomeSeenByRun N.frames machine.old }
-    ensures reclaims { BySteps MakesForAny N.frames (ReclaimsFor limited pages) machine.old machine.new }
+    requires held { IsHeld N.frames machine.old.run.past }
+    ensures reclaims { BySteps Makes N.frames (ReclaimsFor limited pages) machine.old machine.new }
     ensures visit { StaysVisited N.frames machine.old machine.new }
 {
     if let Some(limit) = machine.charges().max(limited) {
@@ -68,8 +69,8 @@ pub(crate) fn make_room<N: BootName>(
     pages: u32,
 ) -> Result<(), AllocFault>
     requires there { IsTrue (has_group machine.old.ledger.groups limited) }
-    requires shown { SomeSeenByRun N.frames machine.old }
-    ensures relieves { BySteps MakesForAny N.frames (RelievesLimit requester limited pages) machine.old machine.new }
+    requires held { IsHeld N.frames machine.old.run.past }
+    ensures relieves { BySteps Makes N.frames (RelievesLimit requester limited pages) machine.old machine.new }
     ensures visit { StaysVisited N.frames machine.old machine.new }
     ensures room { IsRoomAnswer requester limited pages result machine.new }
     ensures below { limited < most_groups }

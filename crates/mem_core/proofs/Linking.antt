@@ -13,13 +13,13 @@ use Rattle.mem_core.proofs.Looking.{past_default}
 use Rattle.mem_core.specs.Bounded.{IsBounded}
 use Rattle.mem_core.proofs.Bounding.{few_from}
 use Rattle.mem_core.specs.declared.reading_core.Core.TheInside.{Inside}
-use Rattle.mem_core.specs.Shown.{reference_at, part_at, state_shown}
+use Rattle.mem_core.specs.Shown.{reference_at, part_of_seat, state_shown}
 use Rattle.mem_core.specs.Accounts.{Account}
 use Rattle.mem_core.specs.Inside.{seat_shown, rows_shown, core_state}
 
 seat_found : (xs : List SeatRow) (k f : ℕ)
     → (reference_at (slice_get (map seat_shown xs) k) f ≡ reference_of (slice_get xs k) f) ×
-    (part_at (slice_get (map seat_shown xs) k) ≡ part_in_row (slice_get xs k))
+    (part_of_seat (slice_get (map seat_shown xs) k) ≡ part_in_row (slice_get xs k))
 seat_found [] k f = (refl, refl)
 seat_found (x ∷ xs) zero f = (refl, refl)
 seat_found (x ∷ xs) (suc k) f = seat_found xs k f

@@ -47,9 +47,9 @@ reference_at None f = 0
 reference_at (Some s) f = slice_index_or s.references f 0
 
 -- the part of this seat; an empty one if there is no such seat
-abbrev pub part_at : Option SeatState → Part
-part_at None = no_part
-part_at (Some s) = s.part
+abbrev pub part_of_seat : Option SeatState → Part
+part_of_seat None = no_part
+part_of_seat (Some s) = s.part
 
 -- the state of the rules that a core represents; beyond the end of each list it has the values of a new boot
 abbrev pub state_shown : CoreState → State
@@ -60,7 +60,7 @@ state_shown s = record {
   killed = λ g. slice_index_or s.killed g false;
   phases = λ f. slice_index_or s.phases f InZone;
   references = λ seat f. reference_at (slice_get s.seats seat) f;
-  parts = λ cpu. part_at (slice_get s.seats cpu);
+  parts = λ cpu. part_of_seat (slice_get s.seats cpu);
   pending = λ g. slice_index_or s.pending g 0;
 }
 

@@ -28,8 +28,8 @@ use Rattle.step_rules.proofs.LocalLaws.{own_step_is_legal}
 use Rattle.step_rules.proofs.Interleaving.{local_runs_interleave}
 use Rattle.step_rules.proofs.Peaking.{peaks_are_kept}
 use Rattle.step_rules.proofs.Noting.{events_are_counted}
-use Rattle.mem_machine.specs.Local.{local_of}
-use Rattle.mem_machine.specs.Interleaving.{zone_of}
+use Rattle.mem_machine.specs.Local.{lock_holder, local_of}
+use Rattle.mem_machine.specs.Interleaving.{IsInterleaving, zone_of}
 use Rattle.mem_machine.specs.Steps.{cpu_makes}
 use Rattle.mem_machine.specs.Agreeing.{AgreesWithRun}
 use Rattle.mem_machine.proofs.Agreeing.{first_agrees}
@@ -38,7 +38,7 @@ use Rattle.mem_machine.proofs.Tells.{ledgers_agree}
 use Rattle.mem_history.specs.Whole.{IsDecided, seen_together, under_lock, is_fast}
 use Rattle.mem_history.specs.Agreeing.{ABootAgrees, LinesAgree, FastLinesAgree}
 use Rattle.mem_history.proofs.Staying.{Stays, Along, stays_on, stays_made}
-use Rattle.mem_history.proofs.Wholes.{locked, locked_is, takes, decided_count, lines_follow}
+use Rattle.mem_history.proofs.Wholes.{locked, locked_is, takes, decided_count, lines_follow, the_holder_is_shown}
 use Rattle.mem_history.proofs.Fast.{fast_lines_follow}
 
 -- ---- a step that moves no peak and no count
@@ -54,21 +54,23 @@ last_allowed zone run step answer legal =
     subst (λ (z : Option (Step × Answer) × Run). IfSome z.0 (λ e. Allows (state_of zone z.1) e.0.seat e.0.action e.1))
     (λ i. (get_last run (step, answer) i, take-append_seam run ((step, answer) ∷ []) i)) (legal (length run))
 
--- if the run continues with a step that changes no peak and no count, the ledger still has those of the run
+-- if the run continues with a step that changes no group, peak or count, the ledger still has those of the run
 tells_still : (t : KnownTable) (run : Run) (l : Ledger) (step : Step) (answer : Answer) → IsLegalRun (zone_of t) run
     → IsLegalRun (zone_of t) (pushed run step answer) → is_still step.action answer ≡ true
-    → l.groups ≡ (state_of (zone_of t) (pushed run step answer)).groups → AgreesWithRun t run l → AgreesWithRun t (pushed run step answer) l
+    → (state_of (zone_of t) (pushed run step answer)).groups ≡ (state_of (zone_of t) run).groups → AgreesWithRun t run l → AgreesWithRun t (pushed run step answer) l
 tells_still t run l step answer legal more still groups told =
     let zone = zone_of t in
     let s = state_of zone run in
     let ok = last_allowed zone run step answer more in
+    let was : (m : ℕ) → has_group (state_of zone (pushed run step answer)).groups m ≡ true → has_group s.groups m ≡ true = λ m there.
+    ap (λ g. has_group g m) (sym groups) ∙ there in
     record {
       peak = λ m there.
           subst (IsPeak zone (pushed run step answer) m) (still_peak (state_of zone (pushed run step answer)) step.action answer m (peak_of l m) still)
-          (peaks_are_kept.step zone run step answer legal ok m (peak_of l m) (ap (λ g. has_group g m) (sym groups) ∙ there) (λ was. told.peak m there));
-      events = λ key m there. told.events key m there
+          (peaks_are_kept.step zone run step answer legal ok m (peak_of l m) there (λ old. told.peak m old));
+      events = λ key m there. told.events key m (was m there)
           ∙ sym ((events_are_counted.step zone run step answer key m).below ∙ below_stays key m s (step, answer) _ still);
-      events_local = λ key m there. told.events_local key m there
+      events_local = λ key m there. told.events_local key m (was m there)
           ∙ sym ((events_are_counted.step zone run step answer key m).local ∙ at_stays key m s (step, answer) _ still);
     }
 
@@ -100,7 +102,7 @@ module _ (zone : Zone) (p : ℕ) (start : State) (D : State → ℕ → Action �
       let counted = counts s e.0.seat e.0.action e.1 (zoned run) stays legal here in
       let later : Stays p start (state_of zone (pushed run e.0 e.1)) =
       subst (Stays p start) (sym (state_more zone run e.0 e.1))
-      (stays_on p start s (after s e.0.seat e.0.action e.1) stays (stays_made s p e.0.seat e.0.action e.1 local.own shows.holds legal)) in
+      (stays_on p start s (after s e.0.seat e.0.action e.1) stays (stays_made s p e.0.seat e.0.action e.1 local.own)) in
       at_each k (record { other = λ off. absurd (true≢false (sym (own_is p e.0.seat local.own) ∙ off)); own = λ is. counted })
       (mixed_on (pushed run e.0 e.1) (after a e.0.seat e.0.action e.1) steps b (own_step_is_legal zone run p a e.0 e.1 shows local counted) later
       zoned leads.1 (λ j. decided (suc j)))
@@ -113,37 +115,42 @@ module _ (zone : Zone) (p : ℕ) (start : State) (D : State → ℕ → Action �
           (append_assoc run (e ∷ []) (take j steps)) (rest j)
 
 pub lines_agree : LinesAgree
-lines_agree t run cpus k before steps after_visit_state shows serves told =
+lines_agree t run cpus k before steps later shows serves told =
     let zone = zone_of t in
     let m = before.machine in
-    let n = after_visit_state.machine in
+    let n = later.machine in
     let c = before.cpu in
-    let d = after_visit_state.cpu in
     let p = c.number in
+    let is_part = serves.taken.is_part in
     let whole = state_of zone run in
-    let lock = locked t run m cpus k c shows serves.is_part in
-    let lock_is = locked_is t run m cpus k c shows serves.is_part in
-    let took = takes t run m cpus k c shows serves.is_part in
+    let lock = locked t run m cpus k c shows is_part in
+    let lock_is = locked_is t run m cpus k c shows is_part in
+    let took = takes t run cpus k before shows serves.taken in
     let start : Stays p whole (state_of zone lock) =
-    subst (Stays p whole) (sym lock_is) (record { references = λ q ne other f. refl; parts = λ q ne other. refl }) in
+    subst (Stays p whole) (sym lock_is) (record { references = λ q ne other f. refl; lists = λ q ne other. refl }) in
     let told_lock : AgreesWithRun t lock m.ledger =
-    tells_still t run m.ledger (record { seat = p; action = Lock }) Done shows.legal took.legal refl (ap (λ (s : State). s.groups) took.sees) told in
+    tells_still t run m.ledger (record { seat = p; action = Lock }) Done shows.legal took.legal refl
+    (ap (λ (s : State). s.groups) lock_is) told in
+    let leads : IsLocalRun p (local_of t m) steps (local_of t n) =
+    subst (λ (q : ℕ). IsLocalRun q (local_of t m) steps (local_of t n)) serves.taken.holds.who serves.leads.leads in
     let mixed : IsInterleaved zone lock p steps =
     mixed_on zone p whole (λ x seat action answer. IsDecided (seen_together cpus p x) seat action answer)
-    (λ s seat action answer zoned stays legal decided. decided_count t run m cpus k c shows serves.is_part s zoned stays seat action answer legal decided)
-    lock (local_of t m c) steps (local_of t n d) took start (λ r. zone_of_run zone r ∙ sym (zone_of_run zone run)) serves.leads.leads serves.decided in
+    (λ s seat action answer zoned stays legal decided. decided_count t run m cpus k c shows is_part s zoned stays seat action answer legal decided)
+    lock (local_of t m) steps (local_of t n) took start (λ r. zone_of_run zone r ∙ sym (zone_of_run zone run)) leads serves.decided in
     let made : Run = lock ++ steps in
-    let own = own_all p (local_of t m c) steps (local_of t n d) serves.leads.leads in
+    let own = own_all p (local_of t m) steps (local_of t n) leads in
+    let interleaving : IsInterleaving t lock (lock_holder m) steps steps =
+    subst (λ (q : ℕ). IsInterleaving t lock q steps steps) (sym serves.taken.holds.who) (record { own = own; follows = mixed }) in
     let told_made : AgreesWithRun t made n.ledger =
-    ledgers_agree t lock steps steps before after_visit_state took told_lock serves.leads (record { own = own; follows = mixed }) in
+    ledgers_agree t lock steps steps m n (the_holder_is_shown t run cpus k before shows serves.taken) told_lock serves.leads interleaving in
     let joined : pushed made (record { seat = p; action = Unlock }) Done ≡ run ++ under_lock p steps =
     append_assoc (run ++ cpu_makes p Lock Done ∷ []) steps (cpu_makes p Unlock Done ∷ [])
     ∙ append_assoc run (cpu_makes p Lock Done ∷ []) (steps ++ cpu_makes p Unlock Done ∷ []) in
-    let all = (lines_follow t run cpus k before steps after_visit_state shows serves).legal in
-    let done : IsLegalRun zone (pushed made (record { seat = p; action = Unlock }) Done) = subst (IsLegalRun zone) (sym joined) all in
-    let shown = made_shows zone lock p (local_of t m c) steps (local_of t n d) took serves.leads.leads mixed own in
-    let groups : n.ledger.groups ≡ (state_of zone (pushed made (record { seat = p; action = Unlock }) Done)).groups =
-    ap (λ (s : State). s.groups) shown.sees ∙ sym (ap (λ (s : State). s.groups) (state_more zone made (record { seat = p; action = Unlock }) Done)) in
+    let all = lines_follow t run cpus k before steps later shows serves in
+    let done : IsLegalRun zone (pushed made (record { seat = p; action = Unlock }) Done) = subst (IsLegalRun zone) (sym joined) all.legal in
+    let shown = made_shows zone lock p (local_of t m) steps (local_of t n) took leads mixed own in
+    let groups : (state_of zone (pushed made (record { seat = p; action = Unlock }) Done)).groups ≡ (state_of zone made).groups =
+    ap (λ (s : State). s.groups) (state_more zone made (record { seat = p; action = Unlock }) Done) in
     subst (λ (r : Run). AgreesWithRun t r n.ledger) joined
     (tells_still t made n.ledger (record { seat = p; action = Unlock }) Done shown.legal done refl groups told_made)
   where
@@ -162,35 +169,30 @@ fast_still (Credit f) answer fast = refl
 fast_still action answer fast = absurd (false≢true fast)
 
 pub fast_lines_agree : FastLinesAgree
-fast_lines_agree t run cpus k before action answer after_visit_state shows serves told =
+fast_lines_agree t run cpus k before action answer later shows serves told =
     let zone = zone_of t in
     let m = before.machine in
     let p = before.cpu.number in
     let step : Step = record { seat = p; action = action } in
-    let goes = fast_lines_follow t run cpus k before action answer after_visit_state shows serves in
-    let seen = serves.leads.leads in
-    let groups : m.ledger.groups ≡ (state_of zone (pushed run step answer)).groups =
-    ap (λ (l : Ledger). l.groups) (sym (ap (λ x. x.ledger) serves.machine)) ∙ sym (ap (λ (s : State). s.groups) seen.1)
-    ∙ fast_groups (local_of t m before.cpu) (state_of zone run) p action answer
-    (ap (λ (s : State). s.groups) (shows.each k before.cpu serves.is_part).sees) serves.fast
-    ∙ sym (ap (λ (s : State). s.groups) (state_more zone run step answer)) in
+    let goes = fast_lines_follow t run cpus k before action answer later shows serves in
+    let groups : (state_of zone (pushed run step answer)).groups ≡ (state_of zone run).groups =
+    ap (λ (s : State). s.groups) (state_more zone run step answer) ∙ fast_groups (state_of zone run) p action answer serves.fast in
     subst (λ (l : Ledger). AgreesWithRun t (pushed run step answer) l) (sym (ap (λ x. x.ledger) serves.machine))
     (tells_still t run m.ledger step answer shows.legal goes.legal (fast_still action answer serves.fast) groups told)
   where
-    fast_groups : (a b : State) (p : ℕ) (action : Action) (answer : Answer) → a.groups ≡ b.groups → is_fast action ≡ true
-        → (after a p action answer).groups ≡ (after b p action answer).groups
-    fast_groups a b p (Get f) Held same fast = same
-    fast_groups a b p (Get f) answer same fast = same
-    fast_groups a b p (Put f) (Left n) same fast = same
-    fast_groups a b p (Put f) Last same fast = same
-    fast_groups a b p (Put f) answer same fast = same
-    fast_groups a b p (Consume g) Took same fast = same
-    fast_groups a b p (Consume g) answer same fast = same
-    fast_groups a b p (Credit f) Stocked same fast = same
-    fast_groups a b p (Credit f) answer same fast = same
-    fast_groups a b p action answer same fast = absurd (false≢true fast)
+    fast_groups : (s : State) (p : ℕ) (action : Action) (answer : Answer) → is_fast action ≡ true → (after s p action answer).groups ≡ s.groups
+    fast_groups s p (Get f) Held fast = refl
+    fast_groups s p (Get f) answer fast = refl
+    fast_groups s p (Put f) (Left n) fast = refl
+    fast_groups s p (Put f) Last fast = refl
+    fast_groups s p (Put f) answer fast = refl
+    fast_groups s p (Consume g) Took fast = refl
+    fast_groups s p (Consume g) answer fast = refl
+    fast_groups s p (Credit f) Stocked fast = refl
+    fast_groups s p (Credit f) answer fast = refl
+    fast_groups s p action answer fast = absurd (false≢true fast)
 
 -- ---- a new boot
 
 pub a_boot_agrees : ABootAgrees
-a_boot_agrees t w m first = subst (AgreesWithRun t []) (sym first.ledger) (first_agrees t)
+a_boot_agrees t m first = subst (AgreesWithRun t []) (sym first.ledger) (first_agrees t)

@@ -7,13 +7,12 @@ use Rattle.std.proofs.lemmas.Bool.{false≢true}
 use Rattle.std.proofs.lemmas.List.{append_assoc}
 use Rattle.cpu_part.specs.Cpus.{KnownCpu}
 use Rattle.frame_word.specs.Seats.{KnownTable}
-use Rattle.step_rules.specs.declared.phase.Hold.TheVariants.{HeldBy}
 use Rattle.step_rules.specs.declared.step.Action.{Action}
 use Rattle.step_rules.specs.declared.step.Action.TheVariants.{Lock, Unlock}
 use Rattle.step_rules.specs.declared.step.Answer.{Answer}
 use Rattle.step_rules.specs.declared.step.Answer.TheVariants.{Done}
 use Rattle.step_rules.specs.declared.step.Step.{Step}
-use Rattle.step_rules.specs.State.{Zone, State, is_cpu}
+use Rattle.step_rules.specs.State.{Zone, State}
 use Rattle.step_rules.specs.Legal.{is_legal, IsMade, Allows}
 use Rattle.step_rules.specs.After.{Run, after, state_of, IsLegalRun}
 use Rattle.step_rules.specs.Views.{seen_by}
@@ -27,12 +26,12 @@ use Rattle.mem_machine.specs.Machines.{KnownMachine}
 use Rattle.mem_machine.specs.Local.{local_of}
 use Rattle.mem_machine.specs.Interleaving.{zone_of}
 use Rattle.mem_machine.specs.Steps.{cpu_makes}
-use Rattle.mem_history.specs.Whole.{ShowsAll, IsDecided, seen_together, under_lock, is_fast}
+use Rattle.mem_history.specs.Whole.{ShowsAll, IsDecided, seen_together, under_lock}
 use Rattle.mem_history.specs.Decided.{LegalLinesAreDecided, LegalFastStepsAreDecided}
 use Rattle.mem_history.proofs.Staying.{Stays, stays_on, stays_made, Along}
 use Rattle.mem_history.proofs.Together.{decides}
-use Rattle.mem_history.proofs.Wholes.{others_have, locked, locked_is, takes, is_one}
-use Rattle.mem_history.proofs.Fast.{fast_legal, fast_answer, fast_counted}
+use Rattle.mem_history.proofs.Wholes.{others_have, locked, locked_is, takes}
+use Rattle.mem_history.proofs.Fast.{made_alone}
 
 -- ---- entries of a list
 
@@ -82,7 +81,7 @@ module _ (zone : Zone) (p : ℕ) (start : State) (D : State → ℕ → Action �
       subst (λ (l : State). D l e.0.seat e.0.action e.1) (sym shows.sees) (decided s e.0.seat e.0.action e.1 (zoned run) goes.1 local.own made) in
       let stays : Stays p start (state_of zone (pushed run e.0 e.1)) =
       subst (Stays p start) (sym (state_more zone run e.0 e.1))
-      (stays_on p start s (after s e.0.seat e.0.action e.1) goes.1 (stays_made s p e.0.seat e.0.action e.1 local.own shows.holds may)) in
+      (stays_on p start s (after s e.0.seat e.0.action e.1) goes.1 (stays_made s p e.0.seat e.0.action e.1 local.own)) in
       both a e steps here
       (legal_along (pushed run e.0 e.1) (after a e.0.seat e.0.action e.1) steps b
       (own_step_is_legal zone run p a e.0 e.1 shows local made.counted, stays) zoned leads.1
@@ -110,47 +109,30 @@ module _ (t : KnownTable) (run : Run) (m : KnownMachine) (cpus : List KnownCpu) 
       decides cpus c.number whole s (shows.count ∙ ap (λ (z : Zone). z.cpus) (sym (zoned ∙ zone_of_run zone run)))
       (others_have t run m cpus k c shows is_part) stays seat action answer own made.legal made.answered made.counted
 
-  -- the state after the CPU took the lock
-  abbrev held : State
-  held = record whole { hold = HeldBy c.number }
-
-  pub fast_decided : (action : Action) (answer : Answer) → is_fast action ≡ true → IsMade whole c.number action answer →
-      IsDecided (seen_together cpus c.number (local_of t m c)) c.number action answer
-  fast_decided action answer fast made =
-      let cpu : is_cpu held.zone c.number ≡ true =
-      ap (λ (z : Zone). is_cpu z c.number) (zone_of_run zone run) ∙ is_one t run m cpus k c shows is_part in
-      subst (λ (l : State). IsDecided (seen_together cpus c.number l) c.number action answer) (sym (shows.each k c is_part).sees)
-      (whole_decides held refl (record { references = λ q ne other f. refl; parts = λ q ne other. refl }) c.number action answer (inr refl) (record {
-        legal = fast_legal held whole.hold c.number action fast cpu made.legal;
-        answered = fast_answer held whole.hold c.number action answer fast made.answered;
-        counted = fast_counted held whole.hold action answer fast made.counted;
-      }))
-
 pub legal_lines_are_decided : LegalLinesAreDecided
-legal_lines_are_decided t run cpus k before steps after_visit_state shows is_part leads legal =
+legal_lines_are_decided t run cpus k before steps later shows taken leads legal =
     let zone = zone_of t in
     let m = before.machine in
     let c = before.cpu in
     let p = c.number in
     let whole = state_of zone run in
-    let lock = locked t run m cpus k c shows is_part in
+    let lock = locked t run m cpus k c shows taken.is_part in
     let start : Stays p whole (state_of zone lock) =
-    subst (Stays p whole) (sym (locked_is t run m cpus k c shows is_part)) (record { references = λ q ne other f. refl; parts = λ q ne other. refl }) in
+    subst (Stays p whole) (sym (locked_is t run m cpus k c shows taken.is_part)) (record { references = λ q ne other f. refl; lists = λ q ne other. refl }) in
     let joined : (lock ++ steps) ++ cpu_makes p Unlock Done ∷ [] ≡ run ++ under_lock p steps =
     append_assoc (run ++ cpu_makes p Lock Done ∷ []) steps (cpu_makes p Unlock Done ∷ [])
     ∙ append_assoc run (cpu_makes p Lock Done ∷ []) (steps ++ cpu_makes p Unlock Done ∷ []) in
     legal_along zone p whole (λ x seat action answer. IsDecided (seen_together cpus p x) seat action answer)
-    (λ s seat action answer zoned stays own made. whole_decides t run m cpus k c shows is_part s zoned stays seat action answer own made)
-    lock (local_of t m c) steps (local_of t after_visit_state.machine after_visit_state.cpu) (takes t run m cpus k c shows is_part, start)
-    (λ r. zone_of_run zone r ∙ sym (zone_of_run zone run)) leads.leads
+    (λ s seat action answer zoned stays own made. whole_decides t run m cpus k c shows taken.is_part s zoned stays seat action answer own made)
+    lock (local_of t m) steps (local_of t later) (takes t run cpus k before shows taken, start)
+    (λ r. zone_of_run zone r ∙ sym (zone_of_run zone run)) (subst (λ (q : ℕ). IsLocalRun q (local_of t m) steps (local_of t later)) taken.holds.who leads.leads)
     (legal_front zone (lock ++ steps) (cpu_makes p Unlock Done ∷ []) (subst (IsLegalRun zone) (sym joined) legal))
 
 pub legal_fast_steps_are_decided : LegalFastStepsAreDecided
-legal_fast_steps_are_decided t run cpus k m c action answer shows is_part fast made legal zero =
+legal_fast_steps_are_decided t run cpus k m c action answer shows is_part fast made legal =
     let zone = zone_of t in
     let allows : Allows (state_of zone run) c.number action answer = at_seam (Is zone) run (cpu_makes c.number action answer) [] legal in
-    fast_decided t run m cpus k c shows is_part action answer fast (elim (allowed (state_of zone run) c.number action answer allows) [
+    made_alone t run m cpus k c shows is_part action answer fast (elim (allowed (state_of zone run) c.number action answer allows) [
       | inl e ↦ absurd (made e)
       | inr is ↦ is
     ])
-legal_fast_steps_are_decided t run cpus k m c action answer shows is_part fast made legal (suc j) = tt

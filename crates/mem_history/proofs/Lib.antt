@@ -1,12 +1,11 @@
+pub mod Seeing
 pub mod Staying
-pub mod Covers
-pub mod Others
 pub mod Together
 pub mod Wholes
 pub mod Fast
+pub mod Deciding
 pub mod Booting
-pub mod Currents
-pub mod Promised
 pub mod Leading
 pub mod Agreeing
-pub mod Deciding
+pub mod Currents
+pub mod Promised

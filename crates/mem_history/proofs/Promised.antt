@@ -1,12 +1,11 @@
 -- The promise holds of what the machine and the parts show. Serves `the_whole_is_promised`.
-use Rattle.std.proofs.Common.{if◌then◌else◌, ◌≡◌, ℕ, ◌+◌, ◌≤◌, ◌==◌, Bool, true, false, Some, None, List, [], ◌∷◌, length, map, refl, sym, ◌∙◌, ap, subst, arith, inl, inr, zero, suc, eq-eqb}
+use Rattle.std.proofs.Common.{if◌then◌else◌, ◌≡◌, ℕ, ◌+◌, ◌-◌, ◌≤◌, ◌==◌, Bool, true, false, None, List, [], ◌∷◌, length, map, refl, sym, ◌∙◌, ap, subst, arith, inl, inr, zero, suc, eq-eqb}
 use Rattle.std.specs.Prelude.{nat_le}
-use Rattle.std.specs.List.{slice_get, range_with_len, slice_index_or}
+use Rattle.std.specs.List.{range_with_len, slice_index_or}
 use Rattle.std.specs.Option.{option_map_or}
 use Rattle.std.proofs.lemmas.Bool.{cases_lt, cases_Bool, true≢false, and_from, and_left, and_right, le-leb, leb-true, cond-true, cond-false}
 use Rattle.std.proofs.lemmas.Option.{slice_get_past}
 use Rattle.frame_word.specs.Seats.{KnownTable}
-use Rattle.stock_word.specs.Stock.{KnownStockTable, account_of}
 use Rattle.group_charge.specs.Charges.{AreCharges}
 use Rattle.zone_blocks.specs.Areas.{AreMaximalBlocks}
 use Rattle.cpu_part.specs.Cpus.{KnownCpu}
@@ -14,6 +13,7 @@ use Rattle.step_rules.specs.declared.phase.ChargedUnit.{ChargedUnit}
 use Rattle.step_rules.specs.declared.phase.Stage.{Stage}
 use Rattle.step_rules.specs.declared.phase.Way.{Way}
 use Rattle.step_rules.specs.declared.phase.Stage.TheVariants.{FreshAt, BackAt, Live}
+use Rattle.step_rules.specs.declared.phase.Way.TheVariants.{OnList}
 use Rattle.step_rules.specs.declared.phase.Phase.{Phase}
 use Rattle.step_rules.specs.declared.phase.Phase.TheVariants as phase
 use Rattle.step_rules.specs.Phases.{ListFrame, FreshFrame, has_as, keeper_of}
@@ -25,7 +25,6 @@ use Rattle.step_rules.specs.Promise.{IsShown}
 use Rattle.step_rules.specs.Views.{other_part_seen}
 use Rattle.step_rules.specs.Invariant.{PhasePaid, groups_in, KeepsInvariant}
 use Rattle.step_rules.proofs.PhaseLemmas.{listed_is, fresh_is}
-use Rattle.step_rules.proofs.CoverParts.{own_part, other_part}
 use Rattle.step_rules.proofs.Freeing.{zone_of_run}
 use Rattle.step_rules.proofs.LentTo.{frames_are_lent}
 use Rattle.step_rules.proofs.Promising.{the_promise_is_kept}
@@ -33,16 +32,15 @@ use Rattle.mem_machine.specs.declared.frame_state.FrameState.{FrameState}
 use Rattle.mem_machine.specs.declared.frame_state.FrameState.TheVariants.{Free, Lent, Head, Tail}
 use Rattle.mem_machine.specs.FrameStates as frame_states
 use Rattle.mem_machine.specs.FrameStates.{frame_state_at, free_of}
-use Rattle.mem_machine.specs.Machines.{KnownMachine, IsConsistent}
-use Rattle.mem_machine.specs.Local.{part_with}
+use Rattle.step_rules.proofs.Runs.{sound_run}
+use Rattle.boot_words.specs.Hidden.{hide_phase}
+use Rattle.mem_machine.specs.FrameStates.{phase_hidden}
+use Rattle.mem_machine.specs.Machines.{KnownMachine, IsConsistent, left_by, part_at, stock_group}
 use Rattle.mem_machine.specs.Interleaving.{zone_of}
-use Rattle.mem_history.specs.Whole.{ShowsAll, IsSeenAt}
-use Rattle.mem_history.specs.Kept.{AreTied, TheWholeIsPromised, list_by, fresh_frames_by, keeper_by, stock_by, shown_of}
-use Rattle.mem_history.proofs.Covers.{cover, plain, lent_plain}
-use Rattle.mem_history.proofs.Others.{HasOwn, has_own, own_shown, other_shown}
+use Rattle.mem_history.specs.Whole.{ShowsAll}
+use Rattle.mem_history.specs.Kept.{TheWholeIsPromised, list_by, fresh_frames_by, keeper_by, stock_by, shown_of}
 use Rattle.mem_history.proofs.Together.{there}
-use Rattle.mem_history.proofs.Wholes.{whole_sound}
-use Rattle.mem_history.proofs.Currents.{frame_state_covers, current_is}
+use Rattle.mem_history.proofs.Currents.{current_is}
 
 -- a list that has no frame is empty
 none_stands : (xs : List ℕ) → ((f : ℕ) → times f xs ≡ 0) → xs ≡ []
@@ -51,7 +49,7 @@ none_stands (x ∷ xs) none = absurd (let a = none x in let b : one_if (x == x) 
 
 -- ---- which frames are free
 
-free_covered : (y : Phase) → phases.is_free y ≡ phases.is_free (cover y)
+free_covered : (y : Phase) → phases.is_free y ≡ phases.is_free (hide_phase y)
 free_covered phase.InZone = refl
 free_covered (phase.Lent q way) = refl
 free_covered (phase.Tail g) = refl
@@ -59,7 +57,7 @@ free_covered (phase.Head u (FreshAt q)) = refl
 free_covered (phase.Head u (BackAt q)) = refl
 free_covered (phase.Head u stage) = refl
 
-free_plain : (x : FrameState) → phases.is_free (plain x) ≡ frame_states.is_free_state x
+free_plain : (x : FrameState) → phases.is_free (phase_hidden x) ≡ frame_states.is_free_state x
 free_plain Free = refl
 free_plain (Lent q) = refl
 free_plain (Head unit) = refl
@@ -75,49 +73,40 @@ free_each (x ∷ xs) F a each =
 
 -- ---- records, by their phases
 
-in_zone_plain : (x : FrameState) → phase.InZone ≡ plain x → x ≡ Free
+in_zone_plain : (x : FrameState) → phase.InZone ≡ phase_hidden x → x ≡ Free
 in_zone_plain Free e = refl
 in_zone_plain (Lent q) e = cc
 in_zone_plain (Head unit) e = cc
 in_zone_plain (Tail g) e = cc
 
-tail_plain : (x : FrameState) (g : ℕ) → phase.Tail g ≡ plain x → x ≡ Tail g
+tail_plain : (x : FrameState) (g : ℕ) → phase.Tail g ≡ phase_hidden x → x ≡ Tail g
 tail_plain Free g e = cc
 tail_plain (Lent q) g e = cc
 tail_plain (Head unit) g e = cc
 tail_plain (Tail h) g e = cc
 
-any_lent_plain : (x : FrameState) (q : ℕ) (way : Way) → phase.Lent q way ≡ plain x → x ≡ Lent q
+any_lent_plain : (x : FrameState) (q : ℕ) (way : Way) → phase.Lent q way ≡ phase_hidden x → x ≡ Lent q
 any_lent_plain Free q way e = cc
 any_lent_plain (Lent r) q way e = cc
 any_lent_plain (Head unit) q way e = cc
 any_lent_plain (Tail g) q way e = cc
 
-any_head_plain : (x : FrameState) (u : ChargedUnit) (stage : Stage) → phase.Head u stage ≡ plain x → x ≡ Head u
+any_head_plain : (x : FrameState) (u : ChargedUnit) (stage : Stage) → phase.Head u stage ≡ phase_hidden x → x ≡ Head u
 any_head_plain Free u stage e = cc
 any_head_plain (Lent r) u stage e = cc
 any_head_plain (Head unit) u stage e = cc
 any_head_plain (Tail g) u stage e = cc
 
-module _ (t : KnownTable) (w : KnownStockTable) (run : Run) (m : KnownMachine) (cpus : List KnownCpu) (shows : ShowsAll t run m cpus)
-    (is : IsConsistent t w m) (charges : AreCharges m.ledger) (tied : AreTied t w cpus) (some : 1 ≤ t.cpus) where
+module _ (t : KnownTable) (run : Run) (m : KnownMachine) (cpus : List KnownCpu) (shows : ShowsAll t run m cpus)
+    (is : IsConsistent t m) (charges : AreCharges m.ledger) where
   abbrev zone : Zone
   zone = zone_of t
 
   abbrev whole : State
   whole = state_of zone run
 
-  first : (c : KnownCpu) × (slice_get cpus 0 ≡ Some c)
-  first = there cpus 0 (let count = shows.count in omega arith)
-
   sound : KeepsInvariant whole
-  sound = whole_sound t run m cpus 0 first.0 shows first.1
-
-  seen : (k : ℕ) (d : KnownCpu) → slice_get cpus k ≡ Some d → IsSeenAt t m whole k d
-  seen k d at = shows.each k d at
-
-  has : (k : ℕ) (d : KnownCpu) → slice_get cpus k ≡ Some d → HasOwn d whole
-  has k d at = has_own t m d whole (λ z. let named = (seen k d at).number in absurd (omega arith)) (seen k d at).sees
+  sound = sound_run zone run shows.legal
 
   -- ---- a number that is no CPU's has nothing
 
@@ -154,8 +143,8 @@ module _ (t : KnownTable) (w : KnownStockTable) (run : Run) (m : KnownMachine) (
   list_is (suc k) = elim (cases_lt k (length cpus)) [
     | inl inside ↦
         let part = there cpus k inside in
-        ap (λ o. option_map_or (λ (c : KnownCpu). c.list) o []) part.1 ∙ sym (has k part.0 part.1).list
-        ∙ ap (λ (q : ℕ). (whole.parts q).list) (seen k part.0 part.1).number
+        ap (λ o. option_map_or (λ (c : KnownCpu). c.list) o []) part.1 ∙ sym (shows.each k part.0 part.1).own.list
+        ∙ ap (λ (q : ℕ). (whole.parts q).list) (shows.each k part.0 part.1).number
     | inr past ↦ ap (λ o. option_map_or (λ (c : KnownCpu). c.list) o []) (slice_get_past cpus k past) ∙ sym (nobody_listed (suc k) (past_no k past))
   ]
 
@@ -164,61 +153,49 @@ module _ (t : KnownTable) (w : KnownStockTable) (run : Run) (m : KnownMachine) (
   fresh_is_by (suc k) = elim (cases_lt k (length cpus)) [
     | inl inside ↦
         let part = there cpus k inside in
-        ap (λ o. option_map_or (λ (c : KnownCpu). c.fresh) o []) part.1 ∙ sym (has k part.0 part.1).fresh
-        ∙ ap (λ (q : ℕ). (whole.parts q).fresh) (seen k part.0 part.1).number
+        ap (λ o. option_map_or (λ (c : KnownCpu). c.fresh) o []) part.1 ∙ sym (shows.each k part.0 part.1).own.fresh
+        ∙ ap (λ (q : ℕ). (whole.parts q).fresh) (shows.each k part.0 part.1).number
     | inr past ↦ ap (λ o. option_map_or (λ (c : KnownCpu). c.fresh) o []) (slice_get_past cpus k past) ∙ sym (nobody_fresh (suc k) (past_no k past))
   ]
 
-  -- the stock of a number that is no CPU's
-  nobody_stock : (p : ℕ) → is_cpu zone p ≡ false → (p ≡ first.0.number → ⊥) → stock_by m cpus p ≡ (whole.parts p).stock
-  nobody_stock p nobody far =
-      let fresh : fresh_frames_by cpus p ≡ [] = fresh_is_by p ∙ nobody_fresh p nobody in
-      let e : part_with [] [] [] (account_of m.stock_seat.view p) ≡ other_part_seen (whole.parts p) =
-      sym (other_shown t m first.0 p far) ∙ ap (λ (x : State). x.parts p) (seen 0 first.0 first.1).sees ∙ other_part first.0.number whole.parts p far in
-      let long : length (whole.parts p).fresh ≡ 0 = ap length (nobody_fresh p nobody) in
-      let pages : (other_part_seen (whole.parts p)).stock.pages ≡ (whole.parts p).stock.pages = omega arith in
-      ap (λ (l : List ℕ). (part_with [] l [] (account_of m.stock_seat.view p)).stock) fresh ∙ ap (λ (x : Part). x.stock) e
-      ∙ (λ i. record ((whole.parts p).stock) { pages = pages i })
+  part_left : (p : ℕ) → (left_by t m.run.past).parts p ≡ other_part_seen (whole.parts p)
+  part_left p = ap (λ (s : State). s.parts p) shows.left
 
-  stock_is : (p : ℕ) → stock_by m cpus p ≡ (whole.parts p).stock
-  stock_is zero = nobody_stock 0 zero_no (λ z. let named = (seen 0 first.0 first.1).number in absurd (omega arith))
-  stock_is (suc k) = elim (cases_lt k (length cpus)) [
-    | inl inside ↦
-        let part = there cpus k inside in
-        let d = part.0 in
-        let named = (seen k d part.1).number in
-        let e : part_with d.list d.fresh d.back (account_of m.stock_seat.view (suc k)) ≡ whole.parts (suc k) =
-        sym (own_shown t m d (suc k) (sym named)) ∙ ap (λ (x : State). x.parts (suc k)) (seen k d part.1).sees
-        ∙ own_part d.number whole.parts (suc k) (sym named) in
-        ap (λ (l : List ℕ). (part_with [] l [] (account_of m.stock_seat.view (suc k))).stock) (ap (λ o. option_map_or (λ (c : KnownCpu). c.fresh) o []) part.1)
-        ∙ ap (λ (x : Part). x.stock) e
-    | inr past ↦ nobody_stock (suc k) (past_no k past) (λ z. let named = (seen 0 first.0 first.1).number in let count = shows.count in absurd (omega arith))
-  ]
+  stock_is : (p : ℕ) → stock_by t m cpus p ≡ (whole.parts p).stock
+  stock_is p =
+      let seen = ap (λ (x : Part). x.stock.pages) (part_left p) in
+      let fresh = ap length (fresh_is_by p) in
+      let pages : (part_at t m p).stock.pages - length (fresh_frames_by cpus p) ≡ (whole.parts p).stock.pages = omega (arith, seen, fresh) in
+      λ i. record {
+        group = ap (λ (x : Part). x.stock.group) (part_left p) i;
+        pages = pages i;
+        is_drained = ap (λ (x : Part). x.stock.is_drained) (part_left p) i;
+      }
 
   -- ---- keepers
 
   fresh_times : (f p : ℕ) → times f (fresh_frames_by cpus p) ≡ one_if (has_as FreshFrame p (whole.phases f))
   fresh_times f p = ap (times f) (fresh_is_by p) ∙ sound.lists p FreshFrame f
 
-  lent_keeper : (f p : ℕ) (b : Bool) → has_as FreshFrame p (whole.phases f) ≡ b → keeper_by m cpus f (Lent p) ≡ (if b then (account_of m.stock_seat.view p).group else None)
+  lent_keeper : (f p : ℕ) (b : Bool) → has_as FreshFrame p (whole.phases f) ≡ b → keeper_by t m cpus f (Lent p) ≡ (if b then stock_group t m p else None)
   lent_keeper f p true e = cond-true _ _ _ (le-leb 1 (times f (fresh_frames_by cpus p)) (let a = fresh_times f p in let b = ap one_if e in omega arith))
   lent_keeper f p false e = cond-false _ _ _ (ap (nat_le 1) (fresh_times f p ∙ ap one_if e))
 
-  keeper_is : (f : ℕ) (x : FrameState) (y : Phase) → whole.phases f ≡ y → cover y ≡ plain x → keeper_by m cpus f x ≡ keeper_of y
-  keeper_is f x phase.InZone e same = ap (keeper_by m cpus f) (in_zone_plain x same)
-  keeper_is f x (phase.Tail g) e same = ap (keeper_by m cpus f) (tail_plain x g same)
+  keeper_is : (f : ℕ) (x : FrameState) (y : Phase) → whole.phases f ≡ y → hide_phase y ≡ phase_hidden x → keeper_by t m cpus f x ≡ keeper_of y
+  keeper_is f x phase.InZone e same = ap (keeper_by t m cpus f) (in_zone_plain x same)
+  keeper_is f x (phase.Tail g) e same = ap (keeper_by t m cpus f) (tail_plain x g same)
   keeper_is f x (phase.Lent q way) e same =
-      ap (keeper_by m cpus f) (any_lent_plain x q way same) ∙ lent_keeper f q false (ap (has_as FreshFrame q) e)
+      ap (keeper_by t m cpus f) (any_lent_plain x q way same) ∙ lent_keeper f q false (ap (has_as FreshFrame q) e)
   keeper_is f x (phase.Head u (FreshAt q)) e same =
       let paid : PhasePaid whole.zone.cpus (groups_in whole.parts) (phase.Head u (FreshAt q)) =
       subst (PhasePaid whole.zone.cpus (groups_in whole.parts)) e (sound.frames f).paid in
-      ap (keeper_by m cpus f) (lent_plain x q same) ∙ lent_keeper f q true (ap (has_as FreshFrame q) e ∙ eq-eqb q q refl)
+      ap (keeper_by t m cpus f) (any_lent_plain x q OnList same) ∙ lent_keeper f q true (ap (has_as FreshFrame q) e ∙ eq-eqb q q refl)
       ∙ ap (λ (s : Stock). s.group) (stock_is q) ∙ paid.group
-  keeper_is f x (phase.Head u (BackAt q)) e same = ap (keeper_by m cpus f) (any_head_plain x u Live same)
-  keeper_is f x (phase.Head u stage) e same = ap (keeper_by m cpus f) (any_head_plain x u stage same)
+  keeper_is f x (phase.Head u (BackAt q)) e same = ap (keeper_by t m cpus f) (any_head_plain x u Live same)
+  keeper_is f x (phase.Head u stage) e same = ap (keeper_by t m cpus f) (any_head_plain x u stage same)
 
-  covers_at : (f : ℕ) → cover (whole.phases f) ≡ plain (frame_state_at m.frame_states f)
-  covers_at = frame_state_covers t m first.0 whole (seen 0 first.0 first.1).sees
+  covers_at : (f : ℕ) → hide_phase (whole.phases f) ≡ phase_hidden (frame_state_at m.frame_states f)
+  covers_at f = sym (ap (λ (s : State). s.phases f) shows.left) ∙ is.shown.phases f
 
   free_is : free_in whole.zone whole.phases ≡ free_of m.frame_states
   free_is =
@@ -231,16 +208,16 @@ module _ (t : KnownTable) (w : KnownStockTable) (run : Run) (m : KnownMachine) (
       the_same : (i j : ℕ) → 0 + i ≡ j → i ≡ j
       the_same i j e = omega arith
 
-  pub is_shown : IsShown whole (shown_of m cpus)
+  pub is_shown : IsShown whole (shown_of t m cpus)
   is_shown = record {
     areas = subst (λ (free : List Bool). AreMaximalBlocks free m.blocks) (sym free_is) is.areas;
     lists = list_is;
     keeper = λ f. keeper_is f (frame_state_at m.frame_states f) (whole.phases f) refl (covers_at f);
-    groups = ap (λ (x : State). x.groups) (seen 0 first.0 first.1).sees;
+    groups = sym is.shown.groups ∙ ap (λ (s : State). s.groups) shows.left;
     stocks = stock_is;
-    current = λ g known. current_is t w run m cpus 0 first.0 shows first.1 is (tied 0 first.0 first.1) charges g;
+    current = λ g known. current_is t run m cpus shows is charges g;
   }
 
 pub the_whole_is_promised : TheWholeIsPromised
-the_whole_is_promised t w run m cpus shows is charges tied some =
-    the_promise_is_kept (zone_of t) run (shown_of m cpus) shows.legal shows.free (is_shown t w run m cpus shows is charges tied some)
+the_whole_is_promised t run m cpus shows is charges =
+    the_promise_is_kept (zone_of t) run (shown_of t m cpus) shows.legal shows.free (is_shown t run m cpus shows is charges)

@@ -4,13 +4,12 @@ use Rattle.std.proofs.Common.{◌≡◌, ℕ, ◌+◌, ◌-◌, ◌<◌, ◌≤�
 use Rattle.std.specs.List.{slice_get}
 use Rattle.std.specs.Option.{option_map_or}
 use Rattle.std.proofs.lemmas.Bool.{cases_eq, ne_eqb, eq-eqb, cond-true, cond-false, or_right, or_from}
-use Rattle.frame_word.specs.Seats.{seat_references}
 use Rattle.cpu_part.specs.Cpus.{KnownCpu}
 use Rattle.step_rules.specs.declared.step.Action.{Action}
 use Rattle.step_rules.specs.declared.step.Action.TheVariants.{Get, Put, Freeze, DrainStock, Consume, Credit}
 use Rattle.step_rules.specs.declared.step.Answer.{Answer}
 use Rattle.step_rules.specs.declared.step.Answer.TheVariants.{Done, Left, Last, Missed, Pages, Took, Empty, OtherGroup, Drained, Stocked}
-use Rattle.step_rules.specs.State.{State, Part, is_cpu, live_references}
+use Rattle.step_rules.specs.State.{State, Part, is_cpu, live_references, times}
 use Rattle.step_rules.specs.Legal.{is_legal, IsAnswer, IsCounted, get_answer}
 use Rattle.step_rules.specs.Views.{other_part_seen, seen_by}
 use Rattle.step_rules.specs.Reaches.{is_own}
@@ -18,7 +17,7 @@ use Rattle.step_rules.proofs.Sums.{sum_same}
 use Rattle.step_rules.proofs.SoundSteps.{cpu_range}
 use Rattle.step_rules.proofs.CoverParts.{own_part, other_part, own_reference}
 use Rattle.mem_history.specs.Whole.{IsDecided, seen_together, references_by, fresh_by}
-use Rattle.mem_history.proofs.Staying.{Owned, Stays}
+use Rattle.mem_history.proofs.Staying.{Stays}
 
 -- an entry of a list that is long enough
 pub there : {X : Type 0} (xs : List X) (k : ℕ) → k < length xs → (x : X) × (slice_get xs k ≡ Some x)
@@ -28,7 +27,7 @@ there (x ∷ xs) (suc k) h = there xs k (omega arith)
 
 -- a part has what the state has of its CPU
 pub record HasPart (s : State) (k : ℕ) (d : KnownCpu) : Type 0 where
-  pub references : (f : ℕ) → s.references (suc k) f ≡ seat_references d.frame_seat f
+  pub references : (f : ℕ) → s.references (suc k) f ≡ times f d.pins
   pub fresh : (s.parts (suc k)).fresh ≡ d.fresh
 
 decided_counted : (s : State) (seat : ℕ) (action : Action) (answer : Answer) → IsDecided s seat action answer → IsCounted s action answer
@@ -86,7 +85,7 @@ module _ (cpus : List KnownCpu) (p : ℕ) (start s : State) (count : length cpus
         let part = there cpus k (omega arith) in
         cond-false (is_own p (suc k)) _ (references_by cpus (suc k) f)
         (or_from (suc k == 0) (suc k == p) (ne_eqb (suc k) 0 (λ z. absurd (omega arith))) (ne_eqb (suc k) p ne))
-        ∙ ap (λ o. option_map_or (λ (c : KnownCpu). seat_references c.frame_seat f) o 0) part.1
+        ∙ ap (λ o. option_map_or (λ (c : KnownCpu). times f c.pins) o 0) part.1
         ∙ sym ((known k part.0 part.1).references f) ∙ sym (stays.references (suc k) (λ z. absurd (omega arith)) ne f)
   ]
 
@@ -104,7 +103,7 @@ module _ (cpus : List KnownCpu) (p : ℕ) (start s : State) (count : length cpus
         let part = there cpus k (omega arith) in
         let fresh : fresh_by cpus (suc k) ≡ length (s.parts (suc k)).fresh =
         ap (λ o. option_map_or (λ (c : KnownCpu). length c.fresh) o 0) part.1
-        ∙ sym (ap length (ap (λ (o : Owned). o.fresh) (stays.parts (suc k) (λ z. absurd (omega arith)) ne) ∙ (known k part.0 part.1).fresh)) in
+        ∙ sym (ap length (ap (λ x. x.1.0) (stays.lists (suc k) (λ z. absurd (omega arith)) ne) ∙ (known k part.0 part.1).fresh)) in
         let seen : (together.parts (suc k)).stock.pages ≡ (other_part_seen (s.parts (suc k))).stock.pages - fresh_by cpus (suc k) =
         ap (λ (x : Part). x.stock.pages) (cond-false (suc k == p) _ _ (ne_eqb (suc k) p ne))
         ∙ ap (λ (x : Part). x.stock.pages - fresh_by cpus (suc k)) (other_part p s.parts (suc k) ne) in

@@ -1,46 +1,41 @@
 -- A line under the lock carries the whole on. Serves `lines_follow`.
-use Rattle.std.proofs.Common.{◌≡◌, ℕ, ◌<◌, ◌==◌, ◌&&◌, ◌||◌, Bool, true, false, cond, Some, List, [], ◌∷◌, ◌++◌, length, refl, sym, ◌∙◌, ap, subst, arith, inl, inr, suc}
-use Rattle.std.specs.Prelude.{slice_index, slice_set, nat_le, not}
+use Rattle.std.proofs.Common.{◌≡◌, ℕ, ◌<◌, true, Some, List, [], ◌∷◌, ◌++◌, length, refl, sym, ◌∙◌, ap, subst, arith, inl, inr, suc}
+use Rattle.std.specs.Prelude.{slice_set, nat_le}
 use Rattle.std.specs.List.{slice_get}
-use Rattle.std.proofs.lemmas.Bool.{cases_eq, eq-eqb, and_from, le-leb}
+use Rattle.std.proofs.lemmas.Bool.{cases_eq, and_from, le-leb}
 use Rattle.std.proofs.lemmas.List.{append_assoc, length-set, get_or-set_same, get_or-set_other}
 use Rattle.std.proofs.lemmas.Option.{slice_get_within, get_or_from_slice_get, slice_get-get_or}
-use Rattle.frame_word.specs.Seats.{KnownTable, IsShut}
+use Rattle.frame_word.specs.Seats.{KnownTable}
 use Rattle.cpu_part.specs.Cpus.{KnownCpu}
-use Rattle.step_rules.specs.declared.phase.ChargedUnit.{ChargedUnit}
-use Rattle.step_rules.specs.declared.phase.Hold.{Hold}
-use Rattle.step_rules.specs.declared.phase.Hold.TheVariants.{Unheld, HeldBy, Visiting}
-use Rattle.step_rules.specs.declared.phase.Way.TheVariants.{OnList}
-use Rattle.step_rules.specs.declared.phase.Stage.TheVariants.{FreshAt, Live, BackAt}
-use Rattle.step_rules.specs.declared.phase.Phase.TheVariants as phase
+use Rattle.cpu_part.specs.Known.{HasOwn}
+use Rattle.cpu_part.proofs.Owning.{own_same, own_unseen}
+use Rattle.step_rules.specs.declared.phase.Hold.TheVariants.{Unheld, HeldBy}
 use Rattle.step_rules.specs.declared.step.Action.{Action}
 use Rattle.step_rules.specs.declared.step.Action.TheVariants.{Lock, Unlock}
 use Rattle.step_rules.specs.declared.step.Answer.{Answer}
 use Rattle.step_rules.specs.declared.step.Answer.TheVariants.{Done}
-use Rattle.step_rules.specs.Phases.{is_passing}
-use Rattle.step_rules.specs.State.{Zone, State, is_cpu, is_held_by, times}
-use Rattle.step_rules.specs.Legal.{IsCounted, is_legal, no_page_pends, no_frame_passes}
-use Rattle.step_rules.specs.After.{Run, state_of, IsLegalRun}
-use Rattle.step_rules.specs.Views.{holds_lock, seen_by}
+use Rattle.step_rules.specs.State.{Zone, State, is_cpu, is_unheld}
+use Rattle.step_rules.specs.Legal.{IsCounted, is_legal}
+use Rattle.step_rules.specs.After.{Run, after, state_of, IsLegalRun}
+use Rattle.step_rules.specs.Views.{seen_by}
 use Rattle.step_rules.specs.Laws.{ShowsLocal, pushed}
 use Rattle.step_rules.specs.Seen.{IsFreeAfter}
+use Rattle.step_rules.specs.Reaches.{IsLocalRun}
 use Rattle.step_rules.specs.Invariant.{KeepsInvariant}
-use Rattle.step_rules.proofs.PhaseLemmas.{equal_test}
-use Rattle.step_rules.proofs.Sums.{all_each}
 use Rattle.step_rules.proofs.Runs.{sound_run, state_more}
 use Rattle.step_rules.proofs.Freeing.{zone_of_run}
 use Rattle.step_rules.proofs.Seeing.{the_lock_is_passed_on}
-use Rattle.mem_machine.specs.declared.frame_state.FrameState.{FrameState}
-use Rattle.mem_machine.specs.declared.frame_state.FrameState.TheVariants.{Free, Lent, Head, Tail}
-use Rattle.mem_machine.specs.FrameStates.{frame_state_at}
-use Rattle.mem_machine.specs.Machines.{KnownMachine}
-use Rattle.mem_machine.specs.Local.{local_of, phase_of, group_of_fresh, hold_of_cpu}
-use Rattle.mem_machine.specs.Interleaving.{zone_of}
+use Rattle.boot_words.specs.Hidden.{hide}
+use Rattle.boot_words.specs.Runs.{HasNoStepOf}
+use Rattle.boot_words.proofs.Owning.{lists_are_own}
+use Rattle.mem_machine.specs.Machines.{KnownMachine, VisitState, left_by}
+use Rattle.mem_machine.specs.Local.{lock_holder, local_of}
+use Rattle.mem_machine.specs.Interleaving.{zone_of, Shows}
 use Rattle.mem_machine.specs.Steps.{cpu_makes}
-use Rattle.mem_machine.proofs.Holds.{hold_shut}
-use Rattle.mem_history.specs.Whole.{IsSeenAt, ShowsAll, IsDecided, seen_together, under_lock, LinesFollow, TheHolderIsShown}
+use Rattle.mem_machine.proofs.Sight.{hide_seen, left_seen}
+use Rattle.mem_history.specs.Whole.{HasTakenLock, IsDecided, IsPartAt, LeavesState, LinesFollow, ShowsAll, TheHolderIsShown, TheSameIsShown, seen_together, under_lock}
+use Rattle.mem_history.proofs.Seeing.{leaves, sees_whole}
 use Rattle.mem_history.proofs.Staying.{Stays, run_on}
-use Rattle.mem_history.proofs.Others.{has_own, own_stays, others_see}
 use Rattle.mem_history.proofs.Together.{HasPart, counts}
 
 -- ---- lists of parts
@@ -54,33 +49,6 @@ set_else xs k j x y ne e =
     let below = slice_get_within (slice_set xs k x) j y e in
     let long = length-set xs k x in
     slice_get-get_or xs j y (omega arith) ∙ ap Some (sym (get_or-set_other xs k j x y ne) ∙ get_or_from_slice_get (slice_set xs k x) j y y e)
-
--- ---- who may unlock
-
-lent_still : (b : Bool) (u : ChargedUnit) (q : ℕ) → is_passing (cond b (phase.Head u (FreshAt q)) (phase.Lent q OnList)) ≡ false
-lent_still true u q = refl
-lent_still false u q = refl
-
-head_still : (b : Bool) (u : ChargedUnit) (q : ℕ) → is_passing (cond b (phase.Head u (BackAt q)) (phase.Head u Live)) ≡ false
-head_still true u q = refl
-head_still false u q = refl
-
-phase_still : (c : KnownCpu) (f : ℕ) (x : FrameState) → is_passing (phase_of c f x) ≡ false
-phase_still c f Free = refl
-phase_still c f (Lent q) = lent_still (q == c.number && nat_le 1 (times f c.fresh)) (record { group = group_of_fresh c; order = 0 }) q
-phase_still c f (Head unit) = head_still (nat_le 1 (times f c.back)) unit c.number
-phase_still c f (Tail g) = refl
-
-pub may_unlock : (t : KnownTable) (m : KnownMachine) (c : KnownCpu) → is_cpu (zone_of t) c.number ≡ true → IsShut m.frame_seat c.number →
-    is_legal (local_of t m c) c.number Unlock ≡ true
-may_unlock t m c cpu shut =
-    let s = local_of t m c in
-    let held : is_held_by c.number (hold_of_cpu m.frame_seat c.number) ≡ true =
-    ap (is_held_by c.number) (hold_shut m.frame_seat c.number shut) ∙ eq-eqb c.number c.number refl in
-    let settled : no_page_pends s ≡ true = all_each 64 (λ g. s.pending g == 0) (λ g below. eq-eqb (s.pending g) 0 refl) in
-    let still : no_frame_passes s ≡ true =
-    all_each t.frames (λ f. not (is_passing (s.phases f))) (λ f below. ap not (phase_still c f (frame_state_at m.frame_states f))) in
-    and_from _ _ (and_from _ _ (and_from _ _ cpu held) settled) still
 
 -- ---- the whole, by one part
 
@@ -108,14 +76,17 @@ module _ (t : KnownTable) (run : Run) (m : KnownMachine) (cpus : List KnownCpu) 
   pub whole_sound : KeepsInvariant whole
   whole_sound = sound_run zone run shows.legal
 
+  -- each has its lists and pins
+  pub has_own : (j : ℕ) (d : KnownCpu) → slice_get cpus j ≡ Some d → HasOwn whole d
+  has_own j d at = (shows.each j d at).own
+
   -- what the others have
   pub others_have : (j : ℕ) (d : KnownCpu) → slice_get cpus j ≡ Some d → HasPart whole j d
   others_have j d at =
       let seen = shows.each j d at in
-      let own = has_own t m d whole (λ z. let named = seen.number in absurd (omega arith)) seen.sees in
       record {
-        references = λ f. ap (λ (q : ℕ). whole.references q f) (sym seen.number) ∙ own.references f;
-        fresh = ap (λ (q : ℕ). (whole.parts q).fresh) (sym seen.number) ∙ own.fresh;
+        references = λ f. ap (λ (q : ℕ). whole.references q f) (sym seen.number) ∙ seen.own.references f;
+        fresh = ap (λ (q : ℕ). (whole.parts q).fresh) (sym seen.number) ∙ seen.own.fresh;
       }
 
   abbrev pub locked : Run
@@ -124,13 +95,6 @@ module _ (t : KnownTable) (run : Run) (m : KnownMachine) (cpus : List KnownCpu) 
   pub locked_is : state_of zone locked ≡ record whole { hold = HeldBy c.number }
   locked_is = state_more zone run (record { seat = c.number; action = Lock }) Done
 
-  -- the CPU takes the lock, and sees what the machine shows it
-  pub takes : ShowsLocal zone locked c.number (local_of t m c)
-  takes =
-      let zoned : is_cpu whole.zone c.number ≡ true = ap (λ (z : Zone). is_cpu z c.number) (zone_of_run zone run) ∙ is_one in
-      let may : is_legal whole c.number Lock ≡ true = and_from _ _ zoned shows.free in
-      subst (ShowsLocal zone locked c.number) (sym (shows.each k c is_part).sees) (the_lock_is_passed_on.taken zone run c.number shows.legal may)
-
   -- what the parts decide together, the state counts
   pub decided_count : (s : State) → s.zone ≡ whole.zone → Stays c.number whole s → (seat : ℕ) → (action : Action) → (answer : Answer) →
       is_legal s seat action ≡ true → IsDecided (seen_together cpus c.number (seen_by c.number s)) seat action answer → IsCounted s action answer
@@ -138,85 +102,124 @@ module _ (t : KnownTable) (run : Run) (m : KnownMachine) (cpus : List KnownCpu) 
       let sized : length cpus ≡ s.zone.cpus = shows.count ∙ ap (λ (z : Zone). z.cpus) (sym (zoned ∙ zone_of_run zone run)) in
       counts cpus c.number whole s sized others_have stays
 
-  -- each other part sees what it would see
-  pub others_follow : (n : KnownMachine) (d : KnownCpu) (later : Run) (s : State) (hold : Hold) → d.number ≡ c.number → IsLegalRun zone later →
-      state_of zone later ≡ s → Stays c.number whole s →
-      ((j : ℕ) (e : KnownCpu) → slice_get cpus j ≡ Some e → hold_of_cpu n.frame_seat e.number ≡ HeldBy e.number) → local_of t n d ≡ seen_by d.number (record s { hold = hold }) →
-      (j : ℕ) (e : KnownCpu) → slice_get (slice_set cpus k d) j ≡ Some e → (j ≡ k → ⊥) → IsSeenAt t n s j e
-  others_follow n d later s hold named legal is stays held sees j e at ne =
-      let in_list = set_else cpus k j d e ne at in
-      let was = shows.each j e in_list in
-      let some : e.number ≡ 0 → ⊥ = λ z. let a = was.number in absurd (omega arith) in
-      let far : e.number ≡ c.number → ⊥ = λ z. let a = was.number in let b = part_number in ne (omega arith) in
-      let sound : KeepsInvariant s = subst KeepsInvariant is (sound_run zone later legal) in
-      record {
-        number = was.number;
-        sees = others_see t n d e s sound (own_stays e c.number whole s some far whole_sound sound stays (has_own t m e whole some was.sees))
-            some (λ z. far (z ∙ named)) (held j e in_list) hold sees;
-      }
+  -- others' parts are what they were after steps that are none of theirs
+  pub others_keep : (rest : Run) → ((q : ℕ) → (q ≡ 0 → ⊥) → (q ≡ c.number → ⊥) → HasNoStepOf q rest) → (j : ℕ) (e : KnownCpu)
+      → slice_get cpus j ≡ Some e → (j ≡ k → ⊥) → IsPartAt (state_of zone (run ++ rest)) j e
+  others_keep rest none j e at ne =
+      let was = shows.each j e at in
+      let named = part_number in let number = was.number in
+      let some : e.number ≡ 0 → ⊥ = λ z. absurd (omega (arith, number, z)) in
+      let far : e.number ≡ c.number → ⊥ = λ z. ne (omega (arith, number, named, z)) in
+      let same = lists_are_own zone run (run ++ rest) e.number some (record { rest = rest; is = refl; others = none e.number some far }) in
+      record { number = was.number; own = own_same whole e was.own (state_of zone (run ++ rest)) same }
+
+-- ---- the lock is taken
+
+module _ (t : KnownTable) (run : Run) (cpus : List KnownCpu) (k : ℕ) (now : VisitState) (shows : ShowsAll t run now.machine cpus)
+    (taken : HasTakenLock t cpus k now) where
+  -- the CPU sees what the run shows it
+  pub takes : ShowsLocal (zone_of t) (locked t run now.machine cpus k now.cpu shows taken.is_part) now.cpu.number (local_of t now.machine)
+  takes =
+      let zone = zone_of t in let c = now.cpu in let whole = state_of zone run in
+      let lock = locked t run now.machine cpus k c shows taken.is_part in
+      let lock_is = locked_is t run now.machine cpus k c shows taken.is_part in
+      let zoned : is_cpu whole.zone c.number ≡ true = ap (λ (z : Zone). is_cpu z c.number) (zone_of_run zone run) ∙ is_one t run now.machine cpus k c shows taken.is_part in
+      let may : is_legal whole c.number Lock ≡ true = and_from _ _ zoned shows.free in
+      let takes = the_lock_is_passed_on.taken zone run c.number shows.legal may in
+      let own = has_own t run now.machine cpus k c shows taken.is_part k c taken.is_part in
+      let sees : local_of t now.machine ≡ seen_by c.number (state_of zone lock) =
+      sees_whole t lock cpus k now taken takes.legal
+      (subst (LeavesState t now.machine) (sym lock_is) shows.left)
+      (subst (λ (x : State). HasOwn x c) (sym lock_is) (record { list = own.list; fresh = own.fresh; back = own.back; references = own.references }))
+      (lock_is ∙ ap (λ (x : State). record x { hold = HeldBy c.number }) (sym lock_is)) in
+      record { legal = takes.legal; holds = takes.holds; sees = sees }
+
+pub the_same_is_shown : TheSameIsShown
+the_same_is_shown t run m other cpus shows same = record {
+  legal = shows.legal;
+  free = shows.free;
+  left = same ∙ ap (λ (s : State). record s { hold = (left_by t other.run.past).hold }) shows.left;
+  count = shows.count;
+  each = shows.each;
+}
+
+holder_shown : (t : KnownTable) (run : Run) (m : KnownMachine) (p : ℕ) → lock_holder m ≡ p → ShowsLocal (zone_of t) run p (local_of t m) → Shows t run m
+holder_shown t run m p who = subst (λ (q : ℕ). ShowsLocal (zone_of t) run q (local_of t m)) (sym who)
 
 pub the_holder_is_shown : TheHolderIsShown
-the_holder_is_shown t run m cpus k c shows is_part = takes t run m cpus k c shows is_part
+the_holder_is_shown t run cpus k now shows taken =
+    holder_shown t (run ++ cpu_makes now.cpu.number Lock Done ∷ []) now.machine now.cpu.number taken.holds.who (takes t run cpus k now shows taken)
 
-only_holder : (p q : ℕ) (b : Bool) → holds_lock p (cond b (Visiting q) (HeldBy q)) ≡ true → q ≡ p
-only_holder p q true holds = equal_test q p holds
-only_holder p q false holds = equal_test q p (sym (or_right_false (q == p)) ∙ holds)
-  where
-    or_right_false : (b : Bool) → (b || false) ≡ b
-    or_right_false true = refl
-    or_right_false false = refl
+-- ---- a line
+
+none_both : (q : ℕ) (xs ys : Run) → HasNoStepOf q xs → HasNoStepOf q ys → HasNoStepOf q (xs ++ ys)
+none_both q [] ys none rest = rest
+none_both q (e ∷ xs) ys none rest = (none.0, none_both q xs ys none.1 rest)
+
+-- local steps of p are none of others'
+none_of : (p : ℕ) (a : State) (steps : Run) (b : State) → IsLocalRun p a steps b → (q : ℕ) → (q ≡ 0 → ⊥) → (q ≡ p → ⊥) → HasNoStepOf q steps
+none_of p a [] b leads q some far = tt
+none_of p a (e ∷ steps) b leads q some far = (
+  λ is. elim leads.0.own [
+    | inl z ↦ some (sym is ∙ z)
+    | inr own ↦ far (sym is ∙ own)
+  ],
+  none_of p (after a e.0.seat e.0.action e.1) steps b leads.1 q some far,
+)
+
+-- all parts after the part at index k became d
+pub parts_after : (s : State) (cpus : List KnownCpu) (k : ℕ) (c d : KnownCpu) → slice_get cpus k ≡ Some c → d.number ≡ suc k → HasOwn s d
+    → ((j : ℕ) (e : KnownCpu) → slice_get cpus j ≡ Some e → (j ≡ k → ⊥) → IsPartAt s j e)
+    → (j : ℕ) (e : KnownCpu) → slice_get (slice_set cpus k d) j ≡ Some e → IsPartAt s j e
+parts_after s cpus k c d is_part number own others j e at = elim (cases_eq j k) [
+  | inl here ↦
+      let is : e ≡ d = set_here cpus k d e (slice_get_within cpus k c is_part) (subst (λ (i : ℕ). slice_get (slice_set cpus k d) i ≡ Some e) here at) in
+      subst (λ (x : KnownCpu). IsPartAt s j x) (sym is) (record { number = number ∙ ap suc (sym here); own = own })
+  | inr ne ↦ others j e (set_else cpus k j d e ne at) ne
+]
 
 pub lines_follow : LinesFollow
-lines_follow t run cpus k before steps after shows serves =
+lines_follow t run cpus k before steps later shows serves =
     let zone = zone_of t in
     let m = before.machine in
-    let n = after.machine in
+    let n = later.machine in
     let c = before.cpu in
-    let d = after.cpu in
+    let d = later.cpu in
     let p = c.number in
+    let is_part = serves.taken.is_part in
     let whole = state_of zone run in
-    let lock = locked t run m cpus k c shows serves.is_part in
-    let lock_is = locked_is t run m cpus k c shows serves.is_part in
-    let start : Stays p whole (state_of zone lock) = subst (Stays p whole) (sym lock_is) (from_whole p whole (HeldBy p)) in
+    let lock = locked t run m cpus k c shows is_part in
+    let lock_is = locked_is t run m cpus k c shows is_part in
+    let took = takes t run cpus k before shows serves.taken in
+    let start : Stays p whole (state_of zone lock) =
+    subst (Stays p whole) (sym lock_is) (record { references = λ q ne other f. refl; lists = λ q ne other. refl }) in
+    let leads : IsLocalRun p (local_of t m) steps (local_of t n) =
+    subst (λ (q : ℕ). IsLocalRun q (local_of t m) steps (local_of t n)) serves.taken.holds.who serves.leads.leads in
     let goes = run_on zone p whole (λ x seat action answer. IsDecided (seen_together cpus p x) seat action answer)
-    (λ s seat action answer zoned stays legal decided. decided_count t run m cpus k c shows serves.is_part s zoned stays seat action answer legal decided)
-    lock (local_of t m c) steps (local_of t n d) (takes t run m cpus k c shows serves.is_part, start)
-    (λ r. zone_of_run zone r ∙ sym (zone_of_run zone run)) serves.leads.leads serves.decided in
+    (λ s seat action answer zoned stays legal decided. decided_count t run m cpus k c shows is_part s zoned stays seat action answer legal decided)
+    lock (local_of t m) steps (local_of t n) (took, start) (λ r. zone_of_run zone r ∙ sym (zone_of_run zone run)) leads serves.decided in
     let made : Run = lock ++ steps in
     let last = state_of zone made in
-    let number : d.number ≡ p =
-    only_holder p d.number (slice_index n.frame_seat.view.opened d.number == 1) (ap (λ (x : State). holds_lock p x.hold) goes.0.sees ∙ goes.0.holds) in
-    let free : IsFreeAfter zone (pushed made (record { seat = p; action = Unlock }) Done) =
-    the_lock_is_passed_on.given_back zone made p (local_of t n d) goes.0
-    (subst (λ (q : ℕ). is_legal (local_of t n d) q Unlock ≡ true) number
-    (may_unlock t n d (subst (λ (q : ℕ). is_cpu zone q ≡ true) (sym number) (is_one t run m cpus k c shows serves.is_part))
-    (serves.shut d.number))) in
+    let number : d.number ≡ p = sym serves.holds.who ∙ serves.leads.holder ∙ serves.taken.holds.who in
     let done : Run = pushed made (record { seat = p; action = Unlock }) Done in
+    let free : IsFreeAfter zone done = the_lock_is_passed_on.given_back zone made p (local_of t n) goes.0
+    (subst (λ (q : ℕ). is_legal (local_of t n) q Unlock ≡ true) number serves.may_release) in
     let done_is : state_of zone done ≡ record last { hold = Unheld } = state_more zone made (record { seat = p; action = Unlock }) Done in
-    let held : last.hold ≡ HeldBy p =
-    sym (ap (λ (x : State). x.hold) goes.0.sees) ∙ hold_shut n.frame_seat d.number (serves.shut d.number) ∙ ap HeldBy number in
-    let sees : local_of t n d ≡ seen_by d.number (record (record last { hold = Unheld }) { hold = HeldBy d.number }) =
-    goes.0.sees ∙ (λ i. seen_by (sym number i) (record last { hold = (held ∙ ap HeldBy (sym number)) i })) in
-    let stays : Stays p whole (record last { hold = Unheld }) = record { references = goes.1.references; parts = goes.1.parts } in
+    let left : left_by t n.run.past ≡ hide last = left_seen t n.run.past serves.holds.held ∙ ap hide goes.0.sees ∙ hide_seen p last in
+    let own = own_unseen last d (subst (λ (s : State). HasOwn s d) (goes.0.sees ∙ ap (λ (q : ℕ). seen_by q last) (sym number)) serves.holds.own) in
+    let own_done : HasOwn (state_of zone done) d = subst (λ (s : State). HasOwn s d) (sym done_is)
+    (record { list = own.list; fresh = own.fresh; back = own.back; references = own.references }) in
     let joined : done ≡ run ++ under_lock p steps =
     append_assoc (run ++ cpu_makes p Lock Done ∷ []) steps (cpu_makes p Unlock Done ∷ [])
     ∙ append_assoc run (cpu_makes p Lock Done ∷ []) (steps ++ cpu_makes p Unlock Done ∷ []) in
-    subst (λ (r : Run). ShowsAll t r n (slice_set cpus k d)) joined (record {
-      legal = free.legal;
-      free = free.free;
+    let none : (q : ℕ) → (q ≡ 0 → ⊥) → (q ≡ p → ⊥) → HasNoStepOf q (under_lock p steps) = λ q some far.
+    (λ is. far (sym is), none_both q steps (cpu_makes p Unlock Done ∷ []) (none_of p (local_of t m) steps (local_of t n) leads q some far) (λ is. far (sym is), tt)) in
+    let number_is : d.number ≡ suc k = number ∙ part_number t run m cpus k c shows is_part in
+    record {
+      legal = subst (IsLegalRun zone) joined free.legal;
+      free = subst (λ (r : Run). is_unheld (state_of zone r).hold ≡ true) joined free.free;
+      left = subst (λ (r : Run). LeavesState t n (state_of zone r)) joined (subst (LeavesState t n) (sym done_is) (leaves t n last Unheld left));
       count = length-set cpus k d ∙ shows.count;
-      each = λ j e at. subst (λ (x : State). IsSeenAt t n x j e) (sym done_is) (elim (cases_eq j k) [
-        | inl here ↦
-            let is : e ≡ d = set_here cpus k d e (slice_get_within cpus k c serves.is_part)
-            (subst (λ (i : ℕ). slice_get (slice_set cpus k d) i ≡ Some e) here at) in
-            subst (λ (x : KnownCpu). IsSeenAt t n (record last { hold = Unheld }) j x) (sym is) (record {
-              number = number ∙ part_number t run m cpus k c shows serves.is_part ∙ ap suc (sym here);
-              sees = sees;
-            })
-        | inr ne ↦ others_follow t run m cpus k c shows serves.is_part n d done (record last { hold = Unheld }) (HeldBy d.number) number free.legal done_is
-            stays (λ i e there. hold_shut n.frame_seat e.number (serves.shut e.number)) sees j e at ne
-      ]);
-    })
-  where
-    from_whole : (p : ℕ) (s : State) (hold : Hold) → Stays p s (record s { hold = hold })
-    from_whole p s hold = record { references = λ q ne other f. refl; parts = λ q ne other. refl }
+      each = parts_after (state_of zone (run ++ under_lock p steps)) cpus k c d is_part number_is (subst (λ (r : Run). HasOwn (state_of zone r) d) joined own_done)
+          (λ j e at ne. others_keep t run m cpus k c shows is_part (under_lock p steps) none j e at ne);
+    }

@@ -2,7 +2,6 @@
 -- memory.events.local of cgroup-v2.rst).
 use Rattle.std.specs.Prelude.{ℕ, List, [], ◌∷◌, ◌++◌}
 use Rattle.frame_word.specs.Seats.{KnownTable}
-use Rattle.stock_word.specs.Stock.{KnownStockTable}
 use Rattle.cpu_part.specs.Cpus.{KnownCpu}
 use Rattle.step_rules.specs.declared.step.Action.{Action}
 use Rattle.step_rules.specs.declared.step.Answer.{Answer}
@@ -14,8 +13,7 @@ use Rattle.mem_history.specs.Whole.{ShowsAll, ServesAt, ServesFast, under_lock}
 
 -- the peaks and counts of a new boot are those of the run without steps
 abbrev pub ABootAgrees : Type 0
-ABootAgrees = (table : KnownTable) (stock_table : KnownStockTable) (machine : KnownMachine)
-    → IsFirst table stock_table machine
+ABootAgrees = (table : KnownTable) (machine : KnownMachine) → IsFirst table machine
     → AgreesWithRun table [] machine.ledger
 
 -- if a run shows the whole and the ledger has its peaks and counts, then after a line under the lock the ledger has
@@ -31,5 +29,5 @@ abbrev pub FastLinesAgree : Type 0
 FastLinesAgree = (table : KnownTable) (run : Run) (cpus : List KnownCpu) (index : ℕ) (before : VisitState)
     (action : Action)
     (answer : Answer) (after : VisitState) → ShowsAll table run before.machine cpus
-    → ServesFast table cpus index before action answer after → AgreesWithRun table run before.machine.ledger
+    → ServesFast table run cpus index before action answer after → AgreesWithRun table run before.machine.ledger
     → AgreesWithRun table (run ++ cpu_makes before.cpu.number action answer ∷ []) after.machine.ledger

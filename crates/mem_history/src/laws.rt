@@ -1,6 +1,6 @@
 //! Laws: each function's `ensures` clause is a statement about all runs, machines and CPU parts.
 
-ghost use Rattle.mem_history.specs.Whole.{LinesFollow, FastLinesFollow, TheHolderIsShown};
+ghost use Rattle.mem_history.specs.Whole.{LinesFollow, FastLinesFollow, TheHolderIsShown, TheSameIsShown};
 ghost use Rattle.mem_history.specs.Decided.{LegalLinesAreDecided, LegalFastStepsAreDecided};
 ghost use Rattle.mem_history.specs.Kept.{ABootIsShown, CurrentIsKept, TheFirstHolderIsShown, TheWholeIsPromised};
 ghost use Rattle.mem_history.specs.Leading.{FastCallsLead};
@@ -11,8 +11,14 @@ pub fn a_boot_is_shown()
     ensures { ABootIsShown }
 {}
 
-/// Suppose a run shows the machine and all parts, and a CPU takes the lock next. Then the run with that Lock shows
-/// this CPU the machine and its part. `calls_interleave` of `mem_machine` begins with such a run.
+/// If a run shows the machine and all parts, it still does if only the lock was taken or released since, or if the
+/// machine's past saw more of others' steps.
+pub fn the_same_is_shown()
+    ensures { TheSameIsShown }
+{}
+
+/// Suppose a run shows the machine and all parts, and a CPU has taken the lock. Then the run with that Lock shows this CPU
+/// the machine. `calls_interleave` of `mem_machine` begins with such a run.
 pub fn the_holder_is_shown()
     ensures { TheHolderIsShown }
 {}
@@ -45,9 +51,9 @@ pub fn the_whole_is_promised()
     ensures { TheWholeIsPromised }
 {}
 
-/// Suppose a run shows the machine and all parts. Then a fast call that changes a list or a reference is one step of
-/// its CPU, from what the machine shows that CPU. These calls are: a get answered Held, a put, an allocation that
-/// gets a fresh frame, and a drop that lists one again.
+/// Suppose a run shows the machine and all parts. Then a fast call that changes a list or a reference is one legal step
+/// of its CPU after the run. These calls are: a get answered Held, a put, an allocation that gets a fresh frame, and a
+/// drop that lists one again.
 pub fn fast_calls_lead()
     ensures { FastCallsLead }
 {}

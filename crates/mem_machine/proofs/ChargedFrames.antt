@@ -7,7 +7,6 @@ use Rattle.std.proofs.lemmas.List.Sums.{sum_by-append}
 use Rattle.std.proofs.Math.Seq.{take-suc}
 use Rattle.group_charge.specs.Charges.{AreCharges}
 use Rattle.frame_word.specs.Seats.{KnownTable}
-use Rattle.stock_word.specs.Stock.{KnownStockTable}
 use Rattle.step_rules.specs.State.{one_if, sum_to}
 use Rattle.step_rules.proofs.Homes.{number_low}
 use Rattle.step_rules.proofs.Sums.{sum_none, sum_only, sum_same, sum_swap}
@@ -45,9 +44,9 @@ group_low (Head unit) low = low unit.group refl
 group_low (Tail g) low = low g refl
 
 -- what is charged to the groups are all frames that are charged
-all_charged : (t : KnownTable) (w : KnownStockTable) (m : KnownMachine) → IsConsistent t w m → AreCharges m.ledger
+all_charged : (t : KnownTable) (m : KnownMachine) → IsConsistent t m → AreCharges m.ledger
     → sum_to 64 (frames_charged m.frame_states) ≡ frames_in_groups m.frame_states
-all_charged t w m ok legal =
+all_charged t m ok legal =
     let n : ℕ = length m.frame_states in
     sum_swap 64 n (λ g f. one_if_is g (frame_state_group (frame_state_at m.frame_states f)))
     ∙ sum_same n (λ f. sum_to 64 (λ g. one_if_is g (frame_state_group (frame_state_at m.frame_states f)))) (λ f. one_if (is_some (frame_state_group (frame_state_at m.frame_states f))))
@@ -59,7 +58,7 @@ all_charged t w m ok legal =
     low f inside =
         let sized = ok.sizes.frame_states in
         let below : f < t.frames = omega arith in
-        group_low (frame_state_at m.frame_states f) (λ g is. number_low m.ledger.groups g legal.groups (keeper_there t w m f g ok legal below is))
+        group_low (frame_state_at m.frame_states f) (λ g is. number_low m.ledger.groups g legal.groups (keeper_there t m f g ok legal below is))
 
 one_at_most : (b : Bool) → one_if b ≤ 1
 one_at_most true = omega arith
@@ -83,11 +82,11 @@ sum_grows (suc m) k h le = elim (cases_lt k (suc m)) [
 ]
 
 -- the first groups have no more frames than the zone
-some_charged : (t : KnownTable) (w : KnownStockTable) (m : KnownMachine) → IsConsistent t w m → AreCharges m.ledger
+some_charged : (t : KnownTable) (m : KnownMachine) → IsConsistent t m → AreCharges m.ledger
     → (k : ℕ) → k ≤ 64 → sum_to k (frames_charged m.frame_states) ≤ t.frames
-some_charged t w m ok legal k le =
+some_charged t m ok legal k le =
     let grows = sum_grows 64 k (frames_charged m.frame_states) le in
-    let all = all_charged t w m ok legal in
+    let all = all_charged t m ok legal in
     let few = charged_few m.frame_states in
     let sized = ok.sizes.frame_states in
     omega (arith, grows, all, few, sized)
@@ -103,10 +102,10 @@ sum_next : (k : ℕ) (h : ℕ → ℕ) → sum_to (k + 1) h ≡ sum_to k h + h k
 unfolding sum_to
 sum_next k h = let e : k + 1 ≡ suc k = omega arith in rw e refl
 
-pub are_counted : (t : KnownTable) (w : KnownStockTable) (m now : KnownMachine) → m ≡ now → IsConsistent t w m → AreCharges m.ledger
+pub are_counted : (t : KnownTable) (m now : KnownMachine) → m ≡ now → IsConsistent t m → AreCharges m.ledger
     → AreCounted t.frames now.frame_states
-are_counted t w m now same ok legal = subst (λ (x : KnownMachine). AreCounted t.frames x.frame_states) same (record {
+are_counted t m now same ok legal = subst (λ (x : KnownMachine). AreCounted t.frames x.frame_states) same (record {
   next = λ k. sum_next k (frames_charged m.frame_states);
-  within = some_charged t w m ok legal;
-  all = all_charged t w m ok legal;
+  within = some_charged t m ok legal;
+  all = all_charged t m ok legal;
 })

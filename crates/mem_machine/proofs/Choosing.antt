@@ -79,16 +79,16 @@ module _ (Owns : ℕ → ℕ → Type 0) (groups : List Group) (g k found : ℕ)
 
 -- a group owns the places of its stocks
 abbrev pub OwnsStock : KnownTable → KnownMachine → ℕ → ℕ → Type 0
-OwnsStock t m h p = (p < t.cpus) × (stock_group m (p + 1) ≡ Some h)
+OwnsStock t m h p = (p < t.cpus) × (stock_group t m (p + 1) ≡ Some h)
 
 pub stocks_found : (t : KnownTable) (m : KnownMachine) (g k stocks : ℕ) → FoundSoFar (OwnsStock t m) m.ledger.groups g m.ledger.groups k stocks
     → length m.ledger.groups ≤ k → AreChosen t (of_subtree g) m stocks
 stocks_found t m g k stocks so_far past = λ p few. (
   λ one. let its = so_far.sound p few one in (its.2.0, ap (is_in_subtree m.ledger.groups g) its.2.1 ∙ its.1),
-  λ is. owned p few is.0 (stock_group m (p + 1)) refl is.1,
+  λ is. owned p few is.0 (stock_group t m (p + 1)) refl is.1,
 )
   where
-    owned : (p : ℕ) → p < 64 → p < t.cpus → (o : Option ℕ) → stock_group m (p + 1) ≡ o → is_in_subtree m.ledger.groups g o ≡ true → bit_at stocks p ≡ 1
+    owned : (p : ℕ) → p < 64 → p < t.cpus → (o : Option ℕ) → stock_group t m (p + 1) ≡ o → is_in_subtree m.ledger.groups g o ≡ true → bit_at stocks p ≡ 1
     owned p few low None of inside = absurd (false≢true inside)
     owned p few low (Some h) of inside = found_by (OwnsStock t m) m.ledger.groups g k stocks so_far past h p few inside (low, of)
 
@@ -111,10 +111,10 @@ own_place word n h same here others p low = (
 
 -- the stocks of one group, of the machine as it was seen before
 pub owned_chosen : (t : KnownTable) (m now : KnownMachine) → m ≡ now → (g stocks : ℕ)
-    → ((p : ℕ) → p < 64 → (bit_at stocks p ≡ 1) ↔ (p < t.cpus) × (stock_group m (p + 1) ≡ Some g)) → AreChosen t (of_group g) now stocks
+    → ((p : ℕ) → p < 64 → (bit_at stocks p ≡ 1) ↔ (p < t.cpus) × (stock_group t m (p + 1) ≡ Some g)) → AreChosen t (of_group g) now stocks
 owned_chosen t m now same g stocks owned = subst (λ (x : KnownMachine). AreChosen t (of_group g) x stocks) same (λ p few. (
   λ one. let its = (owned p few).0 one in (its.0, ap (λ (o : Option ℕ). of_group g m.ledger.groups o) its.1 ∙ eq-eqb g g refl),
-  λ is. (owned p few).1 (is.0, own (stock_group m (p + 1)) is.1),
+  λ is. (owned p few).1 (is.0, own (stock_group t m (p + 1)) is.1),
 ))
   where
     own : (o : Option ℕ) → of_group g m.ledger.groups o ≡ true → o ≡ Some g

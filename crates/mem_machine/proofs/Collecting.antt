@@ -1,23 +1,28 @@
 -- The steps by which the zone takes over a fresh frame. Serves `collect_fresh`.
-use Rattle.std.proofs.Common.{◌≡◌, ℕ, sym, subst}
-use Rattle.frame_word.specs.Seats.{KnownTable, IsOpen, NothingPasses}
-use Rattle.stock_word.specs.Stock.{KnownStockTable}
-use Rattle.cpu_part.specs.Cpus.{KnownCpu}
-use Rattle.cpu_part.specs.Made.{MakesAll}
+use Rattle.std.proofs.Common.{◌≡◌, ℕ, List, ◌∷◌, sym, ap, ◌∙◌, subst}
+use Rattle.frame_word.specs.Seats.{KnownTable}
+use Rattle.boot_words.specs.Composed.{MakesInTurn, take_back_run}
 use Rattle.boot_words.specs.Pasts.{KnownPasts, IsHeld}
-use Rattle.mem_machine.specs.Local.{Visits, visit_state}
-use Rattle.mem_machine.specs.Machines.{IsConsistent, KnownMachine}
-use Rattle.mem_machine.specs.Settling.{IsVisitedAt, collect_steps}
+use Rattle.cpu_part.specs.Calls.{PassesFresh}
+use Rattle.cpu_part.specs.Cpus.{KnownCpu}
+use Rattle.cpu_part.proofs.CallerLemmas.{makes_each}
+use Rattle.step_watch.specs.Watched.{KnownWatch, Watches}
+use Rattle.mem_machine.specs.Noted.{KnownRun, Notes}
+use Rattle.mem_machine.specs.Settling.{HandsOver, collect_steps}
+use Rattle.mem_machine.proofs.Noted.{all_grow}
 
--- behind all four it still holds the lock
-pub held_collected : (t : KnownTable) (s : KnownPasts) (p f : ℕ) (later : KnownPasts) → MakesAll t s (collect_steps p f) later → IsHeld t later
-held_collected t s p f later all = subst (IsHeld t) (sym all.2.2.2.2) all.2.2.2.1.held
-
--- what a visit says of the zone's seat, where the frame is taken over
-pub visited_here : (t : KnownTable) (w : KnownStockTable) (m now : KnownMachine) → m ≡ now → (c : KnownCpu) → IsConsistent t w m → Visits t (visit_state now c)
-    → IsVisitedAt t m.frame_seat c
-visited_here t w m now same c ok visit = record {
-  zone = ok.seats.frames;
-  is_open = subst (λ (x : KnownMachine). IsOpen x.frame_seat c.number) (sym same) visit.is_open;
-  still = subst (λ (x : KnownMachine). NothingPasses t x.frame_seat c.frame_seat) (sym same) visit.still;
+-- they were made, and the watch took them
+pub collect_notes : (t : KnownTable) (run : KnownRun) (p f i q : ℕ) → i ≡ f → q ≡ p → (later : KnownPasts) (watch : KnownWatch) → IsHeld t run.past
+    → MakesInTurn t run.past (take_back_run p f) later → Watches run.watch (collect_steps q i) watch
+    → Notes t run (collect_steps p f) (record { past = later; watch = watch })
+collect_notes t run p f i q index number later watch held made saw = record {
+  grew = all_grow t run.past (collect_steps p f) later (makes_each t run.past (collect_steps p f) later held made);
+  watched = subst (λ (x : ℕ × ℕ). Watches run.watch (collect_steps x.0 x.1) watch) (λ j. (number j, index j)) saw;
 }
+
+pub hands_over : (f : ℕ) (c d : KnownCpu) → PassesFresh f c d → HandsOver f c d
+hands_over f c d passes =
+    let rest : d.fresh ≡ passes.0 = ap (λ (x : KnownCpu). x.fresh) passes.2 in record {
+      front = passes.1 ∙ ap (λ (l : List ℕ). f ∷ l) (sym rest);
+      cpu = passes.2 ∙ ap (λ (l : List ℕ). record c { fresh = l }) (sym rest);
+    }

@@ -4,35 +4,33 @@ use Rattle.std.specs.Prelude.{slice_set, option_map, IfSome}
 use Rattle.std.proofs.lemmas.List.{get_or_default, set-get_or}
 use Rattle.std.proofs.lemmas.Option.{none-some}
 use Rattle.frame_word.specs.Seats.{KnownTable}
-use Rattle.stock_word.specs.Stock.{KnownStockTable}
 use Rattle.lru_lists.specs.declared.record.Link.{Link}
 use Rattle.lru_lists.specs.declared.record.Home.{Home}
 use Rattle.lru_lists.specs.declared.record.LruList.{LruList}
 use Rattle.lru_lists.specs.declared.record.LruList.TheVariants.{Inactive, Active}
 use Rattle.lru_lists.specs.declared.lru.Lru.{Lru}
 use Rattle.lru_lists.specs.Lists.{OthersStayLinked, OneOfAllChanges, AreLinked, AllLinked, ChangesOwn, list_of, list_at, entries_of, changed_at, dirtied}
-use Rattle.cpu_part.specs.Cpus.{KnownCpu}
 use Rattle.mem_machine.specs.FrameStates.{frame_state_at, head_group_of}
 use Rattle.mem_machine.specs.Machines.{KnownMachine, IsConsistent, OthersStay, home_of, lists_at, no_lists, group_lists, lists_of}
 use Rattle.mem_machine.specs.Marks.{Dirties}
-use Rattle.mem_machine.specs.Local.{MakesAs, visit_state}
+use Rattle.mem_machine.specs.Local.{Makes}
 use Rattle.mem_machine.proofs.Listed.{dirtied_owners, lists_consistent, place_here, unlisted_stay, others_stay}
 use Rattle.mem_machine.proofs.Followed.{makes_stay}
 
 -- a home that is there is of a group number
-pub owner_bound : (t : KnownTable) (w : KnownStockTable) (m : KnownMachine) → IsConsistent t w m → (f : ℕ) (h : Home) → f < t.frames
+pub owner_bound : (t : KnownTable) (m : KnownMachine) → IsConsistent t m → (f : ℕ) (h : Home) → f < t.frames
     → home_of m.links f ≡ Some h → h.owner < 64
-owner_bound t w m ok f h inside is = (subst (λ (x : Option Home). IfSome x (λ y. (y.owner < 64) × (head_group_of
-    (frame_state_at m.frame_states f) ≡ Some y.owner))) is (ok.frame_states f inside).kept).0
+owner_bound t m ok f h inside is = (subst (λ (x : Option Home). IfSome x (λ y. (y.owner < 64) × (head_group_of
+    (frame_state_at m.frame_states f) ≡ Some y.owner))) is (ok.frame_states f inside)).0
 
 pub on_list : (links : List Link) (f : ℕ) (h : Home) → home_of links f ≡ Some h → list_of links h.owner f ≢ None
 on_list links f h is none = none-some h.list (sym none ∙ ap (λ (x : Option Home). list_at x h.owner) is ∙ place_here h.owner h.list)
 
-module _ (t : KnownTable) (w : KnownStockTable) (m : KnownMachine) (ok : IsConsistent t w m) (f : ℕ) (inside : f < t.frames) (h : Home)
+module _ (t : KnownTable) (m : KnownMachine) (ok : IsConsistent t m) (f : ℕ) (inside : f < t.frames) (h : Home)
     (home : home_of m.links f ≡ Some h)
     (lru : Lru) (read : lru ≡ get_or m.lists h.owner lru) where
   bound : h.owner < length m.lists
-  bound = let a = owner_bound t w m ok f h inside home in let b = ok.sizes.lists in omega (arith, a, b)
+  bound = let a = owner_bound t m ok f h inside home in let b = ok.sizes.lists in omega (arith, a, b)
 
   pub owned : lru.owner ≡ h.owner
   owned = ap (λ (x : Lru). x.owner) read ∙ (ok.lists h.owner lru bound).0
@@ -56,8 +54,8 @@ module _ (t : KnownTable) (w : KnownStockTable) (m : KnownMachine) (ok : IsConsi
     owners : (g : ℕ) → option_map (λ (x : Home). x.owner) (home_of links g) ≡ option_map (λ (x : Home). x.owner) (home_of m.links g)
     owners = dirtied_owners m.links links lru f d stands now_stands changes entries
 
-    pub dirty_consistent : IsConsistent t w (record m { links = links })
-    dirty_consistent = lists_consistent t w m ok links m.lists changes.frames refl owners all_stand
+    pub dirty_consistent : IsConsistent t (record m { links = links })
+    dirty_consistent = lists_consistent t m ok links m.lists changes.frames refl owners all_stand
 
     pub dirty_does : Dirties f d m (record m { links = links })
     dirty_does = record {
@@ -79,21 +77,21 @@ has_home m now same f i is kept none =
     kept (subst (λ (x : KnownMachine × ℕ). home_of x.0.links x.1 ≡ None) (λ j. (same j, is j)) (sym none))
 
 -- all of it, of the machine as it was seen before
-pub record AllDirtied (t : KnownTable) (w : KnownStockTable) (now : KnownMachine) (f : ℕ) (d : Bool) (n : KnownMachine) : Type 0 where
-  pub consistent : IsConsistent t w n
+pub record AllDirtied (t : KnownTable) (now : KnownMachine) (f : ℕ) (d : Bool) (n : KnownMachine) : Type 0 where
+  pub consistent : IsConsistent t n
   pub dirties : Dirties f d now n
-  pub steps : (c : KnownCpu) → MakesAs t c.number (visit_state now c) [] (visit_state n c)
+  pub steps : Makes t now [] n
 
-pub dirty_all : (t : KnownTable) (w : KnownStockTable) (m now : KnownMachine) → m ≡ now → IsConsistent t w m → (f i : ℕ) → f < t.frames → i ≡ f → (h : Home)
+pub dirty_all : (t : KnownTable) (m now : KnownMachine) → m ≡ now → IsConsistent t m → (f i : ℕ) → f < t.frames → i ≡ f → (h : Home)
     → Some h ≡ home_of m.links i → (lru : Lru) → lru ≡ get_or m.lists h.owner lru → (links : List Link) (d : Bool) → AreLinked links lru
     → ((list : LruList) → entries_of links lru list ≡ changed_at i (dirtied d) (entries_of m.links lru list)) → ChangesOwn m.links links lru.owner
-    → OthersStayLinked → OneOfAllChanges → AllDirtied t w now f d (record m { links = links })
-dirty_all t w m now same ok f i inside is h home lru read links d now_stands entries changes others all =
+    → OthersStayLinked → OneOfAllChanges → AllDirtied t now f d (record m { links = links })
+dirty_all t m now same ok f i inside is h home lru read links d now_stands entries changes others all =
     let at : home_of m.links f ≡ Some h = ap (home_of m.links) (sym is) ∙ sym home in
     let told : (list : LruList) → entries_of links lru list ≡ changed_at f (dirtied d) (entries_of m.links lru list) =
     subst (λ (k : ℕ). (list : LruList) → entries_of links lru list ≡ changed_at k (dirtied d) (entries_of m.links lru list)) is entries in
-    subst (λ (x : KnownMachine). AllDirtied t w x f d (record m { links = links })) same (record {
-      consistent = dirty_consistent t w m ok f inside h at lru read links d now_stands told changes others all;
-      dirties = dirty_does t w m ok f inside h at lru read links d now_stands told changes others all;
-      steps = λ c. makes_stay t m (record m { links = links }) c c refl refl refl refl;
+    subst (λ (x : KnownMachine). AllDirtied t x f d (record m { links = links })) same (record {
+      consistent = dirty_consistent t m ok f inside h at lru read links d now_stands told changes others all;
+      dirties = dirty_does t m ok f inside h at lru read links d now_stands told changes others all;
+      steps = makes_stay t m (record m { links = links }) refl refl refl;
     })

@@ -1,106 +1,148 @@
--- The stocks of a subtree, or of a group, are drained, one CPU after the other. Serves `drain_each`.
-use Rattle.std.proofs.Common.{◌≡◌, ◌≢◌, ℕ, ◌+◌, ◌-◌, ◌*◌, ◌<◌, ◌≤◌, ◌↔◌, Bool, true, false, Option, Some, None, List, [], ◌∷◌, ◌++◌, zero, suc, refl}
-use Rattle.std.proofs.Common.{sym, ap, ◌∙◌, subst, inl, inr, arith}
+-- What drains leave of the stocks; and the stocks of a subtree, or of a group, are drained, one CPU after the other. Serves
+-- `drain_each`, and the crates above.
+use Rattle.std.proofs.Common.{◌≡◌, ◌≢◌, ℕ, ◌+◌, ◌-◌, ◌*◌, ◌<◌, ◌≤◌, ◌==◌, ◌↔◌, Bool, true, false, Option, Some, None, List, [], ◌∷◌, ◌++◌, zero, suc, refl}
+use Rattle.std.proofs.Common.{map, cond, sym, ap, ◌∙◌, subst, inl, inr, arith}
 use Rattle.std.specs.Int.{bit_at}
+use Rattle.std.specs.Prelude.{is_some}
 use Rattle.std.proofs.lemmas.List.{append-nil}
-use Rattle.std.proofs.lemmas.List.Sums.{sum_by-append}
+use Rattle.std.proofs.lemmas.List.Sums.{sum_by-append, sum_by-cons}
 use Rattle.std.proofs.lemmas.Grind.{flat_map-append}
-use Rattle.std.proofs.lemmas.Bool.{cases_eq, cases_lt, false_from_ne_true, false≢true}
+use Rattle.std.proofs.lemmas.Bool.{cases_eq, cases_lt, cond_both, false_from_ne_true, false≢true}
 use Rattle.std.proofs.lemmas.Nat.Bits.{bit_at-zero}
 use Rattle.frame_word.specs.Seats.{KnownTable}
-use Rattle.stock_word.specs.declared.view.StockAccount.{StockAccount}
-use Rattle.stock_word.specs.Stock.{account_of}
-use Rattle.stock_word.specs.Calls.{steps_of_drain}
 use Rattle.group_tree.specs.declared.group.Group.{Group}
-use Rattle.cpu_part.specs.Cpus.{KnownCpu}
-use Rattle.mem_machine.specs.Machines.{KnownMachine}
-use Rattle.step_rules.specs.After.{Run}
-use Rattle.mem_machine.specs.Local.{StaysVisited, MakesAs, visit_state}
+use Rattle.group_tree.specs.Groups.{in_subtree}
+use Rattle.group_charge.specs.declared.account.Account as charge
+use Rattle.group_charge.specs.Charges.{Ledger, current_of, taken, usage_charged}
+use Rattle.group_charge.proofs.SumLemmas.{share}
+use Rattle.step_rules.specs.State.{Part, State}
+use Rattle.step_rules.specs.After.{Run, drained}
+use Rattle.step_rules.proofs.Basics.{at_other, at_same}
+use Rattle.mem_machine.specs.Machines.{KnownMachine, part_at, stock_group}
+use Rattle.mem_machine.specs.Local.{Makes, StaysVisited}
 use Rattle.mem_machine.specs.Steps.{Drain, drain_steps, drain_stocks_steps, pages_drained}
-use Rattle.mem_machine.specs.Stocks.{stock_group, AreChosen, AreChosenBySome, DrainsNoted, DrainsIf, DrainsAllIf, DrainsBySteps, AreDrainedIf}
-use Rattle.mem_machine.proofs.Draining.{drained_at, drained_else, groups_stay}
-use Rattle.mem_machine.proofs.Followed.{makes_both, makes_stay}
+use Rattle.mem_machine.specs.Stocks.{AreChosen, AreChosenBySome, AreDrainedIf, Drains, DrainsAllIf, DrainsBySteps, DrainsIf, DrainsNoted, HasDrained, IsDrained, StockTest, uncharged}
+use Rattle.mem_machine.proofs.Draining.{groups_stay}
+use Rattle.mem_machine.proofs.Followed.{makes_both, makes_none}
 
--- ---- the accounts
+-- ---- one drain
 
-module _ (test : List Group → Option ℕ → Bool) (q : ℕ) (x n : KnownMachine) where
-  pub below_groups : (drains : List Drain) → DrainsIf test q drains x n → n.ledger.groups ≡ x.ledger.groups
-  below_groups [] d = ap (λ (y : KnownMachine). y.ledger.groups) d.1
-  below_groups (e ∷ []) d = ap (λ (y : KnownMachine). y.ledger.groups) d.1.drains.drains.machine ∙ groups_stay x.ledger (stock_group x q) e.pages
-  below_groups (e ∷ f ∷ more) d = absurd d
+-- a drained part pays for nothing
+drained_has : (part : Part) (n : ℕ) → HasDrained (drained part n)
+drained_has part n = by part.stock.group refl
+  where
+    by : (o : Option ℕ) → part.stock.group ≡ o → HasDrained (drained part n)
+    by None e = inl e
+    by (Some g) e = inr (ap is_some e)
 
-  pub below_else : (drains : List Drain) → DrainsIf test q drains x n → (p : ℕ) → (p ≡ q → ⊥) → account_of n.stock_seat.view p ≡ account_of x.stock_seat.view p
-  below_else [] d p ne = ap (λ (y : KnownMachine). account_of y.stock_seat.view p) d.1
-  below_else (e ∷ []) d p ne = ap (λ (y : KnownMachine). account_of y.stock_seat.view p) d.1.drains.drains.machine ∙ drained_else x.stock_seat.view q e.pages p ne
-  below_else (e ∷ f ∷ more) d p ne = absurd d
+module _ (t : KnownTable) (q n : ℕ) (x y : KnownMachine) (d : Drains t q n x y) where
+  pub drained_part : part_at t y q ≡ drained (part_at t x q) n
+  drained_part = ap (λ (s : State). s.parts q) d.left ∙ at_same (λ p. part_at t x p) q (drained (part_at t x q) n)
 
-  pub below_group : (drains : List Drain) → DrainsIf test q drains x n → stock_group n q ≡ stock_group x q
-  below_group [] d = ap (λ (y : KnownMachine). stock_group y q) d.1
-  below_group (e ∷ []) d = ap (λ (y : KnownMachine). stock_group y q) d.1.drains.drains.machine ∙ ap (λ (a : StockAccount). a.group) (drained_at x.stock_seat.view q e.pages)
-  below_group (e ∷ f ∷ more) d = absurd d
+  pub drained_else : (p : ℕ) → (p ≡ q → ⊥) → part_at t y p ≡ part_at t x p
+  drained_else p ne = ap (λ (s : State). s.parts p) d.left ∙ at_other (λ k. part_at t x k) q (drained (part_at t x q) n) p ne
 
-  pub below_owners : (drains : List Drain) → DrainsIf test q drains x n → (p : ℕ) → stock_group n p ≡ stock_group x p
-  below_owners drains d p = elim (cases_eq p q) [
-    | inl e ↦ subst (λ (k : ℕ). stock_group n k ≡ stock_group x k) (sym e) (below_group drains d)
-    | inr ne ↦ ap (λ (a : StockAccount). a.group) (below_else drains d p ne)
+  -- it is drained now
+  pub drained_now : IsDrained t y q
+  drained_now = subst HasDrained (sym drained_part) (drained_has (part_at t x q) n)
+
+  -- each stock is of the same group, and each that was drained still is
+  pub drained_groups : (p : ℕ) → stock_group t y p ≡ stock_group t x p
+  drained_groups p = elim (cases_eq p q) [
+    | inl e ↦ subst (λ (k : ℕ). stock_group t y k ≡ stock_group t x k) (sym e) (ap (λ (part : Part). part.stock.group) drained_part)
+    | inr ne ↦ ap (λ (part : Part). part.stock.group) (drained_else p ne)
   ]
 
-  pub below_filled : (drains : List Drain) → DrainsIf test q drains x n → test x.ledger.groups (stock_group x q) ≡ true
-      → (account_of n.stock_seat.view q).filled ≡ false
-  below_filled [] d below = absurd (false≢true (sym d.0 ∙ below))
-  below_filled (e ∷ []) d below = ap (λ (y : KnownMachine). (account_of y.stock_seat.view q).filled) d.1.drains.drains.machine
-      ∙ ap (λ (a : StockAccount). a.filled) (drained_at x.stock_seat.view q e.pages)
-  below_filled (e ∷ f ∷ more) d below = absurd d
+  pub drained_still : (p : ℕ) → IsDrained t x p → IsDrained t y p
+  drained_still p was = elim (cases_eq p q) [
+    | inl e ↦ subst (IsDrained t y) (sym e) drained_now
+    | inr ne ↦ subst HasDrained (sym (drained_else p ne)) was
+  ]
 
--- ---- one CPU's stock
+  pub drained_trees : y.ledger.groups ≡ x.ledger.groups
+  drained_trees = ap (λ (k : KnownMachine). k.ledger.groups) d.machine ∙ groups_stay x.ledger (stock_group t x q) n
+
+-- ---- the usage
+
+less_if : (b : Bool) (p n : ℕ) → cond b (p - n) 0 ≤ cond b p 0
+less_if true p n = omega arith
+less_if false p n = omega arith
+
+usage_falls : (groups : List Group) (xs : List charge.Account) (g n m : ℕ) → usage_charged groups (map (taken g n) xs) m ≤ usage_charged groups xs m
+unfolding usage_charged
+usage_falls groups [] g n m = omega arith
+usage_falls groups (x ∷ xs) g n m =
+    let here : share groups m (taken g n x) ≤ share groups m x = cond_both (x.group == g) (record x { pages = x.pages - n }) x
+    (λ (y : charge.Account). share groups m y ≤ share groups m x) (λ _. less_if (in_subtree groups m x.group) x.pages n) (λ _. omega arith) in
+    let rest = usage_falls groups xs g n m in
+    let a = sum_by-cons (share groups m) (taken g n x) (map (taken g n) xs) in
+    let b = sum_by-cons (share groups m) x xs in
+    omega (arith, here, rest, a, b)
+
+pub current_falls : (l : Ledger) (o : Option ℕ) (n m : ℕ) → current_of (uncharged l o n) m ≤ current_of l m
+current_falls l None n m = omega arith
+current_falls l (Some g) n m = usage_falls l.groups l.accounts g n m
+
+-- ---- the drains of one CPU's stock, if it is chosen
+
+module _ (t : KnownTable) (test : StockTest) (q : ℕ) (x n : KnownMachine) where
+  pub below_groups : (drains : List Drain) → DrainsIf t test q drains x n → n.ledger.groups ≡ x.ledger.groups
+  below_groups [] d = ap (λ (y : KnownMachine). y.ledger.groups) d.1
+  below_groups (e ∷ []) d = drained_trees t q e.pages x (record n { notes = x.notes }) d.1.drains.drains
+  below_groups (e ∷ f ∷ more) d = absurd d
+
+  pub below_owners : (drains : List Drain) → DrainsIf t test q drains x n → (p : ℕ) → stock_group t n p ≡ stock_group t x p
+  below_owners [] d p = ap (λ (y : KnownMachine). stock_group t y p) d.1
+  below_owners (e ∷ []) d p = drained_groups t q e.pages x (record n { notes = x.notes }) d.1.drains.drains p
+  below_owners (e ∷ f ∷ more) d p = absurd d
+
+  pub below_still : (drains : List Drain) → DrainsIf t test q drains x n → (p : ℕ) → IsDrained t x p → IsDrained t n p
+  below_still [] d p was = subst (λ (y : KnownMachine). IsDrained t y p) (sym d.1) was
+  below_still (e ∷ []) d p was = drained_still t q e.pages x (record n { notes = x.notes }) d.1.drains.drains p was
+  below_still (e ∷ f ∷ more) d p was = absurd d
+
+  pub below_drained : (drains : List Drain) → DrainsIf t test q drains x n → test x.ledger.groups (stock_group t x q) ≡ true → IsDrained t n q
+  below_drained [] d below = absurd (false≢true (sym d.0 ∙ below))
+  below_drained (e ∷ []) d below = drained_now t q e.pages x (record n { notes = x.notes }) d.1.drains.drains
+  below_drained (e ∷ f ∷ more) d below = absurd d
 
 -- it is chosen, and is drained
-pub drained_one : (t : KnownTable) (test : List Group → Option ℕ → Bool) (q pages h : ℕ) (m n : KnownMachine) → test m.ledger.groups (stock_group m q) ≡ true
-    → stock_group m q ≡ Some h → DrainsNoted 2 q pages m n
-    → ((c : KnownCpu) → MakesAs t c.number (visit_state m c) (drain_steps q (stock_group m q) pages) (visit_state n c)) → DrainsBySteps t (DrainsIf test q) pages m n
-drained_one t test q pages h m n chosen of drains steps = record {
-  drains = record { cpu = q; group = stock_group m q; pages = pages } ∷ [];
-  all = (chosen, record { same_cpu = refl; group = refl; drains = subst (λ (o : Option ℕ). DrainsNoted (steps_of_drain o) q pages m n) (sym of) drains });
+pub drained_one : (t : KnownTable) (test : StockTest) (q pages : ℕ) (m n : KnownMachine) → test m.ledger.groups (stock_group t m q) ≡ true
+    → DrainsNoted t q pages m n → Makes t m (drain_steps q (stock_group t m q) pages) n → DrainsBySteps t (DrainsIf t test q) pages m n
+drained_one t test q pages m n chosen drains steps = record {
+  drains = record { cpu = q; group = stock_group t m q; pages = pages } ∷ [];
+  all = (chosen, record { same_cpu = refl; group = refl; drains = drains });
   sum = omega arith;
-  steps = λ c. subst (λ (r : Run). MakesAs t c.number (visit_state m c) r (visit_state n c))
-      (sym (append-nil (drain_steps q (stock_group m q) pages))) (steps c);
+  steps = subst (λ (r : Run). Makes t m r n) (sym (append-nil (drain_steps q (stock_group t m q) pages))) steps;
 }
 
 -- it isn't chosen
-drained_not : (t : KnownTable) (test : List Group → Option ℕ → Bool) (q : ℕ) (m : KnownMachine) → test m.ledger.groups (stock_group m q) ≡ false
-    → DrainsBySteps t (DrainsIf test q) 0 m m
-drained_not t test q m other =
-    record { drains = []; all = (other, refl); sum = refl; steps = λ c. makes_stay t m m c c refl refl refl refl }
+drained_not : (t : KnownTable) (test : StockTest) (q : ℕ) (m : KnownMachine) → test m.ledger.groups (stock_group t m q) ≡ false → DrainsBySteps t (DrainsIf t test q) 0 m m
+drained_not t test q m other = record { drains = []; all = (other, refl); sum = refl; steps = makes_none t m }
 
 -- ---- all of them
 
 -- after k CPUs
-pub record DrainedSoFar (t : KnownTable) (test : List Group → Option ℕ → Bool) (k pages : ℕ) (m n : KnownMachine) : Type 0 where
+pub record DrainedSoFar (t : KnownTable) (test : StockTest) (k pages : ℕ) (m n : KnownMachine) : Type 0 where
   pub drains : List Drain
-  pub all : DrainsAllIf test k drains m n
+  pub all : DrainsAllIf t test k drains m n
   pub sum : pages ≡ pages_drained drains
   pub groups : n.ledger.groups ≡ m.ledger.groups
-  pub owners : (q : ℕ) → stock_group n q ≡ stock_group m q
-  pub drained : AreDrainedIf test k n
-  pub steps : (c : KnownCpu) → MakesAs t c.number (visit_state m c) (drain_stocks_steps drains) (visit_state n c)
+  pub owners : (q : ℕ) → stock_group t n q ≡ stock_group t m q
+  pub drained : AreDrainedIf t test k n
+  pub steps : Makes t m (drain_stocks_steps drains) n
   pub small : pages ≤ k * 4294967295
   pub visit : StaysVisited t m n
 
-drained_now : (test : List Group → Option ℕ → Bool) (k : ℕ) (x n : KnownMachine) (last : List Drain) → DrainsIf test (k + 1) last x n → AreDrainedIf test k x → AreDrainedIf test (k + 1) n
-drained_now test k x n last d before q some few below =
-    let groups = below_groups test (k + 1) x n last d in
+are_drained : (t : KnownTable) (test : StockTest) (k : ℕ) (x n : KnownMachine) (last : List Drain) → DrainsIf t test (k + 1) last x n → AreDrainedIf t test k x → AreDrainedIf t test (k + 1) n
+are_drained t test k x n last d before q some few below =
+    let was : test x.ledger.groups (stock_group t x q) ≡ true = (λ i. test (sym (below_groups t test (k + 1) x n last d) i) (sym (below_owners t test (k + 1) x n last d q) i)) ∙ below in
     elim (cases_eq q (k + 1)) [
-      | inl e ↦
-          subst (λ (j : ℕ). (account_of n.stock_seat.view j).filled ≡ false) (sym e)
-          (below_filled test (k + 1) x n last d ((λ i. test (sym groups i) (sym (below_group test (k + 1) x n last d) i))
-          ∙ ap (λ (j : ℕ). test n.ledger.groups (stock_group n j)) (sym e) ∙ below))
-      | inr ne ↦
-          let same = below_else test (k + 1) x n last d q ne in
-          ap (λ (a : StockAccount). a.filled) same
-          ∙ before q some (omega (arith, few, ne)) ((λ i. test (sym groups i) (sym same i).group) ∙ below)
+      | inl e ↦ subst (IsDrained t n) (sym e) (below_drained t test (k + 1) x n last d (subst (λ (j : ℕ). test x.ledger.groups (stock_group t x j) ≡ true) e was))
+      | inr ne ↦ below_still t test (k + 1) x n last d q (before q some (omega (arith, few, ne)) was)
     ]
 
-pub drained_more : (t : KnownTable) (test : List Group → Option ℕ → Bool) (k pages more : ℕ) (m x n : KnownMachine) → DrainedSoFar t test k pages m x → DrainsBySteps t (DrainsIf test (k + 1)) more x n
+pub drained_more : (t : KnownTable) (test : StockTest) (k pages more : ℕ) (m x n : KnownMachine) → DrainedSoFar t test k pages m x → DrainsBySteps t (DrainsIf t test (k + 1)) more x n
     → StaysVisited t x n → more ≤ 4294967295 → DrainedSoFar t test (k + 1) (pages + more) m n
 drained_more t test k pages more m x n before last stays bound =
     let next : suc k ≡ k + 1 = omega arith in
@@ -112,36 +154,34 @@ drained_more t test k pages more m x n before last stays bound =
     sym (flat_map-append (λ (d : Drain). drain_steps d.cpu d.group d.pages) before.drains last.drains) in
     record {
       drains = before.drains ++ last.drains;
-      all = subst (λ (j : ℕ). DrainsAllIf test j (before.drains ++ last.drains) m n) next
+      all = subst (λ (j : ℕ). DrainsAllIf t test j (before.drains ++ last.drains) m n) next
           (record {
             first = before.drains;
             last = last.drains;
             between = x;
             drains_are = refl;
             makes_first = before.all;
-            makes_last = subst (λ (j : ℕ). DrainsIf test j last.drains x n) (sym next) last.all;
+            makes_last = subst (λ (j : ℕ). DrainsIf t test j last.drains x n) (sym next) last.all;
           });
       sum = omega (arith, both, a, b);
-      groups = below_groups test (k + 1) x n last.drains last.all ∙ before.groups;
-      owners = λ q. below_owners test (k + 1) x n last.drains last.all q ∙ before.owners q;
-      drained = drained_now test k x n last.drains last.all before.drained;
-      steps = λ c. subst (λ (r : Run). MakesAs t c.number (visit_state m c) r (visit_state n c)) list
-          (makes_both t c.number (drain_stocks_steps before.drains) (drain_stocks_steps last.drains) (visit_state m c) (visit_state x c) (visit_state n c)
-          (before.steps c) (last.steps c));
+      groups = below_groups t test (k + 1) x n last.drains last.all ∙ before.groups;
+      owners = λ q. below_owners t test (k + 1) x n last.drains last.all q ∙ before.owners q;
+      drained = are_drained t test k x n last.drains last.all before.drained;
+      steps = subst (λ (r : Run). Makes t m r n) list (makes_both t (drain_stocks_steps before.drains) (drain_stocks_steps last.drains) m x n before.steps last.steps);
       small = omega (arith, low, bound);
       visit = λ c visit. stays c (before.visit c visit);
     }
 
-pub drained_end : (t : KnownTable) (test : List Group → Option ℕ → Bool) (k pages : ℕ) (m n : KnownMachine) → DrainedSoFar t test k pages m n → k ≡ t.cpus → DrainsBySteps t (DrainsAllIf test t.cpus) pages m n
+pub drained_end : (t : KnownTable) (test : StockTest) (k pages : ℕ) (m n : KnownMachine) → DrainedSoFar t test k pages m n → k ≡ t.cpus → DrainsBySteps t (DrainsAllIf t test t.cpus) pages m n
 drained_end t test k pages m n so_far all = record {
   drains = so_far.drains;
-  all = subst (λ (j : ℕ). DrainsAllIf test j so_far.drains m n) all so_far.all;
+  all = subst (λ (j : ℕ). DrainsAllIf t test j so_far.drains m n) all so_far.all;
   sum = so_far.sum;
   steps = so_far.steps;
 }
 
 -- no stock was drained yet
-drained_first : (t : KnownTable) (test : List Group → Option ℕ → Bool) (m : KnownMachine) → DrainedSoFar t test 0 0 m m
+drained_first : (t : KnownTable) (test : StockTest) (m : KnownMachine) → DrainedSoFar t test 0 0 m m
 drained_first t test m = record {
   drains = [];
   all = (refl, refl);
@@ -149,17 +189,17 @@ drained_first t test m = record {
   groups = refl;
   owners = λ q. refl;
   drained = λ q some few. absurd (omega (arith, some, few));
-  steps = λ c. makes_stay t m m c c refl refl refl refl;
+  steps = makes_none t m;
   small = omega arith;
   visit = λ c visit. visit;
 }
 
 -- the next stocks aren't chosen
-drained_past : (t : KnownTable) (test : List Group → Option ℕ → Bool) (k pages : ℕ) (m n : KnownMachine) → DrainedSoFar t test k pages m n → (d : ℕ)
-    → ((p : ℕ) → k ≤ p → p < k + d → test m.ledger.groups (stock_group m (p + 1)) ≡ false) → DrainedSoFar t test (k + d) pages m n
+drained_past : (t : KnownTable) (test : StockTest) (k pages : ℕ) (m n : KnownMachine) → DrainedSoFar t test k pages m n → (d : ℕ)
+    → ((p : ℕ) → k ≤ p → p < k + d → test m.ledger.groups (stock_group t m (p + 1)) ≡ false) → DrainedSoFar t test (k + d) pages m n
 drained_past t test k pages m n before zero others = subst (λ (j : ℕ). DrainedSoFar t test j pages m n) (omega arith) before
 drained_past t test k pages m n before (suc d) others =
-    let now : test n.ledger.groups (stock_group n (k + 1)) ≡ false = (λ i. test (before.groups i) (before.owners (k + 1) i)) ∙ others k (omega arith) (omega arith) in
+    let now : test n.ledger.groups (stock_group t n (k + 1)) ≡ false = (λ i. test (before.groups i) (before.owners (k + 1) i)) ∙ others k (omega arith) (omega arith) in
     let next = drained_more t test k pages 0 m n n before (drained_not t test (k + 1) n now) (λ c visit. visit) (omega arith) in
     let same : pages + 0 ≡ pages = omega arith in
     subst (λ (j : ℕ). DrainedSoFar t test j pages m n) (omega arith)
@@ -174,11 +214,11 @@ pub record DrainedOfChosen (t : KnownTable) (m n : KnownMachine) (stocks rest pa
   pub done : ℕ
   pub inside : done ≤ t.cpus
   pub left : (p : ℕ) → p < 64 → (bit_at rest p ≡ 1) ↔ (done ≤ p) × (bit_at stocks p ≡ 1)
-  pub drained : (test : List Group → Option ℕ → Bool) → AreChosen t test m stocks → DrainedSoFar t test done pages m n
+  pub drained : (test : StockTest) → AreChosen t test m stocks → DrainedSoFar t test done pages m n
 
 module _ (t : KnownTable) (m n : KnownMachine) (stocks rest pages : ℕ) (so_far : DrainedOfChosen t m n stocks rest pages) (few : t.cpus ≤ 64) where
   -- those between the last one drained and the first one left aren't chosen
-  passed : (p : ℕ) → so_far.done ≤ p → p ≤ t.cpus → ((i : ℕ) → i < p → bit_at rest i ≡ 0) → (test : List Group → Option ℕ → Bool) → AreChosen t test m stocks
+  passed : (p : ℕ) → so_far.done ≤ p → p ≤ t.cpus → ((i : ℕ) → i < p → bit_at rest i ≡ 0) → (test : StockTest) → AreChosen t test m stocks
       → DrainedSoFar t test p pages m n
   passed p from to none test chosen =
       let d : ℕ = p - so_far.done in
@@ -192,19 +232,13 @@ module _ (t : KnownTable) (m n : KnownMachine) (stocks rest pages : ℕ) (so_far
 
   -- the first one left
   module _ (p : ℕ) (low : p < 64) (here : bit_at rest p ≡ 1) (first : (i : ℕ) → i < p → bit_at rest i ≡ 0) (some : AreChosenBySome t m stocks) where
-    pub first_chosen : (test : List Group → Option ℕ → Bool) → AreChosen t test m stocks → (p < t.cpus) × (test m.ledger.groups (stock_group m (p + 1)) ≡ true)
+    pub first_chosen : (test : StockTest) → AreChosen t test m stocks → (p < t.cpus) × (test m.ledger.groups (stock_group t m (p + 1)) ≡ true)
     first_chosen test chosen = (chosen p low).0 ((so_far.left p low).0 here).1
 
-    pub first_has_group : None ≡ stock_group n (p + 1) → ⊥
-    first_has_group none =
-        let was : stock_group m (p + 1) ≡ None = sym ((so_far.drained some.test some.chosen).owners (p + 1)) ∙ sym none in
-        false≢true (sym (some.filled m.ledger.groups) ∙ ap (some.test m.ledger.groups) (sym was) ∙ (first_chosen some.test some.chosen).1)
-
-    pub one_drained : (left more h : ℕ) (x : KnownMachine) → (bit_at left p ≡ 0) × (left < rest) × ((i : ℕ) → i < 64 → i ≢ p → bit_at left i ≡ bit_at rest i)
-        → stock_group n (p + 1) ≡ Some h → DrainsNoted 2 (p + 1) more n x
-        → ((c : KnownCpu) → MakesAs t c.number (visit_state n c) (drain_steps (p + 1) (stock_group n (p + 1)) more) (visit_state x c)) → StaysVisited t n x
-        → more ≤ 4294967295 → DrainedOfChosen t m x stocks left (pages + more)
-    one_drained left more h x taken of drains steps stays bound = record {
+    pub one_drained : (left more : ℕ) (x : KnownMachine) → (bit_at left p ≡ 0) × (left < rest) × ((i : ℕ) → i < 64 → i ≢ p → bit_at left i ≡ bit_at rest i)
+        → DrainsNoted t (p + 1) more n x → Makes t n (drain_steps (p + 1) (stock_group t n (p + 1)) more) x → StaysVisited t n x → more ≤ 4294967295
+        → DrainedOfChosen t m x stocks left (pages + more)
+    one_drained left more x taken drains steps stays bound = record {
       done = p + 1;
       inside = let c = first_chosen some.test some.chosen in omega (arith, c.0);
       left = λ i low_i. elim (cases_eq i p) [
@@ -227,10 +261,10 @@ module _ (t : KnownTable) (m n : KnownMachine) (stocks rest pages : ℕ) (so_far
       drained = λ test chosen.
           let is = first_chosen test chosen in
           let before = passed p ((so_far.left p low).0 here).0 (omega (arith, is.0)) first test chosen in
-          let now : test n.ledger.groups (stock_group n (p + 1)) ≡ true = (λ i. test (before.groups i) (before.owners (p + 1) i)) ∙ is.1 in
-          drained_more t test p pages more m n x before (drained_one t test (p + 1) more h n x now of drains steps) stays bound;
+          let now : test n.ledger.groups (stock_group t n (p + 1)) ≡ true = (λ i. test (before.groups i) (before.owners (p + 1) i)) ∙ is.1 in
+          drained_more t test p pages more m n x before (drained_one t test (p + 1) more n x now drains steps) stays bound;
     }
 
   -- none is left
-  pub all_drained : rest ≡ 0 → (test : List Group → Option ℕ → Bool) → AreChosen t test m stocks → DrainedSoFar t test t.cpus pages m n
+  pub all_drained : rest ≡ 0 → (test : StockTest) → AreChosen t test m stocks → DrainedSoFar t test t.cpus pages m n
   all_drained none = passed t.cpus so_far.inside (omega arith) (λ i before. ap (λ (w : ℕ). bit_at w i) none ∙ bit_at-zero i)

@@ -4,10 +4,8 @@ use Rattle.std.proofs.Common.{subst, inl, inr, arith, cond, zero, suc, ◌==◌,
 use Rattle.std.proofs.lemmas.Bool.{cases_lt, cases_eq, ne_eqb}
 use Rattle.std.proofs.lemmas.List.{get_or-replicate, length-replicate, length_push, get_or_append_left, get_or_push}
 use Rattle.zone_blocks.specs.Areas.{AreMaximalBlocks}
-use Rattle.frame_word.specs.declared.view.FrameNote.{FrameNote}
-use Rattle.frame_word.specs.Views.{note_of, blank}
-use Rattle.frame_word.specs.Seats.{KnownTable, KnownSeat, seat_number, seat_references, first_zone_view}
-use Rattle.stock_word.specs.Stock.{KnownStockTable, KnownStockSeat, account_of, first_zone_stock_view}
+use Rattle.std.specs.Prelude.{is_some}
+use Rattle.frame_word.specs.Seats.{KnownTable}
 use Rattle.group_charge.specs.Charges.{Ledger, initial_ledger, pages_of, account_at}
 use Rattle.group_charge.specs.Notes.{no_notes}
 use Rattle.lru_lists.specs.declared.record.Link.{Link}
@@ -19,18 +17,18 @@ use Rattle.step_rules.specs.declared.phase.ChargedUnit.{ChargedUnit}
 use Rattle.step_rules.proofs.Sums.{sum_none}
 use Rattle.mem_machine.specs.declared.frame_state.FrameState.{FrameState}
 use Rattle.mem_machine.specs.declared.frame_state.FrameState.TheVariants.{Free, Head, Tail}
-use Rattle.mem_machine.specs.FrameStates.{frame_state_at, free_of, frame_state_group, one_if_is, AreUnits}
+use Rattle.mem_machine.specs.FrameStates.{frame_state_at, free_of, frame_state_group, one_if_is, phase_hidden, AreUnits}
 use Rattle.mem_machine.specs.Start.{AreEmpty}
 use Rattle.mem_machine.specs.Counts.{no_counts}
-use Rattle.mem_machine.specs.Machines.{KnownMachine, FitsFrameState, IsConsistent, IsFirst, BalancesCounts, home_of, frames_charged, is_killed, pages_booked, booked}
-use Rattle.step_rules.specs.State.{is_unheld}
+use Rattle.mem_machine.specs.Machines.{KnownMachine, FitsFrameState, IsConsistent, IsFirst, IsShownBy, BalancesCounts, home_of, frames_charged, left_by, pages_booked, booked}
+use Rattle.step_rules.specs.State.{State, Zone, at_boot, is_unheld, one_if}
 use Rattle.step_rules.specs.After.{state_of}
 use Rattle.boot_words.specs.Hidden.{hide}
 use Rattle.boot_words.specs.Pasts.{IsZonePast, KnownPasts, own_past}
-use Rattle.boot_words.specs.Seating.{no_past}
+use Rattle.boot_words.specs.Opening.{seat_at_first}
 use Rattle.boot_words.specs.Seats.{zone_of_boot}
-use Rattle.mem_machine.specs.Local.{part_with}
-use Rattle.mem_machine.specs.Resting.{Rests, hidden_of, phase_hidden}
+use Rattle.mem_machine.specs.Booked.{AreBooked, AreOwners}
+use Rattle.mem_machine.specs.Resting.{Rests}
 
 pub empty_none : (lists : List Lru) → lists ≡ [] → AreEmpty lists 0
 empty_none lists none = record {
@@ -91,112 +89,109 @@ no_pages g = elim (cases_eq 0 g) [
   | inr ne ↦ let none : (0 == g) ≡ false = ne_eqb 0 g ne in rw none refl
 ]
 
-module _ (t : KnownTable) (w : KnownStockTable) (m : KnownMachine) (first : IsFirst t w m) where
+none_booked : (cpus : ℕ) (zone : Zone) (g : ℕ) → pages_booked cpus (hide (at_boot zone)).parts g ≡ 0
+none_booked cpus zone g = sum_none (cpus + 1) (λ p. booked g ((hide (at_boot zone)).parts p)) (λ p inside. refl)
+
+module _ (t : KnownTable) (m : KnownMachine) (first : IsFirst t m) where
   all_free : (f : ℕ) → frame_state_at m.frame_states f ≡ Free
   all_free f = ap (λ (l : List FrameState). get_or l f Free) first.frame_states ∙ repeated t.frames f Free
 
-  pub units_first : AreUnits m.frame_states
+  no_home : (f : ℕ) → home_of m.links f ≡ None
+  no_home f = ap (λ (l : Link). l.home) (first.nowhere f)
+
+  -- no step was made
+  pub left_first : left_by t m.run.past ≡ hide (at_boot (zone_of_boot t))
+  left_first = ap (left_by t) first.past
+
+  units_first : AreUnits m.frame_states
   units_first = record {
     heads = λ f unit is. absurd (not_head unit (sym (all_free f) ∙ is));
     tails = λ x g is. absurd (not_tail g (sym (all_free x) ∙ is));
   }
 
-  note_first : (f : ℕ) → f < t.frames → note_of m.frame_seat.view f ≡ record blank { own = 1 }
-  note_first f inside = ap (λ (s : KnownSeat). note_of s.view f) first.frame_seat ∙ get_or-replicate t.frames f (record blank { own = 1 }) blank inside
+  frame_states_first : (f : ℕ) → f < t.frames → FitsFrameState (home_of m.links f) (frame_state_at m.frame_states f)
+  frame_states_first f inside = subst (λ (x : Option Home). FitsFrameState x (frame_state_at m.frame_states f)) (sym (no_home f)) tt
 
-  pub frame_states_first : (f : ℕ) → f < t.frames → FitsFrameState t.cpus (note_of m.frame_seat.view f) (home_of m.links f) (frame_state_at m.frame_states f)
-  frame_states_first f inside =
-      let note = note_first f inside in
-      let home : home_of m.links f ≡ None = ap (λ (l : Link). l.home) (first.nowhere f) in
-      let frame_state = all_free f in
-      subst (λ (x : FrameNote × Option Home × FrameState). FitsFrameState t.cpus x.0 x.1 x.2) (λ i. (sym note i, sym home i, sym frame_state i))
-      (record { own = refl; borrowed = refl; lent = refl; borrower = tt; references = refl; kept = tt })
-
-  pub charged_first : (g : ℕ) → pages_of m.ledger g ≡ frames_charged m.frame_states g + pages_booked t m.stock_seat g
+  charged_first : (g : ℕ) → pages_of m.ledger g ≡ frames_charged m.frame_states g + pages_booked t.cpus (hide (at_boot (zone_of_boot t))).parts g
   charged_first g =
       let pages : pages_of m.ledger g ≡ 0 = ap (λ (l : Ledger). pages_of l g) first.ledger ∙ no_pages g in
       let frames : frames_charged m.frame_states g ≡ 0 =
       sum_none (length m.frame_states) (λ f. one_if_is g (frame_state_group (frame_state_at m.frame_states f))) (λ f inside. ap (λ (x : FrameState). one_if_is g (frame_state_group x)) (all_free f)) in
-      let books : pages_booked t m.stock_seat g ≡ 0 =
-      sum_none (t.cpus + 1) (λ p. booked g (account_of m.stock_seat.view p)) (λ p inside. ap (λ (x : KnownStockSeat). booked g (account_of x.view p)) first.stock_seat) in
+      let books = none_booked t.cpus (zone_of_boot t) g in
       omega (arith, pages, frames, books)
 
-  balances_first : BalancesCounts m.counts
-  balances_first = subst BalancesCounts (sym first.counts) refl
+  shown_first : IsShownBy t m (hide (at_boot (zone_of_boot t)))
+  shown_first = record {
+    groups = sym (ap (λ (l : Ledger). l.groups) first.ledger);
+    killed = λ g. sym (ap (λ (l : List Bool). get_or l g false) first.killed ∙ repeated 64 g false);
+    phases = λ f. sym (ap phase_hidden (all_free f));
+    references = λ f. sym (ap (λ (h : Option Home). one_if (is_some h)) (no_home f));
+    settled = λ g. refl;
+    absorbed = λ p. refl;
+    bounded = λ p. omega arith;
+    charged = charged_first;
+  }
 
-  pub consistent_first : AreMaximalBlocks (free_of m.frame_states) m.blocks → length m.links ≡ t.frames → length m.lists ≡ 64 → AllLinked m.links m.lists
-      → w.cpus ≡ t.cpus → IsConsistent t w m
-  consistent_first areas links lists stand cpus = record {
+  consistent_first : AreMaximalBlocks (free_of m.frame_states) m.blocks → length m.links ≡ t.frames → length m.lists ≡ 64 → AllLinked m.links m.lists → IsConsistent t m
+  consistent_first areas links lists stand = record {
     sizes = record {
       frame_states = ap length first.frame_states ∙ length-replicate t.frames Free;
       links = links;
       lists = lists;
       killed = ap length first.killed ∙ length-replicate 64 false;
-      cpus = cpus;
-    };
-    seats = record {
-      frames = (ap (λ (s : KnownSeat). s.table) first.frame_seat, ap (λ (s : KnownSeat). seat_number s) first.frame_seat);
-      table = ap (λ (s : KnownStockSeat). s.table) first.stock_seat;
-      stocks = ap (λ (s : KnownStockSeat). s.view.number) first.stock_seat;
     };
     areas = areas;
     frame_states = frame_states_first;
     units = units_first;
     lists = stand;
-    absorbed = λ p. ap (λ (s : KnownStockSeat). (account_of s.view p).unabsorbed) first.stock_seat;
-    bounded = λ p. let none = ap (λ (s : KnownStockSeat). (account_of s.view p).book) first.stock_seat in omega (arith, none);
-    charged = charged_first;
-    balances = balances_first;
+    balances = subst BalancesCounts (sym first.counts) refl;
+    shown = subst (IsShownBy t m) (sym left_first) shown_first;
   }
 
--- what the parts of the first machine are made of
-pub starts : (t : KnownTable) (w : KnownStockTable) (m : KnownMachine) (free : List Bool) (frames : ℕ) → IsFirst t w m → frames ≡ t.frames → length m.links ≡ frames
-    → AreEmpty m.lists 64 → free ≡ replicate frames true → AreMaximalBlocks free m.blocks → w.cpus ≡ t.cpus → IsConsistent t w m × (free ≡ free_of m.frame_states)
-starts t w m free frames first sized links empty all areas cpus =
-    let same : free ≡ free_of m.frame_states = all ∙ ap (λ (n : ℕ). replicate n true) sized ∙ sym (ap free_of first.frame_states ∙ free_all t.frames) in (
-      consistent_first t w m first (subst (λ (l : List Bool). AreMaximalBlocks l m.blocks) same areas) (links ∙ sized) empty.count
-          (empty_stand m.lists 64 empty m.links first.nowhere) cpus,
-      same,
-    )
+  -- what the parts of the first machine are made of
+  pub starts : (free : List Bool) (frames : ℕ) → frames ≡ t.frames → length m.links ≡ frames
+      → AreEmpty m.lists 64 → free ≡ replicate frames true → AreMaximalBlocks free m.blocks → IsConsistent t m × (free ≡ free_of m.frame_states)
+  starts free frames sized links empty all areas =
+      let same : free ≡ free_of m.frame_states = all ∙ ap (λ (n : ℕ). replicate n true) sized ∙ sym (ap free_of first.frame_states ∙ free_all t.frames) in (
+        consistent_first (subst (λ (l : List Bool). AreMaximalBlocks l m.blocks) same areas) (links ∙ sized) empty.count
+            (empty_stand m.lists 64 empty m.links first.nowhere),
+        same,
+      )
 
-pub first_is : (t : KnownTable) (w : KnownStockTable) (m : KnownMachine) (frames : ℕ) → frames ≡ t.frames → m.frame_states ≡ replicate frames Free
-    → m.ledger ≡ initial_ledger → AreNowhere m.links → m.frame_seat ≡ record { table = t.table; view = first_zone_view t.frames }
-    → m.stock_seat ≡ record { table = w.table; view = first_zone_stock_view } → m.killed ≡ replicate 64 false → m.counts ≡ no_counts
-    → m.notes ≡ no_notes → IsFirst t w m
-first_is t w m frames sized frame_states ledger nowhere seat stock killed counts notes = record {
+  -- nothing is booked
+  pub sums_first : (sums : List ℕ) → sums ≡ replicate 64 0 → AreBooked t.cpus (left_by t m.run.past).parts sums
+  sums_first sums zeros = subst (λ (u : State). AreBooked t.cpus u.parts sums) (sym left_first) (record {
+    size = ap length zeros ∙ length-replicate {A = ℕ} 64 0;
+    each = λ g fits. ap (λ (l : List ℕ). get_or l g 0) zeros ∙ repeated 64 g 0 ∙ sym (none_booked t.cpus (zone_of_boot t) g);
+  })
+
+  pub owners_first : (owners : List (Option ℕ)) → owners ≡ replicate 64 None → t.cpus ≤ 64 → AreOwners t.cpus (left_by t m.run.past).parts owners
+  owners_first owners none few = subst (λ (u : State). AreOwners t.cpus u.parts owners) (sym left_first) (record {
+    size = ap length none ∙ length-replicate {A = Option ℕ} 64 None;
+    few = few;
+    each = λ place low. nobody place;
+    beyond = λ place past. nobody place;
+  })
+    where
+      nobody : (place : ℕ) → get_or owners place None ≡ None
+      nobody place = ap (λ (l : List (Option ℕ)). get_or l place None) none ∙ repeated {X = Option ℕ} 64 place None
+
+  -- nobody holds the lock
+  pub rests_first : Rests t m
+  rests_first = record {
+    past_is = subst (IsZonePast t) (sym first.past) (record { table_is = refl; alone = refl; zone_is = refl; legal = λ k. tt });
+    free = ap (λ (s : KnownPasts). is_unheld (state_of (zone_of_boot t) (own_past s).seen).hold) first.past;
+  }
+
+pub first_is : (t : KnownTable) (m : KnownMachine) (frames : ℕ) → frames ≡ t.frames → m.frame_states ≡ replicate frames Free
+    → m.ledger ≡ initial_ledger → AreNowhere m.links → m.killed ≡ replicate 64 false → m.counts ≡ no_counts
+    → m.notes ≡ no_notes → m.run.past ≡ seat_at_first t.table 0 → IsFirst t m
+first_is t m frames sized frame_states ledger nowhere killed counts notes past = record {
   frame_states = frame_states ∙ ap (λ (n : ℕ). replicate n Free) sized;
   ledger = ledger;
   nowhere = nowhere;
-  frame_seat = seat;
-  stock_seat = stock;
   killed = killed;
   counts = counts;
   notes = notes;
+  past = past;
 }
-
--- ---- nobody holds the lock, and nothing was done
-
-no_reference : (n f : ℕ) → (get_or (replicate n (record blank { own = 1 })) f blank).references ≡ 0
-no_reference zero f = refl
-no_reference (suc n) zero = refl
-no_reference (suc n) (suc f) = no_reference n f
-
-module _ (t : KnownTable) (w : KnownStockTable) (m : KnownMachine) (first : IsFirst t w m) (unmade : m.run.past ≡ record { table = t.table; pasts = no_past 0 ∷ [] }) where
-  references_first : (f : ℕ) → seat_references m.frame_seat f ≡ 0
-  references_first f = ap (λ (s : KnownSeat). seat_references s f) first.frame_seat ∙ no_reference t.frames f
-
-  alive_first : (g : ℕ) → is_killed m.killed g ≡ false
-  alive_first g = ap (λ (l : List Bool). get_or l g false) first.killed ∙ repeated 64 g false
-
-  pub rests_first : Rests t m
-  rests_first = record {
-    past_is = subst (IsZonePast t) (sym unmade) (record { table_is = refl; alone = refl; zone_is = refl; legal = λ k. tt });
-    free = ap (λ (s : KnownPasts). is_unheld (state_of (zone_of_boot t) (own_past s).seen).hold) unmade;
-    left = ap (λ (s : KnownPasts). hide (state_of (zone_of_boot t) (own_past s).seen)) unmade ∙ sym (λ i. record (hidden_of t m) {
-      groups = ap (λ (l : Ledger). l.groups) first.ledger i;
-      killed = λ g. alive_first g i;
-      phases = λ f. phase_hidden (all_free t w m first f i);
-      references = λ seat f. cond (seat == 0) (references_first f i) 0;
-      parts = λ cpu. part_with [] [] [] (account_of (first.stock_seat i).view cpu);
-    });
-  }

@@ -1,6 +1,8 @@
 -- The peaks and the event counts of the ledger follow lists of steps. Serves the `steps` clauses of all calls.
 use Rattle.std.proofs.Common.{◌≡◌, ℕ, ◌&&◌, ◌++◌, Bool, true, false, Option, Some, None, List, [], ◌∷◌, cond, refl, sym, ap, ◌∙◌, subst, inl, inr, eq-eqb}
 use Rattle.std.specs.Prelude.{is_none}
+use Rattle.std.specs.List.{fold}
+use Rattle.std.proofs.lemmas.List.Sums.{fold-append}
 use Rattle.std.proofs.lemmas.Bool.{cases_eq, cases_Bool, and_parts, true≢false, false≢true}
 use Rattle.group_tree.specs.declared.event.EventKey.{EventKey}
 use Rattle.group_tree.specs.declared.group.Group.{Group}
@@ -10,7 +12,6 @@ use Rattle.group_tree.specs.Room.{one_more}
 use Rattle.group_tree.proofs.CallerLemmas.{has_group-with, has_group-limited, has_group-flagged, has_group-without}
 use Rattle.group_charge.specs.Charges.{Ledger, SamePeaks, SameEvents}
 use Rattle.frame_word.specs.Seats.{KnownTable}
-use Rattle.cpu_part.specs.Cpus.{KnownCpu}
 use Rattle.step_rules.specs.declared.step.Step.{Step}
 use Rattle.step_rules.specs.declared.step.Action.{Action}
 use Rattle.step_rules.specs.declared.step.Action.TheVariants.{Lock, Grant, SetMax, SetFlag, Make, Remove}
@@ -19,18 +20,20 @@ use Rattle.step_rules.specs.declared.step.Answer.TheVariants.{Illegal, Done, Gra
 use Rattle.step_rules.specs.State.{State}
 use Rattle.step_rules.specs.After.{Run, after}
 use Rattle.step_rules.specs.Peaks.{peak_follows}
+use Rattle.step_rules.specs.Reaches.{IsLocalRun}
 use Rattle.step_rules.specs.Events.{event_of, noted_at, is_noted_at, is_noted_in_subtree, makes_group}
 use Rattle.step_rules.specs.Usage.{is_in_subtree}
 use Rattle.step_rules.specs.Legal.{is_of_group}
 use Rattle.step_rules.proofs.CallerLemmas.{noted_nowhere}
 use Rattle.step_rules.proofs.Moving.{gone_itself}
-use Rattle.mem_machine.specs.Following.{Moves, moved_along, moves_peak, moves_count, FollowsSteps}
+use Rattle.boot_words.specs.Pasts.{cpu_past, local_by_pasts}
+use Rattle.mem_machine.specs.Following.{Moves, moved_along, moves_peak, moves_count, ExistsAfter, FollowsSteps}
 use Rattle.mem_machine.specs.declared.counts.Counts.{Counts}
 use Rattle.mem_machine.specs.Counting.{counts_after, counts_along}
 use Rattle.mem_machine.specs.Machines.{KnownMachine}
-use Rattle.mem_machine.specs.Local.{VisitState, visit_state, local_of, local_at, IsLocalRun, MakesAs}
-use Rattle.mem_machine.specs.Noted.{KnownRun, Notes}
-use Rattle.mem_machine.proofs.Noted.{notes_none, notes_both}
+use Rattle.mem_machine.specs.Local.{Makes, lock_holder, local_of}
+use Rattle.mem_machine.specs.Noted.{KnownRun, Notes, after_made}
+use Rattle.mem_machine.proofs.Noted.{notes_none, notes_both, run_ends}
 use Rattle.mem_machine.proofs.Reaching.{run_both}
 
 -- ---- one list after another
@@ -112,48 +115,34 @@ counts_both p a (e ∷ rest) two b x run =
     counts_both p (after a e.0.seat e.0.action e.1) rest two b (counts_after a e.0.seat e.0.action e.1 x) run.1
 
 -- one list after another
-pub makes_both : (t : KnownTable) (p : ℕ) (one two : Run) (a b c : VisitState) → MakesAs t p a one b → MakesAs t p b two c → MakesAs t p a (one ++ two) c
-makes_both t p one two a b c first second =
-    let s = local_of t a.machine a.cpu in
-    let u = local_of t b.machine b.cpu in
-    let v = local_of t c.machine c.cpu in
+pub makes_both : (t : KnownTable) (one two : Run) (a b c : KnownMachine) → Makes t a one b → Makes t b two c → Makes t a (one ++ two) c
+makes_both t one two a b c first second =
+    let p = lock_holder a in
+    let s = local_of t a in
+    let u = local_of t b in
+    let v = local_of t c in
+    let then_leads : IsLocalRun p u two v = subst (λ (q : ℕ). IsLocalRun q u two v) first.holder second.leads in
+    let here : fold after_made s one ≡ u = run_ends p s one u first.leads in
+    let end : fold after_made u two ≡ v = run_ends p u two v then_leads in
+    let whole : fold after_made s (one ++ two) ≡ v = fold-append after_made s one two ∙ ap (λ (x : State). fold after_made x two) here ∙ end in
+    let was : (m : ℕ) → has_group u.groups m ≡ true → ExistsAfter s one m = λ m. subst (λ (x : State). has_group x.groups m ≡ true) (sym here) in
+    let is : (m : ℕ) → ExistsAfter s (one ++ two) m → has_group v.groups m ≡ true = λ m. subst (λ (x : State). has_group x.groups m ≡ true) whole in
+    let is_then : (m : ℕ) → ExistsAfter s (one ++ two) m → ExistsAfter u two m = λ m there. subst (λ (x : State). has_group x.groups m ≡ true) (sym end) (is m there) in
     record {
-      leads = run_both p one two s u v first.leads second.leads;
+      holder = second.holder ∙ first.holder;
+      leads = run_both p one two s u v first.leads then_leads;
       follows = record {
-        peak = λ m there. joined p s one u two v first.leads second.leads m (moves_peak m) (peak_begins m) _ _ _
-            (first.follows.peak m) (second.follows.peak m there) there;
-        events = λ key m there. joined p s one u two v first.leads second.leads m (moves_count (is_noted_in_subtree key m) m)
+        peak = λ m there. joined p s one u two v first.leads then_leads m (moves_peak m) (peak_begins m) _ _ _
+            (λ old. first.follows.peak m (was m old)) (second.follows.peak m (is_then m there)) (is m there);
+        events = λ key m there. joined p s one u two v first.leads then_leads m (moves_count (is_noted_in_subtree key m) m)
             (count_begins (is_noted_in_subtree key m) m)
-            _ _ _ (first.follows.events key m) (second.follows.events key m there) there;
-        events_local = λ key m there. joined p s one u two v first.leads second.leads m (moves_count (is_noted_at key m) m)
-            (count_begins (is_noted_at key m) m) _ _ _ (first.follows.events_local key m) (second.follows.events_local key m there) there;
+            _ _ _ (λ old. first.follows.events key m (was m old)) (second.follows.events key m (is_then m there)) (is m there);
+        events_local = λ key m there. joined p s one u two v first.leads then_leads m (moves_count (is_noted_at key m) m)
+            (count_begins (is_noted_at key m) m) _ _ _ (λ old. first.follows.events_local key m (was m old)) (second.follows.events_local key m (is_then m there)) (is m there);
       };
-      counts = second.counts ∙ ap (counts_along u two) first.counts ∙ sym (counts_both p s one two u a.machine.counts first.leads);
-      noted = notes_both t a.machine.run one b.machine.run two c.machine.run first.noted second.noted;
+      counts = second.counts ∙ ap (counts_along u two) first.counts ∙ sym (counts_both p s one two u a.counts first.leads);
+      noted = notes_both t a.run one b.run two c.run first.noted second.noted;
     }
-
--- ---- the run
-
--- all that `MakesAs` says but for the pasts and the watch
-pub record LeadsAs (table : KnownTable) (number : ℕ) (before : VisitState) (steps : Run) (after : VisitState) : Type 0 where
-  pub leads : IsLocalRun number (local_at table before) steps (local_at table after)
-  pub follows : FollowsSteps (local_at table before) before.machine.ledger steps after.machine.ledger
-  pub counts : after.machine.counts ≡ counts_along (local_at table before) steps before.machine.counts
-
--- the same for each CPU that may hold the lock
-abbrev pub LeadsForAny : KnownTable → KnownMachine → Run → KnownMachine → Type 0
-LeadsForAny table before steps after = (cpu : KnownCpu) → LeadsAs table cpu.number (visit_state before cpu) steps (visit_state after cpu)
-
--- the pasts have grown by the steps, and the watch took them: the machine after them has this run
-pub makes_noted : (t : KnownTable) (p : ℕ) (m now : KnownMachine) → m ≡ now → (c d : KnownCpu) (steps : Run) (n : KnownMachine)
-    → LeadsAs t p (visit_state now c) steps (visit_state n d) → (run : KnownRun) → Notes t m.run steps run
-    → MakesAs t p (visit_state now c) steps (visit_state (record n { run = run }) d)
-makes_noted t p m now same c d steps n made run notes = record {
-  leads = made.leads;
-  follows = made.follows;
-  counts = made.counts;
-  noted = subst (λ (x : KnownMachine). Notes t x.run steps run) same notes;
-}
 
 -- ---- steps that move nothing
 
@@ -235,15 +224,15 @@ follows_same s l steps still = follows_still s l steps l still (λ m. refl) (sam
 
 -- ---- no step
 
-pub makes_none : (t : KnownTable) (p : ℕ) (a : VisitState) → MakesAs t p a [] a
-makes_none t p a = record { leads = refl; follows = follows_same _ _ _ refl; counts = refl; noted = notes_none t a.machine.run }
+pub makes_none : (t : KnownTable) (a : KnownMachine) → Makes t a [] a
+makes_none t a = record { holder = refl; leads = refl; follows = follows_same _ _ _ refl; counts = refl; noted = notes_none t a.run }
 
--- what is seen stays, and the ledger, the counts and the run
-pub makes_stay : (t : KnownTable) (m n : KnownMachine) (c d : KnownCpu) → local_of t m c ≡ local_of t n d → n.ledger ≡ m.ledger
-    → n.counts ≡ m.counts → n.run ≡ m.run → MakesAs t c.number (visit_state m c) [] (visit_state n d)
-makes_stay t m n c d seen same counted unnoted = record {
-  leads = seen;
+-- the ledger, the counts and the run stay
+pub makes_stay : (t : KnownTable) (m n : KnownMachine) → n.ledger ≡ m.ledger → n.counts ≡ m.counts → n.run ≡ m.run → Makes t m [] n
+makes_stay t m n same counted unnoted = record {
+  holder = ap (λ (r : KnownRun). (cpu_past r.past).number) unnoted;
+  leads = ap (λ (r : KnownRun). local_by_pasts t r.past) (sym unnoted);
   counts = counted;
   noted = subst (Notes t m.run []) (sym unnoted) (notes_none t m.run);
-  follows = subst (FollowsSteps (local_of t m c) m.ledger []) (sym same) (follows_same (local_of t m c) m.ledger [] refl);
+  follows = subst (FollowsSteps (local_of t m) m.ledger []) (sym same) (follows_same (local_of t m) m.ledger [] refl);
 }

@@ -1,6 +1,6 @@
 -- A unit is freed: its frames are free, and its pages are uncharged from its group. Serves `free_unit` and all its
 -- callers.
-use Rattle.std.proofs.Common.{◌≡◌, ℕ, ◌+◌, ◌-◌, ◌^◌, ◌<◌, ◌≤◌, ◌==◌, Bool, true, false, Some, List, length, get_or, cond}
+use Rattle.std.proofs.Common.{◌≡◌, ℕ, ◌+◌, ◌-◌, ◌^◌, ◌<◌, ◌≤◌, ◌==◌, Bool, true, false, Option, Some, None, List, length, get_or, cond}
 use Rattle.std.proofs.Common.{zero, suc, refl, sym, ap, ◌∙◌, subst, arith, inl, inr, eq-eqb}
 use Rattle.std.specs.Prelude.{slice_set, min}
 use Rattle.std.specs.Cmp.{both_ways}
@@ -8,28 +8,26 @@ use Rattle.std.proofs.lemmas.Bool.{cases_eq, cases_lt, ne_eqb, cond-true, cond-f
 use Rattle.std.proofs.lemmas.Option.{none-some}
 use Rattle.std.proofs.lemmas.Nat.{pow_pos}
 use Rattle.std.proofs.lemmas.List.{get_or-set_same, get_or-set_other, length-set, ext_get_or}
-use Rattle.zone_blocks.specs.declared.block.Block.{Block}
 use Rattle.zone_blocks.specs.Block.{IsBlock}
-use Rattle.zone_blocks.specs.Areas.{AreMaximalBlocks}
 use Rattle.zone_blocks.specs.Zone.{GivesFrames, IsInUse}
-use Rattle.frame_word.specs.Views.{note_of}
-use Rattle.frame_word.specs.Seats.{KnownTable, KnownSeat, IsZoneSeat}
-use Rattle.stock_word.specs.Stock.{KnownStockTable}
+use Rattle.frame_word.specs.Seats.{KnownTable}
 use Rattle.group_charge.specs.Charges.{pages_of, with_uncharge}
 use Rattle.group_charge.proofs.CallerLemmas.{uncharge_pages}
 use Rattle.lru_lists.specs.declared.record.Link.{Link}
-use Rattle.lru_lists.specs.declared.lru.Lru.{Lru}
-use Rattle.lru_lists.specs.Lists.{AllLinked}
+use Rattle.lru_lists.specs.declared.record.Home.{Home}
 use Rattle.step_rules.specs.declared.phase.ChargedUnit.{ChargedUnit}
+use Rattle.step_rules.specs.declared.phase.Phase.{Phase}
+use Rattle.step_rules.specs.declared.phase.Phase.TheVariants as phase
+use Rattle.step_rules.specs.Phases.{unit_of}
 use Rattle.step_rules.specs.State.{sum_to, one_if}
-use Rattle.step_rules.specs.After.{is_within}
+use Rattle.step_rules.specs.After.{is_within, unit_size, without_unit}
 use Rattle.step_rules.proofs.Sums.{sum_same, sum_both, sum_none}
 use Rattle.step_rules.proofs.Placing.{within_cases}
 use Rattle.mem_machine.specs.declared.frame_state.FrameState.{FrameState}
 use Rattle.mem_machine.specs.declared.frame_state.FrameState.TheVariants.{Free, Head, Tail}
-use Rattle.mem_machine.specs.declared.counts.Counts.{Counts}
-use Rattle.mem_machine.specs.FrameStates.{frame_state_at, is_free_state, free_of, frame_state_group, head_group_of, one_if_is, AreUnits, IsUnitAt}
-use Rattle.mem_machine.specs.Machines.{KnownMachine, FitsFrameState, IsConsistent, BalancesCounts, home_of, frames_charged}
+use Rattle.boot_words.specs.Hidden.{hide_phase}
+use Rattle.mem_machine.specs.FrameStates.{frame_state_at, is_free_state, free_of, frame_state_group, head_group_of, one_if_is, phase_hidden, AreUnits, IsUnitAt}
+use Rattle.mem_machine.specs.Machines.{KnownMachine, FitsFrameState, IsConsistent, home_of, frames_charged}
 use Rattle.mem_machine.specs.Freeing.{FreesFrames}
 use Rattle.mem_machine.proofs.Records.{free_at, length_free}
 
@@ -269,9 +267,7 @@ module _ (frame_states new : List FrameState) (f : ℕ) (unit : ChargedUnit) (he
 
 -- ---- the machine after a unit was freed
 
--- the zone has the unit's head in its hand, and the unit is on no list: its frames and its pages were freed, and the
--- machine is consistent
-module _ (t : KnownTable) (w : KnownStockTable) (m : KnownMachine) (ok : IsConsistent t w m) (f : ℕ) (unit : ChargedUnit) (heads : frame_state_at m.frame_states f ≡ Head unit) where
+module _ (t : KnownTable) (m : KnownMachine) (ok : IsConsistent t m) (f : ℕ) (unit : ChargedUnit) (heads : frame_state_at m.frame_states f ≡ Head unit) where
   -- the pages of the unit are charged to its group
   pub unit_charged : 2 ^ unit.order ≤ pages_of m.ledger unit.group
   unit_charged =
@@ -280,7 +276,7 @@ module _ (t : KnownTable) (w : KnownStockTable) (m : KnownMachine) (ok : IsConsi
       let a = charges_freed m.frame_states (freed m.frame_states f (2 ^ unit.order)) f unit heads ok.units some unit.group in
       let b : cond (unit.group == unit.group) (2 ^ unit.order) 0 ≡ 2 ^ unit.order =
       cond-true (unit.group == unit.group) _ 0 (eq-eqb unit.group unit.group refl) in
-      let c = ok.charged unit.group in
+      let c = ok.shown.charged unit.group in
       omega (arith, a, b, c)
     where
       freed : List FrameState → ℕ → ℕ → List FrameState
@@ -293,57 +289,43 @@ module _ (t : KnownTable) (w : KnownStockTable) (m : KnownMachine) (ok : IsConsi
           subst (λ (j : ℕ). FreesFrames at j frame_states (slice_set (freed frame_states at k) (at + k) Free)) (omega arith)
           (frees_more frame_states (freed frame_states at k) at k (omega (arith, inside)) (freed_frees frame_states at k (omega (arith, inside))))
 
-  -- the head is one of the zone's frames
-  pub head_inside : f + 2 ^ unit.order ≤ t.frames
-  head_inside = let a = (ok.units.heads f unit heads).block.inside in let b = ok.sizes.frame_states in omega (arith, a, b)
+  module _ (frame_states : List FrameState) (frees : FreesFrames f (2 ^ unit.order) m.frame_states frame_states) where
+    -- a frame of the unit is free, and all others have the phases that they had
+    pub phases_freed : (phases : ℕ → Phase) → ((x : ℕ) → (x ≡ f → ⊥) → hide_phase (phases x) ≡ phase_hidden (frame_state_at m.frame_states x))
+        → unit_of (phases f) ≡ Some unit → (x : ℕ) → hide_phase (without_unit phases f x) ≡ phase_hidden (frame_state_at frame_states x)
+    phases_freed phases others is x =
+        let some = pow_pos unit.order in
+        ap (λ (o : Option ChargedUnit). hide_phase (cond (is_within f (unit_size o) x) phase.InZone (phases x))) is
+        ∙ elim (within_cases f (2 ^ unit.order) x) [
+          | inl w ↦ ap (λ (b : Bool). hide_phase (cond b phase.InZone (phases x))) w.0
+              ∙ sym (ap phase_hidden (frees.records x ∙ ap (λ (b : Bool). cond b Free (frame_state_at m.frame_states x)) w.0))
+          | inr out ↦ ap (λ (b : Bool). hide_phase (cond b phase.InZone (phases x))) out.0
+              ∙ others x (λ e. out.1 (omega (arith, e)) (omega (arith, e, some)))
+              ∙ sym (ap phase_hidden (frees.records x ∙ ap (λ (b : Bool). cond b Free (frame_state_at m.frame_states x)) out.0))
+        ]
 
-  pub unit_freed_consistent : (frame_states : List FrameState) (blocks : List Block) (links : List Link) (lists : List Lru) (seat : KnownSeat) (counts : Counts)
-      → FreesFrames f (2 ^ unit.order) m.frame_states frame_states → AreMaximalBlocks (free_of frame_states) blocks → IsZoneSeat t seat
-      → length links ≡ t.frames → length lists ≡ 64 → AllLinked links lists
-      → ((x : ℕ) → x < t.frames → (x ≡ f → ⊥) → FitsFrameState t.cpus (note_of seat.view x) (home_of links x) (frame_state_at m.frame_states x))
-      → FitsFrameState t.cpus (note_of seat.view f) (home_of links f) Free → BalancesCounts counts
-      → IsConsistent t w (record m {
-        blocks = blocks;
-        frame_states = frame_states;
-        ledger = with_uncharge m.ledger unit.group (2 ^ unit.order);
-        links = links;
-        lists = lists;
-        frame_seat = seat;
-        counts = counts;
-      })
-  unit_freed_consistent frame_states blocks links lists seat counts frees areas zone linked listed stand others head balances = record {
-    sizes = let s = ok.sizes in record { frame_states = frees.frames ∙ s.frame_states; links = linked; lists = listed; killed = s.killed; cpus = s.cpus };
-    seats = let s = ok.seats in record { frames = zone; table = s.table; stocks = s.stocks };
-    areas = areas;
-    frame_states = λ x within. elim (cases_eq x f) [
-      | inl e ↦ subst (λ (k : ℕ). FitsFrameState t.cpus (note_of seat.view k) (home_of links k) (frame_state_at frame_states k)) (sym e)
-          (subst (FitsFrameState t.cpus (note_of seat.view f) (home_of links f)) (sym (freed_head frame_states frees)) head)
-      | inr ne ↦ elim (within_cases f (2 ^ unit.order) x) [
+    -- a frame that fits its record still does, and the head if it is on no list
+    pub homes_fit : (links : List Link) → ((x : ℕ) → (x ≡ f → ⊥) → home_of links x ≡ home_of m.links x) → home_of links f ≡ None → (x : ℕ) → x < t.frames
+        → FitsFrameState (home_of links x) (frame_state_at frame_states x)
+    homes_fit links others gone x within = elim (cases_eq x f) [
+      | inl e ↦ subst (λ (h : Option Home). FitsFrameState h (frame_state_at frame_states x)) (sym (ap (home_of links) e ∙ gone)) tt
+      | inr ne ↦ subst (λ (h : Option Home). FitsFrameState h (frame_state_at frame_states x)) (sym (others x ne)) (elim (within_cases f (2 ^ unit.order) x) [
         | inl inside ↦
             let low = inside.1 in
             let tail = (ok.units.heads f unit heads).tails x (omega (arith, low, ne)) inside.2 in
-            let old : FitsFrameState t.cpus (note_of seat.view x) (home_of links x) (Tail unit.group) =
-            subst (FitsFrameState t.cpus (note_of seat.view x) (home_of links x)) tail (others x within ne) in
-            subst (FitsFrameState t.cpus (note_of seat.view x) (home_of links x))
-            (sym (frees.records x ∙ ap (λ (b : Bool). cond b Free (frame_state_at m.frame_states x)) inside.0))
-            (record { own = old.own; borrowed = old.borrowed; lent = old.lent; borrower = tt; references = old.references; kept = old.kept })
-        | inr out ↦ subst (FitsFrameState t.cpus (note_of seat.view x) (home_of links x))
-            (sym (frees.records x ∙ ap (λ (b : Bool). cond b Free (frame_state_at m.frame_states x)) out.0)) (others x within ne)
-      ]
-    ];
-    units = units_freed m.frame_states frame_states f unit heads ok.units frees;
-    lists = stand;
-    absorbed = ok.absorbed;
-    bounded = ok.bounded;
-    charged = λ g.
-        let a = ok.charged g in
+            let old : FitsFrameState (home_of m.links x) (Tail unit.group) = subst (FitsFrameState (home_of m.links x)) tail (ok.frame_states x within) in
+            subst (FitsFrameState (home_of m.links x))
+            (sym (frees.records x ∙ ap (λ (b : Bool). cond b Free (frame_state_at m.frame_states x)) inside.0)) old
+        | inr out ↦ subst (FitsFrameState (home_of m.links x))
+            (sym (frees.records x ∙ ap (λ (b : Bool). cond b Free (frame_state_at m.frame_states x)) out.0)) (ok.frame_states x within)
+      ])
+    ]
+
+    -- the pages of the unit are charged to its group no more
+    pub pages_freed : (booked : ℕ → ℕ) → ((g : ℕ) → pages_of m.ledger g ≡ frames_charged m.frame_states g + booked g) → (g : ℕ)
+        → pages_of (with_uncharge m.ledger unit.group (2 ^ unit.order)) g ≡ frames_charged frame_states g + booked g
+    pages_freed booked charged g =
+        let a = charged g in
         let b = charges_freed m.frame_states frame_states f unit heads ok.units frees g in
         let c = uncharge_pages m.ledger unit.group (2 ^ unit.order) unit_charged g in
-        omega (arith, a, b, c);
-    balances = balances;
-  }
-    where
-      freed_head : (frame_states : List FrameState) → FreesFrames f (2 ^ unit.order) m.frame_states frame_states → frame_state_at frame_states f ≡ Free
-      freed_head frame_states frees =
-          let some = pow_pos unit.order in
-          frees.records f ∙ ap (λ (b : Bool). cond b Free (frame_state_at m.frame_states f)) (is_in f (2 ^ unit.order) f (omega arith) (omega (arith, some)))
+        omega (arith, a, b, c)

@@ -1,78 +1,69 @@
 -- A fresh frame is kept for its group, or dropped. Serves `keep_one` and `drop_one`.
-use Rattle.std.proofs.Common.{◌++◌, ◌≡◌, ℕ, ◌+◌, ◌^◌, ◌<◌, ◌≤◌, ◌==◌, Bool, true, false, cond, Some, List, [], ◌∷◌, length, rules}
+use Rattle.std.proofs.Common.{◌++◌, ◌≡◌, ◌≢◌, ℕ, ◌+◌, ◌-◌, ◌^◌, ◌<◌, ◌≤◌, ◌==◌, Bool, true, false, cond, Option, Some, None, List, [], ◌∷◌, length, get_or}
 use Rattle.std.proofs.Common.{refl, sym, ap, ◌∙◌, subst, arith, inl, inr, eq-eqb}
-use Rattle.std.specs.Prelude.{slice_set, nat_le}
-use Rattle.std.proofs.lemmas.Bool.{cases_eq, cond-true, false≢true}
+use Rattle.std.specs.Prelude.{drop, is_some, slice_set}
+use Rattle.std.proofs.lemmas.Bool.{cases_eq, ne_eqb, false≢true}
 use Rattle.std.proofs.lemmas.List.{get_or-set_same, get_or-set_other, length-set, ext_get_or}
 use Rattle.zone_blocks.specs.declared.block.Block.{Block}
+use Rattle.zone_blocks.specs.Block.{IsBlock}
 use Rattle.zone_blocks.specs.Areas.{AreMaximalBlocks}
 use Rattle.zone_blocks.specs.Zone.{GivesFrames, IsInUse}
-use Rattle.frame_word.specs.declared.view.FrameNote.{FrameNote}
-use Rattle.frame_word.specs.Views.{note_of, collected_from, unfrozen}
-use Rattle.frame_word.specs.Seats.{KnownTable, KnownSeat, seat_with, HasNothingOf, IsLent, IsInOwnHand}
-use Rattle.frame_word.proofs.Notes.{note_here, changed_twice}
-use Rattle.stock_word.specs.Stock.{KnownStockTable, KnownStockSeat, account_of, group_of}
+use Rattle.frame_word.specs.Seats.{KnownTable}
 use Rattle.group_charge.specs.Charges.{Ledger, pages_of, with_uncharge}
 use Rattle.group_charge.proofs.CallerLemmas.{uncharge_pages, uncharge_peaks, uncharge_events}
+use Rattle.group_tree.specs.Bounds.{most_groups}
+use Rattle.lru_lists.specs.declared.record.Home.{Home}
 use Rattle.lru_lists.specs.declared.record.Link.{Link}
 use Rattle.lru_lists.specs.declared.lru.Lru.{Lru}
-use Rattle.cpu_part.specs.Cpus.{KnownCpu, IsTied}
-use Rattle.cpu_part.specs.Calls.{PassesFresh}
-use Rattle.step_rules.specs.declared.phase.Stage.TheVariants.{FreshAt, Collected, Live, BackAt}
+use Rattle.boot_words.specs.Composed.{AreLegal}
+use Rattle.boot_words.specs.Hidden.{hide, hide_phase}
+use Rattle.boot_words.specs.Pasts.{MakesStep, MayMake}
+use Rattle.cpu_part.specs.Cpus.{KnownCpu}
+use Rattle.step_rules.specs.declared.phase.ChargedUnit.{ChargedUnit}
+use Rattle.step_rules.specs.declared.phase.Stage.TheVariants.{FreshAt, Collected, Live}
 use Rattle.step_rules.specs.declared.phase.Phase.TheVariants as phase
 use Rattle.step_rules.specs.declared.step.Action.TheVariants.{Unfreeze, Publish, Return}
 use Rattle.step_rules.specs.declared.step.Answer.TheVariants.{Done}
-use Rattle.step_rules.specs.State.{State}
-use Rattle.step_rules.specs.After.{is_within, Run}
+use Rattle.step_rules.specs.Invariant.{told_pages}
+use Rattle.step_rules.specs.State.{Part, State, Zone, one_if, times, with_at}
+use Rattle.step_rules.specs.After.{without_unit}
+use Rattle.step_rules.specs.Reaches.{IsLocalRun}
+use Rattle.step_rules.proofs.Basics.{at_other, at_same}
+use Rattle.step_rules.proofs.SoundSteps.{below_frames}
+use Rattle.step_rules.proofs.Lists.{times_same, without_front, without_none}
+use Rattle.step_watch.specs.Watched.{Watches}
 use Rattle.mem_machine.specs.declared.frame_state.FrameState.{FrameState}
 use Rattle.mem_machine.specs.declared.frame_state.FrameState.TheVariants.{Free, Lent, Head}
 use Rattle.mem_machine.specs.declared.counts.Counts.{Counts}
-use Rattle.mem_machine.specs.FrameStates.{frame_state_at, is_free_state, free_of, frame_state_group, some_cpu}
-use Rattle.mem_machine.specs.Machines.{KnownMachine, FitsFrameState, IsConsistent, BalancesCounts, home_of, is_killed, pages_booked}
-use Rattle.mem_machine.specs.Local.{Visits, IsLocalRun, local_of, group_of_fresh, number_or_0, visit_state}
+use Rattle.mem_machine.specs.Booked.{AreBooked, AreOwners}
+use Rattle.mem_machine.specs.FrameStates.{frame_state_at, is_free_state, free_of, frame_state_group, AreUnits}
+use Rattle.mem_machine.specs.Machines.{KnownMachine, FitsFrameState, IsConsistent, IsShownBy, BalancesCounts, frames_charged, home_of, is_killed, left_by, pages_booked, stock_group}
+use Rattle.mem_machine.specs.Local.{Visits, local_of, visit_state}
+use Rattle.mem_machine.specs.Noted.{AreLocal, KnownRun, MayTake, Notes}
 use Rattle.mem_machine.specs.Steps.{zone_makes}
 use Rattle.mem_machine.specs.Blocks.{PlacesUnit}
 use Rattle.mem_machine.specs.Counts.{with_killed_fresh}
-use Rattle.mem_machine.specs.Counting.{counts_along}
 use Rattle.mem_machine.specs.Freeing.{FreesFrames}
-use Rattle.mem_machine.specs.Settling.{KeepsFresh, DropsFresh, with_page_absorbed, collect_steps, keep_steps, drop_steps}
-use Rattle.mem_machine.proofs.Holds.{own_part}
-use Rattle.mem_machine.proofs.Records.{free_at, free_set, lent_frame_state, frame_states_changed, units_stay, charges_stay, collected_fits}
-use Rattle.mem_machine.proofs.PlacesUnits.{head_of_block, off_block}
-use Rattle.mem_machine.proofs.Joins.{AllJoin}
-use Rattle.mem_machine.proofs.KeptUnits.{unit_kept}
-use Rattle.mem_machine.proofs.Freeing.{is_out, is_in, free_block_given}
-use Rattle.mem_machine.proofs.Takes.{may_give}
-use Rattle.mem_machine.proofs.Draining.{booked_within}
-use Rattle.mem_machine.proofs.Absorbs.{none_noted, still_bounded, books_fall}
-use Rattle.mem_machine.proofs.HandOvers.{handed_visits, IsFreshFront, fresh_front, collect_run, keep_run, drop_run}
-use Rattle.mem_machine.proofs.Shown.{is_visited, fresh_unit, fresh_phase, fresh_handed, fresh_else, phases_set, phases_freed, parts_absorbed, references_used, references_same}
+use Rattle.mem_machine.specs.Settling.{HandsOver, KeepsFresh, DropsFresh, collect_steps, keep_steps, drop_steps}
 use Rattle.mem_machine.proofs.Balances.{balanced_killed_fresh}
-use Rattle.mem_machine.proofs.Followed.{follows_same, follows_still}
+use Rattle.mem_machine.proofs.BlockCharges.{charges_rise}
 use Rattle.mem_machine.proofs.Counted.{collects_none, comes_back}
-use Rattle.boot_words.specs.Pasts.{KnownPasts, MakesStep, MayMake, local_by_pasts}
-use Rattle.boot_words.specs.Composed.{AreLegal}
-use Rattle.cpu_part.specs.Made.{MakesAll}
-use Rattle.step_watch.specs.Watched.{KnownWatch, Watches}
-use Rattle.mem_machine.specs.Noted.{AreLocal, KnownRun, MayTake, MayTakeAll, Notes}
-use Rattle.mem_machine.proofs.Noted.{all_grow, may_behind, notes_both, notes_one, run_steps}
-use Rattle.mem_machine.proofs.Reached.{are_legal, may_make}
-use Rattle.mem_machine.proofs.Holder.{fresh_lent}
-use Rattle.mem_machine.proofs.Watched.{HasOpenVisit, AllDone}
+use Rattle.mem_machine.proofs.Followed.{follows_same, follows_still}
+use Rattle.mem_machine.proofs.Freeing.{is_out, is_in, free_block_given}
+use Rattle.mem_machine.proofs.HandOvers.{IsVisited, absorbed_part, collect_run, dropped_state, drop_run, kept_state, keep_run, one_more_held}
+use Rattle.mem_machine.proofs.Joins.{AllJoin}
+use Rattle.mem_machine.proofs.Moved.{AllMoved, books_fall, book_within, booked_here, fresh_here, group_seen, is_visited, left_moved, lent_in_use, lent_record, makes_moved, may_next, no_home, number_range, own_moved, owners_moved, phases_freed, phases_set, shown_moved, sums_moved, visit_moved}
+use Rattle.mem_machine.proofs.Made.{visits_here, zone_seen}
+use Rattle.mem_machine.proofs.Noted.{local_legal, notes_both, notes_one, run_steps}
+use Rattle.mem_machine.proofs.OwnFrames.{HasFrame}
+use Rattle.mem_machine.proofs.PlacesUnits.{head_of_block, off_block}
+use Rattle.mem_machine.proofs.Records.{free_at, free_set, units_stay, charges_stay}
+use Rattle.mem_machine.proofs.Sight.{left_seen, shown_seen}
+use Rattle.mem_machine.proofs.Units.{units_placed}
 
--- what is known of a frame that was collected fresh, and of its page
-pub record WasFresh (t : KnownTable) (m : KnownMachine) (c : KnownCpu) (f g : ℕ) : Type 0 where
-  pub inside : f < t.frames
-  pub nothing : HasNothingOf m.frame_seat f
-  pub lent : IsLent m.frame_seat f c.number
-  pub booked : 1 + (account_of m.stock_seat.view c.number).unabsorbed ≤ (account_of m.stock_seat.view c.number).book
-  pub of_group : (account_of m.stock_seat.view c.number).group ≡ Some g
-  pub fits : g < 64
-  pub named : group_of_fresh c ≡ g
-
--- it is in the zone's hand then
-pub in_hand_then : (seat new : KnownSeat) (f p : ℕ) → new ≡ seat_with seat f (collected_from p) → IsInOwnHand new f
-in_hand_then seat new f p is = subst (λ (s : KnownSeat). IsInOwnHand s f) (sym is) (ap (λ (k : FrameNote). k.own) (note_here seat.view f (collected_from p)))
+-- lists with the same front have the same rest
+tail_same : (f : ℕ) (xs ys : List ℕ) → f ∷ xs ≡ f ∷ ys → xs ≡ ys
+tail_same f xs ys is = ap (λ (l : List ℕ). drop 1 l) is
 
 -- one record changed, and which frames are free did not
 free_stays : (frame_states : List FrameState) (f : ℕ) (x : FrameState) → f < length frame_states → is_free_state (frame_state_at frame_states f) ≡ false → is_free_state x ≡ false
@@ -97,11 +88,10 @@ placed_one frame_states g f inside =
     }
 
 -- one frame was freed
-frees_one : (frame_states new : List FrameState) (f k : ℕ) → k ≡ 0 → f < length frame_states → FreesFrames f (2 ^ k) frame_states new → new ≡ slice_set frame_states f Free
-frees_one frame_states new f k zero_is inside frees =
-    let one : 2 ^ k ≡ 1 = ap (λ (j : ℕ). 2 ^ j) zero_is in
+frees_one : (frame_states new : List FrameState) (f : ℕ) → f < length frame_states → FreesFrames f (2 ^ 0) frame_states new → new ≡ slice_set frame_states f Free
+frees_one frame_states new f inside frees =
     ext_get_or Free new (slice_set frame_states f Free) (frees.frames ∙ sym (length-set frame_states f Free)) (λ g within.
-    frees.records g ∙ ap (λ (n : ℕ). cond (is_within f n g) Free (frame_state_at frame_states g)) one
+    frees.records g
     ∙ elim (cases_eq g f) [
       | inl e ↦ ap (λ (b : Bool). cond b Free (frame_state_at frame_states g)) (is_in f 1 g (omega (arith, e)) (omega (arith, e)))
           ∙ sym (ap (frame_state_at (slice_set frame_states f Free)) e ∙ get_or-set_same frame_states f Free Free inside)
@@ -109,372 +99,426 @@ frees_one frame_states new f k zero_is inside frees =
           ∙ sym (get_or-set_other frame_states f g Free Free ne)
     ])
 
-module _ (t : KnownTable) (w : KnownStockTable) (m : KnownMachine) (c : KnownCpu) (tied : IsTied t w c) (ok : IsConsistent t w m) (visit : Visits t (visit_state m c))
-    (f g : ℕ) (was : WasFresh t m c f g) (rest : List ℕ) (front : c.fresh ≡ f ∷ rest) where
-  within : f < length m.frame_states
-  within = let s = ok.sizes.frame_states in let a = was.inside in omega (arith, s, a)
+module _ (t : KnownTable) (m : KnownMachine) (c : KnownCpu) (ok : IsConsistent t m) (visit : Visits t (visit_state m c))
+    (f g : ℕ) (rest : List ℕ) (front : c.fresh ≡ f ∷ rest) (of : stock_group t m c.number ≡ Some g) where
+  abbrev s : State
+  s = local_of t m
 
-  pub is_lent : frame_state_at m.frame_states f ≡ Lent c.number
-  is_lent = lent_frame_state (frame_state_at m.frame_states f) c.number tied.seats.some_number (ap some_cpu (sym was.lent) ∙ (ok.frame_states f was.inside).lent)
-
-  at : IsFreshFront c f rest
-  at = fresh_front t w c tied f rest front
-
-  noted : (account_of m.stock_seat.view c.number).unabsorbed ≡ 0
-  noted = ok.absorbed c.number
-
-  books : (h : ℕ) → pages_booked t m.stock_seat h ≡ pages_booked t (with_page_absorbed m.stock_seat c.number) h + cond (h == g) 1 0
-  books = books_fall t m.stock_seat c.number g tied.seats.frame_cpus was.of_group noted (let a = was.booked in omega (arith, a))
+  abbrev unit : ChargedUnit
+  unit = record { group = g; order = 0 }
 
   abbrev d : KnownCpu
-  d = fresh_handed c f rest
+  d = record c { fresh = rest }
 
-  abbrev s : State
-  s = local_of t m c
+  shown : IsShownBy t m (hide (local_of t m))
+  shown = shown_seen t m ok visit.held
 
-  fresh_now : s.phases f ≡ phase.Head (fresh_unit c) (FreshAt c.number)
-  fresh_now = fresh_phase c f (frame_state_at m.frame_states f) is_lent at.once
+  mine : HasFrame (local_of t m) c.number (phase.Head (record { group = g; order = 0 }) (FreshAt c.number)) f
+  mine = fresh_here t m c visit f g rest front of
+
+  pub v : IsVisited (local_of t m) c.number f
+  v = is_visited t m c visit f mine.framed
+
+  abbrev part : Part
+  part = absorbed_part (local_of t m) c.number f v (record { group = g; order = 0 })
+
+  within : f < length m.frame_states
+  within =
+      let low = below_frames (local_of t m).zone f mine.framed in
+      let same = ap (λ (z : Zone). z.frames) (zone_seen t m.run.past) in
+      let sized = ok.sizes.frame_states in
+      omega (arith, low, same, sized)
+
+  is_lent : frame_state_at m.frame_states f ≡ Lent c.number
+  is_lent = lent_record (frame_state_at m.frame_states f) c.number (sym (shown.phases f) ∙ ap hide_phase mine.phase_is)
+
+  no_list : home_of m.links f ≡ None
+  no_list = no_home (home_of m.links f) (sym mine.unreferred ∙ shown.references f)
+
+  -- ---- the CPU's part
+
+  none_reported : ((local_of t m).parts c.number).reported ≡ 0
+  none_reported = let a : told_pages ((local_of t m).parts c.number) ≡ 0 = shown.absorbed c.number in omega (arith, a)
+
+  some_booked : 1 ≤ ((local_of t m).parts c.number).book
+  some_booked =
+      let a = booked_here t m c visit in
+      let b : length ((local_of t m).parts c.number).fresh ≡ length (f ∷ rest) = ap length (visit.own.fresh ∙ front) in
+      omega (arith, a, b)
+
+  same_cpu : one_if (c.number == c.number) ≡ 1
+  same_cpu = ap one_if (eq-eqb c.number c.number refl)
+
+  told : told_pages part ≡ told_pages ((local_of t m).parts c.number)
+  told = let a = same_cpu in omega (arith, a)
+
+  none_in_rest : times f rest ≡ 0
+  none_in_rest =
+      let a : times f ((local_of t m).parts c.number).fresh ≡ one_if (c.number == c.number) = mine.fresh in
+      let b = ap (times f) (visit.own.fresh ∙ front) in
+      let e = same_cpu in
+      let h = times_same f in
+      omega (arith, a, b, e, h)
+
+  listed : part.list ≡ c.list
+  listed = without_none f ((local_of t m).parts c.number).list mine.listed ∙ visit.own.list
+
+  is_fresh : part.fresh ≡ rest
+  is_fresh = without_front f ((local_of t m).parts c.number).fresh rest (visit.own.fresh ∙ front) none_in_rest
+
+  is_back : part.back ≡ c.back
+  is_back = without_none f ((local_of t m).parts c.number).back mine.back ∙ visit.own.back
+
+  -- ---- the books
+
+  of_group : ((local_of t m).parts c.number).stock.group ≡ Some g
+  of_group = group_seen t m c visit ∙ of
+
+  books : (h : ℕ) → pages_booked t.cpus (local_of t m).parts h ≡ pages_booked t.cpus (with_at (local_of t m).parts c.number part) h + cond (h == g) 1 0
+  books = books_fall t.cpus (local_of t m).parts c.number (number_range t m c visit).1 part g of_group refl some_booked refl
+
+  pub booked_some : 1 ≤ pages_booked t.cpus (local_of t m).parts g
+  booked_some = book_within t.cpus (local_of t m).parts c.number (number_range t m c visit).1 part g of_group some_booked refl refl
+
+  abbrev fallen : List ℕ → List ℕ
+  fallen sums = slice_set sums g (get_or sums g 0 - 1)
+
+  sums_fall : (sums : List ℕ) → AreBooked t.cpus (hide (local_of t m)).parts sums → g < most_groups → (h : ℕ) → h < most_groups
+      → get_or (fallen sums) h 0 ≡ pages_booked t.cpus (with_at (local_of t m).parts c.number part) h
+  sums_fall sums are fits h small =
+      let b = books h in
+      let a : get_or sums h 0 ≡ pages_booked t.cpus (local_of t m).parts h = are.each h small in
+      elim (cases_eq h g) [
+        | inl e ↦
+            let one : ◌≡◌ {A = ℕ} (cond (h == g) 1 0) 1 = ap (λ (x : Bool). cond x 1 0) (eq-eqb h g e) in
+            let size = are.size in
+            let here : get_or (fallen sums) h 0 ≡ get_or sums h 0 - 1 =
+            ap (λ (k : ℕ). get_or (fallen sums) k 0) e ∙ get_or-set_same sums g (get_or sums g 0 - 1) 0 (omega (arith, fits, size))
+            ∙ ap (λ (k : ℕ). get_or sums k 0 - 1) (sym e) in
+            omega (arith, a, b, one, here)
+        | inr ne ↦
+            let none : ◌≡◌ {A = ℕ} (cond (h == g) 1 0) 0 = ap (λ (x : Bool). cond x 1 0) (ne_eqb h g ne) in
+            let here = get_or-set_other sums g h (get_or sums g 0 - 1) 0 ne in
+            omega (arith, a, b, none, here)
+      ]
+
+  -- ---- the steps
+
+  pub keep_leads : IsLocalRun c.number (local_of t m) (keep_steps c.number f) (kept_state (local_of t m) c.number f v unit)
+  keep_leads = collect_run (local_of t m) c.number f v unit mine.phase_is none_reported (zone_makes (Unfreeze f 1) Done ∷ zone_makes (Publish f) Done ∷ []) _
+      (keep_run (local_of t m) c.number f v unit)
+
+  pub drop_leads : is_killed m.killed g ≡ true → IsLocalRun c.number (local_of t m) (drop_steps c.number f) (dropped_state (local_of t m) c.number f v unit)
+  drop_leads killed = collect_run (local_of t m) c.number f v unit mine.phase_is none_reported (zone_makes (Return f) Done ∷ []) _
+      (drop_run (local_of t m) c.number f v unit (shown.killed g ∙ killed))
 
   -- ---- kept
 
-  kept_counts : m.counts ≡ counts_along s (keep_steps c.number f) m.counts
-  kept_counts = collects_none s f (phase.Head (fresh_unit c) (FreshAt c.number)) fresh_now refl m.counts
-
-  module _ (links : List Link) (lists : List Lru) (joined : AllJoin m.links m.lists g f links lists) where
-    abbrev used : FrameNote → FrameNote
-    used k = unfrozen 1 (collected_from c.number k)
-
+  module _ (links : List Link) (lists : List Lru) (run : KnownRun) (joined : AllJoin m.links m.lists g f links lists) (fits : g < most_groups)
+      (noted : Notes t m.run (keep_steps c.number f) run) where
     abbrev kept : KnownMachine
-    kept = record m {
-      frame_states = slice_set m.frame_states f (Head (record { group = g; order = 0 }));
-      links = links;
-      lists = lists;
-      frame_seat = seat_with m.frame_seat f used;
-      stock_seat = with_page_absorbed m.stock_seat c.number;
-    }
+    kept = record m { frame_states = slice_set m.frame_states f (Head (record { group = g; order = 0 })); links = links; lists = lists; run = run }
 
     kept_free : free_of m.frame_states ≡ free_of kept.frame_states
     kept_free = free_stays m.frame_states f (Head (record { group = g; order = 0 })) within (ap is_free_state is_lent) refl
 
-    kept_consistent : IsConsistent t w kept
-    kept_consistent =
-        let b : Block = record { at = f; order = 0 } in
-        let seats = ok.seats in
-        unit_kept t w m ok g was.fits b (record { order = omega arith; aligned = omega arith; inside = let a = within in omega (arith, a) }) kept.frame_states
-        (placed_one m.frame_states g f within) (ap frame_state_group is_lent) (λ x low high ne. absurd (ne (omega (arith, low, high)))) links lists joined used
-        (record { own = refl; borrowed = (ok.frame_states f was.inside).borrowed; lent = refl; references = let a = was.nothing.0 in omega (arith, a) }) m.blocks m.ledger
-        (with_page_absorbed m.stock_seat c.number)
-        m.counts (record {
-          areas = subst (λ (l : List Bool). AreMaximalBlocks l m.blocks) kept_free ok.areas;
-          table = seats.table;
-          stocks = seats.stocks;
-          absorbed = none_noted m.stock_seat.view c.number ok.absorbed;
-          bounded = still_bounded m.stock_seat.view c.number ok.bounded;
-          charged = λ h. let a = ok.charged h in let b = books h in omega (arith, a, b);
-        }) ok.balances
+    kept_left : left_by t run.past ≡ hide (kept_state (local_of t m) c.number f v unit)
+    kept_left = left_moved t m c visit kept d (keep_steps c.number f) _ noted keep_leads
 
-    kept_steps : IsLocalRun c.number s (keep_steps c.number f) (local_of t kept d)
-    kept_steps =
-        let v = is_visited t w m c tied visit f was.inside in
-        let ph = phases_set c d m.frame_states f (fresh_else c f rest front) (Head (record { group = g; order = 0 })) (phase.Head (fresh_unit c) Live) within
-        (ap (λ (n : ℕ). cond (nat_le 1 n) (phase.Head (record { group = g; order = 0 }) (BackAt c.number))
-        (phase.Head (record { group = g; order = 0 }) Live)) at.none_back
-        ∙ (λ i. phase.Head (record { group = sym was.named i; order = 0 }) Live)) in
-        let re = references_used m.frame_seat c d f c.number refl refl in
-        let pa = parts_absorbed m.stock_seat c f rest front at noted (fresh_unit c) in
-        collect_run s c.number f (fresh_unit c) _ v (own_part m c) fresh_now noted (zone_makes (Unfreeze f 1) Done ∷ zone_makes (Publish f) Done ∷ [])
-        (local_of t kept d)
-        (keep_run s c.number f (fresh_unit c) _ v (own_part m c) (local_of t kept d)
-        (λ i. record s { phases = λ x. sym (ph x) i; references = λ q x. sym (re q x) i; parts = λ q. sym (pa q) i }))
+    held_once : (y : ℕ) → one_more_held (local_of t m) c.number f v unit 0 y ≡ one_if (is_some (home_of links y))
+    held_once y =
+        ap (λ (r : ℕ → ℕ). r y) (at_same (local_of t m).references 0 (with_at ((local_of t m).references 0) f ((local_of t m).references 0 f + 1)))
+        ∙ elim (cases_eq y f) [
+          | inl e ↦ ap (with_at ((local_of t m).references 0) f ((local_of t m).references 0 f + 1)) e
+              ∙ at_same ((local_of t m).references 0) f ((local_of t m).references 0 f + 1) ∙ ap (λ (n : ℕ). n + 1) mine.unreferred
+              ∙ sym (ap (λ (k : ℕ). one_if (is_some (home_of links k))) e ∙ ap (λ (o : Option Home). one_if (is_some o)) joined.joins.home)
+          | inr ne ↦ at_other ((local_of t m).references 0) f ((local_of t m).references 0 f + 1) y ne ∙ shown.references y
+              ∙ sym (ap (λ (o : Option Home). one_if (is_some o)) (joined.joins.homes y ne))
+        ]
 
-    kept_visits : HasOpenVisit t (visit_state kept d)
-    kept_visits = handed_visits t w m c tied visit f used (λ k. refl) kept d refl refl refl
+    abbrev block : Block
+    block = record { at = f; order = 0 }
 
-    kept_does : KeepsFresh g f (visit_state m c) (visit_state kept d)
-    kept_does = record { listed = joined.joins; machine = refl; cpu = record { front = front; cpu = refl } }
+    is_block : IsBlock (length m.frame_states) (record { at = f; order = 0 })
+    is_block = record { order = omega arith; aligned = omega arith; inside = let a = within in omega (arith, a) }
+
+    uncharged : (x : ℕ) → f ≤ x → x < f + 2 ^ 0 → frame_state_group (frame_state_at m.frame_states x) ≡ None
+    uncharged x low high =
+        let same : x ≡ f = omega (arith, low, high) in
+        ap (λ (k : ℕ). frame_state_group (frame_state_at m.frame_states k)) same ∙ ap frame_state_group is_lent
+
+    kept_shown : IsShownBy t kept (hide (kept_state (local_of t m) c.number f v unit))
+    kept_shown = shown_moved t m kept (local_of t m) shown c.number part _ (one_more_held (local_of t m) c.number f v unit) refl refl
+        (phases_set t m (local_of t m) shown f (phase.Head unit Live) (Head unit) within refl) held_once told (omega arith)
+        (λ h.
+        let a : pages_of m.ledger h ≡ frames_charged m.frame_states h + pages_booked t.cpus (local_of t m).parts h = shown.charged h in
+        let b = books h in
+        let e : frames_charged kept.frame_states h ≡ frames_charged m.frame_states h + cond (h == g) 1 0 =
+        charges_rise m.frame_states kept.frame_states g (record { at = f; order = 0 }) (placed_one m.frame_states g f within) is_block uncharged h in
+        omega (arith, a, b, e))
+
+    kept_fits : (y : ℕ) → y < t.frames → FitsFrameState (home_of links y) (frame_state_at kept.frame_states y)
+    kept_fits y low = elim (cases_eq y f) [
+      | inl e ↦ subst (λ (z : Option Home × FrameState). FitsFrameState z.0 z.1)
+          (λ i. (sym (ap (home_of links) e ∙ joined.joins.home) i, sym (ap (frame_state_at kept.frame_states) e ∙ get_or-set_same m.frame_states f (Head unit) Free within) i))
+          (fits, refl)
+      | inr ne ↦ subst (λ (z : Option Home × FrameState). FitsFrameState z.0 z.1)
+          (λ i. (sym (joined.joins.homes y ne) i, sym (get_or-set_other m.frame_states f y (Head unit) Free ne) i)) (ok.frame_states y low)
+    ]
+
+    kept_consistent : IsConsistent t kept
+    kept_consistent = record {
+      sizes = record {
+        frame_states = length-set m.frame_states f (Head unit) ∙ ok.sizes.frame_states;
+        links = joined.frames ∙ ok.sizes.links;
+        lists = joined.groups;
+        killed = ok.sizes.killed;
+      };
+      areas = subst (λ (l : List Bool). AreMaximalBlocks l m.blocks) kept_free ok.areas;
+      frame_states = kept_fits;
+      units = units_placed m.frame_states kept.frame_states g (record { at = f; order = 0 }) (placed_one m.frame_states g f within) is_block uncharged ok.units;
+      lists = joined.stand;
+      balances = ok.balances;
+      shown = subst (IsShownBy t kept) (sym kept_left) kept_shown;
+    }
+
+    kept_visit : Visits t (visit_state kept d)
+    kept_visit = visit_moved t m c visit kept d (keep_steps c.number f) _ noted keep_leads refl
+        (own_moved (local_of t m) c visit.own part _ (one_more_held (local_of t m) c.number f v unit) c.list rest c.back
+        (λ y. ap (λ (r : ℕ → ℕ). r y) (at_other (local_of t m).references 0 _ c.number (let low = (number_range t m c visit).0 in λ e. absurd (omega (arith, low, e)))))
+        listed is_fresh is_back) refl
+
+    pub all_kept : (free : List Bool) (sums : List ℕ) (owners : List (Option ℕ)) → free ≡ free_of m.frame_states
+        → AreBooked t.cpus (left_by t m.run.past).parts sums → AreOwners t.cpus (left_by t m.run.past).parts owners
+        → AllMoved t m c (KeepsFresh g f) (keep_steps c.number f) kept d free (fallen sums) owners
+    all_kept free sums owners is are own =
+        let seen = left_seen t m.run.past visit.held in
+        let are_seen : AreBooked t.cpus (hide (local_of t m)).parts sums = subst (λ (u : State). AreBooked t.cpus u.parts sums) seen are in record {
+          consistent = kept_consistent;
+          free_is = is ∙ kept_free;
+          sums_are = subst (λ (u : State). AreBooked t.cpus u.parts (fallen sums)) (sym kept_left)
+              (sums_moved t m kept (local_of t m) shown c.number part (with_at (local_of t m).phases f (phase.Head unit Live)) (one_more_held (local_of t m) c.number f v unit) sums (fallen sums) are_seen
+              (length-set sums g (get_or sums g 0 - 1)) (sums_fall sums are_seen fits));
+          owners_are = subst (λ (u : State). AreOwners t.cpus u.parts owners) (sym kept_left)
+              (owners_moved t m kept (local_of t m) shown c.number part (with_at (local_of t m).phases f (phase.Head unit Live)) (one_more_held (local_of t m) c.number f v unit) owners
+              (subst (λ (u : State). AreOwners t.cpus u.parts owners) seen own) refl);
+          does = record { listed = joined.joins; machine = refl; cpu = record { front = front; cpu = refl } };
+          visit = kept_visit;
+          makes = makes_moved t m c visit kept d (keep_steps c.number f) _ noted keep_leads (follows_same _ _ _ refl)
+              (collects_none (local_of t m) f (phase.Head unit (FreshAt c.number)) mine.phase_is refl m.counts);
+        }
 
   -- ---- dropped
 
   module _ (new : List FrameState) (frees : FreesFrames f (2 ^ 0) m.frame_states new) (blocks : List Block) (areas : AreMaximalBlocks (free_of new) blocks)
-      (counts : Counts) (counted : counts ≡ with_killed_fresh m.counts) where
+      (counts : Counts) (counted : counts ≡ with_killed_fresh m.counts) (killed : is_killed m.killed g ≡ true) (run : KnownRun)
+      (noted : Notes t m.run (drop_steps c.number f) run) where
     abbrev dropped : KnownMachine
-    dropped = record m {
-      blocks = blocks;
-      frame_states = new;
-      ledger = with_uncharge m.ledger g 1;
-      frame_seat = seat_with m.frame_seat f (collected_from c.number);
-      stock_seat = with_page_absorbed m.stock_seat c.number;
-      counts = counts;
-    }
+    dropped = record m { blocks = blocks; frame_states = new; ledger = with_uncharge m.ledger g 1; counts = counts; run = run }
 
     one_set : new ≡ slice_set m.frame_states f Free
-    one_set = frees_one m.frame_states new f 0 refl within frees
+    one_set = frees_one m.frame_states new f within frees
 
-    dropped_fits : FitsFrameState t.cpus (collected_from c.number (note_of m.frame_seat.view f)) (home_of m.links f) Free
-    dropped_fits = collected_fits t.cpus c.number _ _ (subst (λ (x : FrameState). FitsFrameState t.cpus (note_of m.frame_seat.view f) (home_of m.links f) x) is_lent (ok.frame_states f was.inside))
+    dropped_left : left_by t run.past ≡ hide (dropped_state (local_of t m) c.number f v unit)
+    dropped_left = left_moved t m c visit dropped d (drop_steps c.number f) _ noted (drop_leads killed)
 
     charged_one : 1 ≤ pages_of m.ledger g
     charged_one =
-        let a = ok.charged g in
-        let b = books g in
-        let z : ◌≡◌ {A = ℕ} (cond (g == g) 1 0) 1 = cond-true (g == g) 1 0 (eq-eqb g g refl) in
-        omega (arith, a, b, z)
+        let a : pages_of m.ledger g ≡ frames_charged m.frame_states g + pages_booked t.cpus (local_of t m).parts g = shown.charged g in
+        let b = booked_some in
+        omega (arith, a, b)
 
-    dropped_set : IsConsistent t w (record dropped { frame_states = slice_set m.frame_states f Free })
-    dropped_set = record {
-      sizes = let sized = length-set m.frame_states f Free ∙ ok.sizes.frame_states in search rules;
-      seats = let z = ok.seats in record { frames = z.frames; table = z.table; stocks = z.stocks };
-      areas = subst (λ (l : List FrameState). AreMaximalBlocks (free_of l) blocks) one_set areas;
-      frame_states = frame_states_changed t.cpus m.frame_seat m.links m.frame_states f (collected_from c.number) Free t.frames within ok.frame_states dropped_fits;
-      units = units_stay m.frame_states f Free within (ap frame_state_group is_lent) refl ok.units;
+    dropped_shown : IsShownBy t dropped (hide (dropped_state (local_of t m) c.number f v unit))
+    dropped_shown = shown_moved t m dropped (local_of t m) shown c.number part _ (local_of t m).references refl refl
+        (phases_freed t m (local_of t m) shown f new unit Collected frees) shown.references told (omega arith)
+        (λ h.
+        let a : pages_of m.ledger h ≡ frames_charged m.frame_states h + pages_booked t.cpus (local_of t m).parts h = shown.charged h in
+        let b = books h in
+        let e : frames_charged new h ≡ frames_charged m.frame_states h =
+        ap (λ (l : List FrameState). frames_charged l h) one_set ∙ charges_stay m.frame_states f Free within (ap frame_state_group is_lent) refl h in
+        let l = uncharge_pages m.ledger g 1 charged_one h in
+        omega (arith, a, b, e, l))
+
+    dropped_fits : (y : ℕ) → y < t.frames → FitsFrameState (home_of m.links y) (frame_state_at new y)
+    dropped_fits y low = subst (λ (l : List FrameState). FitsFrameState (home_of m.links y) (frame_state_at l y)) (sym one_set) (elim (cases_eq y f) [
+      | inl e ↦ subst (λ (o : Option Home). FitsFrameState o (frame_state_at (slice_set m.frame_states f Free) y)) (sym (ap (home_of m.links) e ∙ no_list)) tt
+      | inr ne ↦ subst (FitsFrameState (home_of m.links y)) (sym (get_or-set_other m.frame_states f y Free Free ne)) (ok.frame_states y low)
+    ])
+
+    dropped_consistent : IsConsistent t dropped
+    dropped_consistent = record {
+      sizes = record { frame_states = frees.frames ∙ ok.sizes.frame_states; links = ok.sizes.links; lists = ok.sizes.lists; killed = ok.sizes.killed };
+      areas = areas;
+      frame_states = dropped_fits;
+      units = subst AreUnits (sym one_set) (units_stay m.frame_states f Free within (ap frame_state_group is_lent) refl ok.units);
       lists = ok.lists;
-      absorbed = none_noted m.stock_seat.view c.number ok.absorbed;
-      bounded = still_bounded m.stock_seat.view c.number ok.bounded;
-      charged = λ h.
-          let a = ok.charged h in
-          let b = books h in
-          let e = charges_stay m.frame_states f Free within (ap frame_state_group is_lent) refl h in
-          let l = uncharge_pages m.ledger g 1 charged_one h in
-          omega (arith, a, b, e, l);
       balances = subst BalancesCounts (sym counted) (balanced_killed_fresh m.counts ok.balances);
+      shown = subst (IsShownBy t dropped) (sym dropped_left) dropped_shown;
     }
 
-    dropped_consistent : IsConsistent t w dropped
-    dropped_consistent = subst (λ (l : List FrameState). IsConsistent t w (record dropped { frame_states = l })) (sym one_set) dropped_set
-
-    dropped_steps : is_killed m.killed g ≡ true → IsLocalRun c.number s (drop_steps c.number f) (local_of t dropped d)
-    dropped_steps killed =
-        let v = is_visited t w m c tied visit f was.inside in
-        let ph = phases_freed c d m.frame_states f (fresh_else c f rest front) new (fresh_unit c) Collected frees in
-        let re = references_same m.frame_seat c d f c.number refl refl in
-        let pa = parts_absorbed m.stock_seat c f rest front at noted (fresh_unit c) in
-        collect_run s c.number f (fresh_unit c) _ v (own_part m c) fresh_now noted (zone_makes (Return f) Done ∷ []) (local_of t dropped d)
-        (drop_run s c.number f (fresh_unit c) _ v (own_part m c) (local_of t dropped d) (ap (is_killed m.killed) was.named ∙ killed)
-        (λ i. record s { phases = λ x. sym (ph x) i; references = λ q x. sym (re q x) i; parts = λ q. sym (pa q) i }))
-
-    dropped_counts : is_killed m.killed g ≡ true → counts ≡ counts_along s (drop_steps c.number f) m.counts
-    dropped_counts killed = counted ∙ comes_back s f (phase.Head (fresh_unit c) (FreshAt c.number)) fresh_now false true refl
-        (ap (is_killed m.killed) was.named ∙ killed) m.counts
-
-    dropped_visits : HasOpenVisit t (visit_state dropped d)
-    dropped_visits = handed_visits t w m c tied visit f (collected_from c.number) (λ k. refl) dropped d refl refl refl
-
-    dropped_does : DropsFresh g f (visit_state m c) (visit_state dropped d)
-    dropped_does = record { frees = frees; areas = areas; machine = λ i. record dropped { counts = counted i }; cpu = record { front = front; cpu = refl } }
+    pub all_dropped : (free now_free : List Bool) (sums : List ℕ) (owners : List (Option ℕ)) → free ≡ free_of m.frame_states
+        → GivesFrames free (record { at = f; order = 0 }) now_free → g < most_groups
+        → AreBooked t.cpus (left_by t m.run.past).parts sums → AreOwners t.cpus (left_by t m.run.past).parts owners
+        → AllMoved t m c (DropsFresh g f) (drop_steps c.number f) dropped d now_free (fallen sums) owners
+    all_dropped free now_free sums owners was gives fits are own =
+        let seen = left_seen t m.run.past visit.held in
+        let are_seen : AreBooked t.cpus (hide (local_of t m)).parts sums = subst (λ (u : State). AreBooked t.cpus u.parts sums) seen are in
+        let inside = within in record {
+          consistent = dropped_consistent;
+          free_is = free_block_given free now_free m.frame_states new f 0 (omega (arith, inside)) was gives frees;
+          sums_are = subst (λ (u : State). AreBooked t.cpus u.parts (fallen sums)) (sym dropped_left)
+              (sums_moved t m dropped (local_of t m) shown c.number part (without_unit (with_at (local_of t m).phases f (phase.Head unit Collected)) f) (local_of t m).references sums (fallen sums) are_seen
+              (length-set sums g (get_or sums g 0 - 1)) (sums_fall sums are_seen fits));
+          owners_are = subst (λ (u : State). AreOwners t.cpus u.parts owners) (sym dropped_left)
+              (owners_moved t m dropped (local_of t m) shown c.number part (without_unit (with_at (local_of t m).phases f (phase.Head unit Collected)) f) (local_of t m).references owners
+              (subst (λ (u : State). AreOwners t.cpus u.parts owners) seen own) refl);
+          does = record { frees = frees; areas = areas; machine = λ i. record dropped { counts = counted i }; cpu = record { front = front; cpu = refl } };
+          visit = visit_moved t m c visit dropped d (drop_steps c.number f) _ noted (drop_leads killed) refl
+              (own_moved (local_of t m) c visit.own part _ (local_of t m).references c.list rest c.back (λ y. refl) listed is_fresh is_back) refl;
+          makes = makes_moved t m c visit dropped d (drop_steps c.number f) _ noted (drop_leads killed)
+              (follows_still _ m.ledger _ _ refl (uncharge_peaks m.ledger g 1) (uncharge_events m.ledger g 1))
+              (counted ∙ comes_back (local_of t m) f (phase.Head unit (FreshAt c.number)) mine.phase_is false true refl (shown.killed g ∙ killed) m.counts);
+        }
 
 -- ---- the run
 
--- the steps are legal, wherever they lead
-module _ (t : KnownTable) (w : KnownStockTable) (m : KnownMachine) (c : KnownCpu) (tied : IsTied t w c) (ok : IsConsistent t w m) (visit : Visits t (visit_state m c))
-    (f : ℕ) (rest : List ℕ) (front : c.fresh ≡ f ∷ rest) where
-  abbrev seen : State
-  seen = local_of t m c
+pub unfrozen_notes : (t u : KnownTable) → u ≡ t → (mid later : KnownRun) (f i : ℕ) → i ≡ f → MakesStep u mid.past 0 (Unfreeze f 1) Done later.past
+    → Watches mid.watch (zone_makes (Unfreeze i 1) Done ∷ []) later.watch → Notes t mid (zone_makes (Unfreeze f 1) Done ∷ []) later
+unfrozen_notes t u words mid later f i index made saw = notes_one t mid (zone_makes (Unfreeze f 1) Done) later
+    (subst (λ (x : KnownTable). MakesStep x mid.past 0 (Unfreeze f 1) Done later.past) words made)
+    (subst (λ (x : ℕ). Watches mid.watch (zone_makes (Unfreeze x 1) Done ∷ []) later.watch) index saw)
 
-  inside : f < t.frames
-  inside = (fresh_lent t w m c tied visit f rest front).inside
+-- ---- of the machine as it was seen before
 
-  fresh_seen : seen.phases f ≡ phase.Head (fresh_unit c) (FreshAt c.number)
-  fresh_seen = fresh_phase c f (frame_state_at m.frame_states f)
-      (lent_frame_state (frame_state_at m.frame_states f) c.number tied.seats.some_number
-      (ap some_cpu (sym (fresh_lent t w m c tied visit f rest front).lent) ∙ (ok.frame_states f inside).lent))
-      (fresh_front t w c tied f rest front).once
+-- a list that isn't empty has a front
+pub front_of_some : (xs : List ℕ) → xs ≢ [] → (f : ℕ) × (rest : List ℕ) × (xs ≡ f ∷ rest)
+front_of_some [] some = absurd (some refl)
+front_of_some (x ∷ xs) some = (x, xs, refl)
 
-  keep_local : AreLocal c.number seen (keep_steps c.number f)
-  keep_local =
-      let v = is_visited t w m c tied visit f inside in
-      run_steps c.number seen (keep_steps c.number f) _
-      (collect_run seen c.number f (fresh_unit c) _ v (own_part m c) fresh_seen (ok.absorbed c.number) (zone_makes (Unfreeze f 1) Done ∷ zone_makes (Publish f) Done ∷ []) _
-      (keep_run seen c.number f (fresh_unit c) _ v (own_part m c) _ refl))
+module _ (t : KnownTable) (m now : KnownMachine) (same : m ≡ now) (c : KnownCpu) (visit_now : Visits t (visit_state now c)) (ok : IsConsistent t m)
+    (g : ℕ) (of_now : stock_group t now c.number ≡ Some g) where
+  visit : Visits t (visit_state m c)
+  visit = visits_here t m now same c visit_now
 
-  drop_local : is_killed m.killed (group_of_fresh c) ≡ true → AreLocal c.number seen (drop_steps c.number f)
-  drop_local killed =
-      let v = is_visited t w m c tied visit f inside in
-      run_steps c.number seen (drop_steps c.number f) _
-      (collect_run seen c.number f (fresh_unit c) _ v (own_part m c) fresh_seen (ok.absorbed c.number) (zone_makes (Return f) Done ∷ []) _
-      (drop_run seen c.number f (fresh_unit c) _ v (own_part m c) _ killed refl))
+  of : stock_group t m c.number ≡ Some g
+  of = ap (λ (x : KnownMachine). stock_group t x c.number) same ∙ of_now
 
--- so they may be made, by what was known before the call
-module _ (t : KnownTable) (w : KnownStockTable) (m now : KnownMachine) (same : m ≡ now) (c : KnownCpu) (tied : IsTied t w c) (ok : IsConsistent t w m)
-    (visit : Visits t (visit_state now c)) (f : ℕ) (rest : List ℕ) (front : c.fresh ≡ f ∷ rest) where
-  its : Visits t (visit_state m c)
-  its = subst (λ (x : KnownMachine). Visits t (visit_state x c)) (sym same) visit
+  pub none_reported_here : ((local_of t m).parts c.number).reported ≡ 0
+  none_reported_here = let a : told_pages ((local_of t m).parts c.number) ≡ 0 = (shown_seen t m ok visit.held).absorbed c.number in omega (arith, a)
 
-  made : (steps : Run) → AreLocal c.number (local_of t m c) steps → MayTakeAll t m.run.past steps
-  made steps all = may_make t m now same c visit.shown steps (subst (λ (x : KnownMachine). AreLocal c.number (local_of t x c) steps) same all)
+  -- a page of the fresh frame is in the sum of its group
+  pub sum_some : (sums : List ℕ) → AreBooked t.cpus (left_by t m.run.past).parts sums → g < most_groups → c.fresh ≢ [] → 1 ≤ get_or sums g 0
+  sum_some sums are fits some =
+      let front = front_of_some c.fresh some in
+      let a : get_or sums g 0 ≡ pages_booked t.cpus (local_of t m).parts g =
+      (subst (λ (u : State). AreBooked t.cpus u.parts sums) (left_seen t m.run.past visit.held) are).each g fits in
+      let b = booked_some t m c ok visit front.0 g front.1 front.2 of in
+      omega (arith, a, b)
 
-  keep_may : MayTakeAll t m.run.past (keep_steps c.number f)
-  keep_may = made (keep_steps c.number f) (keep_local t w m c tied ok its f rest front)
+  module _ (f : ℕ) (rest : List ℕ) (front : c.fresh ≡ f ∷ rest) where
+    keep_local : AreLocal c.number (local_of t m) (keep_steps c.number f)
+    keep_local = run_steps c.number (local_of t m) (keep_steps c.number f) _ (keep_leads t m c ok visit f g rest front of)
 
-  legal : (first second : Run) → AreLocal c.number (local_of t m c) (first ++ second) → AreLegal (local_by_pasts t m.run.past) first
-  legal first second all = are_legal t m now same c visit.shown first second (subst (λ (x : KnownMachine). AreLocal c.number (local_of t x c) (first ++ second)) same all)
+    pub collect_legal : AreLegal (local_of t m) (collect_steps c.number f)
+    collect_legal = local_legal c.number (local_of t m) (collect_steps c.number f) (zone_makes (Unfreeze f 1) Done ∷ zone_makes (Publish f) Done ∷ []) keep_local
 
-  pub may_collect_kept : AreLegal (local_by_pasts t m.run.past) (collect_steps c.number f)
-  may_collect_kept = legal (collect_steps c.number f) (zone_makes (Unfreeze f 1) Done ∷ zone_makes (Publish f) Done ∷ []) (keep_local t w m c tied ok its f rest front)
+    pub away_here : (i : ℕ) → i ≡ f → home_of m.links i ≡ None
+    away_here i index = ap (home_of m.links) index ∙ no_list t m c ok visit f g rest front of
 
-  keep_behind : (later : KnownPasts) → MakesAll t m.run.past (collect_steps c.number f) later
-      → MayTakeAll t later (zone_makes (Unfreeze f 1) Done ∷ zone_makes (Publish f) Done ∷ [])
-  keep_behind later all = may_behind t m.run.past (collect_steps c.number f) (zone_makes (Unfreeze f 1) Done ∷ zone_makes (Publish f) Done ∷ []) later keep_may all
+    pub within_here : (i : ℕ) → i ≡ f → i < length m.frame_states
+    within_here i index = let a = within t m c ok visit f g rest front of in omega (arith, a, index)
 
-  pub may_unfreeze : (u : KnownTable) → u ≡ t → (later : KnownPasts) → MakesAll t m.run.past (collect_steps c.number f) later → MayMake u later 0 (Unfreeze f 1)
-  may_unfreeze u words later all = subst (λ (x : KnownTable). MayMake x later 0 (Unfreeze f 1)) (sym words) (keep_behind later all).0.legal
+    pub unit_inside : (i k : ℕ) → i ≡ f → k ≡ 0 → i + 2 ^ k ≤ length m.frame_states
+    unit_inside i k index zero_is =
+        let a = within t m c ok visit f g rest front of in
+        let one : 2 ^ k ≡ 1 = ap (λ (j : ℕ). 2 ^ j) zero_is in
+        omega (arith, a, index, one)
 
-  pub may_publish : (u : KnownTable) → u ≡ t → (i : ℕ) → i ≡ f → (later last : KnownPasts) → MakesAll t m.run.past (collect_steps c.number f) later
-      → MakesStep u later 0 (Unfreeze f 1) Done last → MayTake t last (zone_makes (Publish i) Done)
-  may_publish u words i index later last all one = subst (λ (x : ℕ). MayTake t last (zone_makes (Publish x) Done)) (sym index)
-      ((keep_behind later all).1 last (subst (λ (x : KnownTable). MakesStep x later 0 (Unfreeze f 1) Done last) words one)).0
+    module _ (mid : KnownRun) (collected : Notes t m.run (collect_steps c.number f) mid) where
+      pub may_unfreeze : (u : KnownTable) → u ≡ t → MayMake u mid.past 0 (Unfreeze f 1)
+      may_unfreeze u words = subst (λ (x : KnownTable). MayMake x mid.past 0 (Unfreeze f 1)) (sym words)
+          (may_next t m.run mid (collect_steps c.number f) (zone_makes (Publish f) Done ∷ []) (zone_makes (Unfreeze f 1) Done) c.number visit.held visit.who collected
+          keep_local).legal
 
-  module _ (killed : is_killed now.killed (group_of_fresh c) ≡ true) where
-    drop_may : MayTakeAll t m.run.past (drop_steps c.number f)
-    drop_may = made (drop_steps c.number f)
-        (drop_local t w m c tied ok its f rest front (ap (λ (x : KnownMachine). is_killed x.killed (group_of_fresh c)) same ∙ killed))
+      module _ (later : KnownRun) (unfrozen : Notes t mid (zone_makes (Unfreeze f 1) Done ∷ []) later) where
+        both : Notes t m.run (collect_steps c.number f ++ zone_makes (Unfreeze f 1) Done ∷ []) later
+        both = notes_both t m.run (collect_steps c.number f) mid (zone_makes (Unfreeze f 1) Done ∷ []) later collected unfrozen
 
-    pub may_collect_dropped : AreLegal (local_by_pasts t m.run.past) (collect_steps c.number f)
-    may_collect_dropped = legal (collect_steps c.number f) (zone_makes (Return f) Done ∷ [])
-        (drop_local t w m c tied ok its f rest front (ap (λ (x : KnownMachine). is_killed x.killed (group_of_fresh c)) same ∙ killed))
+        pub may_publish : (i : ℕ) → i ≡ f → MayTake t later.past (zone_makes (Publish i) Done)
+        may_publish i index = subst (λ (x : ℕ). MayTake t later.past (zone_makes (Publish x) Done)) (sym index)
+            (may_next t m.run later (collect_steps c.number f ++ zone_makes (Unfreeze f 1) Done ∷ []) [] (zone_makes (Publish f) Done) c.number visit.held visit.who both
+            keep_local)
 
-    pub may_return_dropped : (i : ℕ) → i ≡ f → (later : KnownPasts) → MakesAll t m.run.past (collect_steps c.number f) later → MayTake t later (zone_makes (Return i) Done)
-    may_return_dropped i index later all = subst (λ (x : ℕ). MayTake t later (zone_makes (Return x) Done)) (sym index)
-        (may_behind t m.run.past (collect_steps c.number f) (zone_makes (Return f) Done ∷ []) later drop_may all).0
+        pub kept_notes : (last : KnownRun) (i : ℕ) → i ≡ f → Notes t later (zone_makes (Publish i) Done ∷ []) last → Notes t m.run (keep_steps c.number f) last
+        kept_notes last i index published = notes_both t m.run (collect_steps c.number f ++ zone_makes (Unfreeze f 1) Done ∷ []) later (zone_makes (Publish f) Done ∷ []) last both
+            (subst (λ (x : ℕ). Notes t later (zone_makes (Publish x) Done ∷ []) last) index published)
 
--- they were made, and the watch took them
-module _ (t : KnownTable) (run : KnownRun) (p f i q : ℕ) (index : i ≡ f) (number : q ≡ p) (later : KnownPasts) (mid : KnownWatch)
-    (all : MakesAll t run.past (collect_steps p f) later) (saw : Watches run.watch (collect_steps q i) mid) where
-  collect_notes : Notes t run (collect_steps p f) (record { past = later; watch = mid })
-  collect_notes = record {
-    grew = all_grow t run.past (collect_steps p f) later all;
-    watched = subst (λ (x : ℕ × ℕ). Watches run.watch (collect_steps x.0 x.1) mid) (λ j. (number j, index j)) saw;
-  }
+      pub may_return : is_killed now.killed g ≡ true → (i : ℕ) → i ≡ f → MayTake t mid.past (zone_makes (Return i) Done)
+      may_return killed i index = subst (λ (x : ℕ). MayTake t mid.past (zone_makes (Return x) Done)) (sym index)
+          (may_next t m.run mid (collect_steps c.number f) [] (zone_makes (Return f) Done) c.number visit.held visit.who collected
+          (run_steps c.number (local_of t m) (drop_steps c.number f) _
+          (drop_leads t m c ok visit f g rest front of (ap (λ (x : KnownMachine). is_killed x.killed g) same ∙ killed))))
 
-  pub kept_notes : (u : KnownTable) → u ≡ t → (back : KnownPasts) (watch : KnownWatch) (last : KnownRun) → MakesStep u later 0 (Unfreeze f 1) Done back
-      → Watches mid (zone_makes (Unfreeze i 1) Done ∷ []) watch → Notes t (record { past = back; watch = watch }) (zone_makes (Publish i) Done ∷ []) last
-      → Notes t run (keep_steps p f) last
-  kept_notes u words back watch last one saw_too published =
-      notes_both t run (collect_steps p f) (record { past = later; watch = mid }) (zone_makes (Unfreeze f 1) Done ∷ zone_makes (Publish f) Done ∷ []) last collect_notes
-      (notes_both t (record { past = later; watch = mid }) (zone_makes (Unfreeze f 1) Done ∷ []) (record { past = back; watch = watch }) (zone_makes (Publish f) Done ∷ []) last
-      (notes_one t (record { past = later; watch = mid }) (zone_makes (Unfreeze f 1) Done) (record { past = back; watch = watch })
-      (subst (λ (x : KnownTable). MakesStep x later 0 (Unfreeze f 1) Done back) words one)
-      (subst (λ (x : ℕ). Watches mid (zone_makes (Unfreeze x 1) Done ∷ []) watch) index saw_too))
-      (subst (λ (x : ℕ). Notes t (record { past = back; watch = watch }) (zone_makes (Publish x) Done ∷ []) last) index published))
+      pub dropped_notes : (last : KnownRun) (i : ℕ) → i ≡ f → Notes t mid (zone_makes (Return i) Done ∷ []) last → Notes t m.run (drop_steps c.number f) last
+      dropped_notes last i index returned = notes_both t m.run (collect_steps c.number f) mid (zone_makes (Return f) Done ∷ []) last collected
+          (subst (λ (x : ℕ). Notes t mid (zone_makes (Return x) Done ∷ []) last) index returned)
 
-  pub dropped_notes : (last : KnownRun) → Notes t (record { past = later; watch = mid }) (zone_makes (Return i) Done ∷ []) last → Notes t run (drop_steps p f) last
-  dropped_notes last returned =
-      notes_both t run (collect_steps p f) (record { past = later; watch = mid }) (zone_makes (Return f) Done ∷ []) last collect_notes
-      (subst (λ (x : ℕ). Notes t (record { past = later; watch = mid }) (zone_makes (Return x) Done ∷ []) last) index returned)
+    -- all of it, if it is kept
+    pub keep_all : (free : List Bool) (sums sums' : List ℕ) (owners : List (Option ℕ)) → free ≡ free_of m.frame_states
+        → AreBooked t.cpus (left_by t m.run.past).parts sums → AreOwners t.cpus (left_by t m.run.past).parts owners → g < most_groups
+        → (h : KnownCpu) → HandsOver f c h → sums' ≡ slice_set sums g (get_or sums g 0 - 1) → (i k : ℕ) → i ≡ f → k ≡ 0
+        → (links : List Link) (lists : List Lru) → AllJoin m.links m.lists g i links lists → (run : KnownRun) → Notes t m.run (keep_steps c.number f) run
+        → AllMoved t now c (KeepsFresh g f) (keep_steps c.number f)
+        (record m { frame_states = slice_set m.frame_states i (Head (record { group = g; order = k })); links = links; lists = lists; run = run }) h free sums' owners
+    keep_all free sums sums' owners is are own fits h hands fell i k index zero_is links lists joined_i run noted =
+        let joined : AllJoin m.links m.lists g f links lists = subst (λ (j : ℕ). AllJoin m.links m.lists g j links lists) index joined_i in
+        let last : h.fresh ≡ rest = tail_same f h.fresh rest (sym hands.front ∙ front) in
+        let cpu : h ≡ record c { fresh = rest } = hands.cpu ∙ ap (λ (l : List ℕ). record c { fresh = l }) last in
+        subst (λ (x : KnownMachine × KnownMachine × KnownCpu × List ℕ). AllMoved t x.0 c (KeepsFresh g f) (keep_steps c.number f) x.1 x.2 free x.3 owners)
+        (λ j. (
+          same j,
+          record m { frame_states = slice_set m.frame_states (sym index j) (Head (record { group = g; order = sym zero_is j })); links = links; lists = lists; run = run },
+          sym cpu j,
+          sym fell j,
+        )) (all_kept t m c ok visit f g rest front of links lists run joined fits noted free sums owners is are own)
 
--- ---- all of it, of the machine as it was seen before
+    -- all of it, if it is dropped
+    pub drop_all : (free now_free : List Bool) (sums sums' : List ℕ) (owners : List (Option ℕ)) → free ≡ free_of m.frame_states
+        → AreBooked t.cpus (left_by t m.run.past).parts sums → AreOwners t.cpus (left_by t m.run.past).parts owners → g < most_groups
+        → is_killed now.killed g ≡ true → (h : KnownCpu) → HandsOver f c h → sums' ≡ slice_set sums g (get_or sums g 0 - 1) → (i k : ℕ) → i ≡ f → k ≡ 0
+        → (new : List FrameState) → FreesFrames i (2 ^ k) m.frame_states new → (blocks : List Block) → GivesFrames free (record { at = i; order = k }) now_free
+        → AreMaximalBlocks now_free blocks → (ledger : Ledger) → ledger ≡ with_uncharge m.ledger g (2 ^ k)
+        → (counts : Counts) → counts ≡ with_killed_fresh m.counts → (run : KnownRun) → Notes t m.run (drop_steps c.number f) run
+        → AllMoved t now c (DropsFresh g f) (drop_steps c.number f)
+        (record m { blocks = blocks; frame_states = new; ledger = ledger; counts = counts; run = run }) h now_free sums' owners
+    drop_all free now_free sums sums' owners is are own fits killed_now h hands fell i k index zero_is new frees_i blocks gives_i areas ledger uncharges counts counted run noted =
+        let frees : FreesFrames f (2 ^ 0) m.frame_states new = subst (λ (x : ℕ × ℕ). FreesFrames x.0 (2 ^ x.1) m.frame_states new) (λ j. (index j, zero_is j)) frees_i in
+        let gives : GivesFrames free (record { at = f; order = 0 }) now_free =
+        subst (λ (x : ℕ × ℕ). GivesFrames free (record { at = x.0; order = x.1 }) now_free) (λ j. (index j, zero_is j)) gives_i in
+        let inside = within t m c ok visit f g rest front of in
+        let free_is : now_free ≡ free_of new = free_block_given free now_free m.frame_states new f 0 (omega (arith, inside)) is gives frees in
+        let areas_now : AreMaximalBlocks (free_of new) blocks = subst (λ (l : List Bool). AreMaximalBlocks l blocks) free_is areas in
+        let killed : is_killed m.killed g ≡ true = ap (λ (x : KnownMachine). is_killed x.killed g) same ∙ killed_now in
+        let last : h.fresh ≡ rest = tail_same f h.fresh rest (sym hands.front ∙ front) in
+        let cpu : h ≡ record c { fresh = rest } = hands.cpu ∙ ap (λ (l : List ℕ). record c { fresh = l }) last in
+        let one : ledger ≡ with_uncharge m.ledger g 1 = uncharges ∙ ap (λ (j : ℕ). with_uncharge m.ledger g (2 ^ j)) zero_is in
+        subst (λ (x : KnownMachine × KnownMachine × KnownCpu × List ℕ). AllMoved t x.0 c (DropsFresh g f) (drop_steps c.number f) x.1 x.2 now_free x.3 owners)
+        (λ j. (
+          same j,
+          record m { blocks = blocks; frame_states = new; ledger = sym one j; counts = counts; run = run },
+          sym cpu j,
+          sym fell j,
+        )) (all_dropped t m c ok visit f g rest front of new frees blocks areas_now counts counted killed run noted free now_free sums owners is gives fits are own)
 
-pub keep_all : (t : KnownTable) (w : KnownStockTable) (m now : KnownMachine) → m ≡ now → (c h : KnownCpu) → IsTied t w c → IsConsistent t w m → Visits t (visit_state now c)
-    → (free : List Bool) → free ≡ free_of m.frame_states → (f g : ℕ) → WasFresh t m c f g → PassesFresh f c h → (i k : ℕ) → i ≡ f → k ≡ 0
-    → (mid seat : KnownSeat) → mid ≡ seat_with m.frame_seat f (collected_from c.number) → seat ≡ seat_with mid f (unfrozen 1)
-    → (stock : KnownStockSeat) → stock ≡ with_page_absorbed m.stock_seat c.number
-    → (links : List Link) (lists : List Lru) → AllJoin m.links m.lists g i links lists
-    → AllDone t w now c (KeepsFresh g f) (keep_steps c.number f) (record m {
-      frame_states = slice_set m.frame_states i (Head (record { group = g; order = k }));
-      links = links;
-      lists = lists;
-      frame_seat = seat;
-      stock_seat = stock;
-    }) h free
-keep_all t w m now same c h tied ok visit_now free free_is f g was hands i k index zero_is mid seat collects unfreezes stock absorbs links
-    lists joined_i =
-    let visit : Visits t (visit_state m c) = subst (λ (x : KnownMachine). Visits t (visit_state x c)) (sym same) visit_now in
-    let rest = hands.0 in
-    let front : c.fresh ≡ f ∷ rest = hands.1 in
-    let joined : AllJoin m.links m.lists g f links lists = subst (λ (j : ℕ). AllJoin m.links m.lists g j links lists) index joined_i in
-    let seat_is : seat ≡ seat_with m.frame_seat f (λ n. unfrozen 1 (collected_from c.number n)) =
-    unfreezes ∙ ap (λ (x : KnownSeat). seat_with x f (unfrozen 1)) collects
-    ∙ (λ j. record { table = m.frame_seat.table; view = changed_twice m.frame_seat.view f (collected_from c.number) (unfrozen 1) j }) in
-    let one : AllDone t w m c (KeepsFresh g f) (keep_steps c.number f) (kept t w m c tied ok visit f g was rest front links lists joined) (fresh_handed c f rest) free =
-    record {
-      consistent = kept_consistent t w m c tied ok visit f g was rest front links lists joined;
-      free_is = free_is ∙ kept_free t w m c tied ok visit f g was rest front links lists joined;
-      does = kept_does t w m c tied ok visit f g was rest front links lists joined;
-      visit = kept_visits t w m c tied ok visit f g was rest front links lists joined;
-      steps = record {
-        leads = kept_steps t w m c tied ok visit f g was rest front links lists joined;
-        follows = follows_same _ _ _ refl;
-        counts = kept_counts t w m c tied ok visit f g was rest front;
-      };
-    } in
-    subst (λ (x : KnownMachine × KnownMachine × KnownCpu). AllDone t w x.0 c (KeepsFresh g f) (keep_steps c.number f) x.1 x.2 free)
-    (λ j. (
-      same j,
-      record m {
-        frame_states = slice_set m.frame_states (sym index j) (Head (record { group = g; order = sym zero_is j }));
-        links = links;
-        lists = lists;
-        frame_seat = sym seat_is j;
-        stock_seat = sym absorbs j;
-      },
-      sym hands.2 j,
-    )) one
+    -- the page that is dropped is charged to the group
+    pub drop_charged : (k : ℕ) → k ≡ 0 → 2 ^ k ≤ pages_of m.ledger g
+    drop_charged k zero_is =
+        let a : pages_of m.ledger g ≡ frames_charged m.frame_states g + pages_booked t.cpus (local_of t m).parts g = (shown_seen t m ok visit.held).charged g in
+        let b = booked_some t m c ok visit f g rest front of in
+        let one : 2 ^ k ≡ 1 = ap (λ (j : ℕ). 2 ^ j) zero_is in
+        omega (arith, a, b, one)
 
-pub drop_all : (t : KnownTable) (w : KnownStockTable) (m now : KnownMachine) → m ≡ now → (c h : KnownCpu) → IsTied t w c → IsConsistent t w m → Visits t (visit_state now c)
-    → (before free : List Bool) → before ≡ free_of m.frame_states → (f g : ℕ) → WasFresh t m c f g → is_killed now.killed g ≡ true → PassesFresh f c h
-    → (i k : ℕ) → i ≡ f → k ≡ 0
-    → (seat : KnownSeat) → seat ≡ seat_with m.frame_seat f (collected_from c.number)
-    → (stock : KnownStockSeat) → stock ≡ with_page_absorbed m.stock_seat c.number
-    → (frame_states : List FrameState) → FreesFrames i (2 ^ k) m.frame_states frame_states → (blocks : List Block) → GivesFrames before (record { at = i; order = k }) free
-    → AreMaximalBlocks free blocks → (ledger : Ledger) → ledger ≡ with_uncharge m.ledger g (2 ^ k) → (counts : Counts) → counts ≡ with_killed_fresh m.counts
-    → AllDone t w now c (DropsFresh g f) (drop_steps c.number f) (record m { blocks = blocks; frame_states = frame_states; ledger = ledger; frame_seat = seat; stock_seat = stock; counts = counts }) h free
-drop_all t w m now same c h tied ok visit_now before free free_was f g was killed_now hands i k index zero_is seat collects stock absorbs frame_states frees_i blocks
-    gives_i areas_i ledger uncharges counts counted =
-    let visit : Visits t (visit_state m c) = subst (λ (x : KnownMachine). Visits t (visit_state x c)) (sym same) visit_now in
-    let killed : is_killed m.killed g ≡ true = ap (λ (x : KnownMachine). is_killed x.killed g) same ∙ killed_now in
-    let rest = hands.0 in
-    let front : c.fresh ≡ f ∷ rest = hands.1 in
-    let frees : FreesFrames f (2 ^ 0) m.frame_states frame_states = subst (λ (x : ℕ × ℕ). FreesFrames x.0 (2 ^ x.1) m.frame_states frame_states) (λ j. (index j, zero_is j)) frees_i in
-    let gives : GivesFrames before (record { at = f; order = 0 }) free =
-    subst (λ (x : ℕ × ℕ). GivesFrames before (record { at = x.0; order = x.1 }) free) (λ j. (index j, zero_is j)) gives_i in
-    let sized = ok.sizes.frame_states in
-    let inside = was.inside in
-    let free_is : free ≡ free_of frame_states = free_block_given before free m.frame_states frame_states f 0 (omega (arith, sized, inside)) free_was gives frees in
-    let areas : AreMaximalBlocks (free_of frame_states) blocks = subst (λ (l : List Bool). AreMaximalBlocks l blocks) free_is areas_i in
-    let one : AllDone t w m c (DropsFresh g f) (drop_steps c.number f) (dropped t w m c tied ok visit f g was rest front frame_states frees blocks areas counts counted) (fresh_handed c f rest) free =
-    record {
-      consistent = dropped_consistent t w m c tied ok visit f g was rest front frame_states frees blocks areas counts counted;
-      free_is = free_is;
-      does = dropped_does t w m c tied ok visit f g was rest front frame_states frees blocks areas counts counted;
-      visit = dropped_visits t w m c tied ok visit f g was rest front frame_states frees blocks areas counts counted;
-      steps = record {
-        leads = dropped_steps t w m c tied ok visit f g was rest front frame_states frees blocks areas counts counted killed;
-        follows = follows_still _ m.ledger _ _ refl (uncharge_peaks m.ledger g 1) (uncharge_events m.ledger g 1);
-        counts = dropped_counts t w m c tied ok visit f g was rest front frame_states frees blocks areas counts counted killed;
-      };
-    } in
-    let uncharged_one : ledger ≡ with_uncharge m.ledger g 1 = uncharges ∙ ap (λ (j : ℕ). with_uncharge m.ledger g (2 ^ j)) zero_is in
-    subst (λ (x : KnownMachine × KnownMachine × KnownCpu). AllDone t w x.0 c (DropsFresh g f) (drop_steps c.number f) x.1 x.2 free)
-    (λ j. (
-      same j,
-      record m { blocks = blocks; frame_states = frame_states; ledger = sym uncharged_one j; frame_seat = sym collects j; stock_seat = sym absorbs j; counts = counts },
-      sym hands.2 j,
-    )) one
-
--- what the call that collects it says of it
-pub was_fresh : (t : KnownTable) (w : KnownStockTable) (m : KnownMachine) (c : KnownCpu) (f g : ℕ) → f < t.frames → HasNothingOf m.frame_seat f → IsLent m.frame_seat f c.number
-    → 1 + (account_of m.stock_seat.view c.number).unabsorbed ≤ (account_of m.stock_seat.view c.number).book
-    → group_of c.stock_seat.view.last ≡ (account_of m.stock_seat.view c.number).group → group_of c.stock_seat.view.last ≡ Some g → g < 64 → WasFresh t m c f g
-was_fresh t w m c f g inside nothing lent booked group last fits = record {
-  inside = inside;
-  nothing = nothing;
-  lent = lent;
-  booked = booked;
-  of_group = sym group ∙ last;
-  fits = fits;
-  named = ap number_or_0 last;
-}
-
--- the page that is dropped is charged to the group
-pub drop_charged : (t : KnownTable) (w : KnownStockTable) (m : KnownMachine) (c : KnownCpu) → IsTied t w c → IsConsistent t w m → (f g : ℕ) → WasFresh t m c f g
-    → (k : ℕ) → k ≡ 0 → 2 ^ k ≤ pages_of m.ledger g
-drop_charged t w m c tied ok f g was k zero_is =
-    let a = was.booked in
-    let b = ok.charged g in
-    let z = booked_within t m.stock_seat c.number g tied.seats.frame_cpus was.of_group in
-    let one : 2 ^ k ≡ 1 = ap (λ (j : ℕ). 2 ^ j) zero_is in
-    omega (arith, a, b, z, one)
-
--- the frame is in use
-pub drop_in_use : (t : KnownTable) (w : KnownStockTable) (m : KnownMachine) (c : KnownCpu) → IsTied t w c → IsConsistent t w m → (before : List Bool) (f g i k : ℕ)
-    → before ≡ free_of m.frame_states → WasFresh t m c f g → i ≡ f → k ≡ 0 → IsInUse before (record { at = i; order = k })
-drop_in_use t w m c tied ok before f g i k free_was was index zero_is = may_give t w m c tied ok before f i k free_was was.inside was.lent index zero_is
+    -- the frame is in use
+    pub drop_in_use : (free : List Bool) → free ≡ free_of m.frame_states → (i k : ℕ) → i ≡ f → k ≡ 0 → IsInUse free (record { at = i; order = k })
+    drop_in_use free was i k index zero_is = lent_in_use m.frame_states free f i k (within t m c ok visit f g rest front of) was
+        (ap is_free_state (is_lent t m c ok visit f g rest front of)) index zero_is

@@ -1,209 +1,240 @@
 -- Steps on the groups alone. Serves `note_max`, `note_oom`, `note_group_kill`, `mark_killed`, `set_max`,
--- `set_oom_group`, `make`, `remove`, and `fill_stock`, which leaves the visit open.
-use Rattle.std.proofs.Common.{◌≡◌, ◌≢◌, ℕ, ◌<◌, Bool, true, false, Option, Some, List, [], ◌∷◌, length, get_or, refl, sym, ap, ◌∙◌, subst}
-use Rattle.std.specs.Prelude.{not, None, is_none, slice_set}
-use Rattle.std.proofs.lemmas.Bool.{and_from, ne_eqb, eq-eqb}
+-- `set_oom_group`, `make` and `remove`.
+use Rattle.std.proofs.Common.{◌≡◌, ◌≢◌, ℕ, ◌<◌, ◌&&◌, Bool, true, false, Option, Some, None, List, [], ◌∷◌, length, get_or, refl, sym, ap, ◌∙◌, subst, eq-eqb}
+use Rattle.std.specs.Prelude.{is_none, not, slice_set}
+use Rattle.std.proofs.lemmas.Bool.{and_from, ne_eqb}
 use Rattle.std.proofs.lemmas.List.{get_or-set_same, get_or-set_other}
-use Rattle.frame_word.specs.Seats.{KnownSeat, KnownTable}
-use Rattle.group_tree.specs.Groups.{has_group, has_child, with_group, make_fault, IsLeastFreeNumber}
 use Rattle.group_tree.specs.declared.event.EventKey.{EventKey}
 use Rattle.group_tree.specs.declared.event.EventKey.TheVariants.{Max, Oom, OomKill, OomGroupKill}
 use Rattle.group_tree.specs.declared.fault.Fault.{Fault}
-use Rattle.group_charge.specs.Charges.{AreCharges, CountsEvent, SamePeaks, Ledger, current_of, with_noted, with_kill_noted, with_max_noted, with_oom_noted, with_group_kill_noted}
-use Rattle.group_charge.specs.Charges.{with_group_limit, with_oom_flag, with_new_group, with_group_removed}
-use Rattle.cpu_part.specs.Cpus.{KnownCpu}
+use Rattle.group_tree.specs.declared.group.Group.{Group}
+use Rattle.group_tree.specs.Bounds.{most_groups}
+use Rattle.group_tree.specs.Groups.{has_child, has_group, make_fault, IsLeastFreeNumber}
+use Rattle.group_charge.specs.Charges.{Ledger, AreCharges, CountsEvent, SamePages, SamePeaks, current_of}
+use Rattle.group_charge.specs.Charges.{with_new_group, with_group_removed, with_group_limit, with_oom_flag}
+use Rattle.frame_word.specs.Seats.{KnownTable}
+use Rattle.step_rules.specs.declared.step.Step.{Step}
 use Rattle.step_rules.specs.declared.step.Action.{Action}
-use Rattle.step_rules.specs.declared.step.Action.TheVariants.{Kill, NoteMax, NoteOom, NoteGroupKill, SetMax, SetFlag, Make, Remove}
+use Rattle.step_rules.specs.declared.step.Action.TheVariants.{Kill, Make, NoteGroupKill, NoteMax, NoteOom, Remove, SetFlag, SetMax}
+use Rattle.step_rules.specs.declared.step.Answer.{Answer}
 use Rattle.step_rules.specs.declared.step.Answer.TheVariants.{Done, Number}
-use Rattle.step_rules.specs.Usage.{usage_of}
 use Rattle.step_rules.specs.Events.{event_of}
+use Rattle.step_rules.specs.Laws.{IsLocalStep}
 use Rattle.step_rules.specs.Legal.{is_removable}
 use Rattle.step_rules.specs.State.{State, with_at}
-use Rattle.step_rules.specs.After.{Run}
+use Rattle.step_rules.specs.Usage.{usage_of}
 use Rattle.step_rules.proofs.Basics.{at_each}
-use Rattle.mem_machine.specs.declared.counts.Counts.{Counts}
-use Rattle.mem_machine.specs.Counting.{counts_after}
-use Rattle.mem_machine.specs.Machines.{KnownMachine, is_killed, AddsGroup}
-use Rattle.mem_machine.specs.Noted.{KnownRun}
-use Rattle.mem_machine.specs.Local.{local_of, visit_state, IsLocalRun, MakesAs, Visits}
-use Rattle.mem_machine.specs.Steps.{zone_makes, kill_steps, note_max_steps, note_oom_steps, note_group_kill_steps, set_max_steps, set_oom_group_steps, make_steps, remove_steps}
-use Rattle.mem_machine.proofs.Reaching.{zone_step, run_one}
-use Rattle.mem_machine.proofs.Holds.{zone_may_act}
-use Rattle.mem_machine.proofs.LedgerMoves.{follows_note, follows_limit, follows_flag, follows_make, follows_remove}
-use Rattle.mem_machine.proofs.Followed.{LeadsAs}
-use Rattle.mem_machine.proofs.Watched.{HasOpenVisit, visits_then}
+use Rattle.boot_words.specs.Hidden.{hide}
+use Rattle.boot_words.specs.Pasts.{IsHeld}
+use Rattle.boot_words.specs.Sight.{HasSameLists}
+use Rattle.mem_machine.specs.Booked.{AreBooked, AreOwners}
+use Rattle.mem_machine.specs.Counting.{counts_along}
+use Rattle.mem_machine.specs.Following.{FollowsSteps}
+use Rattle.mem_machine.specs.Local.{Makes, StaysVisited, lock_holder, local_of}
+use Rattle.mem_machine.specs.Machines.{KnownMachine, AddsGroup, IsConsistent, IsShownBy, is_killed, left_by}
+use Rattle.mem_machine.specs.Noted.{KnownRun, MayTake, Notes, after_made}
+use Rattle.mem_machine.specs.Steps.{zone_makes, make_steps, remove_steps, set_max_steps, set_oom_group_steps}
+use Rattle.mem_machine.proofs.LedgerMoves.{follows_flag, follows_limit, follows_make, follows_note, follows_remove}
+use Rattle.mem_machine.proofs.Made.{makes, one_leads, stays_visited, zone_acts}
+use Rattle.mem_machine.proofs.Reaching.{zone_step}
+use Rattle.mem_machine.proofs.Sight.{left_then, shown_seen}
+use Rattle.mem_machine.proofs.Staying.{HaveSameBooks, owners_stay, sums_stay}
+use Rattle.mem_machine.proofs.Usage.{usage_is}
 
--- a step notes an event of this kind at the group, and changes nothing that is seen
-note_runs : (kind : EventKey) (action : Action) (g : ℕ) → event_of action Done ≡ Some (kind, g)
-    → ((s : State) (x : Counts) → x ≡ counts_after s 0 action Done x) → (t : KnownTable) (m n : KnownMachine)
-    → n ≡ record m { ledger = with_noted kind m.ledger g } → CountsEvent kind m.ledger n.ledger g → SamePeaks m.ledger n.ledger → (c : KnownCpu)
-    → IsLocalRun c.number (local_of t m c) (zone_makes action Done ∷ []) (local_of t m c) → LeadsAs t c.number (visit_state m c) (zone_makes action Done ∷ []) (visit_state n c)
-note_runs kind action g notes none t m n is counts peaks c run = record {
-  leads = subst (λ (k : KnownMachine). IsLocalRun c.number (local_of t m c) (zone_makes action Done ∷ []) (local_of t k c)) (sym is) run;
-  follows = follows_note kind action g notes t m c n.ledger counts peaks;
-  counts = ap (λ (k : KnownMachine). k.counts) is ∙ none (local_of t m c) m.counts;
-}
+-- ---- a step that changes the groups and which of them are killed
 
-module _ (t : KnownTable) (m n : KnownMachine) (g : ℕ) (there : has_group m.ledger.groups g ≡ true) where
-  set_max_runs : (limit : Option ℕ) → g ≢ 0 → n ≡ record m { ledger = with_group_limit m.ledger g limit } → (c : KnownCpu)
-      → LeadsAs t c.number (visit_state m c) (set_max_steps g limit) (visit_state n c)
-  set_max_runs limit below is c =
-      let s = local_of t m c in
-      subst (λ (k : KnownMachine). LeadsAs t c.number (visit_state m c) (set_max_steps g limit) (visit_state k c)) (sym is) (record {
-        leads = run_one c.number s _ 0 (SetMax g limit) Done (zone_step s c.number (SetMax g limit) Done refl
-            (and_from _ _ (and_from _ _ (zone_may_act m.frame_seat c.number) there) (ap not (ne_eqb g 0 below))) tt) refl;
-        follows = follows_limit s m.ledger g limit;
-        counts = refl;
+-- what such a step leaves, of the machine as it was seen before
+pub record AllGrouped (t : KnownTable) (m now : KnownMachine) (made : Step × Answer) (n : KnownMachine) : Type 0 where
+  pub consistent : IsConsistent t n
+  pub sums : (sums : List ℕ) → AreBooked t.cpus (left_by t m.run.past).parts sums → AreBooked t.cpus (left_by t n.run.past).parts sums
+  pub owners : (owners : List (Option ℕ)) → AreOwners t.cpus (left_by t m.run.past).parts owners → AreOwners t.cpus (left_by t n.run.past).parts owners
+  pub steps : Makes t now (made ∷ []) n
+  pub visit : StaysVisited t now n
+
+-- what is known of such a step before it is made
+pub record IsGroupStep (t : KnownTable) (m : KnownMachine) (made : Step × Answer) (l : Ledger) (marks : List Bool) : Type 0 where
+  pub step : IsLocalStep (local_of t m) (lock_holder m) made.0.seat made.0.action made.1
+  pub only : after_made (local_of t m) made ≡ record (local_of t m) { groups = (after_made (local_of t m) made).groups; killed = (after_made (local_of t m) made).killed }
+  pub groups : (after_made (local_of t m) made).groups ≡ l.groups
+  pub killed : (g : ℕ) → (after_made (local_of t m) made).killed g ≡ is_killed marks g
+  pub follows : FollowsSteps (local_of t m) m.ledger (made ∷ []) l
+  pub counts : m.counts ≡ counts_along (local_of t m) (made ∷ []) m.counts
+
+-- the step may be made
+pub may_group : (t : KnownTable) (m : KnownMachine) (made : Step × Answer) (l : Ledger) (marks : List Bool) → IsGroupStep t m made l marks → MayTake t m.run.past made
+may_group t m made l marks is = is.step
+
+module _ (t : KnownTable) (m : KnownMachine) (ok : IsConsistent t m) (is : IsHeld t m.run.past) (made : Step × Answer) (l : Ledger) (marks : List Bool)
+    (group : IsGroupStep t m made l marks) (pages : SamePages m.ledger l) (sized : length marks ≡ most_groups) (run : KnownRun) (noted : Notes t m.run (made ∷ []) run) where
+  abbrev then : KnownMachine
+  then = record m { ledger = l; killed = marks; run = run }
+
+  shown_then : IsShownBy t (record m { ledger = l; killed = marks; run = run }) (hide (after_made (local_of t m) made))
+  shown_then =
+      let shown = shown_seen t m ok is in
+      subst (λ (u : State). IsShownBy t (record m { ledger = l; killed = marks; run = run }) (hide u)) (sym group.only) (record {
+        groups = group.groups;
+        killed = group.killed;
+        phases = shown.phases;
+        references = shown.references;
+        settled = shown.settled;
+        absorbed = shown.absorbed;
+        bounded = shown.bounded;
+        charged = λ h. pages h ∙ shown.charged h;
       })
 
-  set_oom_group_runs : (flag : Bool) → g ≢ 0 → n ≡ record m { ledger = with_oom_flag m.ledger g flag } → (c : KnownCpu)
-      → LeadsAs t c.number (visit_state m c) (set_oom_group_steps g flag) (visit_state n c)
-  set_oom_group_runs flag below is c =
-      let s = local_of t m c in
-      subst (λ (k : KnownMachine). LeadsAs t c.number (visit_state m c) (set_oom_group_steps g flag) (visit_state k c)) (sym is) (record {
-        leads = run_one c.number s _ 0 (SetFlag g flag) Done (zone_step s c.number (SetFlag g flag) Done refl
-            (and_from _ _ (and_from _ _ (zone_may_act m.frame_seat c.number) there) (ap not (ne_eqb g 0 below))) tt) refl;
-        follows = follows_flag s m.ledger g flag;
-        counts = refl;
-      })
+  grouped_here : AllGrouped t m m made (record m { ledger = l; killed = marks; run = run })
+  grouped_here =
+      let s = local_of t m in
+      let u = after_made (local_of t m) made in
+      let same : HaveSameBooks (local_of t m).parts (after_made (local_of t m) made).parts = record { book = λ k. ap (λ (x : State). (x.parts k).book) group.only; group = λ k. ap (λ (x : State). (x.parts k).stock.group) group.only } in
+      record {
+        consistent = record {
+          sizes = record { frame_states = ok.sizes.frame_states; links = ok.sizes.links; lists = ok.sizes.lists; killed = sized };
+          areas = ok.areas;
+          frame_states = ok.frame_states;
+          units = ok.units;
+          lists = ok.lists;
+          balances = ok.balances;
+          shown = subst (IsShownBy t then) (sym (left_then t m (made ∷ []) run is noted)) shown_then;
+        };
+        sums = sums_stay t m is (made ∷ []) run noted same;
+        owners = owners_stay t m is (made ∷ []) run noted same;
+        steps = makes t m then (made ∷ []) is noted (one_leads (lock_holder m) s made group.step) group.follows group.counts;
+        visit = stays_visited t m then (made ∷ []) noted (ap (λ (x : State). x.hold) group.only)
+            (λ p. subst (HasSameLists p s) (sym group.only) (record { list = refl; fresh = refl; back = refl; references = refl }));
+      }
 
--- the same, of the machine as it was seen before
-module _ (t : KnownTable) (m now : KnownMachine) (same : m ≡ now) (g : ℕ) (there : has_group now.ledger.groups g ≡ true) where
-  notes : (kind : EventKey) (action : Action) → event_of action Done ≡ Some (kind, g) → ((s : State) (x : Counts) → x ≡ counts_after s 0 action Done x) → (l : Ledger) → l ≡ with_noted kind m.ledger g
-      → CountsEvent kind m.ledger l g → SamePeaks m.ledger l → (c : KnownCpu)
-      → IsLocalRun c.number (local_of t now c) (zone_makes action Done ∷ []) (local_of t now c)
-      → LeadsAs t c.number (visit_state now c) (zone_makes action Done ∷ []) (visit_state (record m { ledger = l }) c)
-  notes kind action noted none l is counts peaks c run = note_runs kind action g noted none t now (record m { ledger = l })
-      ((λ i. record m { ledger = is i }) ∙ ap (λ (k : KnownMachine). record k { ledger = with_noted kind k.ledger g }) same)
-      (subst (λ (k : KnownMachine). CountsEvent kind k.ledger l g) same counts) (subst (λ (k : KnownMachine). SamePeaks k.ledger l) same peaks) c run
+  pub grouped : (now : KnownMachine) → m ≡ now → AllGrouped t m now made (record m { ledger = l; killed = marks; run = run })
+  grouped now same = subst (λ (x : KnownMachine). AllGrouped t m x made (record m { ledger = l; killed = marks; run = run })) same grouped_here
 
-  pub notes_max : (l : Ledger) → l ≡ with_max_noted m.ledger g → CountsEvent Max m.ledger l g → SamePeaks m.ledger l → (c : KnownCpu)
-      → LeadsAs t c.number (visit_state now c) (note_max_steps g) (visit_state (record m { ledger = l }) c)
-  notes_max l is counts peaks c =
-      let s = local_of t now c in
-      notes Max (NoteMax g) refl (λ k x. refl) l is counts peaks c (run_one c.number s s 0 (NoteMax g) Done
-      (zone_step s c.number (NoteMax g) Done refl (and_from _ _ (zone_may_act now.frame_seat c.number) there) tt) refl)
-
-  pub notes_oom : (l : Ledger) → l ≡ with_oom_noted m.ledger g → CountsEvent Oom m.ledger l g → SamePeaks m.ledger l → (c : KnownCpu)
-      → LeadsAs t c.number (visit_state now c) (note_oom_steps g) (visit_state (record m { ledger = l }) c)
-  notes_oom l is counts peaks c =
-      let s = local_of t now c in
-      notes Oom (NoteOom g) refl (λ k x. refl) l is counts peaks c (run_one c.number s s 0 (NoteOom g) Done
-      (zone_step s c.number (NoteOom g) Done refl (and_from _ _ (zone_may_act now.frame_seat c.number) there) tt) refl)
-
-  pub notes_group_kill : g ≢ 0 → (l : Ledger) → l ≡ with_group_kill_noted m.ledger g → CountsEvent OomGroupKill m.ledger l g → SamePeaks m.ledger l → (c : KnownCpu)
-      → LeadsAs t c.number (visit_state now c) (note_group_kill_steps g) (visit_state (record m { ledger = l }) c)
-  notes_group_kill below l is counts peaks c =
-      let s = local_of t now c in
-      notes OomGroupKill (NoteGroupKill g) refl (λ k x. refl) l is counts peaks c (run_one c.number s s 0 (NoteGroupKill g) Done
-      (zone_step s c.number (NoteGroupKill g) Done refl
-      (and_from _ _ (and_from _ _ (zone_may_act now.frame_seat c.number) there) (ap not (ne_eqb g 0 below))) tt) refl)
-
-  pub sets_max : (l : Ledger) (limit : Option ℕ) → g ≢ 0 → l ≡ with_group_limit m.ledger g limit → (c : KnownCpu)
-      → LeadsAs t c.number (visit_state now c) (set_max_steps g limit) (visit_state (record m { ledger = l }) c)
-  sets_max l limit below is c = set_max_runs t now (record m { ledger = l }) g there limit below
-      ((λ i. record m { ledger = is i }) ∙ ap (λ (k : KnownMachine). record k { ledger = with_group_limit k.ledger g limit }) same) c
-
-  pub sets_oom_group : (l : Ledger) (flag : Bool) → g ≢ 0 → l ≡ with_oom_flag m.ledger g flag → (c : KnownCpu)
-      → LeadsAs t c.number (visit_state now c) (set_oom_group_steps g flag) (visit_state (record m { ledger = l }) c)
-  sets_oom_group l flag below is c = set_oom_group_runs t now (record m { ledger = l }) g there flag below
-      ((λ i. record m { ledger = is i }) ∙ ap (λ (k : KnownMachine). record k { ledger = with_oom_flag k.ledger g flag }) same) c
+-- ---- the steps
 
 -- the marks after one was set or cleared
-marks_set : (marks : List Bool) (g : ℕ) (b : Bool) → g < length marks → is_killed (slice_set marks g b) ≡ with_at (is_killed marks) g b
-marks_set marks g b inside = λ i. λ k. (at_each (is_killed marks) g b (λ (h : ℕ) (x : Bool). get_or (slice_set marks g b) h false ≡ x)
-    (get_or-set_same marks g b false inside) (λ h ne. get_or-set_other marks g h b false ne)) k i
-
--- a group is killed
-pub kill_runs : (t : KnownTable) (m n : KnownMachine) (g : ℕ) → g < length m.killed → has_group m.ledger.groups g ≡ true → is_killed m.killed g ≡ false
-    → n ≡ record m { ledger = with_kill_noted m.ledger g; killed = slice_set m.killed g true } → CountsEvent OomKill m.ledger n.ledger g
-    → SamePeaks m.ledger n.ledger → (c : KnownCpu) → LeadsAs t c.number (visit_state m c) (kill_steps g) (visit_state n c)
-kill_runs t m n g inside there alive is counts peaks c =
-    let s = local_of t m c in
-    record {
-      leads = subst (λ (k : KnownMachine). IsLocalRun c.number s (kill_steps g) (local_of t k c)) (sym is)
-          (run_one c.number s _ 0 (Kill g) Done
-          (zone_step s c.number (Kill g) Done refl (and_from _ _ (and_from _ _ (zone_may_act m.frame_seat c.number) there) (ap not alive)) tt)
-          (λ i. record s { killed = marks_set m.killed g true inside i }));
-      follows = follows_note OomKill (Kill g) g refl t m c n.ledger counts peaks;
-      counts = ap (λ (k : KnownMachine). k.counts) is;
-    }
-
--- the same, of the machine as it was seen before
-pub kills : (t : KnownTable) (m now : KnownMachine) → m ≡ now → (g : ℕ) → g < length m.killed → has_group now.ledger.groups g ≡ true
-    → is_killed now.killed g ≡ false → (l : Ledger) → l ≡ with_kill_noted m.ledger g → CountsEvent OomKill m.ledger l g
-    → SamePeaks m.ledger l → (marks : List Bool) → marks ≡ slice_set m.killed g true
-    → (c : KnownCpu) → LeadsAs t c.number (visit_state now c) (kill_steps g) (visit_state (record m { ledger = l; killed = marks }) c)
-kills t m now same g inside there alive l is counts peaks marks set =
-    kill_runs t now (record m { ledger = l; killed = marks }) g (subst (λ (k : KnownMachine). g < length k.killed) same inside) there alive
-    ((λ i. record m { ledger = is i; killed = set i })
-    ∙ ap (λ (k : KnownMachine). record k { ledger = with_kill_noted k.ledger g; killed = slice_set k.killed g true }) same)
-    (subst (λ (k : KnownMachine). CountsEvent OomKill k.ledger l g) same counts) (subst (λ (k : KnownMachine). SamePeaks k.ledger l) same peaks)
-
-make_runs : (t : KnownTable) (m n : KnownMachine) (g : ℕ) (path : List ℕ) → g < length m.killed → is_none (make_fault m.ledger.groups path) ≡ true
-    → AreCharges m.ledger → AddsGroup g path m n → (c : KnownCpu) → LeadsAs t c.number (visit_state m c) (make_steps path g) (visit_state n c)
-make_runs t m n g path inside allowed facts makes c =
-    let s = local_of t m c in
-    subst (λ (k : KnownMachine). LeadsAs t c.number (visit_state m c) (make_steps path g) (visit_state k c)) (sym makes.machine) (record {
-      leads = run_one c.number s _ 0 (Make path) (Number g) (zone_step s c.number (Make path) (Number g) refl (and_from _ _
-          (zone_may_act m.frame_seat c.number) allowed) makes.least)
-          (λ i. record s { groups = with_group m.ledger.groups g path; killed = marks_set m.killed g false inside i });
-      follows = follows_make s m.ledger path g facts makes.least;
-      counts = refl;
-    })
+marks_set : (killed : ℕ → Bool) (marks : List Bool) (g : ℕ) (b : Bool) → ((h : ℕ) → killed h ≡ is_killed marks h) → g < length marks → (h : ℕ)
+    → with_at killed g b h ≡ is_killed (slice_set marks g b) h
+marks_set killed marks g b are inside h =
+    at_each killed g b (λ (k : ℕ) (x : Bool). x ≡ is_killed (slice_set marks g b) k)
+    (sym (get_or-set_same marks g b false inside)) (λ k ne. are k ∙ sym (get_or-set_other marks g k b false ne)) h
 
 -- nothing was refused
 none_of : (x : Option Fault) → x ≡ None → is_none x ≡ true
 none_of x e = ap is_none e
 
-module _ (t : KnownTable) (m now : KnownMachine) (same : m ≡ now) where
-  pub makes : (l : Ledger) (marks : List Bool) (g : ℕ) (path : List ℕ) → IsLeastFreeNumber m.ledger.groups g → l ≡ with_new_group m.ledger g path
-      → marks ≡ slice_set m.killed g false → AddsGroup g path now (record m { ledger = l; killed = marks })
-  makes l marks g path least is set = record {
+module _ (t : KnownTable) (m now : KnownMachine) (same : m ≡ now) (ok : IsConsistent t m) (held : IsHeld t now.run.past) where
+  is : IsHeld t m.run.past
+  is = subst (λ (x : KnownMachine). IsHeld t x.run.past) (sym same) held
+
+  shown : IsShownBy t m (hide (local_of t m))
+  shown = shown_seen t m ok is
+
+  -- a group that is there is one that the lock's holder sees
+  seen_there : (g : ℕ) → has_group now.ledger.groups g ≡ true → has_group (local_of t m).groups g ≡ true
+  seen_there g there = ap (λ (gs : List Group). has_group gs g) shown.groups ∙ ap (λ (x : KnownMachine). has_group x.ledger.groups g) same ∙ there
+
+  module _ (g : ℕ) (there : has_group now.ledger.groups g ≡ true) where
+    -- a step notes an event of this kind at the group, and changes nothing that is seen
+    notes : (kind : EventKey) (action : Action) → event_of action Done ≡ Some (kind, g) → ((s : State) (x : _) → x ≡ counts_along s (zone_makes action Done ∷ []) x)
+        → after_made (local_of t m) (zone_makes action Done) ≡ local_of t m → IsLocalStep (local_of t m) (lock_holder m) 0 action Done
+        → (l : Ledger) → l.groups ≡ m.ledger.groups → CountsEvent kind m.ledger l g → SamePeaks m.ledger l → IsGroupStep t m (zone_makes action Done) l m.killed
+    notes kind action noted none stays step l groups counts peaks = record {
+      step = step;
+      only = stays ∙ (λ i. record (local_of t m) { groups = (sym stays i).groups; killed = (sym stays i).killed });
+      groups = ap (λ (x : State). x.groups) stays ∙ shown.groups ∙ sym groups;
+      killed = λ h. ap (λ (x : State). x.killed h) stays ∙ shown.killed h;
+      follows = follows_note kind action g noted (local_of t m) m.ledger l shown.groups counts peaks;
+      counts = none (local_of t m) m.counts;
+    }
+
+    pub notes_max : (l : Ledger) → l.groups ≡ m.ledger.groups → CountsEvent Max m.ledger l g → SamePeaks m.ledger l → IsGroupStep t m (zone_makes (NoteMax g) Done) l m.killed
+    notes_max l groups counts peaks = notes Max (NoteMax g) refl (λ s x. refl) refl
+        (zone_step (local_of t m) (lock_holder m) (NoteMax g) Done refl (and_from _ _ (zone_acts t m.run.past is) (seen_there g there)) tt) l groups counts peaks
+
+    pub notes_oom : (l : Ledger) → l.groups ≡ m.ledger.groups → CountsEvent Oom m.ledger l g → SamePeaks m.ledger l → IsGroupStep t m (zone_makes (NoteOom g) Done) l m.killed
+    notes_oom l groups counts peaks = notes Oom (NoteOom g) refl (λ s x. refl) refl
+        (zone_step (local_of t m) (lock_holder m) (NoteOom g) Done refl (and_from _ _ (zone_acts t m.run.past is) (seen_there g there)) tt) l groups counts peaks
+
+    pub notes_group_kill : g ≢ 0 → (l : Ledger) → l.groups ≡ m.ledger.groups → CountsEvent OomGroupKill m.ledger l g → SamePeaks m.ledger l
+        → IsGroupStep t m (zone_makes (NoteGroupKill g) Done) l m.killed
+    notes_group_kill below l groups counts peaks = notes OomGroupKill (NoteGroupKill g) refl (λ s x. refl) refl
+        (zone_step (local_of t m) (lock_holder m) (NoteGroupKill g) Done refl
+        (and_from _ _ (and_from _ _ (zone_acts t m.run.past is) (seen_there g there)) (ap not (ne_eqb g 0 below))) tt) l groups counts peaks
+
+    -- a group is killed
+    pub kills : g < length m.killed → is_killed now.killed g ≡ false → (l : Ledger) → l.groups ≡ m.ledger.groups → CountsEvent OomKill m.ledger l g → SamePeaks m.ledger l
+        → (marks : List Bool) → marks ≡ slice_set m.killed g true → IsGroupStep t m (zone_makes (Kill g) Done) l marks
+    kills inside alive l groups counts peaks marks set = subst (λ (k : List Bool). IsGroupStep t m (zone_makes (Kill g) Done) l k) (sym set) (record {
+      step = zone_step (local_of t m) (lock_holder m) (Kill g) Done refl (and_from _ _ (and_from _ _ (zone_acts t m.run.past is) (seen_there g there))
+          (ap not (shown.killed g ∙ ap (λ (x : KnownMachine). is_killed x.killed g) same ∙ alive))) tt;
+      only = refl;
+      groups = shown.groups ∙ sym groups;
+      killed = marks_set (local_of t m).killed m.killed g true shown.killed inside;
+      follows = follows_note OomKill (Kill g) g refl (local_of t m) m.ledger l shown.groups counts peaks;
+      counts = refl;
+    })
+
+    pub sets_max : (limit : Option ℕ) → g ≢ 0 → (l : Ledger) → l ≡ with_group_limit m.ledger g limit → IsGroupStep t m (zone_makes (SetMax g limit) Done) l m.killed
+    sets_max limit below l limited = subst (λ (k : Ledger). IsGroupStep t m (zone_makes (SetMax g limit) Done) k m.killed) (sym limited) (record {
+      step = zone_step (local_of t m) (lock_holder m) (SetMax g limit) Done refl
+          (and_from _ _ (and_from _ _ (zone_acts t m.run.past is) (seen_there g there)) (ap not (ne_eqb g 0 below))) tt;
+      only = refl;
+      groups = ap (λ (gs : List Group). (after_made (record (local_of t m) { groups = gs }) (zone_makes (SetMax g limit) Done)).groups) shown.groups;
+      killed = shown.killed;
+      follows = follows_limit (local_of t m) m.ledger g limit;
+      counts = refl;
+    })
+
+    pub sets_oom_group : (flag : Bool) → g ≢ 0 → (l : Ledger) → l ≡ with_oom_flag m.ledger g flag → IsGroupStep t m (zone_makes (SetFlag g flag) Done) l m.killed
+    sets_oom_group flag below l flagged = subst (λ (k : Ledger). IsGroupStep t m (zone_makes (SetFlag g flag) Done) k m.killed) (sym flagged) (record {
+      step = zone_step (local_of t m) (lock_holder m) (SetFlag g flag) Done refl
+          (and_from _ _ (and_from _ _ (zone_acts t m.run.past is) (seen_there g there)) (ap not (ne_eqb g 0 below))) tt;
+      only = refl;
+      groups = ap (λ (gs : List Group). (after_made (record (local_of t m) { groups = gs }) (zone_makes (SetFlag g flag) Done)).groups) shown.groups;
+      killed = shown.killed;
+      follows = follows_flag (local_of t m) m.ledger g flag;
+      counts = refl;
+    })
+
+    -- a group that goes
+    pub removes : AreCharges m.ledger → has_child now.ledger.groups g ≡ false → g ≢ 0 → current_of now.ledger g ≡ 0 → (l : Ledger) → l ≡ with_group_removed m.ledger g
+        → IsGroupStep t m (zone_makes (Remove g) Done) l m.killed
+    removes charges leaf below empty l removed =
+        let s = local_of t m in
+        let no_child : has_child s.groups g ≡ false = ap (λ (gs : List Group). has_child gs g) shown.groups ∙ ap (λ (x : KnownMachine). has_child x.ledger.groups g) same ∙ leaf in
+        let none : usage_of s g ≡ 0 = usage_is t m ok charges is g ∙ ap (λ (x : KnownMachine). current_of x.ledger g) same ∙ empty in
+        let removable : is_removable s g ≡ true =
+        and_from _ _ (and_from _ _ (and_from _ _ (seen_there g there) (ap not (ne_eqb g 0 below))) (ap not no_child)) (eq-eqb (usage_of s g) 0 none) in
+        subst (λ (k : Ledger). IsGroupStep t m (zone_makes (Remove g) Done) k m.killed) (sym removed) (record {
+          step = zone_step s (lock_holder m) (Remove g) Done refl (and_from _ _ (zone_acts t m.run.past is) removable) tt;
+          only = refl;
+          groups = ap (λ (gs : List Group). (after_made (record (local_of t m) { groups = gs }) (zone_makes (Remove g) Done)).groups) shown.groups;
+          killed = shown.killed;
+          follows = follows_remove s m.ledger g;
+          counts = refl;
+        })
+
+  -- a group is made
+  pub makes_group : (g : ℕ) (path : List ℕ) → g < length m.killed → None ≡ make_fault m.ledger.groups path → AreCharges m.ledger → IsLeastFreeNumber m.ledger.groups g
+      → (l : Ledger) → l ≡ with_new_group m.ledger g path → (marks : List Bool) → marks ≡ slice_set m.killed g false
+      → IsGroupStep t m (zone_makes (Make path) (Number g)) l marks
+  makes_group g path inside allowed facts least l made marks cleared = subst (λ (x : Ledger × List Bool). IsGroupStep t m (zone_makes (Make path) (Number g)) x.0 x.1) (λ i. (sym made i, sym cleared i)) (record {
+    step = zone_step (local_of t m) (lock_holder m) (Make path) (Number g) refl
+        (and_from _ _ (zone_acts t m.run.past is) (ap (λ (gs : List Group). is_none (make_fault gs path)) shown.groups ∙ none_of (make_fault m.ledger.groups path) (sym allowed)))
+        (subst (λ (gs : List Group). IsLeastFreeNumber gs g) (sym shown.groups) least);
+    only = refl;
+    groups = ap (λ (gs : List Group). (after_made (record (local_of t m) { groups = gs }) (zone_makes (Make path) (Number g))).groups) shown.groups;
+    killed = marks_set (local_of t m).killed m.killed g false shown.killed inside;
+    follows = follows_make (local_of t m) m.ledger path g facts least;
+    counts = refl;
+  })
+
+  pub adds : (l : Ledger) (marks : List Bool) (g : ℕ) (path : List ℕ) → IsLeastFreeNumber m.ledger.groups g → l ≡ with_new_group m.ledger g path
+      → marks ≡ slice_set m.killed g false → (run : KnownRun) → AddsGroup g path now (record m { ledger = l; killed = marks; run = run })
+  adds l marks g path least is_new set run = record {
     least = subst (λ (k : KnownMachine). IsLeastFreeNumber k.ledger.groups g) same least;
-    machine = (λ i. record m { ledger = is i; killed = set i })
-        ∙ ap (λ (k : KnownMachine). record k { ledger = with_new_group k.ledger g path; killed = slice_set k.killed g false; run = m.run }) same;
+    machine = (λ i. record m { ledger = is_new i; killed = set i; run = run })
+        ∙ ap (λ (k : KnownMachine). record k { ledger = with_new_group k.ledger g path; killed = slice_set k.killed g false; run = run }) same;
   }
-
-  pub made_runs : (l : Ledger) (marks : List Bool) (g : ℕ) (path : List ℕ) → g < length m.killed → None ≡ make_fault m.ledger.groups path
-      → AreCharges m.ledger → IsLeastFreeNumber m.ledger.groups g → l ≡ with_new_group m.ledger g path → marks ≡ slice_set m.killed g false → (c : KnownCpu)
-      → LeadsAs t c.number (visit_state now c) (make_steps path g) (visit_state (record m { ledger = l; killed = marks }) c)
-  made_runs l marks g path inside allowed facts least is set c =
-      make_runs t now (record m { ledger = l; killed = marks }) g path (subst (λ (k : KnownMachine). g < length k.killed) same inside)
-      (none_of (make_fault now.ledger.groups path) (subst (λ (k : KnownMachine). make_fault k.ledger.groups path ≡ None) same (sym allowed)))
-      (subst (λ (k : KnownMachine). AreCharges k.ledger) same facts) (makes l marks g path least is set) c
-
--- a group that goes
-module _ (t : KnownTable) (m n : KnownMachine) (c : KnownCpu) (g : ℕ) where
-  pub remove_runs : has_group m.ledger.groups g ≡ true → has_child m.ledger.groups g ≡ false → g ≢ 0 → current_of m.ledger g ≡ 0
-      → usage_of (local_of t m c) g ≡ current_of m.ledger g → n ≡ record m { ledger = with_group_removed m.ledger g }
-      → LeadsAs t c.number (visit_state m c) (remove_steps g) (visit_state n c)
-  remove_runs there leaf below empty usage is =
-      let s = local_of t m c in
-      let removable : is_removable s g ≡ true =
-      and_from _ _ (and_from _ _ (and_from _ _ there (ap not (ne_eqb g 0 below))) (ap not leaf)) (eq-eqb (usage_of s g) 0 (usage ∙ empty)) in
-      subst (λ (k : KnownMachine). LeadsAs t c.number (visit_state m c) (remove_steps g) (visit_state k c)) (sym is) (record {
-        leads = run_one c.number s _ 0 (Remove g) Done (zone_step s c.number (Remove g) Done refl
-            (and_from _ _ (zone_may_act m.frame_seat c.number) removable) tt) refl;
-        follows = follows_remove s m.ledger g;
-        counts = refl;
-      })
-
-pub removes : (t : KnownTable) (m now : KnownMachine) → m ≡ now → (c d : KnownCpu) → d ≡ c → (g : ℕ) → has_group now.ledger.groups g ≡ true
-    → has_child now.ledger.groups g ≡ false → g ≢ 0 → current_of now.ledger g ≡ 0 → usage_of (local_of t now c) g ≡ current_of now.ledger g
-    → (l : Ledger) → l ≡ with_group_removed m.ledger g → LeadsAs t c.number (visit_state now c) (remove_steps g) (visit_state (record m { ledger = l }) d)
-removes t m now same c d cpu g there leaf below empty usage l is =
-    subst (λ (x : KnownCpu). LeadsAs t c.number (visit_state now c) (remove_steps g) (visit_state (record m { ledger = l }) x)) (sym cpu)
-    (remove_runs t now (record m { ledger = l }) c g there leaf below empty usage
-    ((λ i. record m { ledger = is i }) ∙ ap (λ (k : KnownMachine). record k { ledger = with_group_removed k.ledger g }) same))
-
--- steps that leave the zone's seat at the frames leave the CPU's visit open
-pub still_visited : (t : KnownTable) (m now : KnownMachine) → m ≡ now → (n : KnownMachine) → n.frame_seat ≡ m.frame_seat → (c : KnownCpu) (steps : Run)
-    → Visits t (visit_state now c) → MakesAs t c.number (visit_state now c) steps (visit_state n c) → Visits t (visit_state n c)
-still_visited t m now same n seat c steps visit makes =
-    visits_then t (visit_state now c) (visit_state n c) steps visit.shown makes refl
-    (subst (λ (x : KnownSeat). HasOpenVisit t (visit_state (record n { frame_seat = x }) c)) (sym (seat ∙ ap (λ (k : KnownMachine). k.frame_seat) same))
-    (record { is_open = visit.is_open; still = visit.still; lent = visit.lent }))
 
 -- only the groups and the run are others, where the call did this to the groups
 pub ledger_is : (m now : KnownMachine) → m ≡ now → (does : Ledger → Ledger) (ledger : Ledger) → ledger ≡ does m.ledger → (run : KnownRun)

@@ -18,61 +18,54 @@ use Rattle.group_charge.specs.declared.account.Account.{Account}
 use Rattle.group_charge.specs.Charges.{Ledger, AreCharges, SamePeaks, SameEvents, CountsEvent, current_of, peak_of, events_of, events_local_of, account_at}
 use Rattle.group_charge.specs.Charges.{empty_account, with_charge, with_new_group, with_group_removed, with_group_limit, with_oom_flag}
 use Rattle.group_charge.proofs.CallerLemmas.{charge_rises, charge_peaks, charge_events, has_account}
-use Rattle.frame_word.specs.Seats.{KnownTable}
-use Rattle.cpu_part.specs.Cpus.{KnownCpu}
 use Rattle.step_rules.specs.declared.step.Action.{Action}
 use Rattle.step_rules.specs.declared.step.Action.TheVariants.{Grant, Make}
 use Rattle.step_rules.specs.declared.step.Answer.TheVariants.{Done, Granted}
 use Rattle.step_rules.specs.State.{State}
 use Rattle.step_rules.specs.After.{Run, after}
 use Rattle.step_rules.specs.Peaks.{peak_follows}
-use Rattle.step_rules.specs.Usage.{usage_of, frames_kept, pages_prepaid, pages_pending}
+use Rattle.step_rules.specs.Usage.{usage_of}
 use Rattle.step_rules.specs.Events.{event_of, count_after, is_noted_in_subtree, is_noted_at, makes_group}
 use Rattle.step_rules.proofs.CallerLemmas.{noted_below_so, noted_at_so}
 use Rattle.step_rules.proofs.Homes.{number_low}
 use Rattle.step_rules.proofs.Moving.{gone_itself, pending_moves, pends_split}
 use Rattle.mem_machine.specs.Following.{FollowsSteps}
-use Rattle.mem_machine.specs.Machines.{KnownMachine}
-use Rattle.mem_machine.specs.Local.{local_of}
 use Rattle.mem_machine.specs.Steps.{zone_makes, make_steps, remove_steps, set_max_steps, set_oom_group_steps}
 use Rattle.mem_machine.proofs.Followed.{Test, are_still, peak_still, below_still, at_still, follows_still}
 
 -- ---- a grant
 
--- pages that are granted are in the usage of the group and of each of its ancestors
-granted_usage : (t : KnownTable) (m : KnownMachine) (c : KnownCpu) (g n : ℕ) → AreCharges m.ledger → has_group m.ledger.groups g ≡ true
-    → ((h : ℕ) → usage_of (local_of t m c) h ≡ current_of m.ledger h) → (h : ℕ)
-    → current_of (with_charge m.ledger g n) h ≡ usage_of (after (local_of t m c) 0 (Grant g n) Granted) h
-granted_usage t m c g n facts there usage h =
-    let s = local_of t m c in
-    let low : g < 64 = number_low m.ledger.groups g facts.groups there in
-    let a = pending_moves m.ledger.groups (λ k. 0) h g (0 + n) low in
-    let b = pends_split m.ledger.groups h g 0 n in
-    charge_rises m.ledger g n facts there h ∙ ap (λ (v : ℕ). cond (in_subtree m.ledger.groups h g) (v + n) v) (sym (usage h))
-    ∙ sym (granted (in_subtree m.ledger.groups h g) (frames_kept s.groups s.phases s.zone.frames h + pages_prepaid s.groups s.parts s.zone.cpus h)
-    (pages_pending s.groups s.pending h) (usage_of (after s 0 (Grant g n) Granted) h) (omega (arith, a, b)))
-  where
-    granted : (b : Bool) (x y z : ℕ) → z ≡ x + (y + cond b n 0) → z ≡ cond b (x + y + n) (x + y)
-    granted true x y z e = omega (arith, e)
-    granted false x y z e = omega (arith, e)
+-- Before it, the lock's holder sees the ledger's groups and usage.
+module _ (s : State) (l : Ledger) (seen : s.groups ≡ l.groups) (facts : AreCharges l) (usage : (h : ℕ) → usage_of s h ≡ current_of l h) (g n : ℕ)
+    (there : has_group l.groups g ≡ true) where
+  -- pages that are granted are in the usage of the group and of each of its ancestors
+  granted_usage : (h : ℕ) → current_of (with_charge l g n) h ≡ usage_of (after s 0 (Grant g n) Granted) h
+  granted_usage h =
+      let low : g < 64 = number_low l.groups g facts.groups there in
+      let a = pending_moves s.groups s.pending h g (s.pending g + n) low in
+      let b = pends_split s.groups h g (s.pending g) n in
+      charge_rises l g n facts there h
+      ∙ (λ i. cond (in_subtree (sym seen i) h g) (sym (usage h) i + n) (sym (usage h) i))
+      ∙ sym (granted (in_subtree s.groups h g) (usage_of s h) (usage_of (after s 0 (Grant g n) Granted) h) (omega (arith, a, b)))
+    where
+      granted : (b : Bool) (x z : ℕ) → z ≡ x + cond b n 0 → z ≡ cond b (x + n) x
+      granted true x z e = e
+      granted false x z e = omega (arith, e)
 
--- pages are granted, and then nothing moves but usage
-pub follows_grant : (t : KnownTable) (m : KnownMachine) (c : KnownCpu) (g n : ℕ) → AreCharges m.ledger → has_group m.ledger.groups g ≡ true
-    → ((h : ℕ) → usage_of (local_of t m c) h ≡ current_of m.ledger h) → (rest : Run) → are_still rest ≡ true → (k : Ledger)
-    → SamePeaks (with_charge m.ledger g n) k → SameEvents (with_charge m.ledger g n) k
-    → FollowsSteps (local_of t m c) m.ledger (zone_makes (Grant g n) Granted ∷ rest) k
-follows_grant t m c g n facts there usage rest still k peaks events =
-    let s = local_of t m c in
-    let now : State = after s 0 (Grant g n) Granted in
-    let own = charge_events m.ledger g n in
-    record {
-      peak = λ h is. peaks h ∙ charge_peaks m.ledger g n facts h
-          ∙ ap (λ (v : ℕ). cond (in_subtree m.ledger.groups h g) (max (peak_of m.ledger h) v) (peak_of m.ledger h)) (granted_usage t m c g n facts there usage h)
-          ∙ sym (peak_still h now rest _ still);
-      events = λ key h is. ap (λ (x : EventCounts). count_of x key) (events.events h ∙ own.events h) ∙ sym (below_still key h now rest _ still);
-      events_local = λ key h is. ap (λ (x : EventCounts). count_of x key) (events.events_local h ∙ own.events_local h)
-          ∙ sym (at_still key h now rest _ still);
-    }
+  -- pages are granted, and then nothing moves but usage
+  pub follows_grant : (rest : Run) → are_still rest ≡ true → (k : Ledger) → SamePeaks (with_charge l g n) k → SameEvents (with_charge l g n) k
+      → FollowsSteps s l (zone_makes (Grant g n) Granted ∷ rest) k
+  follows_grant rest still k peaks events =
+      let now : State = after s 0 (Grant g n) Granted in
+      let own = charge_events l g n in
+      record {
+        peak = λ h is. peaks h ∙ charge_peaks l g n facts h
+            ∙ (λ i. cond (in_subtree (sym seen i) h g) (max (peak_of l h) (granted_usage h i)) (peak_of l h))
+            ∙ sym (peak_still h now rest _ still);
+        events = λ key h is. ap (λ (x : EventCounts). count_of x key) (events.events h ∙ own.events h) ∙ sym (below_still key h now rest _ still);
+        events_local = λ key h is. ap (λ (x : EventCounts). count_of x key) (events.events_local h ∙ own.events_local h)
+            ∙ sym (at_still key h now rest _ still);
+      }
 
 -- ---- an event
 
@@ -112,22 +105,22 @@ turned a b = elim (cases_eq a b) [
 ]
 
 -- a step notes an event at a group
-pub follows_note : (kind : EventKey) (action : Action) (g : ℕ) → event_of action Done ≡ Some (kind, g) → (t : KnownTable) (m : KnownMachine) (c : KnownCpu) (k : Ledger)
-    → CountsEvent kind m.ledger k g → SamePeaks m.ledger k → FollowsSteps (local_of t m c) m.ledger (zone_makes action Done ∷ []) k
-follows_note kind action g notes t m c k counts peaks =
-    let groups = m.ledger.groups in
+pub follows_note : (kind : EventKey) (action : Action) (g : ℕ) → event_of action Done ≡ Some (kind, g) → (s : State) (l k : Ledger) → s.groups ≡ l.groups
+    → CountsEvent kind l k g → SamePeaks l k → FollowsSteps s l (zone_makes action Done ∷ []) k
+follows_note kind action g notes s l k seen counts peaks =
     record {
-      peak = λ h is. peaks h ∙ sym (done_peak (after (local_of t m c) 0 action Done) h action (peak_of m.ledger h));
+      peak = λ h is. peaks h ∙ sym (done_peak (after s 0 action Done) h action (peak_of l h));
       events = λ key h is.
-          let old = events_of m.ledger h in
+          let old = events_of l h in
           ap (λ (x : EventCounts). count_of x key) (counts.events h)
-          ∙ event_counted kind key (in_subtree groups h g) old
-          ∙ sym (done_count (is_noted_in_subtree key h) groups action h (count_of old key) _ (noted_below_so kind key g h groups action Done notes));
+          ∙ event_counted kind key (in_subtree l.groups h g) old
+          ∙ (λ i. cond (is_same_key key kind && in_subtree (sym seen i) h g) (one_more (count_of old key)) (count_of old key))
+          ∙ sym (done_count (is_noted_in_subtree key h) s.groups action h (count_of old key) _ (noted_below_so kind key g h s.groups action Done notes));
       events_local = λ key h is.
-          let old = events_local_of m.ledger h in
+          let old = events_local_of l h in
           ap (λ (x : EventCounts). count_of x key) (counts.events_local h ∙ ap (λ (b : Bool). cond b (with_one_more kind old) old) (turned h g))
           ∙ event_counted kind key (g == h) old
-          ∙ sym (done_count (is_noted_at key h) groups action h (count_of old key) _ (noted_at_so kind key g h groups action Done notes));
+          ∙ sym (done_count (is_noted_at key h) s.groups action h (count_of old key) _ (noted_at_so kind key g h s.groups action Done notes));
     }
 
 -- ---- a limit and a flag
@@ -211,5 +204,5 @@ follows_remove s l g = record {
       ∙ sym (at_still key m s (remove_steps g) _ refl);
 }
   where
-    other : (m : ℕ) → has_group (without_group l.groups g) m ≡ true → m ≢ g
-    other m is e = true≢false (sym is ∙ ap (has_group (without_group l.groups g)) e ∙ gone_itself l.groups g)
+    other : (m : ℕ) → has_group (without_group s.groups g) m ≡ true → m ≢ g
+    other m is e = true≢false (sym is ∙ ap (has_group (without_group s.groups g)) e ∙ gone_itself s.groups g)

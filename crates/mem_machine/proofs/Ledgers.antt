@@ -13,15 +13,13 @@ use Rattle.group_tree.specs.Groups.{the_root, in_subtree}
 use Rattle.group_charge.specs.declared.account.Account.{Account}
 use Rattle.group_charge.specs.Charges.{Ledger, AreCharges, current_of, usage_charged, pages_of, account_at}
 use Rattle.group_charge.proofs.ChargeLemmas.{all_distinct, as_many}
-use Rattle.stock_word.specs.declared.view.StockAccount.{StockAccount as Book}
-use Rattle.stock_word.specs.Stock.{KnownStockTable, account_of}
 use Rattle.frame_word.specs.Seats.{KnownTable}
-use Rattle.step_rules.specs.State.{one_if, sum_to}
+use Rattle.step_rules.specs.State.{Part, one_if, sum_to}
 use Rattle.step_rules.specs.Usage.{is_in_subtree}
 use Rattle.step_rules.proofs.Sums.{sum_same, sum_none, sum_both, sum_part, sum_swap, sum_only}
 use Rattle.mem_machine.specs.declared.frame_state.FrameState.{FrameState}
 use Rattle.mem_machine.specs.FrameStates.{frame_state_at, frame_state_group, one_if_is}
-use Rattle.mem_machine.specs.Machines.{KnownMachine, IsConsistent, booked, pages_booked}
+use Rattle.mem_machine.specs.Machines.{KnownMachine, IsConsistent, booked, left_by, pages_booked}
 
 abbrev nothing : ℕ
 nothing = 0
@@ -150,56 +148,56 @@ module _ (groups : List Group) (g : ℕ) where
 
 -- ---- all frames and all books
 
-module _ (t : KnownTable) (w : KnownStockTable) (m : KnownMachine) (is : IsConsistent t w m) (charges : AreCharges m.ledger) (g : ℕ) where
+module _ (t : KnownTable) (m : KnownMachine) (is : IsConsistent t m) (charges : AreCharges m.ledger) (g : ℕ) where
   abbrev groups : List Group
   groups = m.ledger.groups
 
   abbrev frame_state : ℕ → FrameState
   frame_state f = frame_state_at m.frame_states f
 
-  abbrev book : ℕ → Book
-  book p = account_of m.stock_seat.view p
+  abbrev part : ℕ → Part
+  part p = (left_by t m.run.past).parts p
 
   abbrev frame_count : ℕ → ℕ → ℕ
   frame_count h f = one_if_is h (frame_state_group (frame_state f))
 
   abbrev book_count : ℕ → ℕ → ℕ
-  book_count h p = booked h (book p)
+  book_count h p = booked h (part p)
 
   charged_frame : (f k : ℕ) → f < t.frames → frame_state_group (frame_state f) ≡ Some k → k < 64
   charged_frame f k inside at = elim (cases_lt k 64) [
     | inl lt ↦ lt
     | inr beyond ↦ absurd (
         let none = none_beyond m.ledger k charges beyond in
-        let all = is.charged k in
+        let all = is.shown.charged k in
         let sized = is.sizes.frame_states in
-        let part = sum_part (length m.frame_states) (frame_count k) f (omega arith) in
+        let share = sum_part (length m.frame_states) (frame_count k) f (omega arith) in
         let one : frame_count k f ≡ 1 = ap (λ (o : Option ℕ). one_if_is k o) at ∙ ap (λ (b : Bool). cond b 1 0) (eq-eqb k k refl) in
         omega arith)
   ]
 
-  booked_pages : (p k : ℕ) → p < t.cpus + 1 → (book p).group ≡ Some k → (k < 64) ⊎ ((book p).book ≡ 0)
+  booked_pages : (p k : ℕ) → p < t.cpus + 1 → (part p).stock.group ≡ Some k → (k < 64) ⊎ ((part p).book ≡ 0)
   booked_pages p k inside at = elim (cases_lt k 64) [
     | inl lt ↦ inl lt
     | inr beyond ↦ inr (
         let none = none_beyond m.ledger k charges beyond in
-        let all = is.charged k in
-        let part = sum_part (t.cpus + 1) (book_count k) p inside in
-        let one : one_if_is k (book p).group ≡ 1 = ap (λ (o : Option ℕ). one_if_is k o) at ∙ ap (λ (b : Bool). cond b 1 0) (eq-eqb k k refl) in
-        let whole : book_count k p ≡ (book p).book = ap (λ (n : ℕ). cond (n == 0) 0 (book p).book) one in
+        let all = is.shown.charged k in
+        let share = sum_part (t.cpus + 1) (book_count k) p inside in
+        let one : one_if_is k (part p).stock.group ≡ 1 = ap (λ (o : Option ℕ). one_if_is k o) at ∙ ap (λ (b : Bool). cond b 1 0) (eq-eqb k k refl) in
+        let whole : book_count k p ≡ (part p).book = ap (λ (n : ℕ). cond (n == 0) 0 (part p).book) one in
         omega arith)
   ]
 
   -- the usage of the group, by its frames and by the books of the stocks
   pub ledger_visit_state : current_of m.ledger g ≡ sum_to t.frames (λ f. one_if (is_in_subtree groups g (frame_state_group (frame_state f))))
-      + sum_to (t.cpus + 1) (λ q. cond (is_in_subtree groups g (book q).group) (book q).book 0)
+      + sum_to (t.cpus + 1) (λ q. cond (is_in_subtree groups g (part q).stock.group) (part q).book 0)
   ledger_visit_state =
       let by = usage_by_number m.ledger g charges in
       let split = sum_same 64 (λ h. cond (in_subtree groups g h) (pages_of m.ledger h) 0)
       (λ h. sum_to t.frames (λ f. cond (in_subtree groups g h) (frame_count h f) 0) + sum_to (t.cpus + 1)
       (λ p. cond (in_subtree groups g h) (book_count h p) 0))
-      (λ h lt. ap (λ (n : ℕ). cond (in_subtree groups g h) n 0) (is.charged h
-      ∙ ap (λ (n : ℕ). sum_to n (frame_count h) + pages_booked t m.stock_seat h) is.sizes.frame_states)
+      (λ h lt. ap (λ (n : ℕ). cond (in_subtree groups g h) n 0) (is.shown.charged h
+      ∙ ap (λ (n : ℕ). sum_to n (frame_count h) + pages_booked t.cpus (left_by t m.run.past).parts h) is.sizes.frame_states)
       ∙ cond_plus (in_subtree groups g h) (sum_to t.frames (frame_count h)) (sum_to (t.cpus + 1) (book_count h))
       ∙ (λ i. cond_sum (in_subtree groups g h) t.frames (frame_count h) i + cond_sum (in_subtree groups g h) (t.cpus + 1) (book_count h) i)) in
       let both = sum_both 64 (λ h. sum_to t.frames (λ f. cond (in_subtree groups g h) (frame_count h f) 0))
@@ -210,6 +208,6 @@ module _ (t : KnownTable) (w : KnownStockTable) (m : KnownMachine) (is : IsConsi
       (λ f. one_if (is_in_subtree groups g (frame_state_group (frame_state f))))
       (λ f lt. frame_counts groups g (frame_state_group (frame_state f)) (λ k at. charged_frame f k lt at)) in
       let books = sum_same (t.cpus + 1) (λ p. sum_to 64 (λ h. cond (in_subtree groups g h) (book_count h p) 0))
-      (λ q. cond (is_in_subtree groups g (book q).group) (book q).book 0)
-      (λ p lt. book_counts groups g (book p).group (book p).book (λ k at. booked_pages p k lt at)) in
+      (λ q. cond (is_in_subtree groups g (part q).stock.group) (part q).book 0)
+      (λ p lt. book_counts groups g (part p).stock.group (part p).book (λ k at. booked_pages p k lt at)) in
       omega arith

@@ -1,16 +1,14 @@
 -- The lists of one group changed: its units were marked, moved or dirtied. Each frame is on a list of the same group as
 -- before, and the lists of all other groups stay. Serves all calls that change a list.
-use Rattle.std.proofs.Common.{◌≡◌, ◌≢◌, ℕ, ◌<◌, ◌==◌, ◌||◌, ◌⊎◌, Bool, true, false, Option, Some, None, List, [], ◌∷◌, ◌++◌, length, map, refl, sym, ap, ◌∙◌, rules}
-use Rattle.mem_machine.specs.FrameStates.{frame_state_at, head_group_of}
-use Rattle.stock_word.specs.Stock.{KnownStockTable}
-use Rattle.frame_word.specs.Views.{note_of}
+use Rattle.std.proofs.Common.{◌≡◌, ◌≢◌, ℕ, ◌<◌, ◌==◌, ◌||◌, ◌⊎◌, Bool, true, false, Option, Some, None, List, [], ◌∷◌, ◌++◌, length, map, refl, sym, ap, ◌∙◌}
+use Rattle.mem_machine.specs.FrameStates.{frame_state_at}
 use Rattle.frame_word.specs.Seats.{KnownTable}
 use Rattle.std.proofs.Common.{subst, inl, inr, eq-eqb, cond, get_or, arith}
-use Rattle.std.specs.Prelude.{option_map, slice_set}
+use Rattle.std.specs.Prelude.{is_some, option_map, slice_set}
+use Rattle.step_rules.specs.State.{one_if}
 use Rattle.std.proofs.lemmas.List.{get_or-set_other}
 use Rattle.std.proofs.lemmas.Bool.{cases_eq, ne_eqb, or_left, or_right}
 use Rattle.std.proofs.lemmas.Option.{none-some}
-use Rattle.frame_word.specs.declared.view.FrameNote.{FrameNote}
 use Rattle.lru_lists.specs.declared.record.Link.{Link}
 use Rattle.lru_lists.specs.declared.record.Home.{Home}
 use Rattle.lru_lists.specs.declared.record.Entry.{Entry}
@@ -59,14 +57,12 @@ home_of_list (Some h) lru list is = elim (cases_eq h.owner lru.owner) [
 ]
 
 -- a record fits as before if the frame is on a list of the same owner
-pub fits_home : (cpus : ℕ) (note : FrameNote) (h k : Option Home) (frame_state : FrameState) → option_map (λ (x : Home). x.owner) k ≡ option_map (λ (x : Home). x.owner) h
-    → FitsFrameState cpus note h frame_state → FitsFrameState cpus note k frame_state
-fits_home cpus note None None frame_state same fits = fits
-fits_home cpus note None (Some k) frame_state same fits = absurd (none-some k.owner (sym same))
-fits_home cpus note (Some h) None frame_state same fits = absurd (none-some h.owner same)
-fits_home cpus note (Some h) (Some k) frame_state same fits =
-    let kept : (k.owner < 64) × (head_group_of frame_state ≡ Some k.owner) = (subst (λ (n : ℕ). n < 64) (sym (some_same 0 k.owner h.owner same)) fits.kept.0, fits.kept.1 ∙ sym same) in
-    search rules
+pub fits_home : (h k : Option Home) (frame_state : FrameState) → option_map (λ (x : Home). x.owner) k ≡ option_map (λ (x : Home). x.owner) h
+    → FitsFrameState h frame_state → FitsFrameState k frame_state
+fits_home None None frame_state same fits = fits
+fits_home None (Some k) frame_state same fits = absurd (none-some k.owner (sym same))
+fits_home (Some h) None frame_state same fits = absurd (none-some h.owner same)
+fits_home (Some h) (Some k) frame_state same fits = (subst (λ (n : ℕ). n < 64) (sym (some_same 0 k.owner h.owner same)) fits.0, fits.1 ∙ sym same)
 
 -- a frame on no list, which no owner has afterwards, has the record that it had
 none_stays : (h k : Option Home) → option_map (λ (x : Home). x.owner) k ≡ option_map (λ (x : Home). x.owner) h → h ≡ None → k ≡ None
@@ -259,12 +255,30 @@ others_stay before after lists g lru new all sized own changes others_stay_linke
     ap (λ (x : Lru). entries_of after x list) stays ∙ same list
 
 -- if each frame is on a list of the same group as before, the machine is consistent again
-pub lists_consistent : (t : KnownTable) (w : KnownStockTable) (m : KnownMachine) → IsConsistent t w m → (links : List Link) (lists : List Lru) → length links ≡ length m.links
+pub lists_consistent : (t : KnownTable) (m : KnownMachine) → IsConsistent t m → (links : List Link) (lists : List Lru) → length links ≡ length m.links
     → length lists ≡ length m.lists → ((f : ℕ) → option_map (λ (x : Home). x.owner) (home_of links f) ≡ option_map (λ (x : Home). x.owner) (home_of m.links f))
-    → AllLinked links lists → IsConsistent t w (record m { links = links; lists = lists })
-lists_consistent t w m ok links lists linked listed owners all =
-    let long = linked ∙ ok.sizes.links in
-    let many = listed ∙ ok.sizes.lists in
-    let fits : (f : ℕ) → f < t.frames → FitsFrameState t.cpus (note_of m.frame_seat.view f) (home_of links f) (frame_state_at m.frame_states f) =
-    λ f within. fits_home t.cpus (note_of m.frame_seat.view f) (home_of m.links f) (home_of links f) (frame_state_at m.frame_states f) (owners f) (ok.frame_states f within) in
-    search rules
+    → AllLinked links lists → IsConsistent t (record m { links = links; lists = lists })
+lists_consistent t m ok links lists linked listed owners all = record {
+  sizes = record { frame_states = ok.sizes.frame_states; links = linked ∙ ok.sizes.links; lists = listed ∙ ok.sizes.lists; killed = ok.sizes.killed };
+  areas = ok.areas;
+  frame_states = λ f within. fits_home (home_of m.links f) (home_of links f) (frame_state_at m.frame_states f) (owners f) (ok.frame_states f within);
+  units = ok.units;
+  lists = all;
+  balances = ok.balances;
+  shown = record {
+    groups = ok.shown.groups;
+    killed = ok.shown.killed;
+    phases = ok.shown.phases;
+    references = λ f. ok.shown.references f ∙ ap one_if (sym (some_home (home_of m.links f) (home_of links f) (owners f)));
+    settled = ok.shown.settled;
+    absorbed = ok.shown.absorbed;
+    bounded = ok.shown.bounded;
+    charged = ok.shown.charged;
+  };
+}
+  where
+    some_home : (a b : Option Home) → option_map (λ (x : Home). x.owner) b ≡ option_map (λ (x : Home). x.owner) a → is_some b ≡ is_some a
+    some_home None None same = refl
+    some_home (Some x) (Some y) same = refl
+    some_home None (Some y) same = absurd (none-some y.owner (sym same))
+    some_home (Some x) None same = absurd (none-some x.owner same)

@@ -4,7 +4,6 @@ use Rattle.std.proofs.lemmas.Bool.{cases_eq, cases_lt, ne_eqb, or_parts, false�
 use Rattle.std.proofs.lemmas.Option.{none-some}
 use Rattle.std.proofs.lemmas.List.{get_or_past}
 use Rattle.frame_word.specs.Seats.{KnownTable}
-use Rattle.stock_word.specs.Stock.{KnownStockTable}
 use Rattle.lru_lists.specs.declared.record.Link.{Link}
 use Rattle.lru_lists.specs.declared.record.Home.{Home}
 use Rattle.lru_lists.specs.declared.record.Entry.{Entry}
@@ -86,9 +85,9 @@ map_read : (links : List Link) (units : List ℕ) → AreAsRead links (map (entr
 map_read links [] = tt
 map_read links (x ∷ xs) = (refl, map_read links xs)
 
-pub listed_is : (t : KnownTable) (w : KnownStockTable) (m : KnownMachine) → IsConsistent t w m → (g : ℕ) → g < 64 → (list : LruList)
+pub listed_is : (t : KnownTable) (m : KnownMachine) → IsConsistent t m → (g : ℕ) → g < 64 → (list : LruList)
     → IsListed m g list (entries_in m g list)
-listed_is t w m ok g fits list =
+listed_is t m ok g fits list =
     let sized = ok.sizes.lists in
     let there : g < length m.lists = omega (arith, fits, sized) in
     let stand = ok.lists g no_lists there in
@@ -104,8 +103,8 @@ listed_is t w m ok g fits list =
     }
 
 -- a frame that is on a list is one of the zone's
-pub home_inside : (t : KnownTable) (w : KnownStockTable) (m : KnownMachine) → IsConsistent t w m → (f : ℕ) (h : Home) → home_of m.links f ≡ Some h → f < t.frames
-home_inside t w m ok f h home = elim (cases_lt f t.frames) [
+pub home_inside : (t : KnownTable) (m : KnownMachine) → IsConsistent t m → (f : ℕ) (h : Home) → home_of m.links f ≡ Some h → f < t.frames
+home_inside t m ok f h home = elim (cases_lt f t.frames) [
   | inl lt ↦ lt
   | inr out ↦
       let sized = ok.sizes.links in

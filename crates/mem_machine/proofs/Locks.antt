@@ -1,34 +1,112 @@
--- What the machine shows behind a lock, and what the CPU knows behind an unlock. Serves `lock`, `unlock` and `meet`.
-use Rattle.std.proofs.Common.{◌≡◌, ◌≢◌, ℕ, ◌++◌, true, false, [], ◌∷◌, length, refl, sym, ap, ◌∙◌, subst, arith}
-use Rattle.frame_word.specs.Seats.{KnownTable, IsShut}
-use Rattle.stock_word.specs.declared.view.Stock.TheVariants as stock
-use Rattle.stock_word.specs.Stock.{KnownStockTable, group_of}
+-- The lock is taken and released, and a CPU and the zone meet. Serves `lock`, `unlock` and `meet`.
+use Rattle.std.proofs.Common.{◌≡◌, ◌≢◌, ℕ, ◌≤◌, ◌==◌, ◌||◌, ◌&&◌, Bool, true, false, Option, List, [], ◌∷◌, ◌++◌, refl, sym, ap, ◌∙◌, subst, inl, inr, arith, eq-eqb}
+use Rattle.std.specs.Prelude.{not}
+use Rattle.std.proofs.lemmas.Bool.{and_from}
+use Rattle.frame_word.specs.Seats.{KnownTable}
+use Rattle.step_rules.specs.declared.phase.Hold.{Hold}
 use Rattle.step_rules.specs.declared.phase.Hold.TheVariants.{HeldBy, Unheld}
-use Rattle.step_rules.specs.declared.step.Step.{Step}
-use Rattle.step_rules.specs.declared.step.Answer.{Answer}
-use Rattle.step_rules.specs.declared.step.Action.TheVariants.{Lock, Unlock}
+use Rattle.step_rules.specs.declared.step.Action.TheVariants.{Unlock}
 use Rattle.step_rules.specs.declared.step.Answer.TheVariants.{Done}
-use Rattle.step_rules.specs.State.{Part, State}
-use Rattle.step_rules.specs.Legal.{is_legal}
-use Rattle.step_rules.specs.After.{Run, state_of, IsLegalRun}
-use Rattle.step_rules.specs.Views.{holds_lock, seen_by}
-use Rattle.step_rules.specs.Invariant.{KeepsInvariant}
-use Rattle.step_rules.proofs.Runs.{legal_from, sound_run, state_more}
-use Rattle.boot_words.specs.Hidden.{hide}
-use Rattle.boot_words.specs.Sight.{HasSameLists}
-use Rattle.boot_words.specs.Seats.{zone_of_boot}
+use Rattle.step_rules.specs.State.{Part, State, Zone, is_cpu, is_held_by}
+use Rattle.step_rules.specs.After.{Run, state_of}
+use Rattle.step_rules.specs.Views.{seen_by}
+use Rattle.step_rules.proofs.CoverParts.{own_part, own_reference}
+use Rattle.step_rules.proofs.Runs.{state_more}
+use Rattle.step_rules.proofs.Sums.{all_each}
+use Rattle.group_tree.specs.Bounds.{most_groups}
 use Rattle.boot_words.specs.Locks.{LeavesFree}
-use Rattle.boot_words.specs.Pasts.{KnownPasts, IsZonePast, Locks, MayMake, Meets, Unlocks, cpu_past, own_past}
-use Rattle.boot_words.proofs.Away.{away_stays}
-use Rattle.boot_words.proofs.Holding.{take_length}
+use Rattle.boot_words.specs.Sight.{HasSameLists}
+use Rattle.boot_words.specs.Pasts.{KnownPasts, IsHeld, IsZonePast, Locks, MayMake, Meets, Unlocks, cpu_past, local_by_pasts, own_past}
+use Rattle.boot_words.specs.Seats.{zone_of_boot}
 use Rattle.boot_words.proofs.Owning.{lists_are_own}
-use Rattle.cpu_part.specs.Cpus.{KnownCpu, IsTied}
-use Rattle.cpu_part.specs.Known.{KnowsItsPart, last_state}
-use Rattle.cpu_part.proofs.Knowing.{HasLists, has_same, own_group, own_lists}
-use Rattle.mem_machine.specs.Machines.{KnownMachine, visit_state, with_past}
-use Rattle.mem_machine.specs.Local.{IsSeenByRun, local_of}
-use Rattle.mem_machine.specs.Resting.{Rests, hidden_of}
-use Rattle.mem_machine.proofs.Seen.{group_here, hidden_here, may_unlock, part_here, references_here, shown_here}
+use Rattle.boot_words.specs.Cpus.{IsAwayCpu, KnownCpuSeat, state_left}
+use Rattle.cpu_part.specs.Cpus.{KnownCpu}
+use Rattle.cpu_part.specs.Known.{HasOwn, KnowsItsPart}
+use Rattle.mem_machine.specs.declared.machine.Machine.TheInside.{Inside}
+use Rattle.mem_machine.specs.Booked.{AreBooked, AreOwners}
+use Rattle.mem_machine.specs.Kept.{IsSoundMachine, machine_of}
+use Rattle.mem_machine.specs.Machines.{KnownMachine, IsConsistent, IsShownBy, left_by, with_past}
+use Rattle.mem_machine.specs.Local.{Holds, IsShut, local_of, visit_state}
+use Rattle.mem_machine.specs.Resting.{Rests}
+use Rattle.mem_machine.proofs.Hiding.{none_passes}
+use Rattle.mem_machine.proofs.Made.{holder_is_cpu, own_same, zone_seen}
+use Rattle.mem_machine.proofs.Sight.{left_seen, shown_seen}
+
+-- ---- who holds the lock is nothing that the fields show
+
+pub shown_held : (t : KnownTable) (m n : KnownMachine) (s : State) (hold : Hold) → n ≡ record m { run = n.run } → IsShownBy t m s → IsShownBy t n (record s { hold = hold })
+shown_held t m n s hold same shown = subst (λ (x : KnownMachine). IsShownBy t x (record s { hold = hold })) (sym same) (record {
+  groups = shown.groups;
+  killed = shown.killed;
+  phases = shown.phases;
+  references = shown.references;
+  settled = shown.settled;
+  absorbed = shown.absorbed;
+  bounded = shown.bounded;
+  charged = shown.charged;
+})
+
+module _ {N : Type 0} (t : KnownTable) (fields : Inside N) (ok : IsSoundMachine t fields) (past : KnownPasts) (hold : Hold)
+    (found : left_by t past ≡ record (left_by t fields.past) { hold = hold }) where
+  pub sound_then : IsSoundMachine {N = N} t (record fields { past = past })
+  sound_then =
+      let was = ok.consistent in record {
+        consistent = record {
+          sizes = record { frame_states = was.sizes.frame_states; links = was.sizes.links; lists = was.sizes.lists; killed = was.sizes.killed };
+          areas = was.areas;
+          frame_states = was.frame_states;
+          units = was.units;
+          lists = was.lists;
+          balances = was.balances;
+          shown = subst (IsShownBy t (machine_of {N = N} (record fields { past = past }))) (sym found)
+              (shown_held t (machine_of {N = N} fields) (machine_of {N = N} (record fields { past = past })) (left_by t fields.past) hold refl was.shown);
+        };
+        free = ok.free;
+        sums = subst (λ (u : State). AreBooked t.cpus u.parts fields.sums) (sym found) (record { size = ok.sums.size; each = ok.sums.each });
+        owners = subst (λ (u : State). AreOwners t.cpus u.parts fields.owners) (sym found)
+            (record { size = ok.owners.size; few = ok.owners.few; each = ok.owners.each; beyond = ok.owners.beyond });
+      }
+
+-- ---- what a CPU has for itself
+
+own_seen : (s : State) (c : KnownCpu) → HasOwn s c → HasOwn (seen_by c.number s) c
+own_seen s c own = record {
+  list = ap (λ (x : Part). x.list) (own_part c.number s.parts c.number refl) ∙ own.list;
+  fresh = ap (λ (x : Part). x.fresh) (own_part c.number s.parts c.number refl) ∙ own.fresh;
+  back = ap (λ (x : Part). x.back) (own_part c.number s.parts c.number refl) ∙ own.back;
+  references = λ f. own_reference c.number s.references c.number f (inr refl) ∙ own.references f;
+}
+
+seen_own : (s : State) (c : KnownCpu) → HasOwn (seen_by c.number s) c → HasOwn s c
+seen_own s c own = record {
+  list = ap (λ (x : Part). x.list) (sym (own_part c.number s.parts c.number refl)) ∙ own.list;
+  fresh = ap (λ (x : Part). x.fresh) (sym (own_part c.number s.parts c.number refl)) ∙ own.fresh;
+  back = ap (λ (x : Part). x.back) (sym (own_part c.number s.parts c.number refl)) ∙ own.back;
+  references = λ f. sym (own_reference c.number s.references c.number f (inr refl)) ∙ own.references f;
+}
+
+-- ---- the lock is taken
+
+module _ (t : KnownTable) (before : KnownPasts) (k : KnownCpuSeat) (c : KnownCpu) (after : KnownMachine) (knows : KnowsItsPart t k c) (locks : Locks t before k.seat after.run.past) where
+  who_then : (cpu_past after.run.past).number ≡ c.number
+  who_then = locks.cpu_grew.number ∙ sym knows.is.number ∙ knows.number
+
+  pub locked_holds : Holds t (visit_state after c)
+  locked_holds =
+      let q = (own_past k.seat).number in
+      let same : q ≡ c.number = sym knows.is.number ∙ knows.number in
+      let u = state_of (zone_of_boot t) (cpu_past after.run.past).seen in
+      let lists : HasSameLists c.number (state_left t k) u = subst (λ (n : ℕ). HasSameLists n (state_left t k) u) same locks.own in
+      record {
+        held = locks.held;
+        who = who_then;
+        own = subst (λ (n : ℕ). HasOwn (seen_by n u) c) (sym who_then) (own_seen u c (own_same (state_left t k) u c lists knows.own));
+      }
+
+  pub locked_shut : IsShut t after c.number
+  locked_shut =
+      ap (λ (s : State). s.hold) (sym (left_seen t after.run.past locks.held) ∙ locks.found)
+      ∙ ap HeldBy (sym knows.is.number ∙ knows.number)
 
 -- the zone's past is one, and leaves the lock free, also by the table that the call is given
 pub rests_at : (t u : KnownTable) → u ≡ t → (m now : KnownMachine) → m ≡ now → Rests t now
@@ -37,149 +115,53 @@ rests_at t u words m now same rests =
     subst (λ (x : KnownTable × KnownMachine). IsZonePast x.0 x.1.run.past × LeavesFree (zone_of_boot x.0) (own_past x.1.run.past))
     (λ i. (sym words i, sym same i)) (rests.past_is, rests.free)
 
--- the CPU takes the lock
-module _ (t : KnownTable) (w : KnownStockTable) (m : KnownMachine) (c : KnownCpu) (past later : KnownPasts)
-    (rests : Rests t m) (shut : IsShut m.frame_seat c.number) (knows : KnowsItsPart t past c) (tied : IsTied t w c)
-    (locks : Locks t m.run.past past later) where
-  seen_then : State
-  seen_then = state_of (zone_of_boot t) (cpu_past later).seen
+-- ---- the lock is released
 
-  group_then : c.fresh ≢ [] → (seen_then.parts (own_past past).number).stock.group ≡ group_of c.stock_seat.view.last
-  unfolding seen_then
-  group_then some =
-      let zone = zone_of_boot t in let p = own_past past in let q = p.number in let grew = locks.cpu_grew in
-      let behind = p.seen ++ grew.between in
-      let e : Step × Answer = (record { seat = q; action = Lock }, Done) in
-      let whole = subst (IsLegalRun zone) grew.seen locks.held.holds.shows.legal in
-      let legal = subst (IsLegalRun zone) (take_length behind (e ∷ [])) (legal_from zone (behind ++ e ∷ []) (length behind) whole) in
-      let away : holds_lock q (last_state t past).hold ≡ false = subst (λ k. holds_lock k (last_state t past).hold ≡ false) (sym knows.number) knows.away in
-      let stays = away_stays zone p.seen grew.between q legal grew.others away in
-      ap (λ (u : State). (u.parts q).stock.group) (ap (state_of zone) grew.seen ∙ state_more zone behind e.0 Done)
-      ∙ stays.1.group ∙ own_group t past c knows some
+module _ (t : KnownTable) (m : KnownMachine) (c : KnownCpu) (ok : IsConsistent t m) (holds : Holds t (visit_state m c)) (shut : IsShut t m c.number) where
+  pub may_unlock : MayMake t m.run.past c.number Unlock
+  may_unlock =
+      let s = local_of t m in
+      let shown = shown_seen t m ok holds.held in
+      let here : is_cpu s.zone c.number ≡ true = ap (λ (z : Zone). is_cpu z c.number) (zone_seen t m.run.past)
+      ∙ subst (λ (n : ℕ). is_cpu (zone_of_boot t) n ≡ true) holds.who (holder_is_cpu t m.run.past holds.held) in
+      and_from _ _ (and_from _ _ (and_from _ _ here (ap (is_held_by c.number) shut ∙ eq-eqb c.number c.number refl))
+      (all_each most_groups (λ g. s.pending g == 0) (λ g inside. eq-eqb (s.pending g) 0 (shown.settled g))))
+      (none_passes t m s shown)
 
-  found_then : hide seen_then ≡ record (hidden_of t m) { hold = HeldBy c.number }
-  unfolding seen_then
-  found_then =
-      ap (λ (r : Run). hide (state_of (zone_of_boot t) r)) (sym locks.held.holds.same) ∙ locks.found
-      ∙ ap (λ (u : State). record u { hold = HeldBy (own_past past).number }) rests.left
-      ∙ ap (λ (k : ℕ). record (hidden_of t m) { hold = HeldBy k }) knows.number
-
-  has_then : HasLists seen_then c.number c.list c.fresh c.back c.pins
-  unfolding seen_then
-  has_then = subst (λ k. HasLists seen_then k c.list c.fresh c.back c.pins) knows.number
-      (has_same (last_state t past) (own_past past).number c.list c.fresh c.back c.pins (own_lists t past c knows) seen_then locks.own)
-
-  -- it sees what the machine and its own part show
-  pub is_shown_then : IsSeenByRun t (visit_state (with_past m later) c)
-  unfolding seen_then
-  is_shown_then =
-      let who : (cpu_past later).number ≡ c.number = locks.cpu_grew.number ∙ knows.number in
+module _ (t : KnownTable) (before : KnownMachine) (c : KnownCpu) (zone : KnownPasts) (k : KnownCpuSeat) (holds : Holds t (visit_state before c))
+    (unlocks : Unlocks t before.run.past zone k.seat) where
+  pub unlocked_knows : IsAwayCpu t k → KnowsItsPart t k c
+  unlocked_knows is =
+      let z = zone_of_boot t in
+      let p = cpu_past before.run.past in
+      let between = unlocks.cpu_grew.between in
+      let behind = p.seen ++ between in
+      let same : (own_past k.seat).number ≡ c.number = unlocks.cpu_grew.number ∙ holds.who in
+      let ne : p.number ≢ 0 = holds.held.holds.cpu_is in
+      let lists : HasSameLists p.number (state_of z p.seen) (state_of z behind) =
+      lists_are_own z p.seen behind p.number ne (record { rest = between; is = refl; others = unlocks.cpu_grew.others }) in
+      let more = ap (state_of z) unlocks.cpu_grew.seen ∙ state_more z behind (record { seat = p.number; action = Unlock }) Done in
+      let follows : HasSameLists p.number (state_of z p.seen) (state_left t k) = subst (HasSameLists p.number (state_of z p.seen)) (sym more)
+      (record { list = lists.list; fresh = lists.fresh; back = lists.back; references = lists.references }) in
+      let here : HasSameLists c.number (state_of z p.seen) (state_left t k) = subst (λ (n : ℕ). HasSameLists n (state_of z p.seen) (state_left t k)) holds.who follows in
       record {
-        held = locks.held;
-        who = who;
-        here = ap (λ (k : ℕ). seen_by k seen_then) who
-            ∙ shown_here t w m c seen_then (sound_run (zone_of_boot t) (cpu_past later).seen locks.held.holds.shows.legal) found_then has_then
-            (λ some. ap (λ (k : ℕ). (seen_then.parts k).stock.group) (sym knows.number) ∙ group_then some) tied shut;
+        is = is;
+        number = is.number ∙ same;
+        own = own_same (state_of z p.seen) (state_left t k) c here (seen_own (state_of z p.seen) c (subst (λ (n : ℕ). HasOwn (seen_by n (state_of z p.seen)) c) holds.who holds.own));
       }
 
--- the CPU that holds the lock releases it
-module _ (t : KnownTable) (w : KnownStockTable) (m : KnownMachine) (c : KnownCpu) (shown : IsSeenByRun t (visit_state m c))
-    (shut : IsShut m.frame_seat c.number) (tied : IsTied t w c) where
-  pub may_release : MayMake t m.run.past (cpu_past m.run.past).number Unlock
-  may_release = subst (λ (x : State × ℕ). is_legal x.0 x.1 Unlock ≡ true) (λ i. (sym shown.here i, sym shown.who i)) (may_unlock t w m c tied shut)
+  -- what is left is what the holder saw, hidden
+  pub unlocked_found : left_by t zone ≡ record (left_by t before.run.past) { hold = Unheld }
+  unlocked_found = unlocks.left ∙ ap (λ (u : State). record u { hold = Unheld }) (sym (left_seen t before.run.past holds.held))
 
-  -- what it saw, by its number
-  seen_last : State
-  seen_last = state_of (zone_of_boot t) (cpu_past m.run.past).seen
+-- ---- a CPU and the zone meet
 
-  sound_last : KeepsInvariant seen_last
-  unfolding seen_last
-  sound_last = sound_run (zone_of_boot t) (cpu_past m.run.past).seen shown.held.holds.shows.legal
-
-  here_last : seen_by c.number seen_last ≡ local_of t m c
-  unfolding seen_last
-  here_last = ap (λ (k : ℕ). seen_by k seen_last) (sym shown.who) ∙ shown.here
-
-  has_last : HasLists seen_last c.number c.list c.fresh c.back c.pins
-  has_last =
-      let part = part_here t m c seen_last sound_last here_last in
-      record {
-        list_is = ap (λ (x : Part). x.list) part;
-        fresh_is = ap (λ (x : Part). x.fresh) part;
-        back_is = ap (λ (x : Part). x.back) part;
-        references_are = λ f. references_here t m c seen_last sound_last here_last (λ z. absurd (let low = tied.seats.some_number in omega (arith, low, z))) f ∙ (tied.noted f).references_are;
-      }
-
-  module _ (later own : KnownPasts) (unlocks : Unlocks t m.run.past later own) where
-    left_last : hide (state_of (zone_of_boot t) (own_past later).seen) ≡ hide (record (local_of t m c) { hold = Unheld })
-    left_last = unlocks.left ∙ ap (λ (u : State). hide (record u { hold = Unheld })) shown.here
-
-    -- nobody holds the lock then
-    pub rests_then : Rests t (with_past m later)
-    rests_then = record {
-      past_is = unlocks.zone_is;
-      free = unlocks.free;
-      left = left_last ∙ hidden_here t m c seen_last sound_last here_last;
+pub met_knows : (t : KnownTable) (zone zone' : KnownPasts) (k l : KnownCpuSeat) (c : KnownCpu) → KnowsItsPart t k c → Meets t zone k.seat zone' l.seat → IsAwayCpu t l → l.number ≡ k.number
+    → KnowsItsPart t l c
+met_knows t zone zone' k l c knows meets is number =
+    let same : (own_past k.seat).number ≡ c.number = sym knows.is.number ∙ knows.number in
+    record {
+      is = is;
+      number = number ∙ knows.number;
+      own = own_same (state_left t k) (state_left t l) c (subst (λ (n : ℕ). HasSameLists n (state_left t k) (state_left t l)) same meets.own) knows.own;
     }
-
-    -- and it knows its own part
-    pub knows_then : (c.stock_seat.view.last ≡ stock.NoGroup → c.fresh ≡ []) → KnowsItsPart t own c
-    unfolding seen_last
-    knows_then none =
-        let zone = zone_of_boot t in let n = c.number in let grew = unlocks.cpu_grew in let q = (cpu_past m.run.past).number in
-        let behind = (cpu_past m.run.past).seen ++ grew.between in
-        let more : last_state t own ≡ record (state_of zone behind) { hold = Unheld } =
-        ap (state_of zone) grew.seen ∙ state_more zone behind (record { seat = q; action = Unlock }) Done in
-        let same = lists_are_own zone (cpu_past m.run.past).seen behind q shown.held.holds.cpu_is
-        (record { rest = grew.between; is = refl; others = grew.others }) in
-        let same_then : HasSameLists q seen_last (last_state t own) = record {
-          list = ap (λ (u : State). (u.parts q).list) more ∙ same.list;
-          fresh = ap (λ (u : State). (u.parts q).fresh) more ∙ same.fresh;
-          back = ap (λ (u : State). (u.parts q).back) more ∙ same.back;
-          references = ap (λ (u : State). u.references q) more ∙ same.references;
-        } in
-        let has = has_same seen_last n c.list c.fresh c.back c.pins has_last (last_state t own)
-        (subst (λ k. HasSameLists k seen_last (last_state t own)) shown.who same_then) in
-        let hidden = ap (λ (r : Run). hide (state_of zone r)) (sym unlocks.same) ∙ left_last in
-        record {
-          past_is = unlocks.cpu_is;
-          number = grew.number ∙ shown.who;
-          list = has.list_is;
-          fresh = has.fresh_is;
-          back = has.back_is;
-          references = has.references_are;
-          away = ap (λ (u : State). holds_lock n u.hold) more;
-          group = λ some. ap (λ (u : State). (u.parts n).stock.group) (hidden ∙ hidden_here t m c seen_last sound_last here_last)
-              ∙ sym (ap (λ (x : Part). x.stock.group) (part_here t m c seen_last sound_last here_last))
-              ∙ group_here t m c seen_last sound_last here_last has_last.fresh_is none some;
-        }
-
--- the CPU, which doesn't hold the lock, and the zone see the same run
-module _ (t : KnownTable) (m : KnownMachine) (c : KnownCpu) (past zone own : KnownPasts) (rests : Rests t m) (knows : KnowsItsPart t past c)
-    (meets : Meets t m.run.past past zone own) where
-  -- nobody holds the lock, as before
-  pub rests_met : Rests t (with_past m zone)
-  rests_met = record { past_is = meets.zone_is; free = meets.free; left = meets.left ∙ rests.left }
-
-  -- and the CPU still knows its own part
-  pub knows_met : KnowsItsPart t own c
-  knows_met =
-      let boot = zone_of_boot t in let p = own_past past in let q = p.number in let sees = meets.cpu_sees in
-      let legal = subst (IsLegalRun boot) sees.seen meets.cpu_is.legal in
-      let away : holds_lock q (last_state t past).hold ≡ false = subst (λ k. holds_lock k (last_state t past).hold ≡ false) (sym knows.number) knows.away in
-      let stays = away_stays boot p.seen sees.between q legal sees.others away in
-      let has = subst (λ k. HasLists (last_state t own) k c.list c.fresh c.back c.pins) knows.number
-      (has_same (last_state t past) q c.list c.fresh c.back c.pins (own_lists t past c knows) (last_state t own) meets.own) in
-      record {
-        past_is = meets.cpu_is;
-        number = sees.number ∙ knows.number;
-        list = has.list_is;
-        fresh = has.fresh_is;
-        back = has.back_is;
-        references = has.references_are;
-        away = ap (λ (r : Run). holds_lock c.number (state_of boot r).hold) sees.seen
-            ∙ ap (λ (k : ℕ). holds_lock k (state_of boot (p.seen ++ sees.between)).hold) (sym knows.number) ∙ stays.0;
-        group = λ some. ap (λ (r : Run). ((state_of boot r).parts c.number).stock.group) sees.seen
-            ∙ ap (λ (k : ℕ). ((state_of boot (p.seen ++ sees.between)).parts k).stock.group) (sym knows.number)
-            ∙ stays.1.group ∙ own_group t past c knows some;
-      }

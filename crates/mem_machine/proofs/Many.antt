@@ -9,7 +9,7 @@ use Rattle.frame_word.specs.Seats.{KnownTable}
 use Rattle.cpu_part.specs.Cpus.{KnownCpu}
 use Rattle.step_rules.specs.After.{Run}
 use Rattle.mem_machine.specs.Machines.{KnownMachine, VisitStateStays, OneByOne}
-use Rattle.mem_machine.specs.Local.{Visits, MakesAs, VisitState, visit_state}
+use Rattle.mem_machine.specs.Local.{Visits, Makes, VisitState, visit_state}
 use Rattle.mem_machine.specs.Lending.{LendsOne, LendsNone, LendsByStep, Refills, UnlistsOne, UnlistsNone, UnlistsMany, UnlistsByStep}
 use Rattle.mem_machine.specs.Steps.{lend_steps, unlist_steps, drain_list_steps}
 use Rattle.mem_machine.proofs.Followed.{makes_none, makes_both}
@@ -19,12 +19,12 @@ visit_state_stays : (now : VisitState) → VisitStateStays now now
 visit_state_stays now = record { machine = refl; cpu = refl }
 
 -- the steps of frames, and then of one more
-steps_more : (t : KnownTable) (p : ℕ) (steps : ℕ → Run) (frames : List ℕ) (f : ℕ) (a b c : VisitState) → MakesAs t p a (flat_map steps frames) b
-    → MakesAs t p b (steps f) c → MakesAs t p a (flat_map steps (frames ++ f ∷ [])) c
-steps_more t p steps frames f a b c before one =
+steps_more : (t : KnownTable) (steps : ℕ → Run) (frames : List ℕ) (f : ℕ) (a b c : KnownMachine) → Makes t a (flat_map steps frames) b
+    → Makes t b (steps f) c → Makes t a (flat_map steps (frames ++ f ∷ [])) c
+steps_more t steps frames f a b c before one =
     let list : flat_map steps frames ++ steps f ≡ flat_map steps (frames ++ f ∷ []) =
     sym (flat_map-append steps frames (f ∷ []) ∙ ap (λ (r : Run). flat_map steps frames ++ r) (append-nil (steps f))) in
-    subst (λ (r : Run). MakesAs t p a r c) list (makes_both t p (flat_map steps frames) (steps f) a b c before one)
+    subst (λ (r : Run). Makes t a r c) list (makes_both t (flat_map steps frames) (steps f) a b c before one)
 
 length_more : (frames : List ℕ) (f k : ℕ) → k ≡ length frames → k + 1 ≡ length (frames ++ f ∷ [])
 length_more frames f k all = let a = length-append frames (f ∷ []) in omega (arith, a, all)
@@ -64,8 +64,8 @@ lent_more t k m c x y n d before one visit =
         frames = so_far.frames ++ f ∷ [];
         all = length_more so_far.frames f k so_far.all;
         lends = one_more LendsOne so_far.frames f m c x y n d so_far.lends one.lends;
-        steps = steps_more t c.number (lend_steps c.number) so_far.frames f (visit_state m c) (visit_state x y) (visit_state n d) so_far.steps
-            (subst (λ (p : ℕ). MakesAs t p (visit_state x y) (lend_steps p f) (visit_state n d)) before.number one.steps);
+        steps = steps_more t (lend_steps c.number) so_far.frames f m x n so_far.steps
+            (subst (λ (p : ℕ). Makes t x (lend_steps p f) n) before.number one.steps);
       };
       visit = visit;
       number = ap (λ (e : KnownCpu). e.number) one.lends.lends.cpu ∙ before.number;
@@ -89,12 +89,12 @@ pub record TakenSoFar (t : KnownTable) (k : ℕ) (m : KnownMachine) (c : KnownCp
   pub split : c.list ≡ frames ++ d.list
   pub takes : UnlistsMany frames (visit_state m c) (visit_state n d)
   pub visit : Visits t (visit_state n d)
-  pub steps : MakesAs t c.number (visit_state m c) (drain_list_steps c.number frames) (visit_state n d)
+  pub steps : Makes t m (drain_list_steps c.number frames) n
   pub number : d.number ≡ c.number
 
 pub taken_start : (t : KnownTable) (m : KnownMachine) (c : KnownCpu) → Visits t (visit_state m c) → TakenSoFar t 0 m c m c
 taken_start t m c visit =
-    record { frames = []; all = refl; split = refl; takes = visit_state_stays (visit_state m c); visit = visit; steps = makes_none t c.number (visit_state m c); number = refl }
+    record { frames = []; all = refl; split = refl; takes = visit_state_stays (visit_state m c); visit = visit; steps = makes_none t m; number = refl }
 
 pub taken_more : (t : KnownTable) (k : ℕ) (m : KnownMachine) (c : KnownCpu) (x : KnownMachine) (y : KnownCpu) (n : KnownMachine) (d : KnownCpu)
     → TakenSoFar t k m c x y → UnlistsByStep t (visit_state x y) (visit_state n d) → Visits t (visit_state n d) → TakenSoFar t (k + 1) m c n d
@@ -107,8 +107,8 @@ taken_more t k m c x y n d before one visit =
       split = before.split ∙ ap (λ (l : List ℕ). before.frames ++ l) left ∙ sym (append_assoc before.frames (f ∷ []) d.list);
       takes = one_more UnlistsOne before.frames f m c x y n d before.takes one.takes;
       visit = visit;
-      steps = steps_more t c.number (unlist_steps c.number) before.frames f (visit_state m c) (visit_state x y) (visit_state n d) before.steps
-          (subst (λ (p : ℕ). MakesAs t p (visit_state x y) (unlist_steps p f) (visit_state n d)) before.number one.steps);
+      steps = steps_more t (unlist_steps c.number) before.frames f m x n before.steps
+          (subst (λ (p : ℕ). Makes t x (unlist_steps p f) n) before.number one.steps);
       number = ap (λ (e : KnownCpu). e.number) one.takes.cpu ∙ before.number;
     }
 
@@ -124,7 +124,7 @@ taken_end t k m c x y n d before none = (
 pub record TakesFront (t : KnownTable) (k : ℕ) (m : KnownMachine) (c : KnownCpu) (n : KnownMachine) (d : KnownCpu) : Type 0 where
   pub listed : k ≤ length c.list
   pub takes : UnlistsMany (take k c.list) (visit_state m c) (visit_state n d)
-  pub steps : MakesAs t c.number (visit_state m c) (drain_list_steps c.number (take k c.list)) (visit_state n d)
+  pub steps : Makes t m (drain_list_steps c.number (take k c.list)) n
 
 pub taken_front : (t : KnownTable) (k : ℕ) (m : KnownMachine) (c : KnownCpu) (n : KnownMachine) (d : KnownCpu) → TakenSoFar t k m c n d
     → TakesFront t k m c n d
@@ -136,7 +136,7 @@ taken_front t k m c n d so_far =
     record {
       listed = omega (arith, long, all);
       takes = subst (λ (l : List ℕ). UnlistsMany l (visit_state m c) (visit_state n d)) front so_far.takes;
-      steps = subst (λ (l : List ℕ). MakesAs t c.number (visit_state m c) (drain_list_steps c.number l) (visit_state n d)) front so_far.steps;
+      steps = subst (λ (l : List ℕ). Makes t m (drain_list_steps c.number l) n) front so_far.steps;
     }
 
 -- the same if all that were asked for were returned

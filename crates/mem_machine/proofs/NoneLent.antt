@@ -1,65 +1,53 @@
 -- What is lent when the machine ends, and how many frames are free and charged. Serves `prove_none_lent`, and the end of
 -- a system.
-use Rattle.std.proofs.Common.{◌≡◌, ℕ, ◌+◌, ◌<◌, ◌≤◌, Option, Some, None, List, [], ◌∷◌, length, refl, sym, ap, ◌∙◌, subst, inl, inr, arith, zero, suc}
-use Rattle.std.specs.Prelude.{is_some, IfSome}
-use Rattle.std.proofs.lemmas.Bool.{cases_lt}
-use Rattle.std.proofs.lemmas.Option.{none-some}
-use Rattle.std.proofs.lemmas.List.{get_or_past}
+use Rattle.std.proofs.Common.{◌≡◌, ℕ, ◌+◌, ◌<◌, ◌==◌, ◌&&◌, Bool, true, false, List, [], ◌∷◌, cond, length, refl, sym, ap, ◌∙◌, arith, zero, suc, eq-eqb}
+use Rattle.std.specs.Prelude.{is_some, nat_le}
 use Rattle.std.proofs.lemmas.List.Sums.{sum_by-append}
-use Rattle.frame_word.specs.Views.{note_of}
-use Rattle.frame_word.specs.Seats.{KnownTable, IsLent, IsBorrowed, LentIsBorrowed, seat_number}
-use Rattle.stock_word.specs.Stock.{KnownStockTable}
-use Rattle.cpu_part.specs.Cpus.{KnownCpu, IsTied}
-use Rattle.step_rules.specs.State.{one_if, times}
+use Rattle.frame_word.specs.Seats.{KnownTable}
+use Rattle.step_rules.specs.declared.phase.Phase.{Phase}
+use Rattle.step_rules.specs.declared.phase.Phase.TheVariants as phase
+use Rattle.step_rules.specs.declared.phase.Stage.TheVariants.{FreshAt}
+use Rattle.step_rules.specs.declared.phase.Way.TheVariants.{OnList}
+use Rattle.step_rules.specs.Phases.{ListFrame, has_as}
+use Rattle.step_rules.specs.State.{Part, State, one_if, times}
+use Rattle.step_rules.specs.After.{state_of}
+use Rattle.step_rules.proofs.CoverParts.{own_part}
+use Rattle.step_rules.proofs.CoverPhases.{own_seen}
+use Rattle.step_rules.proofs.Runs.{sound_run}
+use Rattle.boot_words.specs.Pasts.{cpu_past}
+use Rattle.boot_words.specs.Seats.{zone_of_boot}
+use Rattle.cpu_part.specs.Cpus.{KnownCpu}
 use Rattle.mem_machine.specs.declared.frame_state.FrameState.{FrameState}
 use Rattle.mem_machine.specs.declared.frame_state.FrameState.TheVariants.{Free, Lent, Head, Tail}
-use Rattle.mem_machine.specs.FrameStates.{frame_state_at, is_free_state, frame_state_group, some_cpu, cpu_lent_to}
+use Rattle.mem_machine.specs.FrameStates.{frame_state_at, is_free_state, frame_state_group}
+use Rattle.mem_machine.specs.Local.{Holds, group_of_fresh, local_of, phase_of, visit_state}
 use Rattle.mem_machine.specs.Machines.{KnownMachine, IsConsistent}
 use Rattle.mem_machine.specs.Places.{frames_free, frames_in_groups, NoneLentTo}
-
--- the record of a lent frame names the CPU that the seat notes
-pub lent_is : (n p : ℕ) → some_cpu n ≡ Some p → (n ≡ p) × (1 ≤ p)
-lent_is zero p is = absurd (none-some p is)
-lent_is (suc n) p is = let same : suc n ≡ p = number_is is in (same, omega (arith, same))
-  where
-    number_or : ℕ → Option ℕ → ℕ
-    number_or d None = d
-    number_or d (Some q) = q
-
-    number_is : Some (suc n) ≡ Some p → suc n ≡ p
-    number_is e = ap (number_or 0) e
-
-pub past_free : (p : ℕ) → Free ≡ Lent p → ⊥
-past_free p e = none-some p (ap cpu_lent_to e)
-
--- a frame that is lent is one of the zone's, and the zone's seat notes whom it is lent to
-lent_noted : (t : KnownTable) (w : KnownStockTable) (m : KnownMachine) → IsConsistent t w m → (f p : ℕ) → frame_state_at m.frame_states f ≡ Lent p
-    → (f < t.frames) × ((note_of m.frame_seat.view f).lent ≡ p) × (1 ≤ p)
-lent_noted t w m ok f p is = elim (cases_lt f t.frames) [
-  | inl inside ↦
-      let noted = lent_is (note_of m.frame_seat.view f).lent p ((ok.frame_states f inside).lent ∙ ap cpu_lent_to is) in
-      (inside, noted.0, noted.1)
-  | inr past ↦
-      let sized = ok.sizes.frame_states in
-      absurd (past_free p (sym (get_or_past m.frame_states f Free (omega (arith, past, sized))) ∙ is))
-]
-
 -- who a frame is lent to is one of the CPUs
-pub lent_to_cpu : (t : KnownTable) (w : KnownStockTable) (m : KnownMachine) → IsConsistent t w m → (f p : ℕ) → frame_state_at m.frame_states f ≡ Lent p → (1 ≤ p) × (p ≤ t.cpus)
-lent_to_cpu t w m ok f p is =
-    subst (λ (x : FrameState). IfSome (cpu_lent_to x) (λ q. (1 ≤ q) × (q ≤ t.cpus))) is (ok.frame_states f (lent_noted t w m ok f p is).0).borrower
+pub use Rattle.mem_machine.proofs.LentTo.{lent_to_cpu}
+use Rattle.mem_machine.proofs.Seen.{phase_seen}
 
--- a CPU with no listed and no fresh frame has none that is lent to it
-pub none_lent : (t : KnownTable) (w : KnownStockTable) (m : KnownMachine) (c : KnownCpu) → IsConsistent t w m → IsTied t w c → LentIsBorrowed t m.frame_seat c.frame_seat
-    → c.list ≡ [] → c.fresh ≡ [] → NoneLentTo c.number m.frame_states
-none_lent t w m c ok tied lent no_list no_fresh f is =
-    let noted = lent_noted t w m ok f c.number is in
-    let its : IsLent m.frame_seat f (seat_number c.frame_seat) = noted.1 ∙ sym tied.seats.frame_number in
-    let borrowed : IsBorrowed c.frame_seat f = (lent f noted.0).0 its in
-    let listed : times f c.list ≡ 0 = ap (times f) no_list in
-    let fresh : times f c.fresh ≡ 0 = ap (times f) no_fresh in
-    let counted = (tied.noted f).borrowed_is in
-    omega (arith, borrowed, listed, fresh, counted)
+unlisted : (b : Bool) (g p : ℕ) → has_as ListFrame p (cond (b && nat_le 1 0) (phase.Head (record { group = g; order = 0 }) (FreshAt p)) (phase.Lent p OnList)) ≡ (p == p)
+unlisted true g p = refl
+unlisted false g p = refl
+
+-- the CPU that holds the lock has no frame that is lent to it, if it has no listed and no fresh frame
+pub none_lent : (t : KnownTable) (m : KnownMachine) (c : KnownCpu) → IsConsistent t m → Holds t (visit_state m c) → c.list ≡ [] → c.fresh ≡ [] → NoneLentTo c.number m.frame_states
+none_lent t m c ok holds no_list no_fresh f is =
+    let p = (cpu_past m.run.past).number in
+    let u = state_of (zone_of_boot t) (cpu_past m.run.past).seen in
+    let sound = sound_run (zone_of_boot t) (cpu_past m.run.past).seen holds.held.holds.shows.legal in
+    let seen : (local_of t m).phases f ≡ phase_of c (group_of_fresh t (visit_state m c)) f (Lent c.number) =
+    phase_seen t m c ok holds f ∙ ap (phase_of c (group_of_fresh t (visit_state m c)) f) is in
+    let listed : has_as ListFrame c.number ((local_of t m).phases f) ≡ true =
+    ap (has_as ListFrame c.number) seen
+    ∙ ap (λ (l : List ℕ). has_as ListFrame c.number (cond (c.number == c.number && nat_le 1 (times f l)) (phase.Head (record { group = group_of_fresh t (visit_state m c); order = 0 }) (FreshAt c.number)) (phase.Lent c.number OnList))) no_fresh
+    ∙ unlisted (c.number == c.number) (group_of_fresh t (visit_state m c)) c.number ∙ eq-eqb c.number c.number refl in
+    let whole : has_as ListFrame p (u.phases f) ≡ true = sym (own_seen p ListFrame (u.phases f)) ∙ ap (λ (k : ℕ). has_as ListFrame k ((local_of t m).phases f)) holds.who ∙ listed in
+    let count : times f (u.parts p).list ≡ 1 = sound.lists p ListFrame f ∙ ap one_if whole in
+    let own : (u.parts p).list ≡ c.list = ap (λ (x : Part). x.list) (sym (own_part p u.parts p refl)) ∙ ap (λ (k : ℕ). ((local_of t m).parts k).list) holds.who ∙ holds.own.list in
+    let none : times f (u.parts p).list ≡ 0 = ap (times f) (own ∙ no_list) in
+    omega (arith, count, none)
 
 -- if no frame is lent, each is free or charged
 pub each_is_placed : (frame_states : List FrameState) → ((f p : ℕ) → frame_state_at frame_states f ≡ Lent p → ⊥) → frames_free frame_states + frames_in_groups frame_states ≡ length frame_states

@@ -11,7 +11,7 @@ use Rattle.step_rules.specs.After.{Run}
 use Rattle.step_rules.specs.Laws.{IsLocalStep}
 use Rattle.step_rules.specs.Reaches.{IsLocalRun}
 use Rattle.boot_words.specs.Pasts.{KnownPasts, MakesStep, cpu_past, local_by_pasts, own_past}
-use Rattle.boot_words.proofs.Growing.{all_grew_both}
+use Rattle.boot_words.proofs.Grown.{all_grew_both}
 use Rattle.boot_words.specs.Composed.{AreLegal}
 use Rattle.cpu_part.specs.Made.{MakesAll}
 use Rattle.step_watch.specs.Watched.{Watches}

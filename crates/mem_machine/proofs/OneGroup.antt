@@ -1,9 +1,8 @@
 -- The two lists of one group are read, or change and nothing else. Serves `age`, `renew` and the walks.
-use Rattle.std.proofs.Common.{◌≡◌, ℕ, ◌<◌, false, Option, Some, None, List, [], ◌∷◌, ◌++◌, length, get_or, refl, sym, ap, ◌∙◌, subst}
+use Rattle.std.proofs.Common.{◌≡◌, ℕ, ◌<◌, false, Option, Some, None, List, [], ◌∷◌, ◌++◌, length, get_or, refl, sym, ap, ◌∙◌, subst, arith}
 use Rattle.std.specs.Prelude.{slice_set, option_map}
-use Rattle.std.proofs.lemmas.List.{get_or-set_same, length-set}
+use Rattle.std.proofs.lemmas.List.{get_or_default, get_or-set_same, length-set}
 use Rattle.frame_word.specs.Seats.{KnownTable}
-use Rattle.stock_word.specs.Stock.{KnownStockTable}
 use Rattle.lru_lists.specs.declared.record.Link.{Link}
 use Rattle.lru_lists.specs.declared.record.Home.{Home}
 use Rattle.lru_lists.specs.declared.record.Entry.{Entry}
@@ -13,12 +12,25 @@ use Rattle.lru_lists.specs.Lists.{OthersStayLinked, OneOfAllChanges, AreLinked, 
 use Rattle.lru_lists.specs.Lists.{inactive_of, active_of, entries_without, entry_of, marked, first_entry, entry_after}
 use Rattle.mem_machine.specs.Machines.{KnownMachine, IsConsistent, OthersStay, UnlistedStay, home_of, lists_at, entries_in, no_lists, lists_of}
 use Rattle.mem_machine.specs.Ageing.{AgesGroup, RenewsUnit}
-use Rattle.mem_machine.specs.Local.{MakesForAny}
+use Rattle.mem_machine.specs.Local.{Makes}
 use Rattle.mem_machine.proofs.Listed.{lists_consistent, others_stay, place_here, unlisted_stay}
-use Rattle.mem_machine.proofs.KeptUnits.{there, read_owner, read_stands, read_is}
 use Rattle.mem_machine.proofs.Followed.{makes_stay}
 
 -- ---- the lists as they are read
+
+-- the lists of a group number, as they are read from the machine
+module _ (t : KnownTable) (m : KnownMachine) (ok : IsConsistent t m) (g : ℕ) (fits : g < 64) (any lru : Lru) (read : lru ≡ get_or m.lists g any) where
+  there : g < length m.lists
+  there = let a = ok.sizes.lists in omega (arith, a, fits)
+
+  read_owner : lru.owner ≡ g
+  read_owner = ap (λ (x : Lru). x.owner) read ∙ (ok.lists g any there).0
+
+  read_stands : AreLinked m.links lru
+  read_stands = subst (AreLinked m.links) (sym read) (ok.lists g any there).1
+
+  read_is : lists_at m.lists g ≡ lru
+  read_is = sym (read ∙ get_or_default m.lists g any no_lists there)
 
 -- the lists that were read of a group number
 pub record AreRead (now : KnownMachine) (g : ℕ) (lru : Lru) : Type 0 where
@@ -26,13 +38,13 @@ pub record AreRead (now : KnownMachine) (g : ℕ) (lru : Lru) : Type 0 where
   pub owner : lru.owner ≡ g
   pub are : lists_at now.lists g ≡ lru
 
-pub lists_read : (t : KnownTable) (w : KnownStockTable) (m now : KnownMachine) → m ≡ now → IsConsistent t w m → (g i : ℕ) → i < 64 → i ≡ g → (any lru : Lru)
+pub lists_read : (t : KnownTable) (m now : KnownMachine) → m ≡ now → IsConsistent t m → (g i : ℕ) → i < 64 → i ≡ g → (any lru : Lru)
     → lru ≡ get_or m.lists i any → AreRead now g lru
-lists_read t w m now same ok g i fits is any lru read =
+lists_read t m now same ok g i fits is any lru read =
     subst (λ (x : KnownMachine × ℕ). AreRead x.0 x.1 lru) (λ j. (same j, is j)) (record {
-      stands = read_stands t w m ok i fits any lru read;
-      owner = read_owner t w m ok i fits any lru read;
-      are = read_is t w m ok i fits any lru read;
+      stands = read_stands t m ok i fits any lru read;
+      owner = read_owner t m ok i fits any lru read;
+      are = read_is t m ok i fits any lru read;
     })
 
 -- the unit is on the list that its link names
@@ -61,24 +73,24 @@ owner_mapped None = refl
 owner_mapped (Some h) = refl
 
 -- what else is unchanged after the lists of one group changed
-pub record GroupChanged (t : KnownTable) (w : KnownStockTable) (now : KnownMachine) (g : ℕ) (lru new : Lru) (n : KnownMachine) : Type 0 where
-  pub consistent : IsConsistent t w n
+pub record GroupChanged (t : KnownTable) (now : KnownMachine) (g : ℕ) (lru new : Lru) (n : KnownMachine) : Type 0 where
+  pub consistent : IsConsistent t n
   pub machine : n ≡ record now { links = n.links; lists = n.lists }
   pub before : lists_at now.lists g ≡ lru
   pub after : lists_at n.lists g ≡ new
   pub others : OthersStay g (lists_of now) (lists_of n)
   pub owners : SameOwners now.links n.links
   pub unlisted : UnlistedStay now.links n.links
-  pub steps : MakesForAny t now [] n
+  pub steps : Makes t now [] n
 
-module _ (t : KnownTable) (w : KnownStockTable) (m : KnownMachine) (ok : IsConsistent t w m) (g : ℕ) (fits : g < 64) (any lru : Lru) (read : lru ≡ get_or m.lists g any)
+module _ (t : KnownTable) (m : KnownMachine) (ok : IsConsistent t m) (g : ℕ) (fits : g < 64) (any lru : Lru) (read : lru ≡ get_or m.lists g any)
     (links : List Link) (new : Lru) (now_stands : AreLinked links new) (owner : new.owner ≡ lru.owner) (changes : ChangesOwn m.links links lru.owner)
     (owners : SameOwners m.links links) (others_stay_linked : OthersStayLinked) (one_of_all_changes : OneOfAllChanges) where
   own : lru.owner ≡ g
-  own = read_owner t w m ok g fits any lru read
+  own = read_owner t m ok g fits any lru read
 
   room : g < length m.lists
-  room = there t w m ok g fits any lru read
+  room = there t m ok g fits any lru read
 
   all_stand : AllLinked links (slice_set m.lists g new)
   all_stand = subst (λ (k : ℕ). AllLinked links (slice_set m.lists k new)) (owner ∙ own)
@@ -88,32 +100,32 @@ module _ (t : KnownTable) (w : KnownStockTable) (m : KnownMachine) (ok : IsConsi
   mapped : (f : ℕ) → option_map (λ (x : Home). x.owner) (home_of links f) ≡ option_map (λ (x : Home). x.owner) (home_of m.links f)
   mapped f = owner_mapped (home_of links f) ∙ owners.owner f ∙ sym (owner_mapped (home_of m.links f))
 
-  group_changed : GroupChanged t w m g lru new (record m { links = links; lists = slice_set m.lists g new })
+  group_changed : GroupChanged t m g lru new (record m { links = links; lists = slice_set m.lists g new })
   group_changed = record {
-    consistent = lists_consistent t w m ok links (slice_set m.lists g new) changes.frames (length-set m.lists g new) mapped all_stand;
+    consistent = lists_consistent t m ok links (slice_set m.lists g new) changes.frames (length-set m.lists g new) mapped all_stand;
     machine = refl;
-    before = read_is t w m ok g fits any lru read;
+    before = read_is t m ok g fits any lru read;
     after = get_or-set_same m.lists g new no_lists room;
     others = others_stay m.links links m.lists g lru new ok.lists ok.sizes.lists own changes others_stay_linked;
     owners = owners;
     unlisted = λ f none. unlisted_stay m.links links lru.owner f changes (mapped f) none;
-    steps = λ c. makes_stay t m (record m { links = links; lists = slice_set m.lists g new }) c c refl refl refl refl;
+    steps = makes_stay t m (record m { links = links; lists = slice_set m.lists g new }) refl refl refl;
   }
 
 -- the same, of the machine as it was seen before
-pub change_all : (t : KnownTable) (w : KnownStockTable) (m now : KnownMachine) → m ≡ now → IsConsistent t w m → (g i : ℕ) → i < 64 → i ≡ g → (any lru : Lru)
+pub change_all : (t : KnownTable) (m now : KnownMachine) → m ≡ now → IsConsistent t m → (g i : ℕ) → i < 64 → i ≡ g → (any lru : Lru)
     → lru ≡ get_or m.lists i any → (links : List Link) (new : Lru) → AreLinked links new → new.owner ≡ lru.owner → ChangesOwn m.links links lru.owner
     → SameOwners m.links links → OthersStayLinked → OneOfAllChanges
-    → GroupChanged t w now g lru new (record m { links = links; lists = slice_set m.lists i new })
-change_all t w m now same ok g i fits is any lru read links new stands owner changes owners others all =
-    subst (λ (x : KnownMachine × ℕ). GroupChanged t w x.0 x.1 lru new (record m { links = links; lists = slice_set m.lists i new })) (λ j. (same j, is j))
-    (group_changed t w m ok i fits any lru read links new stands owner changes owners others all)
+    → GroupChanged t now g lru new (record m { links = links; lists = slice_set m.lists i new })
+change_all t m now same ok g i fits is any lru read links new stands owner changes owners others all =
+    subst (λ (x : KnownMachine × ℕ). GroupChanged t x.0 x.1 lru new (record m { links = links; lists = slice_set m.lists i new })) (λ j. (same j, is j))
+    (group_changed t m ok i fits any lru read links new stands owner changes owners others all)
 
 -- ---- the group was aged
 
-pub ages_group : (t : KnownTable) (w : KnownStockTable) (m now : KnownMachine) → m ≡ now → (g : ℕ) (lru new : Lru) (n : KnownMachine) → GroupChanged t w now g lru new n
+pub ages_group : (t : KnownTable) (m now : KnownMachine) → m ≡ now → (g : ℕ) (lru new : Lru) (n : KnownMachine) → GroupChanged t now g lru new n
     → Ages m.links lru n.links new → AgesGroup g now n
-ages_group t w m now same g lru new n changed ages = record {
+ages_group t m now same g lru new n changed ages = record {
   machine = changed.machine;
   ages = subst (λ (x : KnownMachine × Lru × Lru). Ages x.0.links x.1 n.links x.2) (λ j. (same j, sym changed.before j, sym changed.after j)) ages;
   others = changed.others;
@@ -123,11 +135,11 @@ ages_group t w m now same g lru new n changed ages = record {
 
 -- ---- a unit of the group was renewed
 
-pub renews_unit : (t : KnownTable) (w : KnownStockTable) (m now : KnownMachine) → m ≡ now → (g f i : ℕ) → i ≡ f → (lru new : Lru) (n : KnownMachine)
-    → GroupChanged t w now g lru new n
+pub renews_unit : (t : KnownTable) (m now : KnownMachine) → m ≡ now → (g f i : ℕ) → i ≡ f → (lru new : Lru) (n : KnownMachine)
+    → GroupChanged t now g lru new n
     → inactive_of n.links new ≡ entries_without i (inactive_of m.links lru) ++ marked false (entry_of m.links i) ∷ []
     → active_of n.links new ≡ active_of m.links lru → RenewsUnit g f now n
-renews_unit t w m now same g f i is lru new n changed inactive active = record {
+renews_unit t m now same g f i is lru new n changed inactive active = record {
   machine = changed.machine;
   inactive = subst (λ (x : KnownMachine × Lru × Lru × ℕ). inactive_of n.links x.2 ≡ entries_without x.3 (inactive_of x.0.links x.1)
       ++ marked false (entry_of x.0.links x.3) ∷ []) (λ j. (same j, sym changed.before j, sym changed.after j, is j)) inactive;

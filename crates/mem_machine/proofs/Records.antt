@@ -1,7 +1,5 @@
--- One frame's record and the zone's note of it change. Serves `lend_one`, `unlist_one` and all calls that move
--- frames.
-use Rattle.std.proofs.Common.{◌≡◌, ℕ, ◌+◌, ◌<◌, ◌≤◌, Bool, true, false, Option, Some, None, List, [], ◌∷◌, length, get_or, refl, sym, ap, ◌∙◌, subst, inl, inr, arith, zero, suc}
-use Rattle.lru_lists.specs.declared.record.Home.{Home}
+-- One frame's record changes. Serves `lend_one`, `unlist_one` and all calls that move frames.
+use Rattle.std.proofs.Common.{◌≡◌, ℕ, ◌+◌, ◌<◌, Bool, true, false, Some, None, List, [], ◌∷◌, length, get_or, refl, sym, ap, ◌∙◌, subst, inl, inr, arith, zero, suc}
 use Rattle.std.specs.Prelude.{slice_set}
 use Rattle.std.specs.Cmp.{both_ways}
 use Rattle.std.proofs.lemmas.Bool.{cases_eq, false≢true}
@@ -10,18 +8,12 @@ use Rattle.std.proofs.lemmas.List.{get_or-set_same, get_or-set_other, length-set
 use Rattle.zone_blocks.specs.Block.{IsBlock, Covers}
 use Rattle.zone_blocks.specs.Areas.{IsFree}
 use Rattle.zone_blocks.specs.Zone.{TakesFrames}
-use Rattle.frame_word.specs.declared.view.FrameNote.{FrameNote}
-use Rattle.frame_word.specs.Views.{note_of, collected_from}
-use Rattle.frame_word.specs.Seats.{KnownSeat, seat_with, seat_references}
-use Rattle.frame_word.proofs.Notes.{note_here, note_else}
-use Rattle.step_rules.specs.declared.phase.ChargedUnit.{ChargedUnit}
-use Rattle.step_rules.specs.State.{sum_to, one_if}
+use Rattle.step_rules.specs.State.{sum_to}
 use Rattle.step_rules.proofs.Sums.{sum_same}
-use Rattle.lru_lists.specs.declared.record.Link.{Link}
 use Rattle.mem_machine.specs.declared.frame_state.FrameState.{FrameState}
-use Rattle.mem_machine.specs.declared.frame_state.FrameState.TheVariants.{Free, Lent, Head, Tail}
-use Rattle.mem_machine.specs.FrameStates.{frame_state_at, is_free_state, free_of, frame_state_group, one_if_is, is_in_hand, some_cpu, cpu_lent_to, AreUnits}
-use Rattle.mem_machine.specs.Machines.{FitsFrameState, home_of, frames_charged}
+use Rattle.mem_machine.specs.declared.frame_state.FrameState.TheVariants.{Free}
+use Rattle.mem_machine.specs.FrameStates.{frame_state_at, is_free_state, free_of, frame_state_group, one_if_is, AreUnits}
+use Rattle.mem_machine.specs.Machines.{frames_charged}
 
 -- ---- which frames are free
 
@@ -89,60 +81,6 @@ pub free_given : (before after : List Bool) (frame_states : List FrameState) (f 
 free_given before after frame_states f x inside was gives free =
     free_set before after frame_states f x inside was (sym gives.same_length) (λ a. free) (λ a. gives.were_free f (covers_one f))
     (λ g ne. let o = gives.others g (λ h. ne (one_covered f g h)) in (o.1, o.0))
-
--- ---- what the zone's seat notes
-
-pub some_cpu_is : (p : ℕ) → 1 ≤ p → some_cpu p ≡ Some p
-some_cpu_is zero some = absurd (omega (arith, some))
-some_cpu_is (suc p) some = refl
-
-pub no_cpu_is : (n : ℕ) → some_cpu n ≡ None → n ≡ 0
-no_cpu_is zero none = refl
-no_cpu_is (suc n) none = absurd (none-some (suc n) (sym none))
-
-abbrev lent_number : Option ℕ → ℕ
-lent_number None = 0
-lent_number (Some p) = p
-
--- a frame that is lent to a CPU has the record of one
-pub lent_frame_state : (x : FrameState) (p : ℕ) → 1 ≤ p → some_cpu p ≡ cpu_lent_to x → x ≡ Lent p
-lent_frame_state Free p some is = absurd (none-some p (sym is ∙ some_cpu_is p some))
-lent_frame_state (Lent q) p some is = ap Lent (ap lent_number (sym is ∙ some_cpu_is p some))
-lent_frame_state (Head unit) p some is = absurd (none-some p (sym is ∙ some_cpu_is p some))
-lent_frame_state (Tail g) p some is = absurd (none-some p (sym is ∙ some_cpu_is p some))
-
--- a frame that is lent to none, and isn't in the zone's hand, heads a unit
-pub heads_one : (x : FrameState) → some_cpu 0 ≡ cpu_lent_to x → 0 ≡ one_if (is_in_hand x) → (unit : ChargedUnit) × (x ≡ Head unit)
-heads_one Free is hand = absurd (omega (arith, hand))
-heads_one (Lent q) is hand = absurd (none-some q is)
-heads_one (Head unit) is hand = (unit, refl)
-heads_one (Tail g) is hand = absurd (omega (arith, hand))
-
--- a lent frame has no list, and fits in the zone's hand
-pub collected_fits : (cpus p : ℕ) (note : FrameNote) (home : Option Home) → FitsFrameState cpus note home (Lent p) → FitsFrameState cpus (collected_from p note) home Free
-collected_fits cpus p note None old = record { own = refl; borrowed = old.borrowed; lent = refl; borrower = tt; references = old.references; kept = tt }
-collected_fits cpus p note (Some x) old = record { own = refl; borrowed = old.borrowed; lent = refl; borrower = tt; references = old.references; kept = old.kept }
-
-pub frame_states_changed : (cpus : ℕ) (seat : KnownSeat) (links : List Link) (frame_states : List FrameState) (f : ℕ) (change : FrameNote → FrameNote) (x : FrameState) (frames : ℕ)
-    → f < length frame_states
-    → ((g : ℕ) → g < frames → FitsFrameState cpus (note_of seat.view g) (home_of links g) (frame_state_at frame_states g))
-    → FitsFrameState cpus (change (note_of seat.view f)) (home_of links f) x
-    → (g : ℕ) → g < frames → FitsFrameState cpus (note_of (seat_with seat f change).view g) (home_of links g) (frame_state_at (slice_set frame_states f x) g)
-frame_states_changed cpus seat links frame_states f change x frames inside fits here g within = elim (cases_eq g f) [
-  | inl e ↦ subst (λ (h : ℕ). FitsFrameState cpus (note_of (seat_with seat f change).view h) (home_of links h) (frame_state_at (slice_set frame_states f x) h)) (sym e)
-      (subst (λ (z : FrameNote × FrameState). FitsFrameState cpus z.0 (home_of links f) z.1)
-      (λ i. (sym (note_here seat.view f change) i, sym (get_or-set_same frame_states f x Free inside) i)) here)
-  | inr ne ↦ subst (λ (z : FrameNote × FrameState). FitsFrameState cpus z.0 (home_of links g) z.1)
-      (λ i. (sym (note_else seat.view f g change ne) i, sym (get_or-set_other frame_states f g x Free ne) i)) (fits g within)
-]
-
-pub holds_same : (s : KnownSeat) (f : ℕ) (change : FrameNote → FrameNote) → ((k : FrameNote) → (change k).references ≡ k.references)
-    → (g : ℕ) → seat_references (seat_with s f change) g ≡ seat_references s g
-holds_same s f change same g = elim (cases_eq g f) [
-  | inl e ↦ subst (λ (h : ℕ). seat_references (seat_with s f change) h ≡ seat_references s h) (sym e)
-      (ap (λ (k : FrameNote). k.references) (note_here s.view f change) ∙ same (note_of s.view f))
-  | inr ne ↦ ap (λ (k : FrameNote). k.references) (note_else s.view f g change ne)
-]
 
 -- ---- units and charges, if the frame is charged neither before nor after
 

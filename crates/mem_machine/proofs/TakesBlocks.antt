@@ -1,59 +1,68 @@
 -- A block is charged to a group and taken, or none is there. Serves `take_block`.
-use Rattle.std.proofs.Common.{◌≡◌, ℕ, zero, suc, ◌+◌, ◌-◌, ◌^◌, ◌≤◌, ◌<◌, ◌==◌, Bool, true, false, cond, List, [], ◌∷◌, length, get_or, refl, sym, ap, ◌∙◌, subst, arith, inl, inr}
-use Rattle.mem_machine.proofs.Usage.{usage_seen, balanced_alone}
-use Rattle.mem_machine.specs.Paying.{MayCharge}
-use Rattle.std.specs.Prelude.{slice_index}
+use Rattle.std.proofs.Common.{◌≡◌, ℕ, zero, suc, ◌+◌, ◌-◌, ◌^◌, ◌≤◌, ◌<◌, ◌==◌, Bool, true, false, cond, Option, Some, None, List, [], ◌∷◌, length, get_or, refl, sym, ap, ◌∙◌, subst, arith, inl, inr, eq-eqb}
+use Rattle.std.specs.List.{fold}
+use Rattle.std.specs.Prelude.{is_some, nat_le}
 use Rattle.std.specs.Cmp.{both_ways}
-use Rattle.std.proofs.lemmas.Bool.{cases_eq, false≢true}
+use Rattle.std.proofs.lemmas.Bool.{and_from, cases_eq, cond-true, false≢true, le-leb, lt-ltb, ne_eqb}
 use Rattle.std.proofs.lemmas.List.{ext_get_or}
 use Rattle.std.proofs.lemmas.List.FromFn.{get_or-map-range_with_len, length-map-range_with_len}
 use Rattle.std.proofs.lemmas.Nat.{pow_pos}
+use Rattle.std.proofs.lemmas.Option.{none-some}
 use Rattle.zone_blocks.specs.declared.block.Block.{Block}
 use Rattle.zone_blocks.specs.Block.{IsBlock}
 use Rattle.zone_blocks.specs.Areas.{IsFree, IsFreeBlock, AreMaximalBlocks, HasNoneFrom, IsFrontOfSmallest}
 use Rattle.zone_blocks.specs.Zone.{TakesFrames, block_at}
 use Rattle.zone_blocks.proofs.Halves.{lower_half}
-use Rattle.frame_word.specs.declared.view.FrameNote.{FrameNote}
-use Rattle.frame_word.specs.Views.{note_of, unfrozen}
-use Rattle.frame_word.specs.Seats.{KnownTable, KnownSeat, seat_with, seat_references, IsInOwnHand, NothingPasses, LentIsBorrowed}
-use Rattle.frame_word.proofs.Notes.{note_here, note_else}
-use Rattle.stock_word.specs.Stock.{KnownStockTable}
+use Rattle.frame_word.specs.Seats.{KnownTable}
 use Rattle.group_tree.specs.Groups.{has_group}
-use Rattle.group_tree.specs.Room.{PathHasRoom}
-use Rattle.group_charge.specs.Charges.{Ledger, current_of, with_charge, with_uncharge, PagesRise, AreCharges}
+use Rattle.group_tree.specs.Room.{PathHasRoom, IsLowestOver}
+use Rattle.group_charge.specs.Charges.{Ledger, current_of, pages_of, with_charge, with_uncharge, PagesRise, AreCharges}
+use Rattle.group_charge.proofs.CallerLemmas.{uncharge_events, uncharge_pages, uncharge_peaks}
+use Rattle.lru_lists.specs.declared.record.Home.{Home}
 use Rattle.lru_lists.specs.declared.record.Link.{Link}
 use Rattle.lru_lists.specs.declared.lru.Lru.{Lru}
-use Rattle.cpu_part.specs.Cpus.{KnownCpu, IsTied}
+use Rattle.step_rules.specs.declared.phase.ChargedUnit.{ChargedUnit}
+use Rattle.step_rules.specs.declared.phase.Stage.TheVariants.{Bare, Live}
+use Rattle.step_rules.specs.declared.phase.Phase.TheVariants as phase
+use Rattle.step_rules.specs.declared.step.Action.TheVariants.{Grant, PlaceBlock, Publish, Ungrant, Unfreeze}
+use Rattle.step_rules.specs.declared.step.Answer.TheVariants.{Done, Granted, NoFreeBlock, Over, Placed}
+use Rattle.step_rules.specs.Phases.{at_stage, is_head, is_head_in_hand}
 use Rattle.step_rules.specs.Phases as phases
-use Rattle.step_rules.specs.State.{with_at, free_in, one_if, times}
-use Rattle.step_rules.specs.Usage.{usage_of}
+use Rattle.step_rules.specs.State.{State, Zone, free_in, is_frame, one_if}
+use Rattle.step_rules.specs.After.{Run, after, is_within, placed_phase}
+use Rattle.step_rules.specs.Legal.{is_legal}
+use Rattle.step_rules.specs.Reaches.{IsLocalRun}
 use Rattle.step_rules.proofs.Basics.{at_same, at_other}
 use Rattle.step_rules.proofs.Placing.{within_cases}
+use Rattle.boot_words.specs.Hidden.{hide, hide_phase}
+use Rattle.boot_words.specs.Pasts.{IsHeld, MakesStep}
+use Rattle.step_watch.specs.Watched.{Watches}
 use Rattle.mem_machine.specs.declared.frame_state.FrameState.{FrameState}
 use Rattle.mem_machine.specs.declared.frame_state.FrameState.TheVariants.{Free, Head, Tail}
-use Rattle.mem_machine.specs.FrameStates.{frame_state_at, is_free_state, is_in_hand, cpu_lent_to, free_of, frame_state_group}
-use Rattle.mem_machine.specs.Machines.{KnownMachine, IsConsistent, is_killed}
-use Rattle.boot_words.specs.Pasts.{MakesStep}
-use Rattle.step_watch.specs.Watched.{Watches}
-use Rattle.mem_machine.specs.Noted.{AreLocal, KnownRun, MayTakeAll, Notes}
-use Rattle.mem_machine.specs.Steps.{zone_makes}
-use Rattle.mem_machine.proofs.Noted.{notes_both}
-use Rattle.mem_machine.proofs.Releases.{notes_of_zone}
-use Rattle.step_rules.specs.After.{Run}
-use Rattle.step_rules.specs.declared.step.Action.TheVariants.{Grant, PlaceBlock, Publish, Ungrant, Unfreeze}
-use Rattle.step_rules.specs.declared.step.Answer.TheVariants.{Done, Granted, NoFreeBlock, Placed}
+use Rattle.mem_machine.specs.FrameStates.{frame_state_at, is_free_state, free_of, frame_state_group, head_group_of, phase_hidden}
+use Rattle.mem_machine.specs.Machines.{KnownMachine, FitsFrameState, IsConsistent, IsShownBy, home_of, is_killed}
+use Rattle.mem_machine.specs.Noted.{KnownRun, MayTakeAll, Notes, after_made}
+use Rattle.mem_machine.specs.Paying.{MayCharge}
+use Rattle.mem_machine.specs.Steps.{over_steps, zone_makes}
 use Rattle.mem_machine.specs.Blocks.{PlacesUnit, TakesBlock, TakesNoBlock, taken_steps, unplaced_steps}
-use Rattle.mem_machine.specs.Local.{IsSeenByRun, Visits, local_of, phase_of, visit_state}
-use Rattle.mem_machine.proofs.Records.{length_free, free_at, free_is, free_inside, no_cpu_is}
-use Rattle.mem_machine.proofs.PlacesUnits.{in_block, off_block}
+use Rattle.mem_machine.specs.Local.{Makes, StaysVisited, lock_holder, local_of}
+use Rattle.mem_machine.proofs.BlockCharges.{charges_rise}
+use Rattle.mem_machine.proofs.Followed.{follows_same, same_events}
+use Rattle.mem_machine.proofs.Grants.{is_granted, is_not_placed, is_over, is_taken_back, may_place, none_pends, with_granted}
+use Rattle.mem_machine.proofs.GroupSteps.{AllGrouped, IsGroupStep, grouped}
+use Rattle.mem_machine.proofs.Hiding.{is_free_seen}
 use Rattle.mem_machine.proofs.Joins.{AllJoin}
-use Rattle.mem_machine.proofs.KeptUnits.{IsUsed, JoinsCharges, unit_kept}
-use Rattle.mem_machine.proofs.Placed.{place_local, taken_run}
-use Rattle.mem_machine.proofs.Grants.{is_granted, unplaced_run}
-use Rattle.mem_machine.proofs.Reached.{may_lead_all, may_make}
-use Rattle.mem_machine.proofs.Watched.{HasOpenVisit, AllDone}
-use Rattle.mem_machine.proofs.Followed.{same_events, LeadsAs}
-use Rattle.group_charge.proofs.CallerLemmas.{uncharge_peaks, uncharge_events}
+use Rattle.mem_machine.proofs.LedgerMoves.{follows_grant}
+use Rattle.mem_machine.proofs.Made.{held_here, makes, zone_acts, zone_seen}
+use Rattle.mem_machine.proofs.Noted.{may_all, notes_both, run_steps}
+use Rattle.mem_machine.proofs.PlacesUnits.{head_of_block, in_block, off_block, tail_of_block}
+use Rattle.mem_machine.proofs.Reaching.{zone_step}
+use Rattle.mem_machine.proofs.Records.{length_free, free_at, free_is, free_inside}
+use Rattle.mem_machine.proofs.Releases.{notes_of_zone}
+use Rattle.mem_machine.proofs.Sight.{left_then, shown_seen}
+use Rattle.mem_machine.proofs.Units.{units_placed}
+use Rattle.mem_machine.proofs.Usage.{usage_is}
+use Rattle.mem_machine.proofs.ZoneSteps.{zone_visited}
 
 -- ---- the block that was taken
 
@@ -115,202 +124,257 @@ module _ (old : List FrameState) (blocks : List Block) (areas : AreMaximalBlocks
             both_ways _ _ (λ a. now ∙ same ∙ sym earlier ∙ o.0 a) (λ c. o.1 (earlier ∙ sym same ∙ sym now ∙ c))
       ])
 
--- the rules of the steps see it free
-seen_free : (t : KnownTable) (m : KnownMachine) (c : KnownCpu) → length m.frame_states ≡ t.frames → (b : Block) → IsBlock (length m.frame_states) b
-    → ((f : ℕ) → b.at ≤ f → f < b.at + 2 ^ b.order → frame_state_at m.frame_states f ≡ Free) → IsFreeBlock (free_in (local_of t m c).zone (local_of t m c).phases) b
-seen_free t m c sized b block free =
-    let s = local_of t m c in
-    let long : length m.frame_states ≡ length (free_in s.zone s.phases) = sized ∙ sym (length-map-range_with_len (λ f. phases.is_free (s.phases f)) 0 t.frames) in
-    record {
-      block = subst (λ (n : ℕ). IsBlock n b) long block;
-      all_free = λ f inside.
-          let high = block.inside in
-          let before = inside.before in
-          let below : f < t.frames = omega (arith, high, before, sized) in
-          get_or-map-range_with_len (λ x. phases.is_free (s.phases x)) 0 t.frames f f false below (omega arith)
-          ∙ ap (λ (x : FrameState). phases.is_free (phase_of c f x)) (free f inside.from inside.before);
-    }
+-- a frame that is charged to no group is on no list
+homeless : (h : Option Home) (x : FrameState) → x ≡ Free → FitsFrameState h x → h ≡ None
+homeless None x is fits = refl
+homeless (Some k) x is fits = absurd (none-some k.owner (subst (λ (y : FrameState). head_group_of y ≡ Some k.owner) is fits.1))
 
--- ---- the zone's seat
+-- steps that lead on may be made
+may_steps : (t : KnownTable) (m : KnownMachine) (steps : Run) (b : State) → IsLocalRun (lock_holder m) (local_of t m) steps b → MayTakeAll t m.run.past steps
+may_steps t m steps b leads =
+    may_all t m.run.past (lock_holder m) (local_of t m) steps refl refl (run_steps (lock_holder m) (local_of t m) steps b leads)
 
--- what an unfreeze leaves of a note stays for every frame
-note_kept : {X : Type 0} (s : KnownSeat) (f n : ℕ) (h : FrameNote → X) → ((k : FrameNote) → h (unfrozen n k) ≡ h k) → (x : ℕ)
-    → h (note_of (seat_with s f (unfrozen n)).view x) ≡ h (note_of s.view x)
-note_kept s f n h same x = elim (cases_eq x f) [
-  | inl e ↦ subst (λ (y : ℕ). h (note_of (seat_with s f (unfrozen n)).view y) ≡ h (note_of s.view y)) (sym e)
-      (ap h (note_here s.view f (unfrozen n)) ∙ same (note_of s.view f))
-  | inr ne ↦ ap h (note_else s.view f x (unfrozen n) ne)
-]
+-- what is required of the group, of the machine's fields
+pub charge_here : (m now : KnownMachine) → m ≡ now → (g n : ℕ) → MayCharge now g n → MayCharge m g n
+charge_here m now same g n may = subst (λ (x : KnownMachine). MayCharge x g n) (sym same) may
 
-pub unfrozen_visits : (t : KnownTable) (m n : KnownMachine) (c : KnownCpu) (f : ℕ) → n.frame_seat ≡ seat_with m.frame_seat f (unfrozen 1) → Visits t (visit_state m c) → HasOpenVisit t (visit_state n c)
-unfrozen_visits t m n c f is visit =
-    let p = c.frame_seat.view.number in
-    let out : (x : ℕ) → (note_of (seat_with m.frame_seat f (unfrozen 1)).view x).passed_out ≡ (note_of m.frame_seat.view x).passed_out =
-    note_kept m.frame_seat f 1 (λ k. k.passed_out) (λ k. refl) in
-    let back : (x : ℕ) → (note_of (seat_with m.frame_seat f (unfrozen 1)).view x).collected ≡ (note_of m.frame_seat.view x).collected =
-    note_kept m.frame_seat f 1 (λ k. k.collected) (λ k. refl) in
-    let lent : (x : ℕ) → (note_of (seat_with m.frame_seat f (unfrozen 1)).view x).lent ≡ (note_of m.frame_seat.view x).lent =
-    note_kept m.frame_seat f 1 (λ k. k.lent) (λ k. refl) in
-    let still : NothingPasses t (seat_with m.frame_seat f (unfrozen 1)) c.frame_seat =
-    λ x inside. (λ i. slice_index (out x i) p + (note_of c.frame_seat.view x).passed_back) ∙ visit.still x inside
-    ∙ (λ i. slice_index (sym (back x) i) p + (note_of c.frame_seat.view x).taken_in) in
-    let borrowed : LentIsBorrowed t (seat_with m.frame_seat f (unfrozen 1)) c.frame_seat =
-    λ x inside. let old = visit.lent x inside in (λ a. old.0 (sym (lent x) ∙ a), λ a. lent x ∙ old.1 a) in
-    record {
-      is_open = ap (λ (s : KnownSeat). slice_index s.view.opened c.number) is ∙ visit.is_open;
-      still = subst (λ (s : KnownSeat). NothingPasses t s c.frame_seat) (sym is) still;
-      lent = subst (λ (s : KnownSeat). LentIsBorrowed t s c.frame_seat) (sym is) borrowed;
-    }
+-- ---- the block, by its steps
 
-one_more_reference : (s : KnownSeat) (f x : ℕ) → seat_references (seat_with s f (unfrozen 1)) x ≡ with_at (seat_references s) f (seat_references s f + 1) x
-one_more_reference s f x = elim (cases_eq x f) [
-  | inl e ↦ subst (λ (y : ℕ). seat_references (seat_with s f (unfrozen 1)) y ≡ with_at (seat_references s) f (seat_references s f + 1) y) (sym e)
-      (ap (λ (k : FrameNote). k.references) (note_here s.view f (unfrozen 1)) ∙ sym (at_same (seat_references s) f (seat_references s f + 1)))
-  | inr ne ↦ ap (λ (k : FrameNote). k.references) (note_else s.view f x (unfrozen 1) ne) ∙ sym (at_other (seat_references s) f (seat_references s f + 1) x ne)
-]
+module _ (t : KnownTable) (m : KnownMachine) (ok : IsConsistent t m) (facts : AreCharges m.ledger) (held : IsHeld t m.run.past) (g : ℕ) (b : Block)
+    (there : has_group m.ledger.groups g ≡ true) (alive : is_killed m.killed g ≡ false)
+    (path : PathHasRoom m.ledger.groups (current_of m.ledger) g (2 ^ b.order)) (block : IsBlock (length m.frame_states) b)
+    (free : (f : ℕ) → b.at ≤ f → f < b.at + 2 ^ b.order → frame_state_at m.frame_states f ≡ Free) where
+  shown : IsShownBy t m (hide (local_of t m))
+  shown = shown_seen t m ok held
 
--- the frame that the zone finds free is in its hand
-pub free_in_hand : (t : KnownTable) (w : KnownStockTable) (m : KnownMachine) → IsConsistent t w m → (f g : ℕ) → f < length m.frame_states → frame_state_at m.frame_states f ≡ Free → g ≡ f
-    → IsInOwnHand m.frame_seat g
-free_in_hand t w m ok f g inside is named =
-    let s = ok.sizes.frame_states in
-    subst (λ (x : ℕ). IsInOwnHand m.frame_seat x) (sym named) ((ok.frame_states f (omega (arith, s, inside))).own ∙ ap (λ (x : FrameState). one_if (is_in_hand x)) is)
+  abbrev unit : ChargedUnit
+  unit = record { group = g; order = b.order }
 
--- ---- all of it
+  abbrev granted : State
+  granted = with_granted t m ok facts held (lock_holder m) g there (2 ^ b.order)
 
--- what is asked of the CPU and of the group
-pub record MayTake (t : KnownTable) (m : KnownMachine) (c : KnownCpu) (g : ℕ) : Type 0 where
-  pub visit : Visits t (visit_state m c)
-  pub none_back : c.back ≡ []
-  pub usage : (h : ℕ) → usage_of (local_of t m c) h ≡ current_of m.ledger h
-  pub there : has_group m.ledger.groups g ≡ true
-  pub alive : is_killed m.killed g ≡ false
+  abbrev placed : State
+  placed = after granted 0 (PlaceBlock g b.order) (Placed b)
 
-pub may_take : (t : KnownTable) (w : KnownStockTable) (m now : KnownMachine) → m ≡ now → (c : KnownCpu) → IsConsistent t w m → AreCharges m.ledger → IsTied t w c
-    → Visits t (visit_state now c) → c.fresh ≡ [] → c.back ≡ [] → (g pages : ℕ) → MayCharge now g pages → MayTake t now c g
-may_take t w m now same c ok facts tied visit none_fresh none_back g pages charges = record {
-  visit = visit;
-  none_back = none_back;
-  usage = usage_seen t w m now same c ok facts visit.lent tied (balanced_alone _ _ none_fresh);
-  there = charges.there;
-  alive = charges.alive;
-}
+  abbrev kept : State
+  kept = after placed 0 (Unfreeze b.at 1) Done
 
-abbrev taken_machine : KnownMachine → ℕ → Block → List Block → List FrameState → List Link → List Lru → KnownMachine
-taken_machine m g b blocks frame_states links lists = record {
-  blocks = blocks;
-  frame_states = frame_states;
-  ledger = with_charge m.ledger g (2 ^ b.order);
-  links = links;
-  lists = lists;
-  frame_seat = seat_with m.frame_seat b.at (unfrozen 1);
-  stock_seat = m.stock_seat;
-  killed = m.killed;
-  counts = m.counts;
-  notes = m.notes;
-  run = m.run;
-}
+  head_within : is_within b.at (2 ^ b.order) b.at ≡ true
+  head_within =
+      let some = pow_pos b.order in
+      and_from (nat_le b.at b.at) _ (le-leb b.at b.at (omega arith)) (lt-ltb b.at (b.at + 2 ^ b.order) (omega (arith, some)))
 
-taken_here : (t : KnownTable) (w : KnownStockTable) (m : KnownMachine) (c : KnownCpu) → IsConsistent t w m → AreCharges m.ledger → (g : ℕ) → g < 64 → (b : Block)
-    → MayTake t m c g → PathHasRoom m.ledger.groups (current_of m.ledger) g (2 ^ b.order) → PagesRise m.ledger (with_charge m.ledger g (2 ^ b.order)) g (2 ^ b.order)
-    → (before free : List Bool) (blocks : List Block) → before ≡ free_of m.frame_states → IsFrontOfSmallest m.blocks b.order b → TakesFrames before b free
-    → AreMaximalBlocks free blocks → (frame_states : List FrameState) → PlacesUnit g b m.frame_states frame_states → seat_references m.frame_seat b.at ≡ 0
-    → (links : List Link) (lists : List Lru) → AllJoin m.links m.lists g b.at links lists
-    → AllDone t w m c (λ p q. TakesBlock g b.order b.at p.machine q.machine) (taken_steps g b.order b.at) (taken_machine m g b blocks frame_states links lists) c free
-taken_here t w m c ok facts g fits b may room rise before free blocks was front takes areas frame_states placed unreferred links lists joined =
-    let n = taken_machine m g b blocks frame_states links lists in
-    let block = taken_inside m.frame_states m.blocks ok.areas before free was b.order b front takes in
-    let were_free = taken_free m.frame_states m.blocks ok.areas before free was b.order b front takes in
-    let head = head_free m.frame_states m.blocks ok.areas before free was b.order b front takes in
-    let sized = ok.sizes.frame_states in
-    let inside : b.at < t.frames = let h = head_inside m.frame_states m.blocks ok.areas before free was b.order b front takes in omega (arith, h, sized) in
-    let frees : free ≡ free_of frame_states = free_then m.frame_states m.blocks ok.areas before free was b.order b front takes frame_states g placed in
-    let maximal : AreMaximalBlocks (free_of frame_states) blocks = subst (λ (l : List Bool). AreMaximalBlocks l blocks) frees areas in
-    let used : IsUsed (unfrozen 1 (note_of m.frame_seat.view b.at)) = record {
-      own = refl;
-      borrowed = (ok.frame_states b.at inside).borrowed;
-      lent = no_cpu_is (note_of m.frame_seat.view b.at).lent ((ok.frame_states b.at inside).lent ∙ ap cpu_lent_to head);
-      references = let r : (note_of m.frame_seat.view b.at).references ≡ 0 = unreferred in omega (arith, r);
-    } in
-    let joins : JoinsCharges t w m g (2 ^ b.order) frame_states blocks (with_charge m.ledger g (2 ^ b.order)) m.stock_seat = record {
-      areas = maximal;
-      table = ok.seats.table;
-      stocks = ok.seats.stocks;
-      absorbed = ok.absorbed;
-      bounded = ok.bounded;
-      charged = λ h. let a = rise h in let old = ok.charged h in omega (arith, a, old);
-    } in
-    record {
-      consistent = unit_kept t w m ok g fits b block frame_states placed (ap frame_state_group head) (λ x low high ne. were_free x low high) links lists joined
-          (unfrozen 1) used blocks (with_charge m.ledger g (2 ^ b.order)) m.stock_seat m.counts joins ok.balances;
-      free_is = frees;
-      does = record {
-        room = room;
-        front = front;
-        areas = maximal;
-        unit = placed;
-        listed = joined.joins;
-        machine = refl;
-      };
-      visit = unfrozen_visits t m n c b.at refl may.visit;
-      steps = taken_run t m c g b may.there may.alive may.usage room inside (seen_free t m c sized b block were_free) (ap (times b.at) may.none_back) n
-          (record {
-            frame_states = placed.records;
-            references = one_more_reference m.frame_seat b.at;
-            hold = refl;
-            groups = refl;
-            killed = refl;
-            stock_seat = refl;
-            counts = refl;
-          }) facts (λ h. refl) (same_events (with_charge m.ledger g (2 ^ b.order)));
-    }
+  inside : b.at < t.frames
+  inside = let some = pow_pos b.order in let h = block.inside in let sized = ok.sizes.frame_states in omega (arith, h, sized, some)
 
-pub taken_all : (t : KnownTable) (w : KnownStockTable) (m now : KnownMachine) → m ≡ now → (c d : KnownCpu) → d ≡ c → IsConsistent t w m → AreCharges m.ledger → (g : ℕ) → g < 64
-    → (k pages : ℕ) → pages ≡ 2 ^ k → MayTake t now c g → PathHasRoom m.ledger.groups (current_of m.ledger) g pages → (ledger : Ledger) → ledger ≡ with_charge m.ledger g pages
+  here_free : frame_state_at m.frame_states b.at ≡ Free
+  here_free = let some = pow_pos b.order in free b.at (omega arith) (omega (arith, some))
+
+  no_list : home_of m.links b.at ≡ None
+  no_list = homeless (home_of m.links b.at) (frame_state_at m.frame_states b.at) here_free (ok.frame_states b.at inside)
+
+  unreferred : (local_of t m).references 0 b.at ≡ 0
+  unreferred = shown.references b.at ∙ ap (λ (h : Option Home). one_if (is_some h)) no_list
+
+  frame_is : is_frame (local_of t m).zone b.at ≡ true
+  frame_is = ap (λ (z : Zone). is_frame z b.at) (zone_seen t m.run.past) ∙ lt-ltb b.at t.frames inside
+
+  head_bare : placed.phases b.at ≡ phase.Head unit Bare
+  head_bare =
+      ap (λ (x : Bool). cond x (placed_phase g b b.at) ((local_of t m).phases b.at)) head_within
+      ∙ ap (λ (x : Bool). cond x (phase.Head unit Bare) (phase.Tail g)) (eq-eqb b.at b.at refl)
+
+  head_live : kept.phases b.at ≡ phase.Head unit Live
+  head_live = at_same placed.phases b.at (at_stage Live (placed.phases b.at)) ∙ ap (at_stage Live) head_bare
+
+  head_held : kept.references 0 b.at ≡ 1
+  head_held =
+      let none = unreferred in
+      at_same ((local_of t m).references 0) b.at ((local_of t m).references 0 b.at + 1) ∙ omega (arith, none)
+
+  may_unfreeze : is_legal placed 0 (Unfreeze b.at 1) ≡ true
+  may_unfreeze = and_from _ _ (and_from _ _ (and_from _ _ (and_from _ _ (zone_acts t m.run.past held) frame_is) (ap is_head_in_hand head_bare)) refl) refl
+
+  may_publish : is_legal kept 0 (Publish b.at) ≡ true
+  may_publish = and_from _ _ (and_from _ _ (and_from _ _ (zone_acts t m.run.past held) frame_is) (ap is_head head_live))
+      (le-leb 1 (kept.references 0 b.at) (let e = head_held in omega (arith, e)))
+
+  -- the rules of the steps see it free
+  seen_free : IsFreeBlock (free_in (local_of t m).zone (local_of t m).phases) b
+  seen_free =
+      let sized = ok.sizes.frame_states in
+      let same = ap (λ (z : Zone). z.frames) (zone_seen t m.run.past) in
+      let long : length m.frame_states ≡ length (free_in (local_of t m).zone (local_of t m).phases) =
+      sized ∙ sym same ∙ sym (length-map-range_with_len (λ f. phases.is_free ((local_of t m).phases f)) 0 (local_of t m).zone.frames) in
+      record {
+        block = subst (λ (n : ℕ). IsBlock n b) long block;
+        all_free = λ f covers.
+            let high = block.inside in
+            let before = covers.before in
+            let below : f < (local_of t m).zone.frames = omega (arith, high, before, sized, same) in
+            get_or-map-range_with_len (λ x. phases.is_free ((local_of t m).phases x)) 0 (local_of t m).zone.frames f f false below (omega arith)
+            ∙ is_free_seen t m (local_of t m) shown f ∙ ap is_free_state (free f covers.from covers.before);
+      }
+
+  pub taken_leads : IsLocalRun (lock_holder m) (local_of t m) (taken_steps g b.order b.at) (fold after_made (local_of t m) (taken_steps g b.order b.at))
+  taken_leads = (
+    is_granted t m ok facts held (lock_holder m) g there alive (2 ^ b.order) path,
+    (
+      zone_step granted (lock_holder m) (PlaceBlock g b.order) (Placed b) refl
+          (may_place t m ok facts held (lock_holder m) g there (2 ^ b.order) b.order (omega arith)) (refl, seen_free),
+      (
+        zone_step placed (lock_holder m) (Unfreeze b.at 1) Done refl may_unfreeze tt,
+        (zone_step kept (lock_holder m) (Publish b.at) Done refl may_publish tt, refl),
+      ),
+    ),
+  )
+
+  -- ---- what it leaves
+
+  module _ (frame_states : List FrameState) (places : PlacesUnit g b m.frame_states frame_states) (links : List Link) (lists : List Lru)
+      (joined : AllJoin m.links m.lists g b.at links lists) (fits : g < 64) where
+    phases_then : (f : ℕ) → hide_phase (kept.phases f) ≡ phase_hidden (frame_state_at frame_states f)
+    phases_then f = elim (cases_eq f b.at) [
+      | inl e ↦ ap hide_phase (ap kept.phases e ∙ head_live) ∙ sym (ap phase_hidden (places.records f ∙ head_of_block m.frame_states g b f e))
+      | inr ne ↦ ap hide_phase (at_other placed.phases b.at (at_stage Live (placed.phases b.at)) f ne) ∙ elim (within_cases b.at (2 ^ b.order) f) [
+        | inl w ↦ ap (λ (x : Bool). hide_phase (cond x (placed_phase g b f) ((local_of t m).phases f))) w.0
+            ∙ ap (λ (x : Bool). hide_phase (cond x (phase.Head unit Bare) (phase.Tail g))) (ne_eqb f b.at ne)
+            ∙ sym (ap phase_hidden (places.records f ∙ tail_of_block m.frame_states g b f w.0 ne))
+        | inr out ↦ ap (λ (x : Bool). hide_phase (cond x (placed_phase g b f) ((local_of t m).phases f))) out.0 ∙ shown.phases f
+            ∙ sym (ap phase_hidden (places.records f ∙ off_block m.frame_states g b f out.0))
+      ]
+    ]
+
+    references_then : (f : ℕ) → kept.references 0 f ≡ one_if (is_some (home_of links f))
+    references_then f = elim (cases_eq f b.at) [
+      | inl e ↦ ap (kept.references 0) e ∙ head_held ∙ sym (ap (λ (h : Option Home). one_if (is_some h)) (ap (home_of links) e ∙ joined.joins.home))
+      | inr ne ↦ at_other ((local_of t m).references 0) b.at ((local_of t m).references 0 b.at + 1) f ne ∙ shown.references f
+          ∙ sym (ap (λ (h : Option Home). one_if (is_some h)) (joined.joins.homes f ne))
+    ]
+
+    homes_fit : (f : ℕ) → f < t.frames → FitsFrameState (home_of links f) (frame_state_at frame_states f)
+    homes_fit f within = elim (cases_eq f b.at) [
+      | inl e ↦ subst (λ (x : Option Home × FrameState). FitsFrameState x.0 x.1)
+          (λ i. (sym (ap (home_of links) e ∙ joined.joins.home) i, sym (places.records f ∙ head_of_block m.frame_states g b f e) i)) (fits, refl)
+      | inr ne ↦ subst (λ (h : Option Home). FitsFrameState h (frame_state_at frame_states f)) (sym (joined.joins.homes f ne)) (elim (within_cases b.at (2 ^ b.order) f) [
+        | inl w ↦ subst (λ (h : Option Home). FitsFrameState h (frame_state_at frame_states f))
+            (sym (homeless (home_of m.links f) (frame_state_at m.frame_states f) (free f w.1 w.2) (ok.frame_states f within))) tt
+        | inr out ↦ subst (FitsFrameState (home_of m.links f)) (sym (places.records f ∙ off_block m.frame_states g b f out.0)) (ok.frame_states f within)
+      ])
+    ]
+
+    module _ (blocks : List Block) (areas : AreMaximalBlocks (free_of frame_states) blocks) (rise : PagesRise m.ledger (with_charge m.ledger g (2 ^ b.order)) g (2 ^ b.order))
+        (run : KnownRun) (noted : Notes t m.run (taken_steps g b.order b.at) run) where
+      abbrev then : KnownMachine
+      then = record m { blocks = blocks; frame_states = frame_states; ledger = with_charge m.ledger g (2 ^ b.order); links = links; lists = lists; run = run }
+
+      uncharged : (f : ℕ) → b.at ≤ f → f < b.at + 2 ^ b.order → frame_state_group (frame_state_at m.frame_states f) ≡ None
+      uncharged f low high = ap frame_state_group (free f low high)
+
+      pub taken_consistent : IsConsistent t (record m { blocks = blocks; frame_states = frame_states; ledger = with_charge m.ledger g (2 ^ b.order); links = links; lists = lists; run = run })
+      taken_consistent = record {
+        sizes = record {
+          frame_states = places.frames ∙ ok.sizes.frame_states;
+          links = joined.frames ∙ ok.sizes.links;
+          lists = joined.groups;
+          killed = ok.sizes.killed;
+        };
+        areas = areas;
+        frame_states = homes_fit;
+        units = units_placed m.frame_states frame_states g b places block uncharged ok.units;
+        lists = joined.stand;
+        balances = ok.balances;
+        shown = subst (IsShownBy t then) (sym (left_then t m (taken_steps g b.order b.at) run held noted)) (record {
+          groups = shown.groups;
+          killed = shown.killed;
+          phases = phases_then;
+          references = references_then;
+          settled = none_pends t m ok facts held (lock_holder m) g there (2 ^ b.order);
+          absorbed = shown.absorbed;
+          bounded = shown.bounded;
+          charged = λ h.
+              let a = rise h in
+              let old = shown.charged h in
+              let c = charges_rise m.frame_states frame_states g b places block uncharged h in
+              omega (arith, a, old, c);
+        });
+      }
+
+      pub taken_makes : Makes t m (taken_steps g b.order b.at)
+          (record m { blocks = blocks; frame_states = frame_states; ledger = with_charge m.ledger g (2 ^ b.order); links = links; lists = lists; run = run })
+      taken_makes = makes t m then (taken_steps g b.order b.at) held noted taken_leads
+          (follows_grant (local_of t m) m.ledger shown.groups facts (usage_is t m ok facts held) g (2 ^ b.order) there
+          (zone_makes (PlaceBlock g b.order) (Placed b) ∷ zone_makes (Unfreeze b.at 1) Done ∷ zone_makes (Publish b.at) Done ∷ []) refl
+          (with_charge m.ledger g (2 ^ b.order)) (λ h. refl) (same_events (with_charge m.ledger g (2 ^ b.order)))) refl
+
+      pub taken_visits : StaysVisited t m
+          (record m { blocks = blocks; frame_states = frame_states; ledger = with_charge m.ledger g (2 ^ b.order); links = links; lists = lists; run = run })
+      taken_visits = zone_visited t m then (taken_steps g b.order b.at) noted refl refl (λ p some. at_other (local_of t m).references 0 _ p some)
+
+-- what is left of the machine as it was seen before
+pub record AllTaken (t : KnownTable) (now n : KnownMachine) (g k f : ℕ) (free : List Bool) : Type 0 where
+  pub consistent : IsConsistent t n
+  pub free_is : free ≡ free_of n.frame_states
+  pub takes : TakesBlock g k f now n
+  pub visit : StaysVisited t now n
+  pub steps : Makes t now (taken_steps g k f) n
+
+pub taken_all : (t : KnownTable) (m now : KnownMachine) → m ≡ now → IsConsistent t m → AreCharges m.ledger → IsHeld t now.run.past → (g : ℕ) → g < 64
+    → (k pages : ℕ) → pages ≡ 2 ^ k → MayCharge now g (2 ^ k) → PathHasRoom m.ledger.groups (current_of m.ledger) g pages → (ledger : Ledger) → ledger ≡ with_charge m.ledger g pages
     → PagesRise m.ledger ledger g pages → (before free : List Bool) (b : Block) (blocks : List Block) → before ≡ free_of m.frame_states
     → IsFrontOfSmallest m.blocks k b → TakesFrames before b free → AreMaximalBlocks free blocks → (frame_states : List FrameState) → PlacesUnit g b m.frame_states frame_states
-    → (f u : ℕ) → f ≡ b.at → u ≡ f → seat_references m.frame_seat f ≡ 0 → (seat : KnownSeat) → seat ≡ seat_with m.frame_seat f (unfrozen 1)
-    → (links : List Link) (lists : List Lru) → AllJoin m.links m.lists g u links lists
-    → AllDone t w now c (λ p q. TakesBlock g k f p.machine q.machine) (taken_steps g k f) (record m { blocks = blocks; frame_states = frame_states; ledger = ledger; links = links; lists = lists; frame_seat = seat }) d free
-taken_all t w m now same c d stays ok facts g fits k pages size may room ledger charged rise before free b blocks was front takes areas frame_states placed f u at unit
-    unreferred seat seat_is links lists joined =
+    → (f u : ℕ) → f ≡ b.at → u ≡ f → (links : List Link) (lists : List Lru) → AllJoin m.links m.lists g u links lists
+    → (run : KnownRun) → Notes t m.run (taken_steps g k f) run
+    → AllTaken t now (record m { blocks = blocks; frame_states = frame_states; ledger = ledger; links = links; lists = lists; run = run }) g k f free
+taken_all t m now same ok facts held_now g fits k pages size may_now room ledger charged rise before free b blocks was front takes areas_free frame_states placed f u at named links lists
+    joined run noted =
+    let held = held_here t m now same held_now in
+    let may = charge_here m now same g (2 ^ k) may_now in
     let order : k ≡ b.order = sym front.order_is in
     let so_many : pages ≡ 2 ^ b.order = size ∙ ap (λ (x : ℕ). 2 ^ x) order in
-    let may_here : MayTake t m c g = subst (λ (x : KnownMachine). MayTake t x c g) (sym same) may in
-    let room_here : PathHasRoom m.ledger.groups (current_of m.ledger) g (2 ^ b.order) =
-    subst (PathHasRoom m.ledger.groups (current_of m.ledger) g) so_many room in
+    let room_here : PathHasRoom m.ledger.groups (current_of m.ledger) g (2 ^ b.order) = subst (PathHasRoom m.ledger.groups (current_of m.ledger) g) so_many room in
     let ledger_is : ledger ≡ with_charge m.ledger g (2 ^ b.order) = charged ∙ ap (with_charge m.ledger g) so_many in
     let rise_here : PagesRise m.ledger (with_charge m.ledger g (2 ^ b.order)) g (2 ^ b.order) =
     subst (λ (x : Ledger × ℕ). PagesRise m.ledger x.0 g x.1) (λ j. (ledger_is j, so_many j)) rise in
     let front_here : IsFrontOfSmallest m.blocks b.order b = subst (λ (x : ℕ). IsFrontOfSmallest m.blocks x b) order front in
-    let unreferred_here : seat_references m.frame_seat b.at ≡ 0 = subst (λ (x : ℕ). seat_references m.frame_seat x ≡ 0) at unreferred in
-    let joined_here : AllJoin m.links m.lists g b.at links lists = subst (λ (x : ℕ). AllJoin m.links m.lists g x links lists) (unit ∙ at) joined in
-    let seat_here : seat ≡ seat_with m.frame_seat b.at (unfrozen 1) = seat_is ∙ ap (λ (x : ℕ). seat_with m.frame_seat x (unfrozen 1)) at in
-    subst (λ (x : KnownMachine × KnownMachine × KnownCpu × ℕ × ℕ). AllDone t w x.0 c (λ p q. TakesBlock g x.3 x.4 p.machine q.machine) (taken_steps g x.3 x.4) x.1 x.2 free)
+    let joined_here : AllJoin m.links m.lists g b.at links lists = subst (λ (x : ℕ). AllJoin m.links m.lists g x links lists) (named ∙ at) joined in
+    let noted_here : Notes t m.run (taken_steps g b.order b.at) run = subst (λ (x : ℕ × ℕ). Notes t m.run (taken_steps g x.0 x.1) run) (λ j. (order j, at j)) noted in
+    let block = taken_inside m.frame_states m.blocks ok.areas before free was b.order b front_here takes in
+    let were_free = taken_free m.frame_states m.blocks ok.areas before free was b.order b front_here takes in
+    let frees : free ≡ free_of frame_states = free_then m.frame_states m.blocks ok.areas before free was b.order b front_here takes frame_states g placed in
+    let areas : AreMaximalBlocks (free_of frame_states) blocks = subst (λ (l : List Bool). AreMaximalBlocks l blocks) frees areas_free in
+    subst (λ (x : KnownMachine × KnownMachine × ℕ × ℕ). AllTaken t x.0 x.1 g x.2 x.3 free)
     (λ j. (
       same j,
-      record m {
-        blocks = blocks;
-        frame_states = frame_states;
-        ledger = sym ledger_is j;
-        links = links;
-        lists = lists;
-        frame_seat = sym seat_here j;
-      },
-      sym stays j,
+      record m { blocks = blocks; frame_states = frame_states; ledger = sym ledger_is j; links = links; lists = lists; run = run },
       sym order j,
       sym at j,
     ))
-    (taken_here t w m c ok facts g fits b may_here room_here rise_here before free blocks was front_here takes areas frame_states placed unreferred_here links lists joined_here)
+    (record {
+      consistent = taken_consistent t m ok facts held g b may.there may.alive room_here block were_free frame_states placed links lists joined_here fits blocks areas rise_here run noted_here;
+      free_is = frees;
+      takes = record { room = room_here; front = front_here; areas = areas; unit = placed; listed = joined_here.joins; machine = refl };
+      visit = taken_visits t m ok facts held g b may.there may.alive room_here block were_free frame_states placed links lists joined_here fits blocks areas rise_here run noted_here;
+      steps = taken_makes t m ok facts held g b may.there may.alive room_here block were_free frame_states placed links lists joined_here fits blocks areas rise_here run noted_here;
+    })
+
+-- the head was on no list
+pub was_away : (t : KnownTable) (m : KnownMachine) → IsConsistent t m → (before free : List Bool) (b : Block) → before ≡ free_of m.frame_states → (k : ℕ)
+    → IsFrontOfSmallest m.blocks k b → TakesFrames before b free → (f u : ℕ) → f ≡ b.at → u ≡ f → home_of m.links u ≡ None
+was_away t m ok before free b was k front takes f u head named =
+    let sized = ok.sizes.frame_states in
+    let low = head_inside m.frame_states m.blocks ok.areas before free was k b front takes in
+    ap (home_of m.links) (named ∙ head)
+    ∙ homeless (home_of m.links b.at) (frame_state_at m.frame_states b.at) (head_free m.frame_states m.blocks ok.areas before free was k b front takes)
+    (ok.frame_states b.at (omega (arith, sized, low)))
 
 -- the grant may be made, if there is room
-pub granted_may : (t : KnownTable) (m now : KnownMachine) → m ≡ now → (c : KnownCpu) → IsSeenByRun t (visit_state now c) → (g pages : ℕ) → MayTake t now c g
+pub granted_may : (t : KnownTable) (m now : KnownMachine) → m ≡ now → IsConsistent t m → AreCharges m.ledger → IsHeld t now.run.past → (g k pages : ℕ) → MayCharge now g (2 ^ k)
     → PathHasRoom m.ledger.groups (current_of m.ledger) g pages → MayTakeAll t m.run.past (zone_makes (Grant g pages) Granted ∷ [])
-granted_may t m now same c at g pages may room =
-    let here : MayTake t m c g = subst (λ (x : KnownMachine). MayTake t x c g) (sym same) may in
-    may_make t m now same c at (zone_makes (Grant g pages) Granted ∷ [])
-    (subst (λ (x : KnownMachine). AreLocal c.number (local_of t x c) (zone_makes (Grant g pages) Granted ∷ [])) same
-    (is_granted t m c g pages here.there here.alive here.usage room, tt))
+granted_may t m now same ok facts held g k pages may_now room =
+    let may = charge_here m now same g (2 ^ k) may_now in
+    may_steps t m (zone_makes (Grant g pages) Granted ∷ []) _
+    (is_granted t m ok facts (held_here t m now same held) (lock_holder m) g may.there may.alive pages room, refl)
 
 -- the steps, with the pages and the frame as the code names them
 abbrev pub taken_as : (g pages k at : ℕ) → Run
@@ -318,21 +382,18 @@ taken_as g pages k at =
     zone_makes (Grant g pages) Granted ∷ zone_makes (PlaceBlock g k) (Placed (record { at = at; order = k })) ∷ zone_makes (Unfreeze at 1) Done ∷ zone_makes (Publish at) Done ∷ []
 
 -- they may be made, once the block is known
-pub taken_may : (t : KnownTable) (w : KnownStockTable) (m now : KnownMachine) → m ≡ now → (c : KnownCpu) → IsSeenByRun t (visit_state now c) → IsConsistent t w m → (g k pages : ℕ) → pages ≡ 2 ^ k
-    → MayTake t now c g → PathHasRoom m.ledger.groups (current_of m.ledger) g pages → (before free : List Bool) (b : Block) → before ≡ free_of m.frame_states
+pub taken_may : (t : KnownTable) (m now : KnownMachine) → m ≡ now → IsConsistent t m → AreCharges m.ledger → IsHeld t now.run.past → (g k pages : ℕ) → pages ≡ 2 ^ k
+    → MayCharge now g (2 ^ k) → PathHasRoom m.ledger.groups (current_of m.ledger) g pages → (before free : List Bool) (b : Block) → before ≡ free_of m.frame_states
     → IsFrontOfSmallest m.blocks k b → TakesFrames before b free → (f u : ℕ) → f ≡ b.at → u ≡ f → MayTakeAll t m.run.past (taken_as g pages k u)
-taken_may t w m now same c at ok g k pages size may room before free b was front takes f u head named =
+taken_may t m now same ok facts held g k pages size may_now room before free b was front takes f u head named =
+    let may = charge_here m now same g (2 ^ k) may_now in
     let order : k ≡ b.order = sym front.order_is in
     let so_many : pages ≡ 2 ^ b.order = size ∙ ap (λ (x : ℕ). 2 ^ x) order in
-    let here : MayTake t m c g = subst (λ (x : KnownMachine). MayTake t x c g) (sym same) may in
     let front_b : IsFrontOfSmallest m.blocks b.order b = subst (λ (x : ℕ). IsFrontOfSmallest m.blocks x b) order front in
-    let were_free = taken_free m.frame_states m.blocks ok.areas before free was b.order b front_b takes in
-    let sized = ok.sizes.frame_states in
-    let inside : b.at < t.frames = let h = head_inside m.frame_states m.blocks ok.areas before free was b.order b front_b takes in omega (arith, h, sized) in
-    let all = place_local t m c g b here.there here.alive here.usage (subst (PathHasRoom m.ledger.groups (current_of m.ledger) g) so_many room) inside
-    (seen_free t m c sized b (taken_inside m.frame_states m.blocks ok.areas before free was b.order b front_b takes) were_free) (ap (times b.at) here.none_back) in
     subst (λ (x : ℕ × ℕ × ℕ). MayTakeAll t m.run.past (taken_as g x.0 x.1 x.2)) (λ j. (sym so_many j, sym order j, sym (named ∙ head) j))
-    (may_make t m now same c at (taken_steps g b.order b.at) (subst (λ (x : KnownMachine). AreLocal c.number (local_of t x c) (taken_steps g b.order b.at)) same all))
+    (may_steps t m (taken_steps g b.order b.at) _
+    (taken_leads t m ok facts (held_here t m now same held) g b may.there may.alive (subst (PathHasRoom m.ledger.groups (current_of m.ledger) g) so_many room)
+    (taken_inside m.frame_states m.blocks ok.areas before free was b.order b front_b takes) (taken_free m.frame_states m.blocks ok.areas before free was b.order b front_b takes)))
 
 -- the table takes the third step of frame f, which the code names u elsewhere
 pub taken_notes : (t : KnownTable) (a b d e s : KnownRun) (g k pages f u : ℕ) → pages ≡ 2 ^ k → u ≡ f → Notes t a (zone_makes (Grant g pages) Granted ∷ []) b
@@ -348,27 +409,86 @@ taken_notes t a b d e s g k pages f u size named grants places made watched publ
 
 -- ---- no block
 
--- what it leaves if there is none
-pub record NoneTaken (t : KnownTable) (now : KnownMachine) (c : KnownCpu) (g k : ℕ) (n : KnownMachine) (d : KnownCpu) : Type 0 where
-  pub none : TakesNoBlock g k now n
-  pub steps : LeadsAs t c.number (visit_state now c) (unplaced_steps g k) (visit_state n d)
+module _ (t : KnownTable) (m : KnownMachine) (ok : IsConsistent t m) (facts : AreCharges m.ledger) (held : IsHeld t m.run.past) (g k : ℕ)
+    (there : has_group m.ledger.groups g ≡ true) (alive : is_killed m.killed g ≡ false)
+    (path : PathHasRoom m.ledger.groups (current_of m.ledger) g (2 ^ k)) (none : HasNoneFrom m.blocks k) where
+  none_shown : IsShownBy t m (hide (local_of t m))
+  none_shown = shown_seen t m ok held
 
-pub none_all : (t : KnownTable) (w : KnownStockTable) (m now : KnownMachine) → m ≡ now → (c d : KnownCpu) → d ≡ c → IsConsistent t w m → AreCharges m.ledger → (g k pages : ℕ) → pages ≡ 2 ^ k
-    → MayTake t now c g → PathHasRoom m.ledger.groups (current_of m.ledger) g pages → (charged ledger : Ledger) → charged ≡ with_charge m.ledger g pages → ledger ≡ with_uncharge charged g pages
-    → (blocks : List Block) → blocks ≡ m.blocks → HasNoneFrom m.blocks k → NoneTaken t now c g k (record m { blocks = blocks; ledger = ledger }) d
-none_all t w m now same c d stays ok facts g k pages size may room charged ledger rises falls blocks kept none =
-    let may_here : MayTake t m c g = subst (λ (x : KnownMachine). MayTake t x c g) (sym same) may in
+  pub none_leads : IsLocalRun (lock_holder m) (local_of t m) (unplaced_steps g k) (fold after_made (local_of t m) (unplaced_steps g k))
+  none_leads = (
+    is_granted t m ok facts held (lock_holder m) g there alive (2 ^ k) path,
+    (is_not_placed t m ok held facts (lock_holder m) g there (2 ^ k) k (omega arith) none, (is_taken_back t m ok facts held (lock_holder m) g there (2 ^ k), refl)),
+  )
+
+  module _ (rise : PagesRise m.ledger (with_charge m.ledger g (2 ^ k)) g (2 ^ k)) (run : KnownRun) (noted : Notes t m.run (unplaced_steps g k) run) where
+    abbrev unplaced : KnownMachine
+    unplaced = record m { ledger = with_uncharge (with_charge m.ledger g (2 ^ k)) g (2 ^ k); run = run }
+
+    same_pages : (h : ℕ) → pages_of (with_uncharge (with_charge m.ledger g (2 ^ k)) g (2 ^ k)) h ≡ pages_of m.ledger h
+    same_pages h =
+        let own = rise g in
+        let here = cond-true (g == g) (2 ^ k) 0 (eq-eqb g g refl) in
+        let up = rise h in
+        let down = uncharge_pages (with_charge m.ledger g (2 ^ k)) g (2 ^ k) (omega (arith, own, here)) h in
+        omega (arith, up, down)
+
+    pub none_consistent : IsConsistent t (record m { ledger = with_uncharge (with_charge m.ledger g (2 ^ k)) g (2 ^ k); run = run })
+    none_consistent = record {
+      sizes = record { frame_states = ok.sizes.frame_states; links = ok.sizes.links; lists = ok.sizes.lists; killed = ok.sizes.killed };
+      areas = ok.areas;
+      frame_states = ok.frame_states;
+      units = ok.units;
+      lists = ok.lists;
+      balances = ok.balances;
+      shown = subst (IsShownBy t unplaced) (sym (left_then t m (unplaced_steps g k) run held noted)) (record {
+        groups = none_shown.groups;
+        killed = none_shown.killed;
+        phases = none_shown.phases;
+        references = none_shown.references;
+        settled = none_pends t m ok facts held (lock_holder m) g there (2 ^ k);
+        absorbed = none_shown.absorbed;
+        bounded = none_shown.bounded;
+        charged = λ h. same_pages h ∙ none_shown.charged h;
+      });
+    }
+
+    pub none_makes : Makes t m (unplaced_steps g k) (record m { ledger = with_uncharge (with_charge m.ledger g (2 ^ k)) g (2 ^ k); run = run })
+    none_makes = makes t m unplaced (unplaced_steps g k) held noted none_leads
+        (follows_grant (local_of t m) m.ledger none_shown.groups facts (usage_is t m ok facts held) g (2 ^ k) there
+        (zone_makes (PlaceBlock g k) NoFreeBlock ∷ zone_makes (Ungrant g (2 ^ k)) Done ∷ []) refl unplaced.ledger
+        (uncharge_peaks (with_charge m.ledger g (2 ^ k)) g (2 ^ k)) (uncharge_events (with_charge m.ledger g (2 ^ k)) g (2 ^ k))) refl
+
+    pub none_visits : StaysVisited t m (record m { ledger = with_uncharge (with_charge m.ledger g (2 ^ k)) g (2 ^ k); run = run })
+    none_visits = zone_visited t m unplaced (unplaced_steps g k) noted refl refl (λ p some. refl)
+
+-- what is left if there is none
+pub record NoneTaken (t : KnownTable) (now n : KnownMachine) (g k : ℕ) : Type 0 where
+  pub consistent : IsConsistent t n
+  pub none : TakesNoBlock g k now n
+  pub visit : StaysVisited t now n
+  pub steps : Makes t now (unplaced_steps g k) n
+
+pub none_all : (t : KnownTable) (m now : KnownMachine) → m ≡ now → IsConsistent t m → AreCharges m.ledger → IsHeld t now.run.past → (g k pages : ℕ) → pages ≡ 2 ^ k
+    → MayCharge now g (2 ^ k) → PathHasRoom m.ledger.groups (current_of m.ledger) g pages → (charged ledger : Ledger) → charged ≡ with_charge m.ledger g pages
+    → PagesRise m.ledger charged g pages → ledger ≡ with_uncharge charged g pages
+    → (blocks : List Block) → blocks ≡ m.blocks → HasNoneFrom m.blocks k → (run : KnownRun) → Notes t m.run (unplaced_steps g k) run
+    → NoneTaken t now (record m { blocks = blocks; ledger = ledger; run = run }) g k
+none_all t m now same ok facts held_now g k pages size may_now room charged ledger rises rise falls blocks kept none run noted =
+    let held = held_here t m now same held_now in
+    let may = charge_here m now same g (2 ^ k) may_now in
     let room_here : PathHasRoom m.ledger.groups (current_of m.ledger) g (2 ^ k) = subst (PathHasRoom m.ledger.groups (current_of m.ledger) g) size room in
-    let after : Ledger = with_uncharge (with_charge m.ledger g (2 ^ k)) g (2 ^ k) in
-    let ledger_is : ledger ≡ after = falls ∙ (λ j. with_uncharge (rises j) g pages) ∙ (λ j. with_uncharge (with_charge m.ledger g (size j)) g (size j)) in
-    let enough : 2 ^ k ≤ 2 ^ k = omega arith in
-    let n : KnownMachine = record m { ledger = after } in
-    subst (λ (x : KnownMachine × KnownMachine × KnownCpu). NoneTaken t x.0 c g k x.1 x.2)
-    (λ j. (same j, record m { blocks = sym kept j; ledger = sym ledger_is j }, sym stays j))
+    let rise_here : PagesRise m.ledger (with_charge m.ledger g (2 ^ k)) g (2 ^ k) =
+    subst (λ (x : Ledger × ℕ). PagesRise m.ledger x.0 g x.1) (λ j. ((rises ∙ ap (with_charge m.ledger g) size) j, size j)) rise in
+    let after_both : Ledger = with_uncharge (with_charge m.ledger g (2 ^ k)) g (2 ^ k) in
+    let ledger_is : ledger ≡ after_both = falls ∙ (λ j. with_uncharge (rises j) g pages) ∙ (λ j. with_uncharge (with_charge m.ledger g (size j)) g (size j)) in
+    subst (λ (x : KnownMachine × KnownMachine). NoneTaken t x.0 x.1 g k)
+    (λ j. (same j, record m { blocks = sym kept j; ledger = sym ledger_is j; run = run }))
     (record {
+      consistent = none_consistent t m ok facts held g k may.there may.alive room_here none rise_here run noted;
       none = record { room = room_here; none = none; machine = refl };
-      steps = unplaced_run t m c g (2 ^ k) may_here.there may_here.alive may_here.usage k enough ok.sizes.frame_states ok.areas none facts room_here n refl refl
-          (uncharge_peaks (with_charge m.ledger g (2 ^ k)) g (2 ^ k)) (uncharge_events (with_charge m.ledger g (2 ^ k)) g (2 ^ k));
+      visit = none_visits t m ok facts held g k may.there may.alive room_here none rise_here run noted;
+      steps = none_makes t m ok facts held g k may.there may.alive room_here none rise_here run noted;
     })
 
 -- the steps, with the pages as the code names them
@@ -381,10 +501,38 @@ unplaced_notes t a b d s g k pages size grants places takes =
     subst (λ (x : ℕ). Notes t a (unplaced_as g x k) s) size (notes_both t a _ b _ s grants (notes_both t b _ d _ s places takes))
 
 -- they may be made, if there is none
-pub unplaced_may : (t : KnownTable) (w : KnownStockTable) (m now : KnownMachine) → m ≡ now → (c : KnownCpu) → IsSeenByRun t (visit_state now c) → IsConsistent t w m → AreCharges m.ledger
-    → (g k pages : ℕ) → pages ≡ 2 ^ k → MayTake t now c g → PathHasRoom m.ledger.groups (current_of m.ledger) g pages → HasNoneFrom m.blocks k
+pub unplaced_may : (t : KnownTable) (m now : KnownMachine) → m ≡ now → IsConsistent t m → AreCharges m.ledger → IsHeld t now.run.past
+    → (g k pages : ℕ) → pages ≡ 2 ^ k → MayCharge now g (2 ^ k) → PathHasRoom m.ledger.groups (current_of m.ledger) g pages → HasNoneFrom m.blocks k
     → MayTakeAll t m.run.past (unplaced_as g pages k)
-unplaced_may t w m now same c at ok facts g k pages size may room none =
-    let all = none_all t w m now same c c refl ok facts g k pages size may room _ _ refl refl m.blocks refl none in
+unplaced_may t m now same ok facts held g k pages size may_now room none =
+    let may = charge_here m now same g (2 ^ k) may_now in
     subst (λ (x : ℕ). MayTakeAll t m.run.past (unplaced_as g x k)) (sym size)
-    (may_lead_all t m now same c at (unplaced_steps g k) _ all.steps)
+    (may_steps t m (unplaced_steps g k) _ (none_leads t m ok facts (held_here t m now same held) g k may.there may.alive
+    (subst (PathHasRoom m.ledger.groups (current_of m.ledger) g) size room) none))
+
+-- ---- a limit has no room
+
+-- the refused grant changes nothing
+pub refused_step : (t : KnownTable) (m now : KnownMachine) → m ≡ now → IsConsistent t m → AreCharges m.ledger → IsHeld t now.run.past → (g k pages over : ℕ)
+    → MayCharge now g k → IsLowestOver m.ledger.groups (current_of m.ledger) g pages over → (l : Ledger) → l ≡ m.ledger
+    → IsGroupStep t m (zone_makes (Grant g pages) (Over over)) l m.killed
+refused_step t m now same ok facts held_now g k pages over may_now low l unchanged =
+    let held = held_here t m now same held_now in
+    let may = charge_here m now same g k may_now in
+    let shown = shown_seen t m ok held in
+    subst (λ (x : Ledger). IsGroupStep t m (zone_makes (Grant g pages) (Over over)) x m.killed) (sym unchanged) (record {
+      step = is_over t m ok facts held (lock_holder m) g may.there may.alive pages over low;
+      only = refl;
+      groups = shown.groups;
+      killed = shown.killed;
+      follows = follows_same (local_of t m) m.ledger (over_steps g pages over) refl;
+      counts = refl;
+    })
+
+pub refused_all : (t : KnownTable) (m now : KnownMachine) → m ≡ now → IsConsistent t m → AreCharges m.ledger → IsHeld t now.run.past → (g k pages over : ℕ)
+    → MayCharge now g k → IsLowestOver m.ledger.groups (current_of m.ledger) g pages over → (l : Ledger) → l ≡ m.ledger
+    → (run : KnownRun) → Notes t m.run (over_steps g pages over) run
+    → AllGrouped t m now (zone_makes (Grant g pages) (Over over)) (record m { ledger = l; run = run })
+refused_all t m now same ok facts held g k pages over may low l unchanged run noted =
+    grouped t m ok (held_here t m now same held) (zone_makes (Grant g pages) (Over over)) l m.killed
+    (refused_step t m now same ok facts held g k pages over may low l unchanged) (λ h. ap (λ (x : Ledger). pages_of x h) unchanged) ok.sizes.killed run noted now same

@@ -18,19 +18,21 @@ use Rattle.step_rules.specs.Legal.{is_legal, Allows}
 use Rattle.step_rules.specs.Usage.{usage_of}
 use Rattle.step_rules.specs.After.{Run, after, state_of, IsLegalRun}
 use Rattle.step_rules.specs.Laws.{ShowsLocal, IsLocalStep, pushed}
-use Rattle.step_rules.specs.Reaches.{is_own, own_steps, MayFollow, IsInterleaved}
+use Rattle.step_rules.specs.Reaches.{is_own, own_steps, IsLocalRun, MayFollow, IsInterleaved}
 use Rattle.step_rules.specs.Peaks.{IsPeak, peak_follows}
 use Rattle.step_rules.specs.Events.{is_noted_at, is_noted_in_subtree, events_in, events_local_in}
 use Rattle.step_rules.proofs.LegalTests.{grant_tests, make_tests, kill_tests}
 use Rattle.step_rules.proofs.Runs.{allowed, sound_run}
 use Rattle.step_rules.proofs.CoverUsage.{usage_seen}
+use Rattle.step_rules.proofs.Interleaving.{local_runs_interleave}
 use Rattle.step_rules.proofs.LocalLaws.{own_step_is_legal, other_step_is_hidden}
 use Rattle.step_rules.proofs.Peaking.{peaks_are_kept}
 use Rattle.step_rules.proofs.Noting.{events_are_counted}
-use Rattle.mem_machine.specs.Following.{Moves, moved_along, moves_peak, moves_count}
-use Rattle.mem_machine.specs.Local.{local_of, IsLocalRun}
+use Rattle.mem_machine.specs.Following.{Moves, moved_along, moves_peak, moves_count, ExistsAfter}
+use Rattle.mem_machine.specs.Local.{lock_holder, local_of}
 use Rattle.mem_machine.specs.Interleaving.{zone_of}
 use Rattle.mem_machine.specs.Agreeing.{LedgersAgree}
+use Rattle.mem_machine.proofs.Noted.{run_ends}
 use Rattle.mem_machine.proofs.Followed.{is_still, only_made, Stays, Test, still_peak, below_stays, at_stays, count_begins}
 
 -- ---- steps of other CPUs
@@ -179,33 +181,37 @@ module _ (zone : Zone) (p m : ℕ) where
 -- ---- the law
 
 pub ledgers_agree : LedgersAgree
-ledgers_agree t run steps mixed before after shows told makes mixes =
+ledgers_agree t run steps mixed before behind shows told makes mixes =
     let zone = zone_of t in
-    let c = before.cpu in
-    let p = c.number in
-    let a = local_of t before.machine c in
-    let b = local_of t after.machine after.cpu in
+    let p = lock_holder before in
+    let a = local_of t before in
+    let b = local_of t behind in
     let own : IsLocalRun p a (own_steps p mixed) b = subst (λ (r : Run). IsLocalRun p a r b) (sym mixes.own) makes.leads in
+    let shown : ShowsLocal zone (run ++ mixed) p b = local_runs_interleave zone run p a mixed b shows own mixes.follows in
+    let was : (m : ℕ) → has_group a.groups m ≡ true → has_group (state_of zone run).groups m ≡ true = λ m here. ap (λ (s : State). has_group s.groups m) (sym shows.sees) ∙ here in
+    let is : (m : ℕ) → has_group (state_of zone (run ++ mixed)).groups m ≡ true → has_group b.groups m ≡ true = λ m here. ap (λ (s : State). has_group s.groups m) shown.sees ∙ here in
+    let then : (m : ℕ) → has_group (state_of zone (run ++ mixed)).groups m ≡ true → ExistsAfter a steps m =
+    λ m here. ap (λ (s : State). has_group s.groups m) (run_ends p a steps b makes.leads) ∙ is m here in
     record {
       peak = λ m there.
-          subst (IsPeak zone (run ++ mixed) m) (ap (λ (r : Run). moved_along (moves_peak m) a r (peak_of before.machine.ledger m)) mixes.own
-          ∙ sym (makes.follows.peak m there))
+          subst (IsPeak zone (run ++ mixed) m) (ap (λ (r : Run). moved_along (moves_peak m) a r (peak_of before.ledger m)) mixes.own
+          ∙ sym (makes.follows.peak m (then m there)))
           (tells_on zone p m (λ r x. IsPeak zone r m x) (moves_peak m) (peak_own zone p m) (peak_other zone p m)
-          run a mixed b (peak_of before.machine.ledger m) shows own mixes.follows there (told.peak m));
+          run a mixed b (peak_of before.ledger m) shows own mixes.follows (is m there) (λ here. told.peak m (was m here)));
       events = λ key m there.
           let test = is_noted_in_subtree key m in
           let law = λ (r : Run) (e : Step × Answer). (events_are_counted.step zone r e.0 e.1 key m).below in
-          makes.follows.events key m there
-          ∙ ap (λ (r : Run). moved_along (moves_count test m) a r (count_of (events_of before.machine.ledger m) key)) (sym mixes.own)
+          makes.follows.events key m (then m there)
+          ∙ ap (λ (r : Run). moved_along (moves_count test m) a r (count_of (events_of before.ledger m) key)) (sym mixes.own)
           ∙ tells_on zone p m (λ r x. x ≡ events_in key zone r m) (moves_count test m)
           (count_own zone p m test (λ r. events_in key zone r m) law (below_stays key m)) (count_other zone p m test (λ r. events_in key zone r m) law (below_stays key m))
-          run a mixed b (count_of (events_of before.machine.ledger m) key) shows own mixes.follows there (told.events key m);
+          run a mixed b (count_of (events_of before.ledger m) key) shows own mixes.follows (is m there) (λ here. told.events key m (was m here));
       events_local = λ key m there.
           let test = is_noted_at key m in
           let law = λ (r : Run) (e : Step × Answer). (events_are_counted.step zone r e.0 e.1 key m).local in
-          makes.follows.events_local key m there
-          ∙ ap (λ (r : Run). moved_along (moves_count test m) a r (count_of (events_local_of before.machine.ledger m) key)) (sym mixes.own)
+          makes.follows.events_local key m (then m there)
+          ∙ ap (λ (r : Run). moved_along (moves_count test m) a r (count_of (events_local_of before.ledger m) key)) (sym mixes.own)
           ∙ tells_on zone p m (λ r x. x ≡ events_local_in key zone r m) (moves_count test m)
           (count_own zone p m test (λ r. events_local_in key zone r m) law (at_stays key m)) (count_other zone p m test (λ r. events_local_in key zone r m) law (at_stays key m))
-          run a mixed b (count_of (events_local_of before.machine.ledger m) key) shows own mixes.follows there (told.events_local key m);
+          run a mixed b (count_of (events_local_of before.ledger m) key) shows own mixes.follows (is m there) (λ here. told.events_local key m (was m here));
     }

@@ -2,8 +2,6 @@
 use Rattle.std.specs.Prelude.{◌≡◌, ℕ, ◌^◌, ◌==◌, Result, Ok, Err, List, [], ◌∷◌, length, if◌then◌else◌}
 use Rattle.zone_blocks.specs.declared.block.Block.{Block}
 use Rattle.zone_blocks.specs.Areas.{AreMaximalBlocks, HasNoneFrom, IsFrontOfSmallest}
-use Rattle.frame_word.specs.Views.{unfrozen}
-use Rattle.frame_word.specs.Seats.{seat_with}
 use Rattle.group_tree.specs.Room.{PathHasRoom}
 use Rattle.group_charge.specs.Charges.{current_of, with_charge, with_uncharge}
 use Rattle.step_rules.specs.declared.step.Action.TheVariants.{Grant, Ungrant, PlaceBlock, Unfreeze, Publish}
@@ -45,7 +43,6 @@ pub record TakesBlock (group order at : ℕ) (before after : KnownMachine) : Typ
     ledger = with_charge before.ledger group (2 ^ order);
     links = after.links;
     lists = after.lists;
-    frame_seat = seat_with before.frame_seat at (unfrozen 1);
     run = after.run;
   }
 
@@ -59,7 +56,7 @@ pub record TakesNoBlock (group order : ℕ) (before after : KnownMachine) : Type
   }
 
 -- What a refusal leaves. If a limit has no room for the block, the error names the lowest such group, and nothing
--- changed except what the watch saw. Else there is no free block of the order or above, and only the peaks may be
+-- changed except the run. Else there is no free block of the order or above, and only the peaks may be
 -- higher.
 abbrev pub RefusesBlock : ℕ → ℕ → TakeFault → KnownMachine → KnownMachine → Type 0
 RefusesBlock group order (fault.Over over) before after =

@@ -1,8 +1,6 @@
 -- How reclaim tries a kept unit: the unit is frozen and freed if only the zone has a reference, else it is missed.
-use Rattle.std.specs.Prelude.{◌≡◌, ◌≢◌, ℕ, ◌^◌, Option, Some, None, [], ◌∷◌}
+use Rattle.std.specs.Prelude.{◌≡◌, ℕ, ◌^◌, Option, Some, None, [], ◌∷◌}
 use Rattle.zone_blocks.specs.Areas.{AreMaximalBlocks}
-use Rattle.frame_word.specs.Views.{frozen, missed}
-use Rattle.frame_word.specs.Seats.{seat_with}
 use Rattle.group_charge.specs.Notes.{unit_noted}
 use Rattle.group_charge.specs.Charges.{UsageRises, with_uncharge}
 use Rattle.step_rules.specs.declared.phase.ChargedUnit.{ChargedUnit}
@@ -17,19 +15,12 @@ use Rattle.mem_machine.specs.Freeing.{FreesFrames}
 use Rattle.mem_machine.specs.Lists.{LeavesList}
 use Rattle.mem_machine.specs.Steps.{zone_makes}
 
--- someone else has a reference on the frame: the zone's seat notes one more miss, which is counted, and nothing else
--- changed, except what the watch saw
-pub record MissesUnit (frame : ℕ) (before after : KnownMachine) : Type 0 where
-  pub word : ℕ
-  pub others : word ≢ 1
-  pub machine : after ≡ record before {
-    frame_seat = seat_with before.frame_seat frame (missed word);
-    counts = with_miss before.counts;
-    run = after.run;
-  }
+-- someone else has a reference on the unit: one more miss is counted, and nothing else changed, except the run
+abbrev pub MissesUnit : KnownMachine → KnownMachine → Type 0
+MissesUnit before after = after ≡ record before { counts = with_miss before.counts; run = after.run }
 
 -- The unit was frozen and freed. It left its list, its frames are free, and its pages, this many, left the charge of
--- its group. The unit is noted, if freed units are. Nothing else changed, except what the watch saw.
+-- its group. The unit is noted, if freed units are. Nothing else changed, except the run.
 pub record EvictsUnit (frame pages : ℕ) (before after : KnownMachine) : Type 0 where
   pub unit : ChargedUnit
   pub heads : frame_state_at before.frame_states frame ≡ Head unit
@@ -45,7 +36,6 @@ pub record EvictsUnit (frame pages : ℕ) (before after : KnownMachine) : Type 0
     ledger = with_uncharge before.ledger unit.group (2 ^ unit.order);
     links = after.links;
     lists = after.lists;
-    frame_seat = seat_with before.frame_seat frame (frozen 1);
     counts = with_freeze before.counts;
     notes = unit_noted before.notes unit.group frame (2 ^ unit.order);
     run = after.run;
@@ -53,7 +43,7 @@ pub record EvictsUnit (frame pages : ℕ) (before after : KnownMachine) : Type 0
 
 -- what a try leaves, by its result: the number of pages freed, or None for a miss
 abbrev pub Evicts : ℕ → Option ℕ → KnownMachine → KnownMachine → Type 0
-Evicts frame None before after = MissesUnit frame before after
+Evicts frame None before after = MissesUnit before after
 Evicts frame (Some pages) before after = EvictsUnit frame pages before after
 
 -- the steps of a try: the zone freezes the frame and, if that succeeds, the unit is freed

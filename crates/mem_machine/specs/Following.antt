@@ -1,6 +1,7 @@
 -- How a list of steps changes the ledger's peaks and event counts (memory.peak, memory.events and memory.events.local
 -- of cgroup-v2.rst).
 use Rattle.std.specs.Prelude.{◌≡◌, ℕ, Bool, true, List, [], ◌∷◌}
+use Rattle.std.specs.List.{fold}
 use Rattle.group_tree.specs.declared.event.EventKey.{EventKey}
 use Rattle.group_tree.specs.declared.group.Group.{Group}
 use Rattle.group_tree.specs.Events.{count_of}
@@ -13,6 +14,7 @@ use Rattle.step_rules.specs.State.{State}
 use Rattle.step_rules.specs.After.{Run, after}
 use Rattle.step_rules.specs.Peaks.{peak_follows}
 use Rattle.step_rules.specs.Events.{count_after, is_noted_at, is_noted_in_subtree}
+use Rattle.mem_machine.specs.Noted.{after_made}
 
 -- how a step with its answer changes a number, by the state before it
 abbrev pub Moves : Type 0
@@ -41,14 +43,18 @@ peak_along group state steps peak = moved_along (moves_peak group) state steps p
 abbrev pub count_along : (List Group → Action → Answer → Bool) → ℕ → State → Run → ℕ → ℕ
 count_along test group state steps count = moved_along (moves_count test group) state steps count
 
+-- the group exists after these steps from this state on
+abbrev pub ExistsAfter : State → Run → ℕ → Type 0
+ExistsAfter state steps group = has_group (fold after_made state steps).groups group ≡ true
+
 -- For each group that exists after the steps, the peak and the counts follow the steps from their values before. A
 -- group that the steps make starts at 0, whatever its number had before.
 pub record FollowsSteps (state : State) (before : Ledger) (steps : Run) (after : Ledger) : Type 0 where
-  pub peak : (group : ℕ) → has_group after.groups group ≡ true
+  pub peak : (group : ℕ) → ExistsAfter state steps group
       → peak_of after group ≡ peak_along group state steps (peak_of before group)
-  pub events : (key : EventKey) (group : ℕ) → has_group after.groups group ≡ true
+  pub events : (key : EventKey) (group : ℕ) → ExistsAfter state steps group
       → count_of (events_of after group) key
       ≡ count_along (is_noted_in_subtree key group) group state steps (count_of (events_of before group) key)
-  pub events_local : (key : EventKey) (group : ℕ) → has_group after.groups group ≡ true
+  pub events_local : (key : EventKey) (group : ℕ) → ExistsAfter state steps group
       → count_of (events_local_of after group) key
       ≡ count_along (is_noted_at key group) group state steps (count_of (events_local_of before group) key)

@@ -1,8 +1,12 @@
 -- What a frame's record says of it, and which units the records make up.
-use Rattle.std.specs.Prelude.{◌≡◌, ℕ, zero, suc, ◌+◌, ◌^◌, ◌<◌, ◌==◌, Bool, true, false, Option, Some, None, List, length, map, if◌then◌else◌}
+use Rattle.std.specs.Prelude.{◌≡◌, ℕ, ◌+◌, ◌^◌, ◌<◌, ◌==◌, Bool, true, false, Option, Some, None, List, length, map, if◌then◌else◌}
 use Rattle.std.specs.List.{slice_index_or}
 use Rattle.zone_blocks.specs.Block.{IsBlock}
 use Rattle.step_rules.specs.declared.phase.ChargedUnit.{ChargedUnit}
+use Rattle.step_rules.specs.declared.phase.Way.TheVariants.{OnList}
+use Rattle.step_rules.specs.declared.phase.Stage.TheVariants.{Live}
+use Rattle.step_rules.specs.declared.phase.Phase.{Phase}
+use Rattle.step_rules.specs.declared.phase.Phase.TheVariants as phase
 use Rattle.mem_machine.specs.declared.frame_state.FrameState.{FrameState}
 use Rattle.mem_machine.specs.declared.frame_state.FrameState.TheVariants.{Free, Lent, Head, Tail}
 use Rattle.mem_machine.specs.declared.frame_state.Place.{Place}
@@ -21,21 +25,12 @@ is_free_state _ = false
 abbrev pub free_of : List FrameState → List Bool
 free_of frame_states = map is_free_state frame_states
 
--- the frame is in the zone's hand: it is free, or a tail of a charged unit
-abbrev pub is_in_hand : FrameState → Bool
-is_in_hand Free = true
-is_in_hand (Tail group) = true
-is_in_hand _ = false
-
--- the CPU of this number, or None for 0
-abbrev pub some_cpu : ℕ → Option ℕ
-some_cpu zero = None
-some_cpu (suc before) = Some (suc before)
-
--- the CPU that the frame is lent to
-abbrev pub cpu_lent_to : FrameState → Option ℕ
-cpu_lent_to (Lent cpu) = Some cpu
-cpu_lent_to _ = None
+-- the phase of a frame with this record, with every CPU's own frames hidden: a lent frame is on the CPU's list
+abbrev pub phase_hidden : FrameState → Phase
+phase_hidden Free = phase.InZone
+phase_hidden (Lent cpu) = phase.Lent cpu OnList
+phase_hidden (Head unit) = phase.Head unit Live
+phase_hidden (Tail group) = phase.Tail group
 
 -- the unit that the frame heads
 abbrev pub headed_unit : FrameState → Option ChargedUnit

@@ -5,15 +5,16 @@ use Rattle.step_rules.specs.State.{Zone}
 use Rattle.step_rules.specs.After.{Run}
 use Rattle.step_rules.specs.Laws.{ShowsLocal}
 use Rattle.step_rules.specs.Reaches.{own_steps, IsInterleaved}
-use Rattle.mem_machine.specs.Local.{VisitState, local_at, Makes}
+use Rattle.mem_machine.specs.Local.{lock_holder, local_of, Makes}
+use Rattle.mem_machine.specs.Machines.{KnownMachine}
 
 -- the sizes of the table's zone
 abbrev pub zone_of : KnownTable → Zone
 zone_of table = record { frames = table.frames; cpus = table.cpus }
 
--- the run is legal, the CPU holds the lock after it, and what the CPU sees then is what the machine shows it
-abbrev pub Shows : KnownTable → Run → VisitState → Type 0
-Shows table run now = ShowsLocal (zone_of table) run now.cpu.number (local_at table now)
+-- the run is legal, the machine's holder holds the lock after it, and sees then what it sees by the machine's past
+abbrev pub Shows : KnownTable → Run → KnownMachine → Type 0
+Shows table run now = ShowsLocal (zone_of table) run (lock_holder now) (local_of table now)
 
 -- `mixed` may follow the run. Its steps of this CPU and of the zone's seat are `steps`, in this order. Each of those
 -- has the answer that the references and stocks of all seats decide at that place, and each other step is allowed at
@@ -23,8 +24,8 @@ pub record IsInterleaving (table : KnownTable) (run : Run) (cpu : ℕ) (steps mi
   pub follows : IsInterleaved (zone_of table) run cpu mixed
 
 -- Suppose that a run shows a CPU the machine, and that a call makes these steps. Mix in any steps that other CPUs may
--- make. Then the longer run is legal, and shows the CPU the machine and the part that the call left.
+-- make. Then the longer run is legal, and shows the CPU the machine that the call left.
 abbrev pub CallsInterleave : Type 0
-CallsInterleave = (table : KnownTable) (run steps mixed : Run) (before after : VisitState)
-    → after.cpu.number ≡ before.cpu.number → Shows table run before → Makes table before steps after
-    → IsInterleaving table run before.cpu.number steps mixed → Shows table (run ++ mixed) after
+CallsInterleave = (table : KnownTable) (run steps mixed : Run) (before after : KnownMachine)
+    → Shows table run before → Makes table before steps after
+    → IsInterleaving table run (lock_holder before) steps mixed → Shows table (run ++ mixed) after

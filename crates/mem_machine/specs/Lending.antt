@@ -1,29 +1,24 @@
 -- How frames move between the free areas and a CPU's list.
 use Rattle.std.specs.Prelude.{◌≡◌, ℕ, ◌+◌, ◌≤◌, Bool, true, false, List, [], ◌∷◌, ◌++◌, length, take, slice_set}
 use Rattle.zone_blocks.specs.Areas.{AreMaximalBlocks, HasNoneFrom, IsFrontOfSmallest}
-use Rattle.frame_word.specs.Views.{passed_out_to, took_in, passed_back_by_cpu, collected_from}
-use Rattle.frame_word.specs.Seats.{KnownTable, seat_with}
+use Rattle.frame_word.specs.Seats.{KnownTable}
 use Rattle.cpu_part.specs.Cpus.{KnownCpu, most_listed}
 use Rattle.step_rules.specs.After.{Run}
 use Rattle.mem_machine.specs.declared.frame_state.FrameState.TheVariants.{Free, Lent}
 use Rattle.mem_machine.specs.FrameStates.{free_of}
 use Rattle.mem_machine.specs.Machines.{OneByOne, VisitStateStays}
-use Rattle.mem_machine.specs.Local.{VisitState, Makes}
+use Rattle.mem_machine.specs.Local.{VisitState, VisitMakes}
 use Rattle.mem_machine.specs.Steps.{lend_steps, unlist_steps, refill_steps, drain_list_steps}
 
--- the frame was free and is now at the end of the CPU's list; nothing else changed, except what the watch saw
+-- the frame was free and is now at the end of the CPU's list; nothing else changed, except the run
 pub record LendsFrame (frame : ℕ) (before after : VisitState) : Type 0 where
   pub areas : AreMaximalBlocks (free_of after.machine.frame_states) after.machine.blocks
   pub machine : after.machine ≡ record before.machine {
     blocks = after.machine.blocks;
     frame_states = slice_set before.machine.frame_states frame (Lent before.cpu.number);
-    frame_seat = seat_with before.machine.frame_seat frame (passed_out_to before.cpu.number);
     run = after.machine.run;
   }
-  pub cpu : after.cpu ≡ record before.cpu {
-    list = before.cpu.list ++ frame ∷ [];
-    frame_seat = seat_with before.cpu.frame_seat frame took_in;
-  }
+  pub cpu : after.cpu ≡ record before.cpu { list = before.cpu.list ++ frame ∷ [] }
 
 -- of the free blocks of the least order, the one with the least address gave its first frame, which is now at the end
 -- of the CPU's list
@@ -48,7 +43,7 @@ LendsMany frames before after = OneByOne LendsOne frames before after
 pub record LendsByStep (table : KnownTable) (before after : VisitState) : Type 0 where
   pub frame : ℕ
   pub lends : LendsOne frame before after
-  pub steps : Makes table before (lend_steps before.cpu.number frame) after
+  pub steps : VisitMakes table before (lend_steps before.cpu.number frame) after
 
 -- what lending one frame leaves, by its result: true if a frame is lent, false if none is free
 abbrev pub LendsIfFree : KnownTable → Bool → VisitState → VisitState → Type 0
@@ -60,7 +55,7 @@ pub record Refills (table : KnownTable) (count : ℕ) (before after : VisitState
   pub frames : List ℕ
   pub all : count ≡ length frames
   pub lends : LendsMany frames before after
-  pub steps : Makes table before (refill_steps before.cpu.number frames) after
+  pub steps : VisitMakes table before (refill_steps before.cpu.number frames) after
 
 -- the frame was at the front of the CPU's list and is free again
 pub record UnlistsOne (frame : ℕ) (before after : VisitState) : Type 0 where
@@ -70,13 +65,9 @@ pub record UnlistsOne (frame : ℕ) (before after : VisitState) : Type 0 where
   pub machine : after.machine ≡ record before.machine {
     blocks = after.machine.blocks;
     frame_states = slice_set before.machine.frame_states frame Free;
-    frame_seat = seat_with before.machine.frame_seat frame (collected_from before.cpu.number);
     run = after.machine.run;
   }
-  pub cpu : after.cpu ≡ record before.cpu {
-    list = rest;
-    frame_seat = seat_with before.cpu.frame_seat frame passed_back_by_cpu;
-  }
+  pub cpu : after.cpu ≡ record before.cpu { list = rest }
 
 -- the list is empty, and nothing changed
 pub record UnlistsNone (before after : VisitState) : Type 0 where
@@ -91,7 +82,7 @@ UnlistsMany frames before after = OneByOne UnlistsOne frames before after
 pub record UnlistsByStep (table : KnownTable) (before after : VisitState) : Type 0 where
   pub frame : ℕ
   pub takes : UnlistsOne frame before after
-  pub steps : Makes table before (unlist_steps before.cpu.number frame) after
+  pub steps : VisitMakes table before (unlist_steps before.cpu.number frame) after
 
 -- what returning one frame to the zone leaves, by its result: true if the front of the list is free again, false if the
 -- list is empty

@@ -3,11 +3,7 @@ use Rattle.std.specs.Prelude.{◌≡◌, ◌≢◌, ℕ, ◌+◌, ◌<◌, ◌�
 use Rattle.std.specs.List.{slice_index_or}
 use Rattle.zone_blocks.specs.declared.block.Block.{Block}
 use Rattle.zone_blocks.specs.Areas.{AreMaximalBlocks}
-use Rattle.frame_word.specs.declared.view.FrameNote.{FrameNote}
-use Rattle.frame_word.specs.Views.{note_of}
-use Rattle.frame_word.specs.Seats.{KnownTable, KnownSeat, IsZoneSeat, first_zone_view}
-use Rattle.stock_word.specs.declared.view.StockAccount.{StockAccount}
-use Rattle.stock_word.specs.Stock.{KnownStockTable, KnownStockSeat, IsZoneView, account_of, first_zone_stock_view}
+use Rattle.frame_word.specs.Seats.{KnownTable}
 use Rattle.group_charge.specs.Charges.{Ledger, pages_of, current_of, initial_ledger, with_new_group}
 use Rattle.group_tree.specs.Bounds.{most_groups}
 use Rattle.group_tree.specs.Groups.{IsLeastFreeNumber}
@@ -21,8 +17,13 @@ use Rattle.lru_lists.specs.declared.lru.Lru.{Lru}
 use Rattle.lru_lists.specs.declared.queue.Queue.{Queue}
 use Rattle.lru_lists.specs.Queue.{link_at, AreNowhere}
 use Rattle.lru_lists.specs.Lists.{AllLinked, entries_of}
-use Rattle.step_rules.specs.State.{sum_to, one_if}
-use Rattle.boot_words.specs.Pasts.{KnownPasts}
+use Rattle.step_rules.specs.Invariant.{told_pages}
+use Rattle.step_rules.specs.State.{Part, State, one_if, sum_to}
+use Rattle.step_rules.specs.After.{state_of}
+use Rattle.boot_words.specs.Hidden.{hide}
+use Rattle.boot_words.specs.Pasts.{KnownPasts, own_past}
+use Rattle.boot_words.specs.Seats.{zone_of_boot}
+use Rattle.boot_words.specs.Opening.{seat_at_first}
 use Rattle.cpu_part.specs.Cpus.{KnownCpu}
 use Rattle.mem_machine.specs.declared.frame_state.FrameState.{FrameState}
 use Rattle.mem_machine.specs.declared.frame_state.FrameState.TheVariants.{Free}
@@ -35,21 +36,18 @@ use Rattle.group_charge.specs.Notes.{KnownNotes, forgotten, no_notes, noted}
 -- is less
 pub use Rattle.mem_machine.specs.Counts.{BalancesCounts}
 use Rattle.mem_machine.specs.Counts.{no_counts}
-use Rattle.mem_machine.specs.FrameStates.{AreUnits, frame_state_at, free_of, is_in_hand, some_cpu, cpu_lent_to, frame_state_group, head_group_of, one_if_is}
+use Rattle.mem_machine.specs.FrameStates.{AreUnits, frame_state_at, free_of, phase_hidden, frame_state_group, head_group_of, one_if_is}
 
 -- The machine holds the free areas, a record for each frame, and the groups with their charges. It holds the links of
--- all kept units, and two lists for each group number. It holds the zone's two seats at the table, and which group
--- numbers are killed. It counts how units ended, how many were freed and how many were missed. It holds the notes since
--- the last `forget_notes`, the pasts of the zone and of the lock's holder, which grow by each step, and the watch, which
--- takes each step right behind it.
+-- all kept units, two lists for each group number, and which group numbers are killed. It counts how units ended, how
+-- many were freed and how many were missed. It holds the notes since the last `forget_notes`, the pasts of the zone and
+-- of the lock's holder, which grow by each step, and the watch, which takes each step right behind it.
 pub record KnownMachine : Type 0 where
   pub blocks : List Block
   pub frame_states : List FrameState
   pub ledger : Ledger
   pub links : List Link
   pub lists : List Lru
-  pub frame_seat : KnownSeat
-  pub stock_seat : KnownStockSeat
   pub killed : List Bool
   pub counts : Counts
   pub notes : KnownNotes
@@ -150,61 +148,70 @@ abbrev pub frames_charged : List FrameState → ℕ → ℕ
 frames_charged frame_states group = sum_to (length frame_states)
     (λ frame. one_if_is group (frame_state_group (frame_state_at frame_states frame)))
 
+-- ---- what the run says
+
+-- what the zone's past left, with every CPU's own part hidden
+abbrev pub left_by : KnownTable → KnownPasts → State
+left_by table past = hide (state_of (zone_of_boot table) (own_past past).seen)
+
+-- the part of this CPU, as the machine's past left it, without its lists
+abbrev pub part_at : KnownTable → KnownMachine → ℕ → Part
+part_at table machine cpu = (left_by table machine.run.past).parts cpu
+
+-- the group of the CPU's stock
+abbrev pub stock_group : KnownTable → KnownMachine → ℕ → Option ℕ
+stock_group table machine cpu = (part_at table machine cpu).stock.group
+
 -- the pages booked to a CPU's stock if that is of the group, else 0
-abbrev pub booked : ℕ → StockAccount → ℕ
-booked group account = if one_if_is group account.group == 0 then 0 else account.book
+abbrev pub booked : ℕ → Part → ℕ
+booked group part = if one_if_is group part.stock.group == 0 then 0 else part.book
 
 -- how many pages are booked to the stocks of the group itself
-abbrev pub pages_booked : KnownTable → KnownStockSeat → ℕ → ℕ
-pages_booked table stock group =
-    sum_to (table.cpus + 1) (λ cpu. booked group (account_of stock.view cpu))
+abbrev pub pages_booked : ℕ → (ℕ → Part) → ℕ → ℕ
+pages_booked cpus parts group = sum_to (cpus + 1) (λ cpu. booked group (parts cpu))
 
--- The zone's seat and the lists agree with the frame's record. The frame is in the zone's hand exactly if it is free or
--- a tail; the zone borrows no frame. It is lent to the CPU that its record names, whose number is between 1 and `cpus`.
--- The zone has one reference on it if it is on a list, else none. That list is of the group whose unit the frame heads.
-pub record FitsFrameState (cpus : ℕ) (note : FrameNote) (home : Option Home) (frame_state : FrameState) : Type 0 where
-  pub own : note.own ≡ one_if (is_in_hand frame_state)
-  pub borrowed : note.borrowed ≡ 0
-  pub lent : some_cpu note.lent ≡ cpu_lent_to frame_state
-  pub borrower : IfSome (cpu_lent_to frame_state) (λ cpu. (1 ≤ cpu) × (cpu ≤ cpus))
-  pub references : note.references ≡ one_if (is_some home)
-  pub kept : IfSome home (λ list. (list.owner < most_groups) × (head_group_of frame_state ≡ Some list.owner))
+-- The machine's fields are what this state shows. The record of each frame is its phase. The zone has one reference on
+-- each frame that is on a list, and no other. No page is pending, unreported or unabsorbed, and the pages booked to each
+-- stock fit a stock word. The own charge of a group is the frames charged to it and the pages booked to its stocks.
+pub record IsShownBy (table : KnownTable) (machine : KnownMachine) (state : State) : Type 0 where
+  pub groups : state.groups ≡ machine.ledger.groups
+  pub killed : (group : ℕ) → state.killed group ≡ is_killed machine.killed group
+  pub phases : (frame : ℕ) → state.phases frame ≡ phase_hidden (frame_state_at machine.frame_states frame)
+  pub references : (frame : ℕ) → state.references 0 frame ≡ one_if (is_some (home_of machine.links frame))
+  pub settled : (group : ℕ) → state.pending group ≡ 0
+  pub absorbed : (cpu : ℕ) → told_pages (state.parts cpu) ≡ 0
+  pub bounded : (cpu : ℕ) → (state.parts cpu).book < 65536
+  pub charged : (group : ℕ)
+      → pages_of machine.ledger group
+      ≡ frames_charged machine.frame_states group + pages_booked table.cpus state.parts group
 
--- the parts have the sizes of the tables, and both tables have the same number of CPUs
-pub record AreSized (table : KnownTable) (stock_table : KnownStockTable) (machine : KnownMachine) : Type 0 where
+-- ---- what always holds
+
+-- the list that the frame is on, if any, is of the group whose unit the frame heads
+abbrev pub FitsFrameState : Option Home → FrameState → Type 0
+FitsFrameState home frame_state =
+    IfSome home (λ list. (list.owner < most_groups) × (head_group_of frame_state ≡ Some list.owner))
+
+-- the parts have the sizes of the table
+pub record AreSized (table : KnownTable) (machine : KnownMachine) : Type 0 where
   pub frame_states : length machine.frame_states ≡ table.frames
   pub links : length machine.links ≡ table.frames
   pub lists : length machine.lists ≡ most_groups
   pub killed : length machine.killed ≡ most_groups
-  pub cpus : stock_table.cpus ≡ table.cpus
 
--- the two seats are the zone's, at these tables
-pub record AreZoneSeats (frame_table : KnownTable) (stock_table : KnownStockTable) (seat : KnownSeat)
-    (stock : KnownStockSeat) : Type 0 where
-  pub frames : IsZoneSeat frame_table seat
-  pub table : stock.table ≡ stock_table.table
-  pub stocks : IsZoneView stock.view
-
--- The machine is consistent. Its sizes are those of the tables, and its seats are the zone's. The free areas are the
--- maximal blocks of the free frames. Each frame's record agrees with the zone's seat and the lists. The charged frames
--- make up units. All lists agree with the links. No reported page is unabsorbed, and the pages booked to each stock
--- fit a stock word. The own charge of a group is the frames charged to it and the pages booked to its stocks. The units
--- freed are the last puts, freezes and killed fresh frames together, or the greatest count if that is less.
-pub record IsConsistent (table : KnownTable) (stock_table : KnownStockTable) (machine : KnownMachine) : Type 0 where
-  pub sizes : AreSized table stock_table machine
-  pub seats : AreZoneSeats table stock_table machine.frame_seat machine.stock_seat
+-- The machine is consistent. Its sizes are those of the table. The free areas are the maximal blocks of the free
+-- frames. Each frame's record agrees with the lists. The charged frames make up units. All lists agree with the links.
+-- The units freed are the last puts, freezes and killed fresh frames together, or the greatest count if that is less.
+-- All else is what the machine's past left.
+pub record IsConsistent (table : KnownTable) (machine : KnownMachine) : Type 0 where
+  pub sizes : AreSized table machine
   pub areas : AreMaximalBlocks (free_of machine.frame_states) machine.blocks
   pub frame_states : (frame : ℕ) → frame < table.frames
-      → FitsFrameState table.cpus (note_of machine.frame_seat.view frame) (home_of machine.links frame)
-      (frame_state_at machine.frame_states frame)
+      → FitsFrameState (home_of machine.links frame) (frame_state_at machine.frame_states frame)
   pub units : AreUnits machine.frame_states
   pub lists : AllLinked machine.links machine.lists
-  pub absorbed : (cpu : ℕ) → (account_of machine.stock_seat.view cpu).unabsorbed ≡ 0
-  pub bounded : (cpu : ℕ) → (account_of machine.stock_seat.view cpu).book < 65536
-  pub charged : (group : ℕ)
-      → pages_of machine.ledger group
-      ≡ frames_charged machine.frame_states group + pages_booked table machine.stock_seat group
   pub balances : BalancesCounts machine.counts
+  pub shown : IsShownBy table machine (left_by table machine.run.past)
 
 -- a group of this path was made: it has the least free number, and it isn't killed
 pub record AddsGroup (number : ℕ) (path : List ℕ) (before after : KnownMachine) : Type 0 where
@@ -257,13 +264,12 @@ abbrev pub IsCpuOf : KnownTable → ℕ → Type 0
 IsCpuOf table cpu = (1 ≤ cpu) × (cpu ≤ table.cpus)
 
 -- The machine of a new boot. All frames are free and on no list, only the root exists, and no group is killed. All
--- counts are 0, nothing is noted, and the zone's seats have done nothing yet.
-pub record IsFirst (table : KnownTable) (stock_table : KnownStockTable) (machine : KnownMachine) : Type 0 where
+-- counts are 0, and nothing is noted. No step was made yet.
+pub record IsFirst (table : KnownTable) (machine : KnownMachine) : Type 0 where
   pub frame_states : machine.frame_states ≡ replicate table.frames Free
   pub ledger : machine.ledger ≡ initial_ledger
   pub nowhere : AreNowhere machine.links
-  pub frame_seat : machine.frame_seat ≡ record { table = table.table; view = first_zone_view table.frames }
-  pub stock_seat : machine.stock_seat ≡ record { table = stock_table.table; view = first_zone_stock_view }
   pub killed : machine.killed ≡ replicate most_groups false
   pub counts : machine.counts ≡ no_counts
   pub notes : machine.notes ≡ no_notes
+  pub past : machine.run.past ≡ seat_at_first table.table 0

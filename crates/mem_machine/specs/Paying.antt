@@ -1,33 +1,25 @@
 -- What a CPU's stock holds, how a page of it pays for a frame, and what may be charged.
-use Rattle.std.specs.Prelude.{◌≡◌, ℕ, ◌+◌, ◌-◌, ◌^◌, ◌<◌, ◌≤◌, Some, true, false, IsTrue}
+use Rattle.std.specs.Prelude.{◌≡◌, ℕ, ◌+◌, ◌^◌, ◌<◌, ◌≤◌, false, IsTrue}
 use Rattle.frame_word.specs.Seats.{KnownTable}
-use Rattle.stock_word.specs.declared.view.Stock.{Stock}
-use Rattle.stock_word.specs.Stock.{account_of, stock_pages_of, group_of, is_held}
+use Rattle.stock_word.specs.declared.view.Stock.TheVariants.{HeldBy}
 use Rattle.cpu_part.specs.Calls.{TakesFront}
 use Rattle.group_tree.specs.Groups.{has_group}
 use Rattle.zone_blocks.specs.Config.{most_cpus, most_frames}
 use Rattle.group_charge.specs.Charges.{current_of}
-use Rattle.mem_machine.specs.Machines.{KnownMachine, VisitState, is_killed}
-use Rattle.mem_machine.specs.Stocks.{stock_group}
--- how many pages are in the CPU's stock
-pub use Rattle.mem_machine.specs.Stocks.{pages_held}
-
--- this is the CPU's own stock: its group, its pages, and whether it is held
-pub record IsOwnStock (now : VisitState) (stock : Stock) : Type 0 where
-  pub group : group_of stock ≡ stock_group now.machine now.cpu.number
-  pub held : is_held stock ≡ (account_of now.machine.stock_seat.view now.cpu.number).filled
-  pub pages : stock_pages_of stock ≡ pages_held now
+use Rattle.mem_machine.specs.Machines.{KnownMachine, VisitState, is_killed, left_by}
+use Rattle.mem_machine.specs.Showing.{stock_now}
 
 -- the CPU's stock is of this group, isn't drained, and has a page
-pub record HoldsPage (now : VisitState) (owner : ℕ) : Type 0 where
-  pub group : stock_group now.machine now.cpu.number ≡ Some owner
-  pub held : (account_of now.machine.stock_seat.view now.cpu.number).filled ≡ true
-  pub some : 1 ≤ pages_held now
+abbrev pub HoldsPage : KnownTable → VisitState → ℕ → Type 0
+HoldsPage table now group = (more : ℕ) × (stock_now table now ≡ HeldBy group (more + 1))
 
--- the frame at the front of the CPU's list is fresh now, and the stock of the group has one page less
-pub record PaysForFront (group frame : ℕ) (before after : VisitState) : Type 0 where
-  pub takes : TakesFront group (pages_held before - 1) frame before.cpu after.cpu
+-- The frame at the front of the CPU's list is fresh now, and the stock of the group has one page less. Others see no
+-- change.
+pub record PaysForFront (table : KnownTable) (group frame : ℕ) (before after : VisitState) : Type 0 where
+  pub takes : TakesFront frame before.cpu after.cpu
+  pub page : (more : ℕ) → stock_now table before ≡ HeldBy group (more + 1) → stock_now table after ≡ HeldBy group more
   pub machine : after.machine ≡ record before.machine { run = after.machine.run }
+  pub left : left_by table after.machine.run.past ≡ left_by table before.machine.run.past
 
 -- the zone has at most `most_frames` frames and `most_cpus` CPUs
 pub record IsOfSize (table : KnownTable) : Type 0 where

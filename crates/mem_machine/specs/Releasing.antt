@@ -1,8 +1,6 @@
 -- How a kept unit is released: it leaves its list, and is freed if nobody else has a reference.
 use Rattle.std.specs.Prelude.{◌≡◌, ℕ, ◌^◌, ◌≤◌, [], ◌∷◌}
 use Rattle.zone_blocks.specs.Areas.{AreMaximalBlocks}
-use Rattle.frame_word.specs.Views.{put_left, put_last}
-use Rattle.frame_word.specs.Seats.{seat_with}
 use Rattle.group_charge.specs.Charges.{with_uncharge}
 use Rattle.step_rules.specs.declared.phase.ChargedUnit.{ChargedUnit}
 use Rattle.step_rules.specs.declared.step.Action.TheVariants.{Put, Return}
@@ -18,19 +16,18 @@ use Rattle.mem_machine.specs.Counts.{with_last_put}
 use Rattle.mem_machine.specs.Freeing.{FreesFrames}
 use Rattle.mem_machine.specs.Steps.{zone_makes}
 
--- the unit left its list, and this many references of CPUs are left; nothing else changed, except what the watch saw
+-- the unit left its list, and this many references of CPUs are left; nothing else changed, except the run
 pub record LeavesReferences (frame left : ℕ) (before after : KnownMachine) : Type 0 where
   pub list : LeavesList frame (lists_of before) (lists_of after)
   pub some : 1 ≤ left
   pub machine : after ≡ record before {
     links = after.links;
     lists = after.lists;
-    frame_seat = seat_with before.frame_seat frame (put_left left);
     run = after.run;
   }
 
 -- the unit left its list and was freed: its frames are free, and its pages left the charge of its group; nothing else
--- changed, except what the watch saw
+-- changed, except the run
 pub record ReturnsUnit (frame : ℕ) (before after : KnownMachine) : Type 0 where
   pub unit : ChargedUnit
   pub heads : frame_state_at before.frame_states frame ≡ Head unit
@@ -43,7 +40,6 @@ pub record ReturnsUnit (frame : ℕ) (before after : KnownMachine) : Type 0 wher
     ledger = with_uncharge before.ledger unit.group (2 ^ unit.order);
     links = after.links;
     lists = after.lists;
-    frame_seat = seat_with before.frame_seat frame put_last;
     counts = with_last_put before.counts;
     run = after.run;
   }

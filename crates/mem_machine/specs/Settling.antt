@@ -1,76 +1,43 @@
 -- How the fresh and back frames of the visited CPU are settled, one after the other.
-use Rattle.std.specs.Prelude.{◌≡◌, ℕ, ◌+◌, ◌^◌, ◌<◌, ◌≤◌, Bool, true, false, Option, Some, None, IfSome, List, [], ◌∷◌, ◌++◌, slice_set, if◌then◌else◌}
+use Rattle.std.specs.Prelude.{◌≡◌, ℕ, ◌^◌, Bool, true, false, Option, Some, None, IfSome, List, [], ◌∷◌, ◌++◌, slice_set, if◌then◌else◌}
 use Rattle.std.specs.List.{flat_map}
 use Rattle.zone_blocks.specs.Areas.{AreMaximalBlocks}
-use Rattle.frame_word.specs.Views.{passed_back_by_cpu, collected_from, unfrozen}
-use Rattle.frame_word.specs.Seats.{KnownTable, KnownSeat, seat_with, IsZoneSeat, IsOpen, NothingPasses, HasNothingOf, IsLent}
-use Rattle.stock_word.specs.declared.view.StockAccount.{StockAccount}
-use Rattle.stock_word.specs.Stock.{KnownStockSeat, account_of, group_of}
-use Rattle.stock_word.specs.Kinds.{after_report, zone_after_report, zone_after_absorb, with_steps}
-use Rattle.stock_word.specs.Calls.{with_view}
+use Rattle.frame_word.specs.Seats.{KnownTable}
 use Rattle.group_charge.specs.Charges.{with_uncharge}
-use Rattle.cpu_part.specs.Cpus.{KnownCpu}
 use Rattle.step_rules.specs.declared.phase.ChargedUnit.{ChargedUnit}
 use Rattle.step_rules.specs.declared.step.Action.TheVariants.{PassBack, Collect, Report, Absorb, Unfreeze, Publish, Return}
 use Rattle.step_rules.specs.declared.step.Answer.TheVariants.{Done, Pages}
 use Rattle.step_rules.specs.After.{Run}
+use Rattle.cpu_part.specs.Cpus.{KnownCpu}
 use Rattle.mem_machine.specs.declared.frame_state.FrameState.TheVariants.{Head}
 use Rattle.mem_machine.specs.FrameStates.{frame_state_at, free_of}
 use Rattle.mem_machine.specs.Machines.{OneByOne, VisitState, VisitStateStays, is_killed}
-use Rattle.mem_machine.specs.Local.{Makes, group_of_fresh}
+use Rattle.mem_machine.specs.Local.{VisitMakes, group_of_fresh}
 use Rattle.mem_machine.specs.Steps.{zone_makes, cpu_makes}
 use Rattle.mem_machine.specs.Lists.{ListsUnit}
 use Rattle.mem_machine.specs.Counts.{with_killed_fresh, with_last_put}
 use Rattle.mem_machine.specs.Freeing.{FreesFrames}
 
--- the zone's seat at the stocks, after it absorbed in one step a page that the CPU reported
-abbrev pub with_page_absorbed : KnownStockSeat → ℕ → KnownStockSeat
-with_page_absorbed seat cpu = with_view seat (with_steps 1 (zone_after_absorb (zone_after_report seat.view cpu 1) cpu))
-
--- at least one of the pages booked in the account isn't reported yet
-abbrev pub HasUnreportedPage : StockAccount → Type 0
-HasUnreportedPage account = 1 + account.unabsorbed ≤ account.book
-
--- the seat is the zone's at the frames' words, the CPU's visit is open, and no frame is in transit between the two
-pub record IsVisitedAt (table : KnownTable) (seat : KnownSeat) (cpu : KnownCpu) : Type 0 where
-  pub zone : IsZoneSeat table seat
-  pub is_open : IsOpen seat cpu.number
-  pub still : NothingPasses table seat cpu.frame_seat
-
--- What the zone's seats know of a fresh frame of the CPU. The zone has no reference on it and doesn't own it; it is
--- lent to the CPU. A page for it is booked to the CPU's stock, and the CPU and the zone agree on the stock's group.
-pub record KnowsFresh (table : KnownTable) (seat : KnownSeat) (stock : KnownStockSeat)
-    (cpu : KnownCpu) (frame : ℕ) : Type 0 where
-  pub inside : frame < table.frames
-  pub nothing : HasNothingOf seat frame
-  pub lent : IsLent seat frame cpu.number
-  pub booked : HasUnreportedPage (account_of stock.view cpu.number)
-  pub group : group_of cpu.stock_seat.view.last ≡ (account_of stock.view cpu.number).group
-
--- the CPU passes its oldest fresh frame back and reports its page
+-- the CPU passes its oldest fresh frame back
 pub record HandsOver (frame : ℕ) (before after : KnownCpu) : Type 0 where
   pub front : before.fresh ≡ frame ∷ after.fresh
-  pub cpu : after ≡ record before {
-    fresh = after.fresh;
-    frame_seat = seat_with before.frame_seat frame passed_back_by_cpu;
-    stock_seat = with_view before.stock_seat (after_report before.stock_seat.view 1);
-  }
+  pub cpu : after ≡ record before { fresh = after.fresh }
 
 -- The oldest fresh frame becomes a kept unit of one frame, of this group. It is in use, has one reference of the zone,
--- and is on the group's inactive list. Its page stays charged, now for the frame, and is no longer booked to the stock.
+-- and is on the group's inactive list. Its page stays charged, now for the frame: by the steps it is no longer booked to
+-- the stock.
 pub record KeepsFresh (group frame : ℕ) (before after : VisitState) : Type 0 where
   pub listed : ListsUnit group frame before.machine after.machine
   pub machine : after.machine ≡ record before.machine {
     frame_states = slice_set before.machine.frame_states frame (Head (record { group = group; order = 0 }));
     links = after.machine.links;
     lists = after.machine.lists;
-    frame_seat = seat_with before.machine.frame_seat frame (λ note. unfrozen 1 (collected_from before.cpu.number note));
-    stock_seat = with_page_absorbed before.machine.stock_seat before.cpu.number;
     run = after.machine.run;
   }
   pub cpu : HandsOver frame before.cpu after.cpu
 
--- a drop: the oldest fresh frame is free again, and its page is no longer booked to the stock, nor charged to the group
+-- a drop: the oldest fresh frame is free again, and its page is no longer charged to the group, nor by the steps booked to
+-- the stock
 pub record DropsFresh (group frame : ℕ) (before after : VisitState) : Type 0 where
   pub frees : FreesFrames frame 1 before.machine.frame_states after.machine.frame_states
   pub areas : AreMaximalBlocks (free_of after.machine.frame_states) after.machine.blocks
@@ -78,8 +45,6 @@ pub record DropsFresh (group frame : ℕ) (before after : VisitState) : Type 0 w
     blocks = after.machine.blocks;
     frame_states = after.machine.frame_states;
     ledger = with_uncharge before.machine.ledger group 1;
-    frame_seat = seat_with before.machine.frame_seat frame (collected_from before.cpu.number);
-    stock_seat = with_page_absorbed before.machine.stock_seat before.cpu.number;
     counts = with_killed_fresh before.machine.counts;
     run = after.machine.run;
   }
@@ -95,24 +60,20 @@ pub record ReturnsBack (frame : ℕ) (before after : VisitState) : Type 0 where
     blocks = after.machine.blocks;
     frame_states = after.machine.frame_states;
     ledger = with_uncharge before.machine.ledger unit.group (2 ^ unit.order);
-    frame_seat = seat_with before.machine.frame_seat frame (collected_from before.cpu.number);
     counts = with_last_put before.machine.counts;
     run = after.machine.run;
   }
   pub front : before.cpu.back ≡ frame ∷ after.cpu.back
-  pub cpu : after.cpu ≡ record before.cpu {
-    back = after.cpu.back;
-    frame_seat = seat_with before.cpu.frame_seat frame passed_back_by_cpu;
-  }
+  pub cpu : after.cpu ≡ record before.cpu { back = after.cpu.back }
 
 -- the group of the CPU's fresh frames is killed
-abbrev pub is_fresh_killed : VisitState → Bool
-is_fresh_killed now = is_killed now.machine.killed (group_of_fresh now.cpu)
+abbrev pub is_fresh_killed : KnownTable → VisitState → Bool
+is_fresh_killed table now = is_killed now.machine.killed (group_of_fresh table now)
 
 -- the oldest fresh frame is kept for its group, or dropped if that group is killed
-pub record SettlesFresh (frame : ℕ) (before after : VisitState) : Type 0 where
-  pub keeps : is_fresh_killed before ≡ false → KeepsFresh (group_of_fresh before.cpu) frame before after
-  pub drops : is_fresh_killed before ≡ true → DropsFresh (group_of_fresh before.cpu) frame before after
+pub record SettlesFresh (table : KnownTable) (frame : ℕ) (before after : VisitState) : Type 0 where
+  pub keeps : is_fresh_killed table before ≡ false → KeepsFresh (group_of_fresh table before) frame before after
+  pub drops : is_fresh_killed table before ≡ true → DropsFresh (group_of_fresh table before) frame before after
 
 -- no frame of the CPU is fresh, and nothing changed
 pub record FindsNoneFresh (before after : VisitState) : Type 0 where
@@ -125,9 +86,9 @@ pub record FindsNoneBack (before after : VisitState) : Type 0 where
   pub stays : VisitStateStays before after
 
 -- what settling the oldest fresh frame leaves, by its result: that frame, or None if there is no fresh frame
-abbrev pub SettlesNext : Option ℕ → VisitState → VisitState → Type 0
-SettlesNext None before after = FindsNoneFresh before after
-SettlesNext (Some frame) before after = SettlesFresh frame before after
+abbrev pub SettlesNext : KnownTable → Option ℕ → VisitState → VisitState → Type 0
+SettlesNext table None before after = FindsNoneFresh before after
+SettlesNext table (Some frame) before after = SettlesFresh table frame before after
 
 -- what freeing the unit of the oldest back frame leaves, by its result: that frame, or None if there is no back frame
 abbrev pub ReturnsNext : Option ℕ → VisitState → VisitState → Type 0
@@ -135,8 +96,8 @@ ReturnsNext None before after = FindsNoneBack before after
 ReturnsNext (Some frame) before after = ReturnsBack frame before after
 
 -- these fresh frames are settled, one after the other
-abbrev pub SettlesAllFresh : List ℕ → VisitState → VisitState → Type 0
-SettlesAllFresh frames before after = OneByOne SettlesFresh frames before after
+abbrev pub SettlesAllFresh : KnownTable → List ℕ → VisitState → VisitState → Type 0
+SettlesAllFresh table frames before after = OneByOne (SettlesFresh table) frames before after
 
 -- the units of these back frames are freed, one after the other
 abbrev pub ReturnsAllBack : List ℕ → VisitState → VisitState → Type 0
@@ -154,9 +115,9 @@ IsSettled cpu = (cpu.fresh ≡ []) × (cpu.back ≡ [])
 
 -- all fresh frames are settled, in the order in which they were taken; then the units of all back frames are freed, in
 -- the order of their last puts
-pub record Settles (before after : VisitState) : Type 0 where
+pub record Settles (table : KnownTable) (before after : VisitState) : Type 0 where
   pub mid : VisitState
-  pub fresh : SettlesAllFresh before.cpu.fresh before mid
+  pub fresh : SettlesAllFresh table before.cpu.fresh before mid
   pub back : ReturnsAllBack before.cpu.back mid after
 
 -- ---- the steps
@@ -193,23 +154,23 @@ fresh_steps is_killed cpu frame =
     if is_killed then drop_steps cpu frame else keep_steps cpu frame
 
 -- the steps of all fresh frames, in the order in which they were taken
-abbrev pub all_fresh_steps : VisitState → Run
-all_fresh_steps now = flat_map (fresh_steps (is_fresh_killed now) now.cpu.number) now.cpu.fresh
+abbrev pub all_fresh_steps : KnownTable → VisitState → Run
+all_fresh_steps table now = flat_map (fresh_steps (is_fresh_killed table now) now.cpu.number) now.cpu.fresh
 
 -- the steps of all back frames, in the order of their last puts
 abbrev pub return_all_steps : VisitState → Run
 return_all_steps now = flat_map (return_steps now.cpu.number) now.cpu.back
 
 -- the steps of a settle
-abbrev pub settle_steps : VisitState → Run
-settle_steps now = all_fresh_steps now ++ return_all_steps now
+abbrev pub settle_steps : KnownTable → VisitState → Run
+settle_steps table now = all_fresh_steps table now ++ return_all_steps now
 
 -- if a fresh frame was settled, its steps lead from the visit state before to the visit state after
 abbrev pub MakesFreshSteps : KnownTable → Option ℕ → VisitState → VisitState → Type 0
 MakesFreshSteps table next before after =
-    IfSome next (λ frame. Makes table before (fresh_steps (is_fresh_killed before) before.cpu.number frame) after)
+    IfSome next (λ frame. VisitMakes table before (fresh_steps (is_fresh_killed table before) before.cpu.number frame) after)
 
 -- if the unit of a back frame was freed, its steps lead from the visit state before to the visit state after
 abbrev pub MakesReturnSteps : KnownTable → Option ℕ → VisitState → VisitState → Type 0
 MakesReturnSteps table next before after =
-    IfSome next (λ frame. Makes table before (return_steps before.cpu.number frame) after)
+    IfSome next (λ frame. VisitMakes table before (return_steps before.cpu.number frame) after)

@@ -1,17 +1,18 @@
 -- What the machine shows of a group's kept units and of a CPU's stock.
-use Rattle.std.specs.Prelude.{ℕ, ◌+◌, Bool, true, false, Option, Some, None, List, [], ◌∷◌, ◌++◌, map}
-use Rattle.frame_word.specs.Views.{looked}
-use Rattle.frame_word.specs.Seats.{KnownSeat, seat_with}
+use Rattle.std.specs.Prelude.{ℕ, List, ◌++◌, map}
+use Rattle.frame_word.specs.Seats.{KnownTable}
 use Rattle.stock_word.specs.declared.view.Stock.{Stock}
-use Rattle.stock_word.specs.declared.view.Stock.TheVariants.{NoGroup, HeldBy, DrainedOf}
-use Rattle.stock_word.specs.Stock.{account_of}
+use Rattle.boot_words.specs.Words.{stock_in}
 use Rattle.lru_lists.specs.declared.record.Entry.{Entry}
 use Rattle.lru_lists.specs.declared.record.LruList.{LruList}
 use Rattle.lru_lists.specs.declared.record.LruList.TheVariants.{Inactive, Active}
+use Rattle.step_rules.specs.After.{state_of}
+use Rattle.boot_words.specs.Pasts.{own_past}
+use Rattle.boot_words.specs.Seats.{zone_of_boot}
+use Rattle.mem_machine.specs.Local.{local_of}
 -- the units of one of the group's lists, from the oldest to the newest
 pub use Rattle.mem_machine.specs.Machines.{entries_in}
 use Rattle.mem_machine.specs.Machines.{KnownMachine, VisitState, inactive_in, active_in}
-use Rattle.mem_machine.specs.Stocks.{stock_group, pages_held}
 
 -- a kept unit with the list that it is on
 pub record ListedUnit : Type 0 where
@@ -28,32 +29,10 @@ abbrev pub units_in : KnownMachine → ℕ → List ListedUnit
 units_in machine group = map (listed Inactive) (inactive_in machine group)
     ++ map (listed Active) (active_in machine group)
 
--- the zone's seat after it looked once at this frame's word, and found the zone's own reference and this many pins
-abbrev pub seat_with_look : KnownSeat → (frame pins : ℕ) → KnownSeat
-seat_with_look seat frame pins = seat_with seat frame (looked (pins + 1))
+-- the CPU's own stock, as it sees it under the lock
+abbrev pub stock_now : KnownTable → VisitState → Stock
+stock_now table now = stock_in ((local_of table now.machine).parts now.cpu.number)
 
--- the machine after the zone's seat looked once at this frame's word, and found this many pins
-abbrev pub with_look_at : KnownMachine → (frame pins : ℕ) → KnownMachine
-with_look_at machine frame pins = record machine { frame_seat = seat_with_look machine.frame_seat frame pins }
-
--- the zone's seat after it looked once at the word of each of these units, in order, and found these numbers of pins
-abbrev pub seat_with_looks : KnownSeat → List ListedUnit → List ℕ → KnownSeat
-seat_with_looks seat [] pins = seat
-seat_with_looks seat (unit ∷ units) [] = seat
-seat_with_looks seat (unit ∷ units) (found ∷ pins) =
-    seat_with_looks (seat_with_look seat unit.entry.number found) units pins
-
--- the machine after the zone's seat looked once at the word of each of these units, and found these numbers of pins
-abbrev pub with_looks_at : KnownMachine → List ListedUnit → List ℕ → KnownMachine
-with_looks_at machine units pins = record machine { frame_seat = seat_with_looks machine.frame_seat units pins }
-
--- the stock of this group with this many pages, if it is held; drained if it isn't; of no group if there is none
-abbrev pub stock_as : (group : Option ℕ) (is_held : Bool) (pages : ℕ) → Stock
-stock_as None is_held pages = NoGroup
-stock_as (Some group) true pages = HeldBy group pages
-stock_as (Some group) false pages = DrainedOf group
-
--- the CPU's stock as it is now, by the machine's account of it and the CPU's fresh frames
-abbrev pub stock_now : VisitState → Stock
-stock_now now = stock_as (stock_group now.machine now.cpu.number)
-    (account_of now.machine.stock_seat.view now.cpu.number).filled (pages_held now)
+-- the CPU's stock after the machine's past
+abbrev pub stock_left : KnownTable → KnownMachine → ℕ → Stock
+stock_left table machine cpu = stock_in ((state_of (zone_of_boot table) (own_past machine.run.past).seen).parts cpu)

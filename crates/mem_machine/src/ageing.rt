@@ -5,7 +5,7 @@ ghost use Rattle.lru_lists.specs.declared.record.LruList.TheVariants.{Inactive};
 ghost use Rattle.lru_lists.specs.Lists.{first_entry, entry_after};
 ghost use Rattle.mem_machine.specs.Machines.{home_of};
 ghost use Rattle.mem_machine.specs.Ageing.{AgesGroup, RenewsUnit, entries_in};
-ghost use Rattle.mem_machine.specs.Local.{MakesForAny};
+ghost use Rattle.mem_machine.specs.Local.{Makes};
 
 use crate::machine::Machine;
 use cpu_part::BootName;
@@ -19,7 +19,7 @@ impl<N: BootName> Machine<N> {
     /// leave the active list no longer than the inactive one.
     pub fn age(&mut self, group: GroupId)
         ensures ages { AgesGroup group self.old self.new }
-        ensures steps { MakesForAny N.frames self.old [] self.new }
+        ensures steps { Makes N.frames self.old [] self.new }
     {
         let owner = group.number() as usize;
         list_laws::others_stay_linked();
@@ -33,7 +33,7 @@ impl<N: BootName> Machine<N> {
         requires frame { head < N.frames.frames }
         requires home { home_of self.old.links head ≡ Some (record { owner = group; list = Inactive }) }
         ensures renews { RenewsUnit group head self.old self.new }
-        ensures steps { MakesForAny N.frames self.old [] self.new }
+        ensures steps { Makes N.frames self.old [] self.new }
     {
         let at = head.number();
         let owner = group.number() as usize;

@@ -1,15 +1,14 @@
 //! Taking blocks of frames and charging them to a group.
 
 ghost use Rattle.std.specs.Prelude.{◌≡◌, ◌+◌, ◌^◌, ◌≤◌, IfOk, IfErr, [], length};
-ghost use Rattle.mem_machine.specs.Local.{Visits};
+ghost use Rattle.mem_machine.specs.Local.{Makes, Visits, visit_state};
 ghost use Rattle.mem_machine.specs.Paying.{MayCharge};
 ghost use Rattle.mem_machine.specs.Blocks.{PlacesUnit, TakesBlock, RefusesBlock, block_steps};
-ghost use Rattle.mem_machine.specs.Local.{Makes, visit_state};
 
 use crate::frame_state::FrameState;
 use crate::lists::join_list;
 use crate::machine::Machine;
-use crate::proving::{prove_charges, prove_tied};
+use crate::proving::prove_charges;
 use crate::stepping;
 use cpu_part::{BootName, Cpu, Tables};
 use frame_word::Frame;
@@ -63,11 +62,9 @@ impl<N: BootName> Machine<N> {
         ensures refuses { IfErr result (λ fault. RefusesBlock group order fault self.old self.new) }
         ensures cpu { cpu.new ≡ cpu.old }
         ensures visit { Visits N.frames (visit_state self.new cpu.new) }
-        ensures steps { Makes N.frames (visit_state self.old cpu.old)
-            (block_steps group order result) (visit_state self.new cpu.new) }
+        ensures steps { Makes N.frames self.old (block_steps group order result) self.new }
     {
         let pages = order.frames();
-        prove_tied(cpu);
         prove_charges(&self.charges);
         if let Err(over) = self.charges.try_charge(group, pages) {
             let full = over.group;
@@ -87,9 +84,7 @@ impl<N: BootName> Machine<N> {
         let at = head.number();
         place_unit(&mut self.frame_states, block, group);
         stepping::place(tables, &mut self.past, &mut self.watch, group, order, at);
-        tables
-            .words
-            .unfreeze(&mut self.past, &mut self.frame_seat, head, 1);
+        tables.words.unfreeze(&mut self.past, head, 1);
         self.watch.unfroze(at, 1);
         join_list(&mut self.links, &mut self.lists, group, at);
         stepping::publish(tables, &mut self.past, &mut self.watch, at);

@@ -1,11 +1,11 @@
 //! What the end of a boot needs: how many frames are charged, and that none is lent.
 
 ghost use Rattle.std.specs.Prelude.{◌≡◌, ◌≤◌, []};
-ghost use Rattle.frame_word.specs.Seats.{LentIsBorrowed};
+ghost use Rattle.mem_machine.specs.Local.{Holds, visit_state};
 ghost use Rattle.mem_machine.specs.Places.{frames_in_groups, NoneLentTo};
 
 use crate::machine::Machine;
-use crate::proving::{prove_charges, prove_sizes, prove_tied};
+use crate::proving::{prove_charges, prove_sizes};
 use cpu_part::{BootName, Cpu, Tables};
 use group_tree::group::{GroupId, MAX_GROUPS};
 
@@ -25,14 +25,15 @@ impl<N: BootName> Machine<N> {
         charged as u32
     }
 
-    /// Shows that no frame is lent to a CPU that has no listed and no fresh frame. It does nothing.
+    /// Shows that no frame is lent to the CPU that holds the lock, if it has no listed and no fresh frame. It does
+    /// nothing.
     pub fn prove_none_lent(&self, cpu: &Cpu<N>)
-        requires lent { LentIsBorrowed N.frames self.now.frame_seat cpu.now.frame_seat }
+        requires holds { Holds N.frames (visit_state self.now cpu.now) }
         requires none_listed { cpu.now.list ≡ [] }
         requires none_fresh { cpu.now.fresh ≡ [] }
         ensures { NoneLentTo cpu.now.number self.now.frame_states }
     {
         self.prove_consistent();
-        prove_tied(cpu);
+        let _number = cpu.number();
     }
 }

@@ -1,10 +1,10 @@
 //! Trying kept units: a unit is frozen and freed if nobody else has a reference.
 
 ghost use Rattle.std.specs.Prelude.{◌<◌};
+ghost use Rattle.boot_words.specs.Pasts.{IsHeld};
 ghost use Rattle.mem_machine.specs.Machines.{HeadsKeptUnit};
-ghost use Rattle.mem_machine.specs.Local.{SomeSeenByRun, StaysVisited};
+ghost use Rattle.mem_machine.specs.Local.{Makes, StaysVisited};
 ghost use Rattle.mem_machine.specs.Evicting.{Evicts, evict_steps};
-ghost use Rattle.mem_machine.specs.Local.{MakesForAny};
 
 use crate::frame_state::FrameState;
 use crate::freed::free_unit;
@@ -21,16 +21,13 @@ impl<N: BootName> Machine<N> {
     pub fn evict(&mut self, tables: &Tables<N>, head: Frame) -> Option<u32>
         requires frame { head < N.frames.frames }
         requires kept { HeadsKeptUnit self.old head }
-        requires shown { SomeSeenByRun N.frames self.old }
+        requires held { IsHeld N.frames self.old.run.past }
         ensures evicts { Evicts head result self.old self.new }
         ensures visit { StaysVisited N.frames self.old self.new }
-        ensures steps { MakesForAny N.frames self.old (evict_steps head result) self.new }
+        ensures steps { Makes N.frames self.old (evict_steps head result) self.new }
     {
         let at = head.number();
-        if !tables
-            .words
-            .freeze(&mut self.past, &mut self.frame_seat, head, 1)
-        {
+        if !tables.words.freeze(&mut self.past, head, 1) {
             self.watch.missed(at, 1);
             self.counts = self.counts.with_miss();
             return None;

@@ -1,20 +1,21 @@
 //! The groups: making, removing, limiting and killing them, and noting their events.
 
-ghost use Rattle.std.specs.Prelude.{◌≡◌, ◌≢◌, IsTrue, IfOk, OnErr, false, true, slice_set, []};
+ghost use Rattle.std.specs.Prelude.{◌≡◌, ◌≢◌, IsTrue, IfOk, OnErr, false, true, slice_set};
 ghost use Rattle.std.specs.Result.{result_err};
 ghost use Rattle.group_tree.specs.Groups.{has_group, has_child, make_fault};
 ghost use Rattle.group_charge.specs.Charges.{current_of, SameUsage, with_group_limit, with_group_removed};
 ghost use Rattle.group_charge.specs.Charges.{with_oom_flag, with_group_kill_noted, with_kill_noted, with_max_noted};
 ghost use Rattle.group_charge.specs.Charges.{with_oom_noted};
 ghost use Rattle.mem_machine.specs.Machines.{is_killed, AddsGroup};
-ghost use Rattle.mem_machine.specs.Local.{Makes, MakesForAny, SomeSeenByRun, StaysVisited, Visits, visit_state};
+ghost use Rattle.boot_words.specs.Pasts.{IsHeld};
+ghost use Rattle.mem_machine.specs.Local.{Makes, StaysVisited};
 ghost use Rattle.mem_machine.specs.Steps.{kill_steps, note_group_kill_steps, note_max_steps, note_oom_steps};
 ghost use Rattle.mem_machine.specs.Steps.{make_steps, remove_steps, set_max_steps, set_oom_group_steps};
 
 use crate::machine::Machine;
-use crate::proving::{prove_charges, prove_tied};
+use crate::proving::prove_charges;
 use crate::stepping::make_step;
-use cpu_part::{BootName, Cpu, Tables};
+use cpu_part::{BootName, Tables};
 use group_tree::fault::Fault;
 use group_tree::group::GroupId;
 use group_tree::path::PathText;
@@ -25,13 +26,13 @@ impl<N: BootName> Machine<N> {
     /// events, and in its local events.
     pub fn note_max(&mut self, tables: &Tables<N>, group: GroupId)
         requires there { IsTrue (has_group self.old.ledger.groups group) }
-        requires shown { SomeSeenByRun N.frames self.old }
+        requires held { IsHeld N.frames self.old.run.past }
         ensures machine { self.new ≡ record self.old {
           ledger = with_max_noted self.old.ledger group;
           run = self.new.run;
         } }
         ensures visit { StaysVisited N.frames self.old self.new }
-        ensures steps { MakesForAny N.frames self.old (note_max_steps group) self.new }
+        ensures steps { Makes N.frames self.old (note_max_steps group) self.new }
     {
         self.charges.note_max(group);
         make_step(
@@ -47,14 +48,14 @@ impl<N: BootName> Machine<N> {
     /// events, and in its local events.
     pub fn note_oom(&mut self, tables: &Tables<N>, group: GroupId)
         requires there { IsTrue (has_group self.old.ledger.groups group) }
-        requires shown { SomeSeenByRun N.frames self.old }
+        requires held { IsHeld N.frames self.old.run.past }
         ensures machine { self.new ≡ record self.old {
           ledger = with_oom_noted self.old.ledger group;
           run = self.new.run;
         } }
         ensures usage { SameUsage self.old.ledger self.new.ledger }
         ensures visit { StaysVisited N.frames self.old self.new }
-        ensures steps { MakesForAny N.frames self.old (note_oom_steps group) self.new }
+        ensures steps { Makes N.frames self.old (note_oom_steps group) self.new }
     {
         self.charges.note_oom(group);
         make_step(
@@ -72,7 +73,7 @@ impl<N: BootName> Machine<N> {
     pub fn mark_killed(&mut self, tables: &Tables<N>, group: GroupId)
         requires there { IsTrue (has_group self.old.ledger.groups group) }
         requires alive { is_killed self.old.killed group ≡ false }
-        requires shown { SomeSeenByRun N.frames self.old }
+        requires held { IsHeld N.frames self.old.run.past }
         ensures machine { self.new ≡ record self.old {
           ledger = with_kill_noted self.old.ledger group;
           killed = slice_set self.old.killed group true;
@@ -80,7 +81,7 @@ impl<N: BootName> Machine<N> {
         } }
         ensures usage { SameUsage self.old.ledger self.new.ledger }
         ensures visit { StaysVisited N.frames self.old self.new }
-        ensures steps { MakesForAny N.frames self.old (kill_steps group) self.new }
+        ensures steps { Makes N.frames self.old (kill_steps group) self.new }
     {
         self.charges.note_kill(group);
         self.killed[group.number() as usize] = true;
@@ -98,14 +99,14 @@ impl<N: BootName> Machine<N> {
     pub fn note_group_kill(&mut self, tables: &Tables<N>, group: GroupId)
         requires there { IsTrue (has_group self.old.ledger.groups group) }
         requires below_root { group ≢ 0 }
-        requires shown { SomeSeenByRun N.frames self.old }
+        requires held { IsHeld N.frames self.old.run.past }
         ensures machine { self.new ≡ record self.old {
           ledger = with_group_kill_noted self.old.ledger group;
           run = self.new.run;
         } }
         ensures usage { SameUsage self.old.ledger self.new.ledger }
         ensures visit { StaysVisited N.frames self.old self.new }
-        ensures steps { MakesForAny N.frames self.old (note_group_kill_steps group) self.new }
+        ensures steps { Makes N.frames self.old (note_group_kill_steps group) self.new }
     {
         self.charges.note_group_kill(group);
         make_step(
@@ -119,12 +120,12 @@ impl<N: BootName> Machine<N> {
 
     /// Makes a group, as `Tree::make` does. It has no pages, peak 0 and all counts 0, and isn't killed.
     pub fn make(&mut self, tables: &Tables<N>, path: &[u8]) -> Result<GroupId, Fault>
-        requires shown { SomeSeenByRun N.frames self.old }
+        requires held { IsHeld N.frames self.old.run.past }
         ensures made { IfOk result (λ number. AddsGroup number path.now self.old self.new) }
         ensures refused { result_err result ≡ make_fault self.old.ledger.groups path.now }
         ensures unchanged { OnErr result (self.new ≡ self.old) }
         ensures visit { StaysVisited N.frames self.old self.new }
-        ensures steps { IfOk result (λ number. MakesForAny N.frames self.old (make_steps path.now number) self.new) }
+        ensures steps { IfOk result (λ number. Makes N.frames self.old (make_steps path.now number) self.new) }
     {
         prove_charges(&self.charges);
         let group = self.charges.make(path)?;
@@ -143,24 +144,20 @@ impl<N: BootName> Machine<N> {
         Ok(group)
     }
 
-    /// Removes an existing group other than the root, if it has no child and nothing charged. The CPU has been settled:
-    /// it has no fresh frame.
-    pub fn remove(&mut self, tables: &Tables<N>, cpu: &Cpu<N>, group: GroupId)
-        requires visit { Visits N.frames (visit_state self.old cpu.now) }
+    /// Removes an existing group other than the root, if it has no child and nothing charged.
+    pub fn remove(&mut self, tables: &Tables<N>, group: GroupId)
         requires there { IsTrue (has_group self.old.ledger.groups group) }
         requires leaf { has_child self.old.ledger.groups group ≡ false }
         requires below_root { group ≢ 0 }
         requires empty { current_of self.old.ledger group ≡ 0 }
-        requires none_fresh { cpu.now.fresh ≡ [] }
+        requires held { IsHeld N.frames self.old.run.past }
         ensures machine { self.new ≡ record self.old {
           ledger = with_group_removed self.old.ledger group;
           run = self.new.run;
         } }
-        ensures visit { Visits N.frames (visit_state self.new cpu.now) }
-        ensures steps { Makes N.frames (visit_state self.old cpu.now) (remove_steps group)
-            (visit_state self.new cpu.now) }
+        ensures visit { StaysVisited N.frames self.old self.new }
+        ensures steps { Makes N.frames self.old (remove_steps group) self.new }
     {
-        prove_tied(cpu);
         prove_charges(&self.charges);
         self.charges.remove(group);
         make_step(
@@ -176,13 +173,13 @@ impl<N: BootName> Machine<N> {
     pub fn set_max(&mut self, tables: &Tables<N>, group: GroupId, limit: Option<u32>)
         requires there { IsTrue (has_group self.old.ledger.groups group) }
         requires below_root { group ≢ 0 }
-        requires shown { SomeSeenByRun N.frames self.old }
+        requires held { IsHeld N.frames self.old.run.past }
         ensures machine { self.new ≡ record self.old {
           ledger = with_group_limit self.old.ledger group limit;
           run = self.new.run;
         } }
         ensures visit { StaysVisited N.frames self.old self.new }
-        ensures steps { MakesForAny N.frames self.old (set_max_steps group limit) self.new }
+        ensures steps { Makes N.frames self.old (set_max_steps group limit) self.new }
     {
         self.charges.set_max(group, limit);
         make_step(
@@ -198,13 +195,13 @@ impl<N: BootName> Machine<N> {
     pub fn set_oom_group(&mut self, tables: &Tables<N>, group: GroupId, oom_group: bool)
         requires there { IsTrue (has_group self.old.ledger.groups group) }
         requires below_root { group ≢ 0 }
-        requires shown { SomeSeenByRun N.frames self.old }
+        requires held { IsHeld N.frames self.old.run.past }
         ensures machine { self.new ≡ record self.old {
           ledger = with_oom_flag self.old.ledger group oom_group;
           run = self.new.run;
         } }
         ensures visit { StaysVisited N.frames self.old self.new }
-        ensures steps { MakesForAny N.frames self.old (set_oom_group_steps group oom_group) self.new }
+        ensures steps { Makes N.frames self.old (set_oom_group_steps group oom_group) self.new }
     {
         self.charges.set_oom_group(group, oom_group);
         make_step(

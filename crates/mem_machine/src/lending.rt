@@ -4,10 +4,9 @@ ghost use Rattle.std.specs.Prelude.{◌≡◌, ◌<◌, ◌≤◌, [], length, t
 ghost use Rattle.zone_blocks.specs.Areas.{HasNoneFrom};
 ghost use Rattle.mem_machine.specs.declared.frame_state.FrameState.TheVariants.{Free};
 ghost use Rattle.mem_machine.specs.FrameStates.{frame_state_at};
-ghost use Rattle.mem_machine.specs.Local.{Visits};
 ghost use Rattle.mem_machine.specs.Lending.{HasListRoom, LendsIfFree, LendsFrame, Refills};
 ghost use Rattle.mem_machine.specs.Lending.{UnlistsIfListed, UnlistsMany, unlist_front_steps};
-ghost use Rattle.mem_machine.specs.Local.{Makes, visit_state};
+ghost use Rattle.mem_machine.specs.Local.{VisitMakes, Visits, visit_state};
 ghost use Rattle.mem_machine.specs.Steps.{lend_steps};
 
 use crate::frame_state::{FrameState, single_order};
@@ -34,7 +33,7 @@ impl<N: BootName> Machine<N> {
             unreachable!()
         };
         let at = frame.number();
-        cpu.borrow(tables, &mut self.past, &mut self.frame_seat, frame);
+        cpu.borrow(tables, &mut self.past, frame);
         self.watch.passed_out(at, cpu_number);
         self.watch.took_in(cpu_number, at);
         self.frame_states[at as usize] = FrameState::Lent(cpu_number as u8);
@@ -68,14 +67,14 @@ impl<N: BootName> Machine<N> {
         requires room { HasListRoom cpu.old 1 }
         ensures lends { LendsFrame frame (visit_state self.old cpu.old) (visit_state self.new cpu.new) }
         ensures visit { Visits N.frames (visit_state self.new cpu.new) }
-        ensures steps { Makes N.frames (visit_state self.old cpu.old)
+        ensures steps { VisitMakes N.frames (visit_state self.old cpu.old)
             (lend_steps cpu.old.number frame) (visit_state self.new cpu.new) }
     {
         let cpu_number = cpu.number();
         prove_sizes(tables); // A CPU's number fits a byte.
         let given = frame.number();
         self.zone.take_frame(given);
-        cpu.borrow(tables, &mut self.past, &mut self.frame_seat, frame);
+        cpu.borrow(tables, &mut self.past, frame);
         self.watch.passed_out(given, cpu_number);
         self.watch.took_in(cpu_number, given);
         self.frame_states[given as usize] = FrameState::Lent(cpu_number as u8);
@@ -89,12 +88,12 @@ impl<N: BootName> Machine<N> {
         ensures visit { Visits N.frames (visit_state self.new cpu.new) }
     {
         let cpu_number = cpu.number();
-        let Some(frame) = cpu.pass_front(tables, &mut self.past, &mut self.frame_seat) else {
+        let Some(frame) = cpu.pass_front(tables, &mut self.past) else {
             return false;
         };
         let at = frame.number();
         self.watch.passed_back(cpu_number, at);
-        cpu.collect(tables, &mut self.past, &mut self.frame_seat, frame);
+        tables.words.collect(&mut self.past, cpu_number, frame);
         self.watch.collected(at, cpu_number);
         self.frame_states[at as usize] = FrameState::Free;
         self.zone.give(Block {
@@ -115,7 +114,7 @@ impl<N: BootName> Machine<N> {
         ensures fewer_only_at_the_end { result < count → cpu.new.list ≡ [] }
         ensures visit { Visits N.frames (visit_state self.new cpu.new) }
         ensures steps { let before = visit_state self.old cpu.old in
-            Makes N.frames before (unlist_front_steps result before) (visit_state self.new cpu.new) }
+            VisitMakes N.frames before (unlist_front_steps result before) (visit_state self.new cpu.new) }
     {
         for taken in 0..count {
             if !self.unlist_one(tables, cpu) {

@@ -1,9 +1,9 @@
 //! All that lies behind the zone's lock: the free areas, one record for each frame, the groups with their charges and
-//! lists of kept units, and the zone's two seats at the table. Each call is a list of steps of the rules
-//! (`step_rules`).
+//! lists of kept units, and the zone's past. Each call is a list of steps of the rules (`step_rules`), and other CPUs
+//! see a call only through these steps.
 //!
-//! Contracts name the machine's two seats. A seat is the right to make steps at a table, and other CPUs see a call only
-//! through these steps.
+//! The zone's past is a beginning of one legal run. References, visits and stocks are those of the state after it:
+//! `left_by` is what the past left, with every CPU's own part hidden.
 //!
 //! Some terms of the contracts:
 //!
@@ -11,12 +11,12 @@
 //! - A lent frame is fresh from the time it is taken and paid for until the CPU is settled. A back frame heads a unit
 //!   whose last reference the CPU put.
 //! - The pages booked to a stock are all that were charged through it: the pages in it, those that paid for fresh
-//!   frames, and those that are reported and not absorbed yet. In the stock's account they are its `book`.
-//! - A `VisitState` is the machine with the part of the CPU that holds its lock. `IsSeenByRun` says that this CPU sees
-//!   by the run what the two show, and `Visits` says also that its visit is open. A visit lasts from `open` to `shut`,
-//!   and frames are handed over only inside it.
-//! - `local_of` is what a visit state shows, in the words of the rules. `Makes` says that a list of steps leads from
-//!   one visit state to another.
+//!   frames, and those that are reported and not absorbed yet. In the CPU's part they are its `book`.
+//! - A `VisitState` is the machine with the part of the CPU that holds its lock. `Holds` says that this CPU holds the
+//!   lock and that its lists are its own in what it sees, and `Visits` says also that its visit is open. A visit lasts
+//!   from `open` to `shut`, and frames are handed over only inside it.
+//! - `local_of` is what the lock's holder sees, in the words of the rules. `Makes` says that a list of steps leads from
+//!   one machine to another.
 //! - Each of these steps is legal where it is made, and the pasts grow by it. The watch takes it right behind, if it is
 //!   on. `Notes`, a part of `Makes`, says so.
 //!
@@ -26,7 +26,6 @@
 mod ageing;
 pub mod bit_set;
 mod blocks;
-mod booked_seat;
 mod counts;
 mod ending;
 mod evicting;
@@ -58,9 +57,7 @@ pub use blocks::TakeFault;
 pub use counts::Counts;
 pub use frame_state::{FrameState, Place};
 pub use machine::Machine;
-pub use proving::{
-    prove_charges, prove_groups, prove_number, prove_order, prove_sizes, prove_tied,
-};
+pub use proving::{prove_charges, prove_groups, prove_number, prove_order, prove_sizes};
 pub use releasing::Released;
 pub use step_rules::laws::{other_step, own_step};
 pub use subtrees::subtree;

@@ -3,58 +3,55 @@
 ghost use Rattle.std.specs.Prelude.{◌≡◌, []};
 ghost use Rattle.cpu_part.specs.Known.{KnowsItsPart};
 ghost use Rattle.boot_words.specs.Pasts.{Locks, Meets, Unlocks};
-ghost use Rattle.frame_word.specs.Seats.{IsShut, NothingPasses};
-ghost use Rattle.mem_machine.specs.Local.{IsSeenByRun, visit_state};
+ghost use Rattle.mem_machine.specs.Local.{Holds, IsShut, visit_state};
 ghost use Rattle.mem_machine.specs.Machines.{with_past};
 ghost use Rattle.mem_machine.specs.Resting.{Rests};
+ghost use Rattle.mem_machine.specs.Showing.{stock_left};
 
 use crate::machine::Machine;
-use crate::proving::prove_tied;
-use boot_words::PastSeat;
+use boot_words::CpuSeat;
 use cpu_part::{BootName, Cpu, Tables};
 
 impl<N: BootName> Machine<N> {
-    /// The CPU takes the lock, which is free. Its past, which it gives away, is the machine's until `unlock`. By the run
-    /// it sees what the machine and its own part show. The caller holds the mutex that keeps other CPUs out meanwhile.
-    pub fn lock(&mut self, tables: &Tables<N>, cpu: &Cpu<N>, past: &mut PastSeat)
+    /// The CPU takes the lock, which is free. Its past, which it gives away, is the machine's until `unlock`. The caller
+    /// holds the mutex that keeps other CPUs out meanwhile.
+    pub fn lock(&mut self, tables: &Tables<N>, cpu: &Cpu<N>, past: &mut CpuSeat)
         requires rests { Rests N.frames self.old }
-        requires shut { IsShut self.old.frame_seat cpu.now.number }
         requires knows { KnowsItsPart N.frames past.old cpu.now }
-        ensures machine { self.new ≡ record self.old { run = record (self.old.run) { past = self.new.run.past } } }
-        ensures shown { IsSeenByRun N.frames (visit_state self.new cpu.now) }
-        ensures given { past.new ≡ record { table = N.frames.table; pasts = [] } }
-        ensures run { Locks N.frames self.old.run.past past.old self.new.run.past }
+        ensures machine { self.new ≡ with_past self.old self.new.run.past }
+        ensures holds { Holds N.frames (visit_state self.new cpu.now) }
+        ensures shut { IsShut N.frames self.new cpu.now.number }
+        ensures given { past.new ≡ record past.old { seat = record { table = N.frames.table; pasts = [] } } }
+        ensures run { Locks N.frames self.old.run.past past.old.seat self.new.run.past }
     {
-        prove_tied(cpu);
         tables.words.lock(&mut self.past, past);
     }
 
     /// The CPU releases the lock, and has its own past again. Its visit is shut, and it knows its own part as the
-    /// machine's calls left it.
-    pub fn unlock(&mut self, tables: &Tables<N>, cpu: &Cpu<N>, past: &mut PastSeat)
-        requires shown { IsSeenByRun N.frames (visit_state self.old cpu.now) }
-        requires shut { IsShut self.old.frame_seat cpu.now.number }
-        requires given { past.old ≡ record { table = N.frames.table; pasts = [] } }
-        ensures machine { self.new ≡ record self.old { run = record (self.old.run) { past = self.new.run.past } } }
+    /// machine's calls left it, and its stock.
+    pub fn unlock(&mut self, tables: &Tables<N>, cpu: &Cpu<N>, past: &mut CpuSeat)
+        requires holds { Holds N.frames (visit_state self.old cpu.now) }
+        requires shut { IsShut N.frames self.old cpu.now.number }
+        requires number { past.old.number ≡ cpu.now.number }
+        ensures machine { self.new ≡ with_past self.old self.new.run.past }
         ensures rests { Rests N.frames self.new }
         ensures knows { KnowsItsPart N.frames past.new cpu.now }
-        ensures run { Unlocks N.frames self.old.run.past self.new.run.past past.new }
+        ensures last { past.new.last ≡ stock_left N.frames self.new cpu.now.number }
+        ensures run { Unlocks N.frames self.old.run.past self.new.run.past past.new.seat }
     {
-        prove_tied(cpu);
-        // a CPU that saw no stock yet has no fresh frame
-        let _last = cpu.last_stock();
         tables.words.unlock(&mut self.past, past);
     }
 
     /// The CPU, which doesn't hold the lock, and the zone, whose lock is free, now see the same run: all that either saw.
     /// The machine rests as before, and the CPU still knows its own part.
-    pub fn meet(&mut self, tables: &Tables<N>, cpu: &Cpu<N>, past: &mut PastSeat)
+    pub fn meet(&mut self, tables: &Tables<N>, cpu: &Cpu<N>, past: &mut CpuSeat)
         requires rests { Rests N.frames self.old }
         requires knows { KnowsItsPart N.frames past.old cpu.now }
         ensures machine { self.new ≡ with_past self.old self.new.run.past }
         ensures rests { Rests N.frames self.new }
         ensures knows { KnowsItsPart N.frames past.new cpu.now }
-        ensures meets { Meets N.frames self.old.run.past past.old self.new.run.past past.new }
+        ensures last { past.new.last ≡ past.old.last }
+        ensures meets { Meets N.frames self.old.run.past past.old.seat self.new.run.past past.new.seat }
     {
         tables.words.meet(&mut self.past, past);
     }

@@ -2,19 +2,20 @@
 
 ghost use Rattle.std.specs.Prelude.{◌≡◌, IfOk};
 ghost use Rattle.step_watch.specs.Watched.{watch_off};
-ghost use Rattle.boot_words.specs.Opening.{zone_seats};
+ghost use Rattle.boot_words.specs.Opening.{seat_at_first};
 ghost use Rattle.mem_machine.specs.Resting.{Rests};
 ghost use Rattle.mem_machine.specs.Machines.{IsConsistent, IsFirst};
 
-use crate::booked_seat::BookedSeat;
 use crate::counts::Counts;
 use crate::frame_state::FrameState;
+use crate::owners::StockOwners;
 use crate::proving::prove_sizes;
 use crate::start::{Parts, new_parts};
-use boot_words::{FrameSeat, OwnSeats, PastSeat, StockSeat};
+use boot_words::PastSeat;
 use cpu_part::{BootName, Tables};
 use group_charge::charges::Charges;
 use group_charge::notes::Notes;
+use group_tree::group::MAX_GROUPS;
 use lru_lists::links::Links;
 use lru_lists::lru::Lru;
 use std::alloc::{AllocError, Global};
@@ -35,12 +36,11 @@ pub struct Machine<N: BootName> {
     pub(crate) links: Links,
     // The ends and lengths of the two lists of each of the 64 group numbers, by the number.
     pub(crate) lists: Vec<Lru>,
-    // The zone's seat at the frames' words: which frames are in its hand, which frames it lent to which CPU, and its
-    // references, one on the head of each kept unit.
-    pub(crate) frame_seat: FrameSeat,
-    // The zone's seat at the stocks' words: the group of each CPU's stock, and the pages booked to it, 0 to 65,535.
-    // Between two calls no reported page is unabsorbed.
-    pub(crate) stock_seat: BookedSeat<N>,
+    // By group number: the pages booked to the group's stocks, 0 to 2^32 - 1. What is booked to one CPU's stock exists
+    // only in proofs, as a part of what the past left.
+    pub(crate) sums: [u32; MAX_GROUPS],
+    // Only calls of the machine change the group of a stock, so no look is needed to find it.
+    pub(crate) owners: StockOwners,
     // Whether each of the 64 group numbers is killed, by the number.
     pub(crate) killed: Vec<bool>,
     // How many units ended, were freed, or were missed since the boot.
@@ -65,26 +65,24 @@ impl<N: BootName> Model for Machine<N> {
 
     ghost view = { machine_of };
 
-    ghost invariant = { λ fields. IsSoundMachine N.frames N.stocks fields };
+    ghost invariant = { λ fields. IsSoundMachine N.frames fields };
 }
 
 impl<N: BootName> Machine<N> {
-    /// The machine of a new boot, from the zone's seats, which have done nothing yet. All frames are free, and only
-    /// the root exists. The watch is off. This call reserves all memory that later calls need; it returns `AllocError`
-    /// if memory runs out.
-    pub fn new(alloc: Global, tables: &Tables<N>, seats: OwnSeats) -> Result<Machine<N>, AllocError>
-        requires seats { seats ≡ zone_seats N.frames.table N.frames.frames }
-        requires cpus { N.stocks.cpus ≡ N.frames.cpus }
-        ensures first { IfOk result (λ machine. IsFirst N.frames N.stocks machine) }
+    /// The machine of a new boot, from the zone's seat, by which no step was made yet. All frames are free, and only the
+    /// root exists. The watch is off. This call reserves all memory that later calls need; it returns `AllocError` if
+    /// memory runs out.
+    pub fn new(alloc: Global, tables: &Tables<N>, past: PastSeat) -> Result<Machine<N>, AllocError>
+        requires past { past ≡ seat_at_first N.frames.table 0 }
+        ensures first { IfOk result (λ machine. IsFirst N.frames machine) }
         ensures off { IfOk result (λ machine. machine.run.watch ≡ watch_off) }
         ensures rests { IfOk result (λ machine. Rests N.frames machine) }
-        ensures past { IfOk result (λ machine. machine.run.past ≡ seats.past) }
     {
         prove_sizes(tables); // There are at most 64 CPUs.
         let parts = match new_parts(alloc, tables.words.frames()) {
             Ok(parts) => parts,
             Err(error) => {
-                drop(seats);
+                drop(past);
                 return Err(error);
             }
         };
@@ -94,8 +92,8 @@ impl<N: BootName> Machine<N> {
             charges: parts.charges,
             links: parts.links,
             lists: parts.lists,
-            frame_seat: seats.frames,
-            stock_seat: BookedSeat::new(seats.stocks),
+            sums: [0; MAX_GROUPS],
+            owners: StockOwners::new(),
             killed: parts.killed,
             counts: Counts {
                 last_puts: 0,
@@ -105,18 +103,16 @@ impl<N: BootName> Machine<N> {
                 misses: 0,
             },
             notes: parts.notes,
-            past: seats.past,
+            past,
             watch: Watch::off(),
             of: PhantomData,
         })
     }
 
-    /// Takes the machine apart, so that the table can end: returns the zone's seats.
-    pub fn into_seats(self) -> OwnSeats
-        ensures past { result.past ≡ self.run.past }
-        ensures frame_seat { result.frames ≡ self.frame_seat }
-        ensures stock_seat { result.stocks ≡ self.stock_seat }
-        ensures consistent { IsConsistent N.frames N.stocks self }
+    /// Takes the machine apart, so that the table can end: returns the zone's seat.
+    pub fn into_past(self) -> PastSeat
+        ensures past { result ≡ self.run.past }
+        ensures consistent { IsConsistent N.frames self }
     {
         let Machine {
             zone,
@@ -124,8 +120,8 @@ impl<N: BootName> Machine<N> {
             charges,
             links,
             lists,
-            frame_seat,
-            stock_seat,
+            sums: _,
+            owners,
             killed,
             counts: _,
             notes,
@@ -143,11 +139,8 @@ impl<N: BootName> Machine<N> {
             killed,
             notes,
         });
+        drop(owners);
         drop(watch);
-        OwnSeats {
-            past,
-            frames: frame_seat,
-            stocks: stock_seat.into_seat(),
-        }
+        past
     }
 }

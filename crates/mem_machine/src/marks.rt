@@ -1,9 +1,10 @@
 //! Noting the use of kept units on the lists of their groups.
 
 ghost use Rattle.std.specs.Prelude.{◌<◌, []};
+ghost use Rattle.boot_words.specs.Pasts.{IsHeld};
 ghost use Rattle.mem_machine.specs.Machines.{HeadsKeptUnit};
 ghost use Rattle.mem_machine.specs.Marks.{Dirties, TouchesUnit};
-ghost use Rattle.mem_machine.specs.Local.{MakesForAny};
+ghost use Rattle.mem_machine.specs.Local.{Makes};
 
 use crate::machine::Machine;
 use cpu_part::BootName;
@@ -18,7 +19,7 @@ impl<N: BootName> Machine<N> {
         requires frame { head < N.frames.frames }
         requires kept { HeadsKeptUnit self.old head }
         ensures touches { TouchesUnit head result self.old self.new }
-        ensures steps { MakesForAny N.frames self.old [] self.new }
+        ensures steps { Makes N.frames self.old [] self.new }
     {
         let at = head.number();
         let Some(home) = self.links.home(at) else {
@@ -37,7 +38,7 @@ impl<N: BootName> Machine<N> {
         requires frame { head < N.frames.frames }
         requires kept { HeadsKeptUnit self.old head }
         ensures dirties { Dirties head is_dirty self.old self.new }
-        ensures steps { MakesForAny N.frames self.old [] self.new }
+        ensures steps { Makes N.frames self.old [] self.new }
     {
         let at = head.number();
         let Some(home) = self.links.home(at) else {

@@ -5,11 +5,10 @@ ghost use Rattle.std.specs.Prelude.{◌≡◌, ◌^◌, ◌<◌, ◌≤◌, IsTr
 ghost use Rattle.group_tree.specs.Bounds.{most_groups};
 ghost use Rattle.group_tree.specs.Groups.{AreGroups, has_group};
 ghost use Rattle.group_charge.specs.Charges.{AreCharges, current_of, total_pages};
-ghost use Rattle.cpu_part.specs.Cpus.{IsTied};
 ghost use Rattle.mem_machine.specs.Machines.{IsConsistent};
 
 use crate::machine::Machine;
-use cpu_part::{BootName, Cpu, Tables};
+use cpu_part::{BootName, Tables};
 use group_charge::charges::Charges;
 use group_tree::group::GroupId;
 use group_tree::tree::Tree;
@@ -19,8 +18,7 @@ use zone_blocks::order::Order;
 #[inline(always)]
 pub fn prove_sizes<N: BootName>(tables: &Tables<N>)
     ensures frames { N.frames.frames < 2 ^ 32 }
-    ensures cpus { N.frames.cpus < 2 ^ 32 }
-    ensures few { N.stocks.cpus ≤ 64 }
+    ensures few { N.frames.cpus ≤ 64 }
 {
     let _frames = tables.words.frames();
     let _cpus = tables.words.cpus();
@@ -40,14 +38,6 @@ pub fn prove_order(order: Order)
     ensures { 2 ^ order ≤ 1024 }
 {
     let _frames = order.frames();
-}
-
-/// Shows that the CPU's lists and pins are what its seats know.
-#[inline(always)]
-pub fn prove_tied<N: BootName>(cpu: &Cpu<N>)
-    ensures { IsTied N.frames N.stocks cpu.now }
-{
-    let _number = cpu.number();
 }
 
 /// Shows that the groups make up a tree.
@@ -74,9 +64,9 @@ impl<N: BootName> Machine<N> {
     /// Shows that the machine is consistent.
     #[inline(always)]
     pub fn prove_consistent(&self)
-        ensures { IsConsistent N.frames N.stocks self.now }
+        ensures { IsConsistent N.frames self.now }
     {
-        let _ = &self.frame_seat;
+        let _ = &self.past;
     }
 
     /// Shows that a group's usage is below 2^32 pages.

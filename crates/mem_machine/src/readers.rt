@@ -22,7 +22,7 @@ impl<N: BootName> Machine<N> {
     pub fn place(&self, frame: Frame) -> Place
         requires { frame < N.frames.frames }
         ensures place { result ≡ place_of (frame_state_at self.now.frame_states frame) }
-        ensures consistent { IsConsistent N.frames N.stocks self.now }
+        ensures consistent { IsConsistent N.frames self.now }
     {
         self.frame_states[frame.number() as usize].place()
     }
@@ -30,7 +30,7 @@ impl<N: BootName> Machine<N> {
     /// The records of all frames, by their numbers.
     pub fn frame_states(&self) -> &[FrameState]
         ensures frame_states { result.now ≡ self.now.frame_states }
-        ensures consistent { IsConsistent N.frames N.stocks self.now }
+        ensures consistent { IsConsistent N.frames self.now }
     {
         self.frame_states.as_slice()
     }
@@ -99,6 +99,6 @@ impl<N: BootName> Machine<N> {
         if !self.charges.tree().contains(group) {
             return 0;
         }
-        u64::from(self.charges.own_pages(group) - self.stock_seat.booked(group))
+        u64::from(self.charges.own_pages(group) - self.sums[group.number() as usize])
     }
 }

@@ -1,10 +1,10 @@
 //! Releasing kept units.
 
 ghost use Rattle.std.specs.Prelude.{◌<◌};
+ghost use Rattle.boot_words.specs.Pasts.{IsHeld};
 ghost use Rattle.mem_machine.specs.Machines.{HeadsKeptUnit};
-ghost use Rattle.mem_machine.specs.Local.{SomeSeenByRun, StaysVisited, Visits};
+ghost use Rattle.mem_machine.specs.Local.{Makes, StaysVisited, Visits, visit_state};
 ghost use Rattle.mem_machine.specs.Releasing.{Releases, release_steps};
-ghost use Rattle.mem_machine.specs.Local.{Makes, MakesForAny, visit_state};
 
 use crate::frame_state::FrameState;
 use crate::freed::free_unit;
@@ -30,17 +30,14 @@ impl<N: BootName> Machine<N> {
     pub fn put_zone_reference(&mut self, tables: &Tables<N>, head: Frame) -> Released
         requires frame { head < N.frames.frames }
         requires kept { HeadsKeptUnit self.old head }
-        requires shown { SomeSeenByRun N.frames self.old }
+        requires held { IsHeld N.frames self.old.run.past }
         ensures releases { Releases head result self.old self.new }
         ensures visit { StaysVisited N.frames self.old self.new }
-        ensures steps { MakesForAny N.frames self.old (release_steps head result) self.new }
+        ensures steps { Makes N.frames self.old (release_steps head result) self.new }
     {
         let at = head.number();
         leave_list(&mut self.links, &mut self.lists, at);
-        match tables
-            .words
-            .put_held(&mut self.past, &mut self.frame_seat, head)
-        {
+        match tables.words.put_held(&mut self.past, 0, head) {
             Put::Left(left) => {
                 self.watch.put_left(at, left as u32);
                 Released::Left(left)
@@ -71,8 +68,7 @@ impl<N: BootName> Machine<N> {
         requires kept { HeadsKeptUnit self.old head }
         ensures releases { Releases head result self.old self.new }
         ensures visit { Visits N.frames (visit_state self.new cpu.now) }
-        ensures steps { Makes N.frames (visit_state self.old cpu.now) (release_steps head result)
-            (visit_state self.new cpu.now) }
+        ensures steps { Makes N.frames self.old (release_steps head result) self.new }
     {
         self.put_zone_reference(tables, head)
     }

@@ -1,11 +1,13 @@
 //! Settling the visited CPU: its fresh frames are kept, and the units of its back frames are freed.
 
-ghost use Rattle.std.specs.Prelude.{◌≡◌, ◌≢◌, ◌<◌, [], true, Some};
-ghost use Rattle.stock_word.specs.Stock.{group_of};
-ghost use Rattle.mem_machine.specs.Machines.{is_killed};
-ghost use Rattle.mem_machine.specs.Local.{Visits};
-ghost use Rattle.mem_machine.specs.Local.{Makes, visit_state};
-ghost use Rattle.mem_machine.specs.Settling.{KeepsFresh, DropsFresh, SettlesNext, SettlesAllFresh, Settles};
+ghost use Rattle.std.specs.Prelude.{◌≡◌, ◌≢◌, ◌-◌, ◌≤◌, ℕ, List, [], ◌∷◌, true, Some, slice_set};
+ghost use Rattle.std.specs.List.{slice_index_or};
+ghost use Rattle.boot_words.specs.Composed.{AreLegal};
+ghost use Rattle.boot_words.specs.Pasts.{local_by_pasts, IsHeld, IsHolder};
+ghost use Rattle.mem_machine.specs.Machines.{is_killed, stock_group};
+ghost use Rattle.mem_machine.specs.Local.{VisitMakes, Visits, visit_state};
+ghost use Rattle.mem_machine.specs.Noted.{Notes};
+ghost use Rattle.mem_machine.specs.Settling.{HandsOver, KeepsFresh, DropsFresh, SettlesNext, SettlesAllFresh, Settles};
 ghost use Rattle.mem_machine.specs.Settling.{ReturnsNext, ReturnsAllBack, LeavesOthers};
 ghost use Rattle.mem_machine.specs.Settling.{MakesFreshSteps, MakesReturnSteps, keep_steps, drop_steps};
 ghost use Rattle.mem_machine.specs.Settling.{all_fresh_steps, collect_steps, return_all_steps, settle_steps};
@@ -16,9 +18,10 @@ use crate::freed::free_unit;
 use crate::lists::join_list;
 use crate::machine::Machine;
 use crate::stepping;
+use boot_words::PastSeat;
 use cpu_part::{BootName, Cpu, Tables};
 use frame_word::Frame;
-use group_tree::group::GroupId;
+use group_tree::group::{GroupId, MAX_GROUPS};
 use step_rules::phase::ChargedUnit;
 use step_watch::Watch;
 
@@ -32,26 +35,60 @@ fn watch_collected(watch: &mut Watch, cpu: u32, frame: u32)
     watch.absorbed(cpu, 1);
 }
 
+// Moves the oldest fresh frame of the visited CPU into the zone's hand. Its page is no longer booked to the CPU's stock,
+// which is of this group, nor in the group's sum.
+fn collect_fresh<N: BootName>(
+    tables: &Tables<N>,
+    cpu: &mut Cpu<N>,
+    past: &mut PastSeat,
+    watch: &mut Watch,
+    sums: &mut [u32; MAX_GROUPS],
+    group: GroupId,
+) -> Frame
+    requires held { IsHeld N.frames past.old }
+    requires holder { IsHolder past.old cpu.old.number }
+    requires absorbed { ((local_by_pasts N.frames past.old).parts cpu.old.number).reported ≡ 0 }
+    requires legal { (f : ℕ) (rest : List ℕ) → cpu.old.fresh ≡ f ∷ rest
+        → AreLegal (local_by_pasts N.frames past.old) (collect_steps cpu.old.number f) }
+    requires fresh { cpu.old.fresh ≢ [] }
+    requires booked { 1 ≤ slice_index_or sums.old group 0 }
+    ensures cpu { HandsOver result cpu.old cpu.new }
+    ensures sums { sums.new ≡ slice_set sums.old group (slice_index_or sums.old group 0 - 1) }
+    ensures held { IsHeld N.frames past.new }
+    ensures notes { Notes N.frames (record { past = past.old; watch = watch.old })
+        (collect_steps cpu.old.number result) (record { past = past.new; watch = watch.new }) }
+{
+    let cpu_number = cpu.number();
+    let Some(frame) = cpu.give_back_fresh(tables, past) else {
+        unreachable!()
+    };
+    let at = frame.number();
+    watch_collected(watch, cpu_number, at);
+    sums[group.number() as usize] -= 1;
+    frame
+}
+
 impl<N: BootName> Machine<N> {
     // Keeps the oldest fresh frame for the group that paid for it.
     fn keep_one(&mut self, tables: &Tables<N>, cpu: &mut Cpu<N>, group: GroupId) -> Frame
         requires visit { Visits N.frames (visit_state self.old cpu.old) }
         requires fresh { cpu.old.fresh ≢ [] }
-        requires group { group_of cpu.old.stock_seat.view.last ≡ Some group }
+        requires group { stock_group N.frames self.old cpu.old.number ≡ Some group }
         ensures keeps { KeepsFresh group result (visit_state self.old cpu.old) (visit_state self.new cpu.new) }
         ensures visit { Visits N.frames (visit_state self.new cpu.new) }
-        ensures steps { Makes N.frames (visit_state self.old cpu.old)
+        ensures steps { VisitMakes N.frames (visit_state self.old cpu.old)
             (keep_steps cpu.old.number result) (visit_state self.new cpu.new) }
     {
-        let cpu_number = cpu.number();
-        let frame = self
-            .stock_seat
-            .collect_fresh(tables, cpu, &mut self.past, &mut self.frame_seat, group);
+        let frame = collect_fresh(
+            tables,
+            cpu,
+            &mut self.past,
+            &mut self.watch,
+            &mut self.sums,
+            group,
+        );
         let at = frame.number();
-        watch_collected(&mut self.watch, cpu_number, at);
-        tables
-            .words
-            .unfreeze(&mut self.past, &mut self.frame_seat, frame, 1);
+        tables.words.unfreeze(&mut self.past, frame, 1);
         self.watch.unfroze(at, 1);
         let order = single_order();
         self.frame_states[at as usize] = FrameState::Head(ChargedUnit { group, order });
@@ -64,19 +101,22 @@ impl<N: BootName> Machine<N> {
     fn drop_one(&mut self, tables: &Tables<N>, cpu: &mut Cpu<N>, group: GroupId) -> Frame
         requires visit { Visits N.frames (visit_state self.old cpu.old) }
         requires fresh { cpu.old.fresh ≢ [] }
-        requires group { group_of cpu.old.stock_seat.view.last ≡ Some group }
+        requires group { stock_group N.frames self.old cpu.old.number ≡ Some group }
         requires killed { is_killed self.old.killed group ≡ true }
         ensures drops { DropsFresh group result (visit_state self.old cpu.old) (visit_state self.new cpu.new) }
         ensures visit { Visits N.frames (visit_state self.new cpu.new) }
-        ensures steps { Makes N.frames (visit_state self.old cpu.old)
+        ensures steps { VisitMakes N.frames (visit_state self.old cpu.old)
             (drop_steps cpu.old.number result) (visit_state self.new cpu.new) }
     {
-        let cpu_number = cpu.number();
-        let frame = self
-            .stock_seat
-            .collect_fresh(tables, cpu, &mut self.past, &mut self.frame_seat, group);
+        let frame = collect_fresh(
+            tables,
+            cpu,
+            &mut self.past,
+            &mut self.watch,
+            &mut self.sums,
+            group,
+        );
         let at = frame.number();
-        watch_collected(&mut self.watch, cpu_number, at);
         let order = single_order();
         let unit = ChargedUnit { group, order };
         free_unit(
@@ -99,12 +139,12 @@ impl<N: BootName> Machine<N> {
         ensures steps { MakesReturnSteps N.frames result (visit_state self.old cpu.old) (visit_state self.new cpu.new) }
     {
         let cpu_number = cpu.number();
-        let Some(frame) = cpu.pass_back_unit(tables, &mut self.past, &mut self.frame_seat) else {
+        let Some(frame) = cpu.pass_back_unit(tables, &mut self.past) else {
             return None;
         };
         let at = frame.number();
         self.watch.passed_back(cpu_number, at);
-        cpu.collect(tables, &mut self.past, &mut self.frame_seat, frame);
+        tables.words.collect(&mut self.past, cpu_number, frame);
         self.watch.collected(at, cpu_number);
         let FrameState::Head(unit) = self.frame_states[at as usize] else {
             unreachable!()
@@ -124,18 +164,17 @@ impl<N: BootName> Machine<N> {
     // Settles the oldest fresh frame, if there is one: it is kept for its group, or dropped if that group is killed.
     fn settle_one(&mut self, tables: &Tables<N>, cpu: &mut Cpu<N>) -> Option<Frame>
         requires { Visits N.frames (visit_state self.old cpu.old) }
-        ensures settles { SettlesNext result (visit_state self.old cpu.old) (visit_state self.new cpu.new) }
+        ensures settles { SettlesNext N.frames result (visit_state self.old cpu.old) (visit_state self.new cpu.new) }
         ensures visit { Visits N.frames (visit_state self.new cpu.new) }
         ensures steps { MakesFreshSteps N.frames result (visit_state self.old cpu.old) (visit_state self.new cpu.new) }
     {
         if cpu.fresh_len() == 0 {
             return None;
         }
-        let Some(group_number) = cpu.last_stock().group() else {
+        let Some(group) = self.owners.group(cpu.number() as usize - 1) else {
             unreachable!()
         };
-        let group = GroupId::of(group_number).unwrap();
-        if self.killed[group_number as usize] {
+        if self.killed[group.number() as usize] {
             Some(self.drop_one(tables, cpu, group))
         } else {
             Some(self.keep_one(tables, cpu, group))
@@ -145,13 +184,14 @@ impl<N: BootName> Machine<N> {
     // Settles all fresh frames, in the order in which they were taken.
     fn settle_fresh(&mut self, tables: &Tables<N>, cpu: &mut Cpu<N>)
         requires { Visits N.frames (visit_state self.old cpu.old) }
-        ensures settles { SettlesAllFresh cpu.old.fresh (visit_state self.old cpu.old) (visit_state self.new cpu.new) }
+        ensures settles { SettlesAllFresh N.frames cpu.old.fresh (visit_state self.old cpu.old)
+            (visit_state self.new cpu.new) }
         ensures others { LeavesOthers cpu.old cpu.new }
         ensures back { cpu.new.back ≡ cpu.old.back }
         ensures none_fresh { cpu.new.fresh ≡ [] }
         ensures visit { Visits N.frames (visit_state self.new cpu.new) }
         ensures steps { let before = visit_state self.old cpu.old in
-            Makes N.frames before (all_fresh_steps before) (visit_state self.new cpu.new) }
+            VisitMakes N.frames before (all_fresh_steps N.frames before) (visit_state self.new cpu.new) }
     {
         while let Some(_frame) = self.settle_one(tables, cpu) {}
     }
@@ -165,7 +205,7 @@ impl<N: BootName> Machine<N> {
         ensures none_back { cpu.new.back ≡ [] }
         ensures visit { Visits N.frames (visit_state self.new cpu.new) }
         ensures steps { let before = visit_state self.old cpu.old in
-            Makes N.frames before (return_all_steps before) (visit_state self.new cpu.new) }
+            VisitMakes N.frames before (return_all_steps before) (visit_state self.new cpu.new) }
     {
         while let Some(_frame) = self.return_one(tables, cpu) {}
     }
@@ -175,13 +215,13 @@ impl<N: BootName> Machine<N> {
     /// as a drop. Then the units of the back frames are freed, in the order of their last puts.
     pub fn settle(&mut self, tables: &Tables<N>, cpu: &mut Cpu<N>)
         requires { Visits N.frames (visit_state self.old cpu.old) }
-        ensures settles { Settles (visit_state self.old cpu.old) (visit_state self.new cpu.new) }
+        ensures settles { Settles N.frames (visit_state self.old cpu.old) (visit_state self.new cpu.new) }
         ensures others { LeavesOthers cpu.old cpu.new }
         ensures none_fresh { cpu.new.fresh ≡ [] }
         ensures none_back { cpu.new.back ≡ [] }
         ensures visit { Visits N.frames (visit_state self.new cpu.new) }
         ensures steps { let before = visit_state self.old cpu.old in
-            Makes N.frames before (settle_steps before) (visit_state self.new cpu.new) }
+            VisitMakes N.frames before (settle_steps N.frames before) (visit_state self.new cpu.new) }
     {
         self.settle_fresh(tables, cpu);
         self.settle_back(tables, cpu);

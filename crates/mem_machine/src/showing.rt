@@ -1,11 +1,12 @@
 //! What the machine shows of a group's kept units.
 
-ghost use Rattle.std.specs.Prelude.{◌≡◌, ◌<◌, []};
+ghost use Rattle.std.specs.Prelude.{◌≡◌, ◌+◌, ◌<◌};
 ghost use Rattle.frame_word.specs.ReferenceRule.{most_references};
-ghost use Rattle.mem_machine.specs.Machines.{HeadsKeptUnit};
-ghost use Rattle.mem_machine.specs.Local.{StaysVisited};
-ghost use Rattle.mem_machine.specs.Showing.{entries_in, with_look_at};
-ghost use Rattle.mem_machine.specs.Local.{MakesForAny};
+ghost use Rattle.boot_words.specs.Pasts.{own_past};
+ghost use Rattle.boot_words.specs.Seats.{zone_of_boot};
+ghost use Rattle.boot_words.specs.Looking.{LoadsReferences};
+ghost use Rattle.mem_machine.specs.Machines.{HeadsKeptUnit, entries_in};
+ghost use Rattle.mem_machine.specs.Resting.{Rests};
 
 use crate::machine::Machine;
 use cpu_part::{BootName, Tables};
@@ -23,16 +24,16 @@ impl<N: BootName> Machine<N> {
     }
 
     /// How many references other than the zone's a kept unit has, by one load of its word: the pins of all CPUs at the
-    /// moment of that load. CPUs may pin and unpin the unit before and after it. The zone's seat counts the load as a
-    /// step. `head` is the unit's head.
+    /// moment of that load. CPUs may pin and unpin the unit before and after it. Nothing changes, and no step is made.
+    /// `head` is the unit's head.
     pub fn pins_on(&mut self, tables: &Tables<N>, head: Frame) -> u32
+        requires rests { Rests N.frames self.old }
         requires frame { head < N.frames.frames }
         requires kept { HeadsKeptUnit self.old head }
+        ensures pins { LoadsReferences (zone_of_boot N.frames) (own_past self.old.run.past) head (result + 1) }
         ensures most { result < most_references }
-        ensures machine { self.new ≡ with_look_at self.old head result }
-        ensures visit { StaysVisited N.frames self.old self.new }
-        ensures steps { MakesForAny N.frames self.old [] self.new }
+        ensures machine { self.new ≡ self.old }
     {
-        tables.words.references(&mut self.frame_seat, head) as u32 - 1
+        tables.words.references(&mut self.past, head) as u32 - 1
     }
 }

@@ -1,15 +1,15 @@
 //! Draining and filling the CPUs' stocks.
 
-ghost use Rattle.std.specs.Prelude.{◌≡◌, ◌<◌, [], Some, IsTrue, OnOk, OnErr, IfErr};
+ghost use Rattle.std.specs.Prelude.{◌≡◌, ◌<◌, [], IsTrue, OnOk, IfErr};
+ghost use Rattle.boot_words.specs.Pasts.{IsHeld};
 ghost use Rattle.group_tree.specs.Groups.{has_group};
-ghost use Rattle.mem_machine.specs.Machines.{IsCpuOf, LacksRoom, OnlyWatches};
-ghost use Rattle.mem_machine.specs.Local.{SomeSeenByRun, StaysVisited, Visits};
-ghost use Rattle.mem_machine.specs.Stocks.{IsDrained, AreDrained, AreOwnDrained, FitsStock, stock_group};
+ghost use Rattle.mem_machine.specs.Machines.{IsCpuOf, LacksRoom};
+ghost use Rattle.mem_machine.specs.Local.{Makes, StaysVisited, Visits, visit_state};
+ghost use Rattle.mem_machine.specs.Stocks.{AreDrained, AreOwnDrained, FitsStock, IsDrained, stock_group};
 ghost use Rattle.mem_machine.specs.Stocks.{of_subtree, AreChosen, AreChosenBySome, AreDrainedIf, Drains, DrainsAllIf};
-ghost use Rattle.mem_machine.specs.Stocks.{DrainsBy, DrainsBySteps, DrainsNoted, StockTest};
-ghost use Rattle.mem_machine.specs.Stocks.{DrainsGroup, DrainsSubtree, Fills, RefusesGrant};
+ghost use Rattle.mem_machine.specs.Stocks.{DrainsBySteps, DrainsGroup, DrainsNoted, DrainsSubtree, StockTest};
+ghost use Rattle.mem_machine.specs.Stocks.{Fills, RefusesGrant};
 ghost use Rattle.mem_machine.specs.Paying.{MayCharge};
-ghost use Rattle.mem_machine.specs.Local.{Makes, MakesForAny, visit_state};
 ghost use Rattle.mem_machine.specs.Steps.{drain_steps, fill_steps};
 
 use crate::machine::Machine;
@@ -22,59 +22,40 @@ use group_charge::note::Note;
 use group_tree::group::GroupId;
 
 impl<N: BootName> Machine<N> {
-    // Drains the stock of the CPU, which is of this group, and returns how many pages were in it.
-    fn drain_of(&mut self, tables: &Tables<N>, cpu: u32, group: GroupId) -> u32
+    /// Drains the stock of any CPU of the boot, and returns how many pages were in it. They are no longer booked to
+    /// the stock, nor charged to its group. That CPU may go on with its own calls meanwhile.
+    pub fn drain_stock(&mut self, tables: &Tables<N>, cpu: u32) -> u32
         requires cpu { IsCpuOf N.frames cpu }
-        requires group { stock_group self.old cpu ≡ Some group }
-        requires shown { SomeSeenByRun N.frames self.old }
-        ensures drains { DrainsBy 2 cpu result self.old self.new }
-        ensures steps { MakesForAny N.frames self.old
-            (drain_steps cpu (stock_group self.old cpu) result) self.new }
+        requires held { IsHeld N.frames self.old.run.past }
+        ensures drains { Drains N.frames cpu result self.old self.new }
+        ensures steps { Makes N.frames self.old (drain_steps cpu (stock_group N.frames self.old cpu) result) self.new }
         ensures visit { StaysVisited N.frames self.old self.new }
     {
         prove_charges(&self.charges);
-        let pages = self.stock_seat.drain(tables, &mut self.past, cpu, group);
+        let pages = tables.words.drain(&mut self.past, cpu);
         self.watch.drained(cpu, pages as u128);
         if pages > 0 {
+            let Some(group) = self.owners.group(cpu as usize - 1) else {
+                unreachable!()
+            };
+            self.sums[group.number() as usize] -= pages;
             self.charges.uncharge(group, pages);
             stepping::ungrant(tables, &mut self.past, &mut self.watch, group, pages);
         }
         pages
     }
 
-    // Drains the stock of the CPU, which is of this group, notes the drain, and returns how many pages were in it.
-    fn drain_noted(&mut self, tables: &Tables<N>, cpu: u32, group: GroupId) -> u32
+    // Drains the stock of the CPU, notes the drain, and returns how many pages were in it.
+    fn drain_noted(&mut self, tables: &Tables<N>, cpu: u32) -> u32
         requires cpu { IsCpuOf N.frames cpu }
-        requires group { stock_group self.old cpu ≡ Some group }
-        requires shown { SomeSeenByRun N.frames self.old }
-        ensures drains { DrainsNoted 2 cpu result self.old self.new }
-        ensures steps { MakesForAny N.frames self.old
-            (drain_steps cpu (stock_group self.old cpu) result) self.new }
+        requires held { IsHeld N.frames self.old.run.past }
+        ensures drains { DrainsNoted N.frames cpu result self.old self.new }
+        ensures steps { Makes N.frames self.old (drain_steps cpu (stock_group N.frames self.old cpu) result) self.new }
         ensures visit { StaysVisited N.frames self.old self.new }
     {
-        let pages = self.drain_of(tables, cpu, group);
+        let pages = self.drain_stock(tables, cpu);
         self.notes.note(Note::Stock { cpu, pages });
         pages
-    }
-
-    /// Drains the stock of any CPU of the boot, and returns how many pages were in it. They are no longer booked to
-    /// the stock, nor charged to its group. That CPU may go on with its own calls meanwhile.
-    pub fn drain_stock(&mut self, tables: &Tables<N>, cpu: u32) -> u32
-        requires cpu { IsCpuOf N.frames cpu }
-        requires shown { SomeSeenByRun N.frames self.old }
-        ensures drains { Drains cpu result self.old self.new }
-        ensures steps { MakesForAny N.frames self.old
-            (drain_steps cpu (stock_group self.old cpu) result) self.new }
-        ensures visit { StaysVisited N.frames self.old self.new }
-    {
-        match self.stock_seat.owner(cpu) {
-            None => {
-                self.stock_seat.drain_none(tables, &mut self.past, cpu);
-                self.watch.drained(cpu, 0);
-                0
-            }
-            Some(group) => self.drain_of(tables, cpu, group),
-        }
     }
 
     // The stocks of groups in the subtree of `group`.
@@ -86,7 +67,7 @@ impl<N: BootName> Machine<N> {
         let mut stocks = 0;
         for row in tree.groups() {
             if is_at_or_below(tree, group, row.number) {
-                stocks |= self.stock_seat.stocks_of(row.number);
+                stocks |= self.owners.stocks_of(row.number);
             }
         }
         stocks
@@ -95,22 +76,18 @@ impl<N: BootName> Machine<N> {
     // Drains and notes these stocks, by ascending CPU, and returns how many pages were in them.
     fn drain_each(&mut self, tables: &Tables<N>, stocks: u64) -> u64
         requires chosen { AreChosenBySome N.frames self.old stocks }
-        requires shown { SomeSeenByRun N.frames self.old }
+        requires held { IsHeld N.frames self.old.run.past }
         ensures drains { (test : StockTest) → AreChosen N.frames test self.old stocks
-            → DrainsBySteps N.frames (DrainsAllIf test N.frames.cpus) result self.old self.new }
+            → DrainsBySteps N.frames (DrainsAllIf N.frames test N.frames.cpus) result self.old self.new }
         ensures drained { (test : StockTest) → AreChosen N.frames test self.old stocks
-            → AreDrainedIf test N.frames.cpus self.new }
+            → AreDrainedIf N.frames test N.frames.cpus self.new }
         ensures visit { StaysVisited N.frames self.old self.new }
     {
         prove_sizes(tables); // At most 64 stocks have at most 65,535 pages each.
         let mut rest = stocks;
         let mut pages = 0;
         while let Some(place) = bit_set::take_first(&mut rest) {
-            let cpu = place + 1;
-            let Some(owner) = self.stock_seat.owner(cpu) else {
-                unreachable!()
-            };
-            pages += u64::from(self.drain_noted(tables, cpu, owner));
+            pages += u64::from(self.drain_noted(tables, place + 1));
         }
         pages
     }
@@ -120,9 +97,9 @@ impl<N: BootName> Machine<N> {
     /// stock is looked at.
     pub fn drain_stocks(&mut self, tables: &Tables<N>, group: GroupId) -> u64
         requires there { IsTrue (has_group self.old.ledger.groups group) }
-        requires shown { SomeSeenByRun N.frames self.old }
+        requires held { IsHeld N.frames self.old.run.past }
         ensures drains { DrainsSubtree N.frames group result self.old self.new }
-        ensures drained { AreDrained group N.frames.cpus self.new }
+        ensures drained { AreDrained N.frames group self.new }
         ensures visit { StaysVisited N.frames self.old self.new }
     {
         let stocks = self.stocks_below(group);
@@ -132,12 +109,12 @@ impl<N: BootName> Machine<N> {
     /// Drains all stocks of the group itself, empty ones included, and returns how many pages were in them. They are
     /// no longer booked to the stocks, nor charged to the group, and each drain is noted. No other stock is looked at.
     pub fn drain_group_stocks(&mut self, tables: &Tables<N>, group: GroupId) -> u64
-        requires shown { SomeSeenByRun N.frames self.old }
+        requires held { IsHeld N.frames self.old.run.past }
         ensures drains { DrainsGroup N.frames group result self.old self.new }
-        ensures drained { AreOwnDrained group N.frames.cpus self.new }
+        ensures drained { AreOwnDrained N.frames group self.new }
         ensures visit { StaysVisited N.frames self.old self.new }
     {
-        let stocks = self.stock_seat.stocks_of(group);
+        let stocks = self.owners.stocks_of(group);
         self.drain_each(tables, stocks)
     }
 
@@ -148,23 +125,20 @@ impl<N: BootName> Machine<N> {
     pub fn fill_stock(
         &mut self,
         tables: &Tables<N>,
-        cpu: &mut Cpu<N>,
+        cpu: &Cpu<N>,
         group: GroupId,
         pages: u32,
     ) -> Result<(), Over>
-        requires visit { Visits N.frames (visit_state self.old cpu.old) }
+        requires visit { Visits N.frames (visit_state self.old cpu.now) }
         requires charges { MayCharge self.old group pages }
         requires pages { FitsStock pages }
-        requires none_fresh { cpu.old.fresh ≡ [] }
-        requires drained { IsDrained self.old cpu.old.number }
-        ensures fills { OnOk result (Fills group pages (visit_state self.old cpu.old) (visit_state self.new cpu.new)) }
+        requires none_fresh { cpu.now.fresh ≡ [] }
+        requires drained { IsDrained N.frames self.old cpu.now.number }
+        ensures fills { OnOk result (Fills N.frames cpu.now.number group pages self.old self.new) }
+        ensures steps { OnOk result (Makes N.frames self.old (fill_steps cpu.now.number group pages) self.new) }
         ensures over { IfErr result (λ over. LacksRoom self.old group pages over.group) }
-        ensures unchanged { OnErr result (OnlyWatches (visit_state self.old cpu.old) (visit_state self.new cpu.new)) }
-        ensures visit { Visits N.frames (visit_state self.new cpu.new) }
-        ensures steps { OnOk result (Makes N.frames (visit_state self.old cpu.old)
-            (fill_steps cpu.old.number group pages) (visit_state self.new cpu.new)) }
-        ensures refused { IfErr result (λ over. RefusesGrant N.frames group pages over
-            (visit_state self.old cpu.old) (visit_state self.new cpu.new)) }
+        ensures refused { IfErr result (λ over. RefusesGrant N.frames group pages over.group self.old self.new) }
+        ensures visit { Visits N.frames (visit_state self.new cpu.now) }
     {
         let cpu_number = cpu.number();
         prove_charges(&self.charges);
@@ -174,9 +148,11 @@ impl<N: BootName> Machine<N> {
             return Err(over);
         }
         stepping::grant(tables, &mut self.past, &mut self.watch, group, pages);
-        self.stock_seat
-            .fill(tables, cpu, &mut self.past, group, pages);
+        let owner = group.number();
+        tables.words.fill(&mut self.past, cpu_number, owner, pages);
         self.watch.filled(cpu_number, group, pages);
+        self.sums[owner as usize] += pages;
+        self.owners.set(cpu_number as usize - 1, group);
         Ok(())
     }
 }

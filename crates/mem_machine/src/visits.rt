@@ -1,9 +1,8 @@
 //! The begin and the end of a CPU's visit.
 
 ghost use Rattle.std.specs.Prelude.{◌≡◌};
-ghost use Rattle.frame_word.specs.Seats.{IsShut, NothingPasses, LentIsBorrowed, seat_with_visit};
-ghost use Rattle.mem_machine.specs.Local.{Visits};
-ghost use Rattle.mem_machine.specs.Local.{IsSeenByRun, Makes, visit_state};
+ghost use Rattle.mem_machine.specs.Local.{Holds, IsShut, Makes, Visits, visit_state};
+ghost use Rattle.mem_machine.specs.Machines.{with_run};
 ghost use Rattle.mem_machine.specs.Steps.{open_steps, shut_steps};
 
 use crate::machine::Machine;
@@ -11,40 +10,28 @@ use cpu_part::{BootName, Cpu, Tables};
 
 impl<N: BootName> Machine<N> {
     /// Opens the visit of the CPU, which is shut. Frames are handed over and pages reported only inside a visit.
-    pub fn open(&mut self, tables: &Tables<N>, cpu: &mut Cpu<N>)
-        requires shut { IsShut self.old.frame_seat cpu.old.number }
-        requires shown { IsSeenByRun N.frames (visit_state self.old cpu.old) }
-        ensures machine { self.new ≡ record self.old {
-          frame_seat = seat_with_visit self.old.frame_seat cpu.old.number 1;
-          run = self.new.run;
-        } }
-        ensures cpu { cpu.new ≡ cpu.old }
-        ensures visits { Visits N.frames (visit_state self.new cpu.new) }
-        ensures steps { Makes N.frames (visit_state self.old cpu.old) (open_steps cpu.old.number)
-            (visit_state self.new cpu.new) }
+    pub fn open(&mut self, tables: &Tables<N>, cpu: &Cpu<N>)
+        requires holds { Holds N.frames (visit_state self.old cpu.now) }
+        requires shut { IsShut N.frames self.old cpu.now.number }
+        ensures machine { self.new ≡ with_run self.old self.new.run }
+        ensures visits { Visits N.frames (visit_state self.new cpu.now) }
+        ensures steps { Makes N.frames self.old (open_steps cpu.now.number) self.new }
     {
         let cpu_number = cpu.number();
-        cpu.open(tables, &mut self.past, &mut self.frame_seat);
+        tables.words.open_visit(&mut self.past, cpu_number);
         self.watch.visit_opened(cpu_number);
     }
 
-    /// Shuts the visit of the CPU.
-    pub fn shut(&mut self, tables: &Tables<N>, cpu: &mut Cpu<N>)
-        requires { Visits N.frames (visit_state self.old cpu.old) }
-        ensures machine { self.new ≡ record self.old {
-          frame_seat = seat_with_visit self.old.frame_seat cpu.old.number 0;
-          run = self.new.run;
-        } }
-        ensures cpu { cpu.new ≡ cpu.old }
-        ensures shut { IsShut self.new.frame_seat cpu.new.number }
-        ensures still { NothingPasses N.frames self.new.frame_seat cpu.new.frame_seat }
-        ensures lent { LentIsBorrowed N.frames self.new.frame_seat cpu.new.frame_seat }
-        ensures shown { IsSeenByRun N.frames (visit_state self.new cpu.new) }
-        ensures steps { Makes N.frames (visit_state self.old cpu.old) (shut_steps cpu.old.number)
-            (visit_state self.new cpu.new) }
+    /// Shuts the visit of the CPU. No frame is in transit between it and the zone.
+    pub fn shut(&mut self, tables: &Tables<N>, cpu: &Cpu<N>)
+        requires { Visits N.frames (visit_state self.old cpu.now) }
+        ensures machine { self.new ≡ with_run self.old self.new.run }
+        ensures holds { Holds N.frames (visit_state self.new cpu.now) }
+        ensures shut { IsShut N.frames self.new cpu.now.number }
+        ensures steps { Makes N.frames self.old (shut_steps cpu.now.number) self.new }
     {
         let cpu_number = cpu.number();
-        cpu.shut(tables, &mut self.past, &mut self.frame_seat);
+        tables.words.shut_visit(&mut self.past, cpu_number);
         self.watch.visit_shut(cpu_number);
     }
 }

@@ -1,8 +1,8 @@
 -- What stays, from one call to the next, and in one call. Serves the clauses on what stays.
-use Rattle.std.proofs.Common.{◌≡◌, ◌≢◌, ℕ, ◌+◌, ◌≤◌, Bool, true, false, Option, Some, None, List, [], refl, sym, ap, ◌∙◌, subst, arith, cond}
+use Rattle.std.proofs.Common.{◌≡◌, ◌≢◌, ℕ, ◌+◌, ◌≤◌, Bool, true, false, Option, Some, None, List, refl, sym, ap, ◌∙◌, subst, arith, cond}
 use Rattle.std.proofs.lemmas.Bool.{true≢false}
 use Rattle.std.proofs.lemmas.Option.{none-some}
-use Rattle.frame_word.specs.Seats.{KnownTable, misses_of}
+use Rattle.frame_word.specs.Seats.{KnownTable}
 use Rattle.group_tree.specs.Groups.{in_subtree}
 use Rattle.group_charge.specs.Charges.{current_of}
 use Rattle.lru_lists.specs.declared.record.Link.{Link}
@@ -10,21 +10,24 @@ use Rattle.lru_lists.specs.declared.record.Home.{Home}
 use Rattle.lru_lists.specs.Queue.{link_at}
 use Rattle.lru_lists.specs.Lists.{SameOwners, owner_of}
 use Rattle.cpu_part.specs.Cpus.{KnownCpu}
-use Rattle.mem_machine.specs.Machines.{KnownMachine, home_of, visit_state}
-use Rattle.mem_machine.specs.Local.{MakesForAny, Visits}
-use Rattle.mem_machine.specs.Evicting.{MissesUnit, EvictsUnit, Evicts}
-use Rattle.mem_machine.proofs.Watched.{stays_then}
+use Rattle.mem_machine.specs.Machines.{KnownMachine, home_of, left_by, visit_state}
+use Rattle.mem_machine.specs.Local.{Makes, Visits}
+use Rattle.boot_words.specs.Pasts.{IsHeld, local_by_pasts, own_past}
+use Rattle.mem_machine.specs.Noted.{KnownRun}
+use Rattle.mem_machine.proofs.Made.{visit_same}
+use Rattle.mem_reclaim.specs.Moves.{missed_in}
+use Rattle.mem_reclaim.proofs.Grown.{hold_after, misses_after, parts_after}
+use Rattle.mem_machine.specs.Evicting.{evict_steps, MissesUnit, EvictsUnit, Evicts}
 use Rattle.mem_reclaim.specs.Staying.{IsDirtyUnit, Keeps, OnlyLeave, IsMissed}
-use Rattle.mem_reclaim.proofs.Moving.{misses_rose, misses_stay}
 
 -- ---- one call after another
 
 pub keeps_none : (t : KnownTable) (m : KnownMachine) → Keeps t m m
 keeps_none t m = record {
-  stock_seat = refl;
+  stocks = λ p. refl;
   killed = refl;
   groups = refl;
-  opened = refl;
+  hold = refl;
   usage = λ g. omega arith;
   visit = λ c v. v;
   dirty = λ f is. is;
@@ -43,10 +46,10 @@ kept_before t m n keeps f kept none = no_owner (home_of n.links f) kept (keeps.o
 
 pub keeps_both : (t : KnownTable) (a b c : KnownMachine) → Keeps t a b → Keeps t b c → Keeps t a c
 keeps_both t a b c p q = record {
-  stock_seat = q.stock_seat ∙ p.stock_seat;
+  stocks = λ x. q.stocks x ∙ p.stocks x;
   killed = q.killed ∙ p.killed;
   groups = q.groups ∙ p.groups;
-  opened = q.opened ∙ p.opened;
+  hold = q.hold ∙ p.hold;
   usage = λ g. let x = p.usage g in let y = q.usage g in omega (arith, x, y);
   visit = λ x v. q.visit x (p.visit x v);
   dirty = λ f is. q.dirty f (p.dirty f is);
@@ -70,20 +73,21 @@ missed_still t a b c d first last only f h is home clean =
 
 -- ---- the lists of a group changed, and nothing else
 
-pub keeps_owners : (t : KnownTable) (m n : KnownMachine) → n ≡ record m { links = n.links; lists = n.lists } → SameOwners m.links n.links → MakesForAny t m [] n
-    → Keeps t m n
-keeps_owners t m n is owners runs = record {
-  stock_seat = ap (λ (x : KnownMachine). x.stock_seat) is;
-  killed = ap (λ (x : KnownMachine). x.killed) is;
-  groups = ap (λ (x : KnownMachine). x.ledger.groups) is;
-  opened = ap (λ (x : KnownMachine). x.frame_seat.view.opened) is;
-  usage = λ g. let e = ap (λ (x : KnownMachine). current_of x.ledger g) is in omega (arith, e);
-  visit = stays_then t m m refl n (ap (λ (x : KnownMachine). x.frame_seat) is) [] runs;
-  dirty = λ f d. record { kept = still_kept (home_of m.links f) (home_of n.links f) (owners.owner f) d.kept; dirty = owners.dirty f ∙ d.dirty };
-  owners = λ f kept. owners.owner f;
-  dirt = λ f kept. owners.dirty f;
-  misses = λ f. let e = ap (λ (x : KnownMachine). misses_of x.frame_seat f) is in omega (arith, e);
-}
+pub keeps_owners : (t : KnownTable) (m n : KnownMachine) → n ≡ record m { links = n.links; lists = n.lists } → SameOwners m.links n.links → Keeps t m n
+keeps_owners t m n is owners =
+    let same : n.run ≡ m.run = ap (λ (x : KnownMachine). x.run) is in
+    record {
+      stocks = λ p. ap (λ (r : KnownRun). (left_by t r.past).parts p) same;
+      killed = ap (λ (x : KnownMachine). x.killed) is;
+      groups = ap (λ (x : KnownMachine). x.ledger.groups) is;
+      hold = ap (λ (r : KnownRun). (local_by_pasts t r.past).hold) same;
+      usage = λ g. let e = ap (λ (x : KnownMachine). current_of x.ledger g) is in omega (arith, e);
+      visit = λ c v. visit_same t m n c same v;
+      dirty = λ f d. record { kept = still_kept (home_of m.links f) (home_of n.links f) (owners.owner f) d.kept; dirty = owners.dirty f ∙ d.dirty };
+      owners = λ f kept. owners.owner f;
+      dirt = λ f kept. owners.dirty f;
+      misses = λ f. let e = ap (λ (r : KnownRun). missed_in f (own_past r.past).seen) same in omega (arith, e);
+    }
   where
     still_kept : (h k : Option Home) → owner_of k ≡ owner_of h → h ≢ None → k ≢ None
     still_kept None k same some none = some refl
@@ -95,45 +99,42 @@ on_path_low : (b : Bool) (n pages : ℕ) → n ≤ cond b (n + pages) n
 on_path_low true n pages = omega arith
 on_path_low false n pages = omega arith
 
-pub keeps_missed : (t : KnownTable) (m n : KnownMachine) (f : ℕ) → MissesUnit f m n → ((c : KnownCpu) → Visits t (visit_state m c) → Visits t (visit_state n c)) → Keeps t m n
-keeps_missed t m n f is visit =
-    let links : n.links ≡ m.links = ap (λ (x : KnownMachine). x.links) is.machine in
-    record {
-      stock_seat = ap (λ (x : KnownMachine). x.stock_seat) is.machine;
-      killed = ap (λ (x : KnownMachine). x.killed) is.machine;
-      groups = ap (λ (x : KnownMachine). x.ledger.groups) is.machine;
-      opened = ap (λ (x : KnownMachine). x.frame_seat.view.opened) is.machine;
-      usage = λ g. let e = ap (λ (x : KnownMachine). current_of x.ledger g) is.machine in omega (arith, e);
-      visit = visit;
-      dirty = λ g d. subst (λ (l : List Link). IsDirtyUnit l g) (sym links) d;
-      owners = λ g kept. ap (λ (l : List Link). owner_of (home_of l g)) links;
-      dirt = λ g kept. ap (λ (l : List Link). (link_at l g).is_dirty) links;
-      misses = λ g. let e = misses_rose m n f is g in omega (arith, e);
-    }
+module _ (t : KnownTable) (m n : KnownMachine) (f : ℕ) (visit : (c : KnownCpu) → Visits t (visit_state m c) → Visits t (visit_state n c)) (held : IsHeld t m.run.past) where
+  keeps_missed : MissesUnit m n → Makes t m (evict_steps f None) n → Keeps t m n
+  keeps_missed is runs =
+      let links : n.links ≡ m.links = ap (λ (x : KnownMachine). x.links) is in
+      record {
+        stocks = λ p. parts_after t m (evict_steps f None) n runs held p refl;
+        killed = ap (λ (x : KnownMachine). x.killed) is;
+        groups = ap (λ (x : KnownMachine). x.ledger.groups) is;
+        hold = hold_after t m (evict_steps f None) n runs held refl;
+        usage = λ g. let e = ap (λ (x : KnownMachine). current_of x.ledger g) is in omega (arith, e);
+        visit = visit;
+        dirty = λ g d. subst (λ (l : List Link). IsDirtyUnit l g) (sym links) d;
+        owners = λ g kept. ap (λ (l : List Link). owner_of (home_of l g)) links;
+        dirt = λ g kept. ap (λ (l : List Link). (link_at l g).is_dirty) links;
+        misses = λ g. let e = misses_after t m (evict_steps f None) n runs held g in omega (arith, e);
+      }
 
-pub keeps_evicted : (t : KnownTable) (m n : KnownMachine) (f pages : ℕ) → EvictsUnit f pages m n → ((c : KnownCpu) → Visits t (visit_state m c) → Visits t (visit_state n c))
-    → (link_at m.links f).is_dirty ≡ false → Keeps t m n
-keeps_evicted t m n f pages is visit clean =
-    let gone : home_of n.links f ≡ None = ap (λ (k : Link). k.home) is.list.forgotten in
-    let other : (g : ℕ) → home_of n.links g ≢ None → g ≢ f = λ g kept e. kept (ap (home_of n.links) e ∙ gone) in
-    record {
-      stock_seat = ap (λ (x : KnownMachine). x.stock_seat) is.machine;
-      killed = ap (λ (x : KnownMachine). x.killed) is.machine;
-      groups = ap (λ (x : KnownMachine). x.ledger.groups) is.machine;
-      opened = ap (λ (x : KnownMachine). x.frame_seat.view.opened) is.machine;
-      usage = λ g. let e = is.usage g in let low = on_path_low (in_subtree n.ledger.groups g is.unit.group) (current_of n.ledger g) pages in omega (arith, e, low);
-      visit = visit;
-      dirty = λ g d.
-          let ne : g ≢ f = λ e. true≢false (sym d.dirty ∙ ap (λ (x : ℕ). (link_at m.links x).is_dirty) e ∙ clean) in
-          record { kept = λ none. d.kept (sym (is.list.homes g ne) ∙ none); dirty = is.list.used.dirty g ne ∙ d.dirty };
-      owners = λ g kept. ap owner_of (is.list.homes g (other g kept));
-      dirt = λ g kept. is.list.used.dirty g (other g kept);
-      misses = λ g. let e = misses_stay m n f pages is g in omega (arith, e);
-    }
+  keeps_evicted : (pages : ℕ) → EvictsUnit f pages m n → Makes t m (evict_steps f (Some pages)) n → (link_at m.links f).is_dirty ≡ false → Keeps t m n
+  keeps_evicted pages is runs clean =
+      let gone : home_of n.links f ≡ None = ap (λ (k : Link). k.home) is.list.forgotten in
+      let other : (g : ℕ) → home_of n.links g ≢ None → g ≢ f = λ g kept e. kept (ap (home_of n.links) e ∙ gone) in
+      record {
+        stocks = λ p. parts_after t m (evict_steps f (Some pages)) n runs held p refl;
+        killed = ap (λ (x : KnownMachine). x.killed) is.machine;
+        groups = ap (λ (x : KnownMachine). x.ledger.groups) is.machine;
+        hold = hold_after t m (evict_steps f (Some pages)) n runs held refl;
+        usage = λ g. let e = is.usage g in let low = on_path_low (in_subtree n.ledger.groups g is.unit.group) (current_of n.ledger g) pages in omega (arith, e, low);
+        visit = visit;
+        dirty = λ g d.
+            let ne : g ≢ f = λ e. true≢false (sym d.dirty ∙ ap (λ (x : ℕ). (link_at m.links x).is_dirty) e ∙ clean) in
+            record { kept = λ none. d.kept (sym (is.list.homes g ne) ∙ none); dirty = is.list.used.dirty g ne ∙ d.dirty };
+        owners = λ g kept. ap owner_of (is.list.homes g (other g kept));
+        dirt = λ g kept. is.list.used.dirty g (other g kept);
+        misses = λ g. let e = misses_after t m (evict_steps f (Some pages)) n runs held g in omega (arith, e);
+      }
 
-pub keeps_try : (t : KnownTable) (m n : KnownMachine) (f : ℕ) (answer : Option ℕ) → Evicts f answer m n
-    → ((c : KnownCpu) → Visits t (visit_state m c) → Visits t (visit_state n c)) → (link_at m.links f).is_dirty ≡ false → Keeps t m n
-keeps_try t m n f None is visit clean = keeps_missed t m n f is visit
-keeps_try t m n f (Some pages) is visit clean = keeps_evicted t m n f pages is visit clean
-
--- ---- the usage of a group above
+  pub keeps_try : (answer : Option ℕ) → Evicts f answer m n → Makes t m (evict_steps f answer) n → (link_at m.links f).is_dirty ≡ false → Keeps t m n
+  keeps_try None is runs clean = keeps_missed is runs
+  keeps_try (Some pages) is runs clean = keeps_evicted pages is runs clean

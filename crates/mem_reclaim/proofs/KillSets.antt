@@ -6,31 +6,32 @@ use Rattle.std.specs.Prelude.{not, slice_set}
 use Rattle.std.proofs.lemmas.Bool.{and_parts, or_parts, true≢false}
 use Rattle.std.proofs.lemmas.List.{append_assoc, append-nil, get_or-set_other}
 use Rattle.std.proofs.lemmas.List.Elements.{All-append, All-cons, All-nil}
-use Rattle.std.proofs.lemmas.List.Sums.{fold-append, sum_by-append}
+use Rattle.std.proofs.lemmas.List.Sums.{fold-append}
 use Rattle.frame_word.specs.Seats.{KnownTable}
 use Rattle.group_tree.specs.Groups.{in_subtree, is_oom_group}
 use Rattle.group_charge.specs.Charges.{current_of, with_group_kill_noted}
 use Rattle.step_rules.specs.declared.step.Action.{Action}
 use Rattle.step_rules.specs.declared.step.Action.TheVariants as action
-use Rattle.step_rules.specs.declared.step.Answer.{Answer}
-use Rattle.step_rules.specs.declared.step.Step.{Step}
 use Rattle.step_rules.specs.After.{Run}
 use Rattle.step_rules.specs.Legal.{is_of_group}
 use Rattle.group_charge.specs.declared.note.Note.{Note}
 use Rattle.group_charge.specs.Notes.{noted}
-use Rattle.mem_machine.specs.Machines.{KnownMachine, is_killed, visit_state, with_note}
-use Rattle.mem_machine.specs.Local.{MakesForAny}
+use Rattle.mem_machine.specs.Machines.{KnownMachine, is_killed, part_at, with_note}
+use Rattle.boot_words.specs.Pasts.{IsHeld}
+use Rattle.mem_machine.specs.Local.{Makes, StaysVisited}
+use Rattle.mem_machine.proofs.Made.{visit_same}
+use Rattle.mem_reclaim.proofs.Grown.{held_after, missed_append, parts_after}
+use Rattle.step_rules.specs.State.{Part}
 use Rattle.mem_machine.specs.Steps.{kill_steps, note_group_kill_steps}
-use Rattle.mem_machine.specs.Stocks.{AreOwnDrained}
+use Rattle.mem_machine.specs.Stocks.{AreOwnDrained, HasDrained}
 use Rattle.mem_machine.proofs.Followed.{makes_both, makes_none}
-use Rattle.mem_machine.proofs.Watched.{visits_noted}
 use Rattle.mem_reclaim.specs.declared.noting.CountsBeforeKill.{CountsBeforeKill}
 use Rattle.mem_reclaim.specs.declared.sets.Killed.{Killed}
 use Rattle.mem_reclaim.specs.Killing.{HasNoKeptUnit, IsKilledBy, KillsGroups, KillsRootOrVictim, KillsGroupBySteps, KillsGroupNoted, KillsGroupsBySteps}
 use Rattle.mem_reclaim.specs.Killing.{KillsSubtree, AreKillsOf}
 use Rattle.mem_reclaim.specs.Killing.{OnlyDrains, OnlyReleases, counts_before_kill, killed_note, with_all_killed}
 use Rattle.mem_reclaim.specs.KillNotes.{NotesVictim}
-use Rattle.mem_reclaim.specs.Moves.{Rises, has_kill, is_kill, is_miss, killed_by, kills_in, missed_in, returned_in}
+use Rattle.mem_reclaim.specs.Moves.{Rises, has_kill, is_kill, killed_by, kills_in, missed_in, returned_in}
 use Rattle.mem_reclaim.specs.Sets.{HasNoFlagged, IsKilledRoot, IsHighestFlagged, alive_in_subtree, group_kill_note, kill_set}
 use Rattle.mem_reclaim.specs.Staying.{OnlyLeave}
 use Rattle.mem_reclaim.specs.Victim.{may_be_killed, victim_note}
@@ -56,9 +57,6 @@ quiet_kills (e ∷ rest) quiet =
     let p = or_parts (is_kill e.0.action) (has_kill rest) quiet in
     ap (λ (l : List ℕ). l ++ kills_in rest) (kills_nobody e.0.action p.0) ∙ quiet_kills rest p.1
 
-pub missed_both : (f : ℕ) (one two : Run) → missed_in f (one ++ two) ≡ missed_in f one + missed_in f two
-missed_both f one two = sum_by-append (λ (e : Step × Answer). cond (is_miss f e.0.action e.1) 1 0) one two
-
 these_none : (m : KnownMachine) → AreKillsOf [] m [] m
 these_none m = record { killed = refl; no_miss = λ f. refl; returned = rises_none m.counts.last_puts m.counts.last_puts refl }
 
@@ -66,22 +64,22 @@ these_both : (first last : List ℕ) (a b c : KnownMachine) (one two : Run) → 
     → AreKillsOf (first ++ last) a (one ++ two) c
 these_both first last a b c one two p q = record {
   killed = kills_both one two ∙ (λ i. p.killed i ++ q.killed i);
-  no_miss = λ f. let x = p.no_miss f in let y = q.no_miss f in let z = missed_both f one two in omega (arith, x, y, z);
+  no_miss = λ f. let x = p.no_miss f in let y = q.no_miss f in let z = missed_append f one two in omega (arith, x, y, z);
   returned = subst (λ (k : ℕ). Rises a.counts.last_puts k c.counts.last_puts) (sym (returned_both one two))
       (rises_both a.counts.last_puts b.counts.last_puts c.counts.last_puts (returned_in one) (returned_in two) p.returned q.returned);
 }
 
 -- ---- what is so of each group that was killed, and stays so
 
-own_still : (g k : ℕ) (b n : KnownMachine) → AreOwnDrained g k b → OnlyDrains b n → AreOwnDrained g k n
-own_still g k b n drained stocks = λ q some few of.
+own_still : (t : KnownTable) (g : ℕ) (b n : KnownMachine) → AreOwnDrained t g b → OnlyDrains t b n → AreOwnDrained t g n
+own_still t g b n drained stocks = λ q some few of.
     stocks.drained q (drained q some few (ap (λ (o : Option ℕ). is_of_group o g) (sym (stocks.of q)) ∙ of))
 
 none_still : (g : ℕ) (b n : KnownMachine) → HasNoKeptUnit g b → OnlyLeave b n → HasNoKeptUnit g n
 none_still g b n none leaves = λ f h home. none f h (leaves f h home)
 
-drains_both : (a b c : KnownMachine) → OnlyDrains a b → OnlyDrains b c → OnlyDrains a c
-drains_both a b c p q = record { of = λ x. q.of x ∙ p.of x; drained = λ x is. q.drained x (p.drained x is) }
+drains_both : (t : KnownTable) (a b c : KnownMachine) → OnlyDrains t a b → OnlyDrains t b c → OnlyDrains t a c
+drains_both t a b c p q = record { of = λ x. q.of x ∙ p.of x; drained = λ x is. q.drained x (p.drained x is) }
 
 pub all_one : (P : ℕ → Type 0) (g : ℕ) → P g → All P (g ∷ [])
 all_one P g here = All-cons P g [] here (All-nil P)
@@ -92,8 +90,8 @@ all_one P g here = All-cons P g [] here (All-nil P)
 pub record KilledSo (t : KnownTable) (groups : List ℕ) (Kills : KnownMachine → Run → KnownMachine → Type 0) (m n : KnownMachine) : Type 0 where
   pub kills : KillsGroupsBySteps t groups Kills m n
   pub marked : n.killed ≡ with_all_killed m.killed groups
-  pub drained : All (λ g. AreOwnDrained g t.cpus n) groups
-  pub stocks : OnlyDrains m n
+  pub drained : All (λ g. AreOwnDrained t g n) groups
+  pub stocks : OnlyDrains t m n
   pub none_kept : All (λ g. HasNoKeptUnit g n) groups
   pub keeps : OnlyReleases t m n
 
@@ -103,9 +101,9 @@ pub record KilledSo (t : KnownTable) (groups : List ℕ) (Kills : KnownMachine �
 pub lets_before_note : (t : KnownTable) (m b : KnownMachine) (last : Note) → OnlyReleases t m b → OnlyReleases t m (with_note b last)
 lets_before_note t m b last k = record {
   groups = k.groups;
-  opened = k.opened;
+  hold = k.hold;
   usage = k.usage;
-  visit = λ c v. visits_noted t b c (noted b.notes last) (k.visit c v);
+  visit = λ c v. visit_same t b (with_note b last) c refl (k.visit c v);
   leaves = k.leaves;
   dirt = k.dirt;
   misses = k.misses;
@@ -114,9 +112,9 @@ lets_before_note t m b last k = record {
 pub lets_after_note : (t : KnownTable) (m n : KnownMachine) (first : Note) → OnlyReleases t (with_note m first) n → OnlyReleases t m n
 lets_after_note t m n first k = record {
   groups = k.groups;
-  opened = k.opened;
+  hold = k.hold;
   usage = k.usage;
-  visit = λ c v. k.visit c (visits_noted t m c (noted m.notes first) v);
+  visit = λ c v. k.visit c (visit_same t m (with_note m first) c refl v);
   leaves = k.leaves;
   dirt = k.dirt;
   misses = k.misses;
@@ -126,8 +124,8 @@ lets_after_note t m n first k = record {
 pub record OneKilled (t : KnownTable) (limited g : ℕ) (m n : KnownMachine) : Type 0 where
   pub kills : KillsGroupsBySteps t (g ∷ []) (KillsGroupNoted t limited g) m n
   pub marked : n.killed ≡ slice_set m.killed g true
-  pub drained : AreOwnDrained g t.cpus n
-  pub stocks : OnlyDrains m n
+  pub drained : AreOwnDrained t g n
+  pub stocks : OnlyDrains t m n
   pub none_kept : HasNoKeptUnit g n
   pub keeps : OnlyReleases t m n
 
@@ -135,14 +133,14 @@ pub one_so : (t : KnownTable) (limited g : ℕ) (m n : KnownMachine) → OneKill
 one_so t limited g m n one = record {
   kills = one.kills;
   marked = one.marked;
-  drained = all_one (λ (x : ℕ). AreOwnDrained x t.cpus n) g one.drained;
+  drained = all_one (λ (x : ℕ). AreOwnDrained t x n) g one.drained;
   stocks = one.stocks;
   none_kept = all_one (λ (x : ℕ). HasNoKeptUnit x n) g one.none_kept;
   keeps = one.keeps;
 }
 
 pub one_killed : (t : KnownTable) (limited g : ℕ) (m b n : KnownMachine) (had : CountsBeforeKill) → had ≡ counts_before_kill m g → KillsGroupBySteps t g m b
-    → b.killed ≡ slice_set m.killed g true → AreOwnDrained g t.cpus b → OnlyDrains m b → HasNoKeptUnit g b → OnlyReleases t m b
+    → b.killed ≡ slice_set m.killed g true → AreOwnDrained t g b → OnlyDrains t m b → HasNoKeptUnit g b → OnlyReleases t m b
     → n ≡ with_note b (killed_note limited g had b) → OneKilled t limited g m n
 one_killed t limited g m b n had had_is kills marked drained stocks none_kept keeps noted_had =
     let last : Note = killed_note limited g (counts_before_kill m g) b in
@@ -152,12 +150,12 @@ one_killed t limited g m b n had had_is kills marked drained stocks none_kept ke
       kills = record {
         steps = kills.steps;
         kills = record { killed = b; kills = kills.kills; noted = refl };
-        runs = λ c. record { leads = (kills.runs c).leads; follows = (kills.runs c).follows; counts = (kills.runs c).counts; noted = (kills.runs c).noted };
+        runs = record { holder = kills.runs.holder; leads = kills.runs.leads; follows = kills.runs.follows; counts = kills.runs.counts; noted = kills.runs.noted };
         these = record {
           killed = ap kills_in once.front ∙ ap (λ (l : List ℕ). g ∷ l) (quiet_kills once.later once.no_kill);
           no_miss = λ f.
               let front : missed_in f kills.steps ≡ missed_in f (kill_steps g ++ once.later) = ap (missed_in f) once.front in
-              let parts = missed_both f (kill_steps g) once.later in
+              let parts = missed_append f (kill_steps g) once.later in
               let first : missed_in f (kill_steps g) ≡ 0 = refl in
               let later = once.no_miss f in
               omega (arith, front, parts, first, later);
@@ -199,9 +197,9 @@ kills_all_more t limited (h ∷ groups) g m b n one two all last = record {
 
 set_none : (t : KnownTable) (limited : ℕ) (m : KnownMachine) → KilledSo t [] (KillsGroups t limited []) m m
 set_none t limited m = record {
-  kills = record { steps = []; kills = (refl, refl); runs = λ c. makes_none t c.number (visit_state m c); these = these_none m };
+  kills = record { steps = []; kills = (refl, refl); runs = makes_none t m; these = these_none m };
   marked = refl;
-  drained = All-nil (λ (g : ℕ). AreOwnDrained g t.cpus m);
+  drained = All-nil (λ (g : ℕ). AreOwnDrained t g m);
   stocks = record { of = λ p. refl; drained = λ p is. is };
   none_kept = All-nil (λ (g : ℕ). HasNoKeptUnit g m);
   keeps = only_lets_none t m;
@@ -213,16 +211,14 @@ set_more t limited groups g m b n so one = record {
   kills = record {
     steps = so.kills.steps ++ one.kills.steps;
     kills = kills_all_more t limited groups g m b n so.kills.steps one.kills.steps so.kills.kills one.kills.kills;
-    runs = λ c.
-        makes_both t c.number so.kills.steps one.kills.steps (visit_state m c) (visit_state b c) (visit_state n c) (so.kills.runs c)
-        (one.kills.runs c);
+    runs = makes_both t so.kills.steps one.kills.steps m b n so.kills.runs one.kills.runs;
     these = these_both groups (g ∷ []) m b n so.kills.steps one.kills.steps so.kills.these one.kills.these;
   };
   marked = one.marked ∙ ap (λ (k : List Bool). with_all_killed k (g ∷ [])) so.marked
       ∙ sym (fold-append (λ (old : List Bool) (x : ℕ). slice_set old x true) m.killed groups (g ∷ []));
-  drained = All-append (λ (x : ℕ). AreOwnDrained x t.cpus n) groups (g ∷ [])
-      (λ k d lt. own_still _ t.cpus b n (so.drained k d lt) one.stocks) one.drained;
-  stocks = drains_both m b n so.stocks one.stocks;
+  drained = All-append (λ (x : ℕ). AreOwnDrained t x n) groups (g ∷ [])
+      (λ k d lt. own_still t _ b n (so.drained k d lt) one.stocks) one.drained;
+  stocks = drains_both t m b n so.stocks one.stocks;
   none_kept = All-append (λ (x : ℕ). HasNoKeptUnit x n) groups (g ∷ []) (λ k d lt. none_still _ b n (so.none_kept k d lt) one.keeps.leaves)
       one.none_kept;
   keeps = only_lets_both t m b n so.keeps one.keeps;
@@ -278,26 +274,32 @@ below_all t limited root m k now s all = subst (λ (x : ℕ). KilledSo t (alive_
 pub subtree_killed : (t : KnownTable) (limited root : ℕ) (m a b n : KnownMachine) → a ≡ with_note m (group_kill_note m root)
     → KilledSo t (alive_in_subtree a root) (KillsGroups t limited (alive_in_subtree a root)) a b
     → n ≡ record b { ledger = with_group_kill_noted b.ledger root; run = n.run } → ((g : ℕ) → current_of n.ledger g ≡ current_of b.ledger g)
-    → MakesForAny t b (note_group_kill_steps root) n → KilledSo t (alive_in_subtree m root) (KillsSubtree t limited root) m n
-subtree_killed t limited root m a b n noted so_a counted usage runs =
+    → Makes t b (note_group_kill_steps root) n → StaysVisited t b n → IsHeld t m.run.past
+    → KilledSo t (alive_in_subtree m root) (KillsSubtree t limited root) m n
+subtree_killed t limited root m a b n noted so_a counted usage runs visit held =
     let note : Note = group_kill_note m root in
     let so : KilledSo t (alive_in_subtree m root) (KillsGroups t limited (alive_in_subtree m root)) (with_note m note) b =
     subst (λ (x : KnownMachine). KilledSo t (alive_in_subtree x root) (KillsGroups t limited (alive_in_subtree x root)) x b) noted so_a in
     let killing : Run = so.kills.steps in
     let these = so.kills.these in
+    let held_then = held_after t (with_note m note) killing b so.kills.runs held in
+    let kept : (p : ℕ) → part_at t n p ≡ part_at t b p = λ p. parts_after t b (note_group_kill_steps root) n runs held_then p refl in
+    let still : OnlyDrains t b n = record {
+      of = λ p. ap (λ (x : Part). x.stock.group) (kept p);
+      drained = λ p was. subst HasDrained (sym (kept p)) was;
+    } in
     record {
       kills = record {
         steps = killing ++ note_group_kill_steps root;
         kills = record { between = b; killing = killing; kills = so.kills.kills; counted = counted; steps_are = refl };
-        runs = λ c.
-            makes_both t c.number killing (note_group_kill_steps root) (visit_state m c) (visit_state b c) (visit_state n c)
-            (record { leads = (so.kills.runs c).leads; follows = (so.kills.runs c).follows; counts = (so.kills.runs c).counts; noted = (so.kills.runs c).noted }) (runs c);
+        runs = makes_both t killing (note_group_kill_steps root) m b n
+            (record { holder = so.kills.runs.holder; leads = so.kills.runs.leads; follows = so.kills.runs.follows; counts = so.kills.runs.counts; noted = so.kills.runs.noted }) runs;
         these = record {
           killed = kills_both killing (note_group_kill_steps root) ∙ append-nil (kills_in killing) ∙ these.killed;
           no_miss = λ f.
               let x = these.no_miss f in
               let y : missed_in f (note_group_kill_steps root) ≡ 0 = refl in
-              let z = missed_both f killing (note_group_kill_steps root) in
+              let z = missed_append f killing (note_group_kill_steps root) in
               omega (arith, x, y, z);
           returned =
               let y : returned_in (note_group_kill_steps root) ≡ 0 = refl in
@@ -308,14 +310,14 @@ subtree_killed t limited root m a b n noted so_a counted usage runs =
         };
       };
       marked = ap (λ (x : KnownMachine). x.killed) counted ∙ so.marked;
-      drained = subst (λ (x : KnownMachine). All (λ (g : ℕ). AreOwnDrained g t.cpus x) (alive_in_subtree m root)) (sym counted)
-          (λ k d lt. so.drained k d lt);
-      stocks = subst (λ (x : KnownMachine). OnlyDrains m x) (sym counted) (record { of = so.stocks.of; drained = so.stocks.drained });
+      drained = λ k d lt. own_still t _ b n (so.drained k d lt) still;
+      stocks = drains_both t m b n (record { of = so.stocks.of; drained = so.stocks.drained }) still;
       none_kept = subst (λ (x : KnownMachine). All (λ (g : ℕ). HasNoKeptUnit g x) (alive_in_subtree m root)) (sym counted)
           (λ k d lt. so.none_kept k d lt);
       keeps = only_lets_both t m b n (lets_after_note t m b note so.keeps)
-          (only_lets_same t b n (ap (λ (x : KnownMachine). x.ledger.groups) counted) (λ g. let e = usage g in omega (arith, e))
-          (ap (λ (x : KnownMachine). x.frame_seat) counted) (ap (λ (x : KnownMachine). x.links) counted) (note_group_kill_steps root) runs);
+          (only_lets_same t b (note_group_kill_steps root) n runs held_then
+          (ap (λ (x : KnownMachine). x.ledger.groups) counted) (λ g. let e = usage g in omega (arith, e))
+          (ap (λ (x : KnownMachine). x.links) counted) visit (λ s. refl) (λ f. refl));
     }
 
 -- ---- the victim, and all that die with it
@@ -327,8 +329,8 @@ set_if flag machine killed = cond flag (alive_in_subtree machine killed.killed_r
 pub record VictimKilled (t : KnownTable) (limited : ℕ) (killed : Killed) (m n : KnownMachine) : Type 0 where
   pub kills : IsKilledBy t limited killed m n
   pub marked : n.killed ≡ with_all_killed m.killed (kill_set m killed)
-  pub drained : All (λ g. AreOwnDrained g t.cpus n) (kill_set m killed)
-  pub stocks : OnlyDrains m n
+  pub drained : All (λ g. AreOwnDrained t g n) (kill_set m killed)
+  pub stocks : OnlyDrains t m n
   pub none_kept : All (λ g. HasNoKeptUnit g n) (kill_set m killed)
   pub keeps : OnlyReleases t m n
 
@@ -349,7 +351,7 @@ victim_killed t limited killed m a n told head_a flag flag_a so_flag =
         killed_root_is = subst (λ (x : KnownMachine). IsKilledRoot x.ledger.groups limited killed) told.machine head_a;
         steps = so.kills.steps;
         kills = so.kills.kills;
-        runs = λ c. record { leads = (so.kills.runs c).leads; follows = (so.kills.runs c).follows; counts = (so.kills.runs c).counts; noted = (so.kills.runs c).noted };
+        runs = record { holder = so.kills.runs.holder; leads = so.kills.runs.leads; follows = so.kills.runs.follows; counts = so.kills.runs.counts; noted = so.kills.runs.noted };
         these = record { killed = so.kills.these.killed; no_miss = so.kills.these.no_miss; returned = so.kills.these.returned };
       };
       marked = so.marked;

@@ -1,16 +1,11 @@
 -- What a release of units keeps, and how a group is killed. Serves `release_units` and `kill_group`.
-use Rattle.std.proofs.Common.{◌≡◌, ◌≢◌, ℕ, ◌+◌, ◌<◌, ◌≤◌, ◌==◌, Bool, true, Option, Some, None, List, [], ◌∷◌, ◌++◌, length, zero, suc, refl, sym, ap, ◌∙◌, subst, ◌||◌, ◌^◌, cond, false}
+use Rattle.std.proofs.Common.{◌≡◌, ◌≢◌, ℕ, ◌+◌, ◌<◌, ◌≤◌, ◌==◌, Bool, true, Option, Some, None, List, [], ◌∷◌, ◌++◌, length, zero, suc, refl, sym, ap, ◌∙◌, subst, ◌||◌, ◌^◌, false}
 use Rattle.std.proofs.Common.{inl, inr, arith, eq-eqb}
 use Rattle.std.specs.Prelude.{slice_set}
 use Rattle.std.proofs.lemmas.Bool.{cases_eq, false≢true}
 use Rattle.std.proofs.lemmas.Option.{none-some}
 use Rattle.std.proofs.lemmas.List.{append_assoc, append-nil}
-use Rattle.frame_word.specs.declared.view.FrameNote.{FrameNote}
-use Rattle.frame_word.specs.Views.{put_left, put_last}
-use Rattle.frame_word.specs.Seats.{KnownTable, KnownSeat, misses_of, seat_with}
-use Rattle.frame_word.proofs.Notes.{note_here, note_else}
-use Rattle.stock_word.specs.Stock.{KnownStockSeat, KnownStockTable, account_of}
-use Rattle.group_tree.specs.declared.group.Group.{Group}
+use Rattle.frame_word.specs.Seats.{KnownTable}
 use Rattle.lru_lists.specs.declared.record.Link.{Link}
 use Rattle.lru_lists.specs.declared.record.Home.{Home}
 use Rattle.lru_lists.specs.declared.record.Entry.{Entry}
@@ -18,43 +13,43 @@ use Rattle.lru_lists.specs.declared.record.LruList.{LruList}
 use Rattle.lru_lists.specs.declared.record.LruList.TheVariants.{Inactive, Active}
 use Rattle.lru_lists.specs.Queue.{link_at}
 use Rattle.lru_lists.specs.Lists.{entries_without, first_entry}
-use Rattle.cpu_part.specs.Cpus.{KnownCpu}
+use Rattle.step_rules.specs.State.{Part, State}
 use Rattle.step_rules.specs.After.{Run}
 use Rattle.mem_machine.specs.declared.releasing.Released.{Released}
 use Rattle.mem_machine.specs.declared.releasing.Released.TheVariants.{Left, Returned}
-use Rattle.mem_machine.specs.Machines.{KnownMachine, IsConsistent, home_of, visit_state, lists_of, with_run}
-use Rattle.mem_machine.specs.Local.{Visits}
-use Rattle.mem_machine.specs.Local.{MakesForAny}
+use Rattle.mem_machine.specs.Machines.{KnownMachine, IsConsistent, home_of, lists_of, part_at, with_run}
+use Rattle.boot_words.specs.Pasts.{IsHeld}
+use Rattle.mem_machine.specs.Local.{Makes, StaysVisited, local_of}
+use Rattle.mem_machine.specs.Noted.{after_made}
 use Rattle.mem_machine.specs.Ageing.{entries_in}
 use Rattle.mem_machine.specs.Lists.{LeavesList}
 use Rattle.mem_machine.specs.Releasing.{Releases, release_steps}
 use Rattle.mem_machine.specs.Steps.{Drain, drain_stocks_steps, kill_steps, drain_steps}
-use Rattle.mem_machine.specs.Stocks.{AreOwnDrained, DrainsNoted, DrainsIf, DrainsAllIf, DrainsGroup, of_group, stock_group, uncharged}
-use Rattle.mem_machine.proofs.Draining.{drained_at, groups_stay}
+use Rattle.mem_machine.specs.Stocks.{AreOwnDrained, DrainsNoted, DrainsIf, DrainsAllIf, DrainsGroup, HasDrained, StockTest, of_group, stock_group, uncharged}
+use Rattle.mem_machine.proofs.Draining.{groups_stay}
+use Rattle.mem_machine.proofs.Falling.{current_falls}
+use Rattle.std.specs.List.{fold}
 use Rattle.std.proofs.lemmas.List.Folds.{list_any-append}
-use Rattle.std.proofs.lemmas.List.Sums.{sum_by-append}
+use Rattle.std.proofs.lemmas.List.Sums.{fold-append}
+use Rattle.mem_reclaim.proofs.Grown.{held_after, hold_after, misses_after, missed_append, parts_after}
 use Rattle.group_charge.specs.Charges.{current_of}
-use Rattle.stock_word.specs.declared.view.StockAccount.{StockAccount}
-use Rattle.stock_word.specs.Calls.{steps_of_drain}
 use Rattle.step_rules.specs.declared.step.Step.{Step}
 use Rattle.step_rules.specs.declared.step.Answer.{Answer}
-use Rattle.mem_machine.proofs.DrainingAll.{below_else, below_group}
-use Rattle.mem_machine.proofs.Prepaying.{current_falls}
+use Rattle.mem_machine.proofs.DrainingAll.{below_owners, below_still}
 use Rattle.mem_machine.specs.declared.counts.Counts.{Counts}
-use Rattle.mem_reclaim.specs.Moves.{Rises, has_kill, is_kill, is_miss, missed_in, returned_in}
+use Rattle.mem_reclaim.specs.Moves.{Rises, has_kill, is_kill, missed_in, misses_of, returned_in}
 use Rattle.mem_reclaim.specs.Staying.{OnlyLeave}
 use Rattle.mem_reclaim.specs.Killing.{KillsGroupBySteps, HasNoKeptUnit, KeepsStocks, ReleasesUnits, ReleasesUnitsBySteps, OnlyDrains, OnlyReleases, with_killed}
 use Rattle.mem_machine.proofs.Listing.{has_unit, listed_is, home_inside, has_mid}
 use Rattle.mem_reclaim.proofs.Rising.{drains_return_none, returned_both, rises_both, units_rise}
 use Rattle.mem_machine.proofs.Followed.{makes_both, makes_none}
-use Rattle.mem_machine.proofs.Watched.{stays_then}
 
 -- ---- what stays
 
 pub only_lets_none : (t : KnownTable) (m : KnownMachine) → OnlyReleases t m m
 only_lets_none t m = record {
   groups = refl;
-  opened = refl;
+  hold = refl;
   usage = λ g. omega arith;
   visit = λ c v. v;
   leaves = λ f h is. is;
@@ -72,7 +67,7 @@ kept_was m n leaves f kept none = was (home_of n.links f) refl
 pub only_lets_both : (t : KnownTable) (a b c : KnownMachine) → OnlyReleases t a b → OnlyReleases t b c → OnlyReleases t a c
 only_lets_both t a b c p q = record {
   groups = q.groups ∙ p.groups;
-  opened = q.opened ∙ p.opened;
+  hold = q.hold ∙ p.hold;
   usage = λ g. let x = p.usage g in let y = q.usage g in omega (arith, x, y);
   visit = λ x v. q.visit x (p.visit x v);
   leaves = λ f h is. p.leaves f h (q.leaves f h is);
@@ -80,40 +75,83 @@ only_lets_both t a b c p q = record {
   misses = λ f. q.misses f ∙ p.misses f;
 }
 
--- the links and the zone's seat at the frames stay
-pub only_lets_same : (t : KnownTable) (m n : KnownMachine) → n.ledger.groups ≡ m.ledger.groups
-    → ((g : ℕ) → current_of n.ledger g ≤ current_of m.ledger g) → n.frame_seat ≡ m.frame_seat → n.links ≡ m.links → (steps : Run) → MakesForAny t m steps n
-    → OnlyReleases t m n
-only_lets_same t m n groups usage seat links steps runs = record {
-  groups = groups;
-  usage = usage;
-  opened = ap (λ (s : KnownSeat). s.view.opened) seat;
-  visit = stays_then t m m refl n seat steps runs;
-  leaves = λ f h is. ap (λ (l : List Link). home_of l f) (sym links) ∙ is;
-  dirt = λ f kept. ap (λ (l : List Link). (link_at l f).is_dirty) links;
-  misses = λ f. ap (λ (s : KnownSeat). misses_of s f) seat;
+-- ---- which steps these are
+
+-- none of the steps is a kill, and none is a freeze that missed; all leave who holds the lock
+pub record AreQuiet (steps : Run) : Type 0 where
+  pub no_kill : has_kill steps ≡ false
+  pub no_miss : (f : ℕ) → missed_in f steps ≡ 0
+  pub hold : (s : State) → (fold after_made s steps).hold ≡ s.hold
+
+both_false : (a b : Bool) → a ≡ false → b ≡ false → (a || b) ≡ false
+both_false a b x y = rw x y
+
+pub quiet_both : (one two : Run) → AreQuiet one → AreQuiet two → AreQuiet (one ++ two)
+quiet_both one two p q = record {
+  no_kill = list_any-append (λ (e : Step × Answer). is_kill e.0.action) one two ∙ both_false (has_kill one) (has_kill two) p.no_kill q.no_kill;
+  no_miss = λ f.
+      let x = p.no_miss f in
+      let y = q.no_miss f in
+      let z = missed_append f one two in
+      omega (arith, x, y, z);
+  hold = λ s. ap (λ (x : State). x.hold) (fold-append after_made s one two) ∙ q.hold (fold after_made s one) ∙ p.hold s;
 }
+
+pub quiet_none : AreQuiet []
+quiet_none = record { no_kill = refl; no_miss = λ f. refl; hold = λ s. refl }
+
+quiet_release : (f : ℕ) (left : Released) → AreQuiet (release_steps f left)
+quiet_release f (Left left) = record { no_kill = refl; no_miss = λ g. refl; hold = λ s. refl }
+quiet_release f Returned = record { no_kill = refl; no_miss = λ g. refl; hold = λ s. refl }
+
+quiet_units : (units : List Entry) (m : KnownMachine) (steps : Run) (n : KnownMachine) → ReleasesUnits units m steps n → AreQuiet steps
+quiet_units [] m steps n all = subst AreQuiet (sym all.1) quiet_none
+quiet_units (u ∷ rest) m steps n all =
+    subst AreQuiet (sym all.steps_are)
+    (quiet_both (release_steps u.number all.left) all.later (quiet_release u.number all.left) (quiet_units rest all.between all.later n all.others))
+
+pub quiet_drain : (q : ℕ) (o : Option ℕ) (pages : ℕ) → AreQuiet (drain_steps q o pages)
+quiet_drain q None pages = record { no_kill = refl; no_miss = λ f. refl; hold = λ s. refl }
+quiet_drain q (Some g) zero = record { no_kill = refl; no_miss = λ f. refl; hold = λ s. refl }
+quiet_drain q (Some g) (suc n) = record { no_kill = refl; no_miss = λ f. refl; hold = λ s. refl }
+
+pub quiet_drains : (drains : List Drain) → AreQuiet (drain_stocks_steps drains)
+quiet_drains [] = quiet_none
+quiet_drains (d ∷ rest) = quiet_both (drain_steps d.cpu d.group d.pages) (drain_stocks_steps rest) (quiet_drain d.cpu d.group d.pages) (quiet_drains rest)
+
+-- ---- what quiet steps leave
+
+module _ (t : KnownTable) (m : KnownMachine) (steps : Run) (n : KnownMachine) (runs : Makes t m steps n) (held : IsHeld t m.run.past) where
+  pub quiet_hold : ((s : State) → (fold after_made s steps).hold ≡ s.hold) → (local_of t n).hold ≡ (local_of t m).hold
+  quiet_hold same = hold_after t m steps n runs held (same (local_of t m))
+
+  pub quiet_misses : ((f : ℕ) → missed_in f steps ≡ 0) → (f : ℕ) → misses_of n f ≡ misses_of m f
+  quiet_misses none f = let a = misses_after t m steps n runs held f in let b = none f in omega (arith, a, b)
+
+  -- the links stay
+  pub only_lets_same : n.ledger.groups ≡ m.ledger.groups → ((g : ℕ) → current_of n.ledger g ≤ current_of m.ledger g) → n.links ≡ m.links
+      → StaysVisited t m n → ((s : State) → (fold after_made s steps).hold ≡ s.hold) → ((f : ℕ) → missed_in f steps ≡ 0) → OnlyReleases t m n
+  only_lets_same groups usage links visit hold misses = record {
+    groups = groups;
+    usage = usage;
+    hold = quiet_hold hold;
+    visit = visit;
+    leaves = λ f h is. ap (λ (l : List Link). home_of l f) (sym links) ∙ is;
+    dirt = λ f kept. ap (λ (l : List Link). (link_at l f).is_dirty) links;
+    misses = quiet_misses misses;
+  }
 
 -- ---- one unit
 
--- a put is no miss
-pub misses_put : (seat : KnownSeat) (f g : ℕ) (change : FrameNote → FrameNote) → ((k : FrameNote) → (change k).misses ≡ k.misses)
-    → misses_of (seat_with seat f change) g ≡ misses_of seat g
-misses_put seat f g change keeps = elim (cases_eq g f) [
-  | inl e ↦ subst (λ (x : ℕ). misses_of (seat_with seat f change) x ≡ misses_of seat x) (sym e)
-      (ap (λ (k : FrameNote). k.misses) (note_here seat.view f change) ∙ keeps _)
-  | inr ne ↦ ap (λ (k : FrameNote). k.misses) (note_else seat.view f g change ne)
-]
-
 off_list : (t : KnownTable) (m n : KnownMachine) (f : ℕ) → LeavesList f (lists_of m) (lists_of n) → n.ledger.groups ≡ m.ledger.groups
-    → ((g : ℕ) → current_of n.ledger g ≤ current_of m.ledger g) → n.frame_seat.view.opened ≡ m.frame_seat.view.opened → ((g : ℕ) → misses_of n.frame_seat g ≡ misses_of m.frame_seat g)
-    → ((c : KnownCpu) → Visits t (visit_state m c) → Visits t (visit_state n c)) → OnlyReleases t m n
-off_list t m n f list groups usage opened misses visit =
+    → ((g : ℕ) → current_of n.ledger g ≤ current_of m.ledger g) → (local_of t n).hold ≡ (local_of t m).hold → ((g : ℕ) → misses_of n g ≡ misses_of m g)
+    → StaysVisited t m n → OnlyReleases t m n
+off_list t m n f list groups usage hold misses visit =
     let gone : home_of n.links f ≡ None = ap (λ (k : Link). k.home) list.forgotten in
     record {
       groups = groups;
       usage = usage;
-      opened = opened;
+      hold = hold;
       visit = visit;
       leaves = λ x h home. elim (cases_eq x f) [
         | inl e ↦ absurd (none-some h (sym (ap (home_of n.links) e ∙ gone) ∙ home))
@@ -123,23 +161,25 @@ off_list t m n f list groups usage opened misses visit =
       misses = misses;
     }
 
-pub release_lets : (t : KnownTable) (m n : KnownMachine) (f : ℕ) (left : Released) → Releases f left m n
-    → ((c : KnownCpu) → Visits t (visit_state m c) → Visits t (visit_state n c)) → OnlyReleases t m n
-release_lets t m n f (Left left) is visit = off_list t m n f is.list (ap (λ (x : KnownMachine). x.ledger.groups) is.machine)
-    (λ g. let e = ap (λ (x : KnownMachine). current_of x.ledger g) is.machine in omega (arith, e))
-    (ap (λ (x : KnownMachine). x.frame_seat.view.opened) is.machine)
-    (λ g. ap (λ (x : KnownMachine). misses_of x.frame_seat g) is.machine ∙ misses_put m.frame_seat f g (put_left left) (λ k. refl)) visit
-release_lets t m n f Returned is visit = off_list t m n f is.list (ap (λ (x : KnownMachine). x.ledger.groups) is.machine)
-    (λ g.
-    let e = ap (λ (x : KnownMachine). current_of x.ledger g) is.machine in
-    let low = current_falls m.ledger (Some is.unit.group) (2 ^ is.unit.order) g in
-    omega (arith, e, low))
-    (ap (λ (x : KnownMachine). x.frame_seat.view.opened) is.machine)
-    (λ g. ap (λ (x : KnownMachine). misses_of x.frame_seat g) is.machine ∙ misses_put m.frame_seat f g put_last (λ k. refl)) visit
+module _ (t : KnownTable) (m n : KnownMachine) (f : ℕ) (held : IsHeld t m.run.past) where
+  release_lets : (left : Released) → Releases f left m n → StaysVisited t m n → Makes t m (release_steps f left) n → OnlyReleases t m n
+  release_lets (Left left) is visit runs = off_list t m n f is.list (ap (λ (x : KnownMachine). x.ledger.groups) is.machine)
+      (λ g. let e = ap (λ (x : KnownMachine). current_of x.ledger g) is.machine in omega (arith, e))
+      (quiet_hold t m (release_steps f (Left left)) n runs held (quiet_release f (Left left)).hold)
+      (quiet_misses t m (release_steps f (Left left)) n runs held (quiet_release f (Left left)).no_miss) visit
+  release_lets Returned is visit runs = off_list t m n f is.list (ap (λ (x : KnownMachine). x.ledger.groups) is.machine)
+      (λ g.
+      let e = ap (λ (x : KnownMachine). current_of x.ledger g) is.machine in
+      let low = current_falls m.ledger (Some is.unit.group) (2 ^ is.unit.order) g in
+      omega (arith, e, low))
+      (quiet_hold t m (release_steps f Returned) n runs held (quiet_release f Returned).hold)
+      (quiet_misses t m (release_steps f Returned) n runs held (quiet_release f Returned).no_miss) visit
 
-release_stocks : (m n : KnownMachine) (f : ℕ) (left : Released) → Releases f left m n → KeepsStocks m n
-release_stocks m n f (Left left) is = record { stock_seat = ap (λ (x : KnownMachine). x.stock_seat) is.machine; killed = ap (λ (x : KnownMachine). x.killed) is.machine }
-release_stocks m n f Returned is = record { stock_seat = ap (λ (x : KnownMachine). x.stock_seat) is.machine; killed = ap (λ (x : KnownMachine). x.killed) is.machine }
+  release_stocks : (left : Released) → Releases f left m n → Makes t m (release_steps f left) n → KeepsStocks t m n
+  release_stocks (Left left) is runs =
+      record { stocks = λ p. parts_after t m (release_steps f (Left left)) n runs held p refl; killed = ap (λ (x : KnownMachine). x.killed) is.machine }
+  release_stocks Returned is runs =
+      record { stocks = λ p. parts_after t m (release_steps f Returned) n runs held p refl; killed = ap (λ (x : KnownMachine). x.killed) is.machine }
 
 release_list : (m n : KnownMachine) (f : ℕ) (left : Released) → Releases f left m n → LeavesList f (lists_of m) (lists_of n)
 release_list m n f (Left left) is = is.list
@@ -162,19 +202,19 @@ off_entries m n g f Active is home =
 pub record LetGoSoFar (t : KnownTable) (g : ℕ) (list : LruList) (m : KnownMachine) (i : ℕ) (now : KnownMachine) : Type 0 where
   pub steps : Run
   pub whole : (rest : Run) (n : KnownMachine) → ReleasesUnits (entries_in now g list) now rest n → ReleasesUnits (entries_in m g list) m (steps ++ rest) n
-  pub runs : MakesForAny t m steps now
+  pub runs : Makes t m steps now
   pub left : length (entries_in now g list) + i ≡ length (entries_in m g list)
   pub keeps : OnlyReleases t m now
-  pub stocks : KeepsStocks m now
+  pub stocks : KeepsStocks t m now
 
 pub let_go_first : (t : KnownTable) (g : ℕ) (list : LruList) (m : KnownMachine) → LetGoSoFar t g list m 0 m
 let_go_first t g list m = record {
   steps = [];
   whole = λ rest n all. all;
-  runs = λ c. makes_none t c.number (visit_state m c);
+  runs = makes_none t m;
   left = omega arith;
   keeps = only_lets_none t m;
-  stocks = record { stock_seat = refl; killed = refl };
+  stocks = record { stocks = λ p. refl; killed = refl };
 }
 
 -- the oldest unit that is left
@@ -191,17 +231,17 @@ first_is (e ∷ es) u is = (es, ap (λ (x : Entry). x ∷ es) (same e u (sym is)
     same : (a b : Entry) → Some a ≡ Some b → a ≡ b
     same a b e = cc
 
-pub oldest_is : (t : KnownTable) (w : KnownStockTable) (g : ℕ) → g < 64 → (list : LruList) (now : KnownMachine) → IsConsistent t w now → (u : Entry)
+pub oldest_is : (t : KnownTable) (g : ℕ) → g < 64 → (list : LruList) (now : KnownMachine) → IsConsistent t now → (u : Entry)
     → (oldest : Option Entry) → oldest ≡ first_entry (entries_in now g list) → oldest ≡ Some u → Oldest t g list now u
-oldest_is t w g fits list now ok u oldest first some =
+oldest_is t g fits list now ok u oldest first some =
     let e = first_is (entries_in now g list) u (sym some ∙ first) in
-    let listed = listed_is t w now ok g fits list in
+    let listed = listed_is t now ok g fits list in
     let home = listed.homes u.number (ap (has_unit u.number) e.1 ∙ has_mid [] e.0 u u.number refl) in
     record {
       rest = e.0;
       entries = e.1;
       home = home;
-      inside = home_inside t w now ok u.number (record { owner = g; list = list }) home;
+      inside = home_inside t now ok u.number (record { owner = g; list = list }) home;
     }
 
 without_first : (u : Entry) (rest : List Entry) → entries_without u.number (u ∷ rest) ≡ rest
@@ -209,10 +249,11 @@ without_first u rest = let t : (u.number == u.number) ≡ true = eq-eqb u.number
 
 pub let_go_more : (t : KnownTable) (g : ℕ) (list : LruList) (m : KnownMachine) (i : ℕ) (now : KnownMachine) → LetGoSoFar t g list m i now
     → (u : Entry) → Oldest t g list now u → (f : ℕ) → f ≡ u.number → (left : Released) (then : KnownMachine) → Releases f left now then
-    → ((c : KnownCpu) → Visits t (visit_state now c) → Visits t (visit_state then c)) → MakesForAny t now (release_steps f left) then → LetGoSoFar t g list m (i + 1) then
-let_go_more t g list m i now s u o f at left then releases_f visit runs_f =
+    → StaysVisited t now then → Makes t now (release_steps f left) then → IsHeld t m.run.past → LetGoSoFar t g list m (i + 1) then
+let_go_more t g list m i now s u o f at left then releases_f visit runs_f held =
+    let here : IsHeld t now.run.past = held_after t m s.steps now s.runs held in
     let releases : Releases u.number left now then = subst (λ (x : ℕ). Releases x left now then) at releases_f in
-    let runs : MakesForAny t now (release_steps u.number left) then = subst (λ (x : ℕ). MakesForAny t now (release_steps x left) then) at runs_f in
+    let runs : Makes t now (release_steps u.number left) then = subst (λ (x : ℕ). Makes t now (release_steps x left) then) at runs_f in
     let tail : entries_in then g list ≡ o.rest =
     off_entries now then g u.number list (release_list now then u.number left releases) o.home ∙ ap (entries_without u.number) o.entries
     ∙ without_first u o.rest in
@@ -229,16 +270,16 @@ let_go_more t g list m i now s u o f at left then releases_f visit runs_f =
             others = subst (λ (l : List Entry). ReleasesUnits l then rest n) tail all;
             steps_are = refl;
           })));
-      runs = λ c. makes_both t c.number s.steps (release_steps u.number left) (visit_state m c) (visit_state now c) (visit_state then c) (s.runs c) (runs c);
+      runs = makes_both t s.steps (release_steps u.number left) m now then s.runs runs;
       left =
           let a = s.left in
           let b : length (entries_in now g list) ≡ length (u ∷ o.rest) = ap length o.entries in
           let d : length (entries_in then g list) ≡ length o.rest = ap length tail in
           omega (arith, a, b, d);
-      keeps = only_lets_both t m now then s.keeps (release_lets t now then u.number left releases visit);
+      keeps = only_lets_both t m now then s.keeps (release_lets t now then u.number here left releases visit runs);
       stocks =
-          let x = release_stocks now then u.number left releases in
-          record { stock_seat = x.stock_seat ∙ s.stocks.stock_seat; killed = x.killed ∙ s.stocks.killed };
+          let x = release_stocks t now then u.number here left releases runs in
+          record { stocks = λ p. x.stocks p ∙ s.stocks.stocks p; killed = x.killed ∙ s.stocks.killed };
     }
 
 none_left : (entries : List Entry) (i n : ℕ) → length entries + i ≡ n → n ≤ i → entries ≡ []
@@ -263,19 +304,17 @@ let_go_done t g list m i now s all =
 -- ---- the stocks are drained
 
 -- what a drain leaves
-pub record LeavesUnits (before after : KnownMachine) : Type 0 where
+pub record LeavesUnits (t : KnownTable) (before after : KnownMachine) : Type 0 where
   pub groups : after.ledger.groups ≡ before.ledger.groups
-  pub frame_seat : after.frame_seat ≡ before.frame_seat
   pub links : after.links ≡ before.links
   pub killed : after.killed ≡ before.killed
   pub counts : after.counts ≡ before.counts
   pub usage : (g : ℕ) → current_of after.ledger g ≤ current_of before.ledger g
-  pub stocks : OnlyDrains before after
+  pub stocks : OnlyDrains t before after
 
-leaves_units_none : (m : KnownMachine) → LeavesUnits m m
-leaves_units_none m = record {
+leaves_units_none : (t : KnownTable) (m : KnownMachine) → LeavesUnits t m m
+leaves_units_none t m = record {
   groups = refl;
-  frame_seat = refl;
   links = refl;
   killed = refl;
   counts = refl;
@@ -283,10 +322,9 @@ leaves_units_none m = record {
   stocks = record { of = λ p. refl; drained = λ p is. is };
 }
 
-leaves_units_both : (a b c : KnownMachine) → LeavesUnits a b → LeavesUnits b c → LeavesUnits a c
-leaves_units_both a b c p q = record {
+leaves_units_both : (t : KnownTable) (a b c : KnownMachine) → LeavesUnits t a b → LeavesUnits t b c → LeavesUnits t a c
+leaves_units_both t a b c p q = record {
   groups = q.groups ∙ p.groups;
-  frame_seat = q.frame_seat ∙ p.frame_seat;
   links = q.links ∙ p.links;
   killed = q.killed ∙ p.killed;
   counts = q.counts ∙ p.counts;
@@ -294,99 +332,39 @@ leaves_units_both a b c p q = record {
   stocks = record { of = λ x. q.stocks.of x ∙ p.stocks.of x; drained = λ x is. q.stocks.drained x (p.stocks.drained x is) };
 }
 
-filled_after : (test : List Group → Option ℕ → Bool) (q : ℕ) (m n : KnownMachine) (drains : List Drain) → DrainsIf test q drains m n
-    → (account_of m.stock_seat.view q).filled ≡ false → (account_of n.stock_seat.view q).filled ≡ false
-filled_after test q m n [] h is =
-    ap (λ (x : KnownMachine). (account_of x.stock_seat.view q).filled) h.1 ∙ is
-filled_after test q m n (drain ∷ []) h is =
-    ap (λ (x : KnownMachine). (account_of x.stock_seat.view q).filled) h.1.drains.drains.machine ∙ ap (λ (a : StockAccount). a.filled) (drained_at m.stock_seat.view q drain.pages)
-filled_after test q m n (one ∷ two ∷ more) h is = absurd h
+module _ (t : KnownTable) (test : StockTest) where
+  one_drains : (q : ℕ) (m n : KnownMachine) (drains : List Drain) → DrainsIf t test q drains m n → OnlyDrains t m n
+  one_drains q m n drains h = record { of = below_owners t test q m n drains h; drained = below_still t test q m n drains h }
 
-one_drains : (test : List Group → Option ℕ → Bool) (q : ℕ) (m n : KnownMachine) (drains : List Drain) → DrainsIf test q drains m n → OnlyDrains m n
-one_drains test q m n drains h = record {
-  of = λ p. elim (cases_eq p q) [
-    | inl e ↦ subst (λ (x : ℕ). stock_group n x ≡ stock_group m x) (sym e) (below_group test q m n drains h)
-    | inr ne ↦ ap (λ (a : StockAccount). a.group) (below_else test q m n drains h p ne)
-  ];
-  drained = λ p is. elim (cases_eq p q) [
-    | inl e ↦
-        subst (λ (x : ℕ). (account_of n.stock_seat.view x).filled ≡ false) (sym e)
-        (filled_after test q m n drains h (ap (λ (x : ℕ). (account_of m.stock_seat.view x).filled) (sym e) ∙ is))
-    | inr ne ↦ ap (λ (a : StockAccount). a.filled) (below_else test q m n drains h p ne) ∙ is
-  ];
-}
+  drain_leaves : (m n : KnownMachine) (q pages : ℕ) → DrainsNoted t q pages m n → OnlyDrains t m n → LeavesUnits t m n
+  drain_leaves m n q pages d stocks = record {
+    groups = ap (λ (x : KnownMachine). x.ledger.groups) d.drains.machine ∙ groups_stay m.ledger (stock_group t m q) pages;
+    links = ap (λ (x : KnownMachine). x.links) d.drains.machine;
+    killed = ap (λ (x : KnownMachine). x.killed) d.drains.machine;
+    counts = ap (λ (x : KnownMachine). x.counts) d.drains.machine;
+    usage = λ g.
+        let e : current_of n.ledger g ≡ current_of (uncharged m.ledger (stock_group t m q) pages) g = ap (λ (x : KnownMachine). current_of x.ledger g) d.drains.machine in
+        let low = current_falls m.ledger (stock_group t m q) pages g in
+        omega (arith, e, low);
+    stocks = stocks;
+  }
 
-drain_leaves : (m n : KnownMachine) (steps q pages : ℕ) → DrainsNoted steps q pages m n → OnlyDrains m n → LeavesUnits m n
-drain_leaves m n steps q pages d stocks = record {
-  groups = ap (λ (x : KnownMachine). x.ledger.groups) d.drains.machine ∙ groups_stay m.ledger (stock_group m q) pages;
-  frame_seat = ap (λ (x : KnownMachine). x.frame_seat) d.drains.machine;
-  links = ap (λ (x : KnownMachine). x.links) d.drains.machine;
-  killed = ap (λ (x : KnownMachine). x.killed) d.drains.machine;
-  counts = ap (λ (x : KnownMachine). x.counts) d.drains.machine;
-  usage = λ g.
-      let e : current_of n.ledger g ≡ current_of (uncharged m.ledger (stock_group m q) pages) g = ap (λ (x : KnownMachine). current_of x.ledger g) d.drains.machine in
-      let low = current_falls m.ledger (stock_group m q) pages g in
-      omega (arith, e, low);
-  stocks = stocks;
-}
+  one_leaves : (q : ℕ) (m n : KnownMachine) (drains : List Drain) → DrainsIf t test q drains m n → LeavesUnits t m n
+  one_leaves q m n [] h = record {
+    groups = ap (λ (x : KnownMachine). x.ledger.groups) h.1;
+    links = ap (λ (x : KnownMachine). x.links) h.1;
+    killed = ap (λ (x : KnownMachine). x.killed) h.1;
+    counts = ap (λ (x : KnownMachine). x.counts) h.1;
+    usage = λ g. let e = ap (λ (x : KnownMachine). current_of x.ledger g) h.1 in omega (arith, e);
+    stocks = one_drains q m n [] h;
+  }
+  one_leaves q m n (drain ∷ []) h = drain_leaves m n q drain.pages h.1.drains (one_drains q m n (drain ∷ []) h)
+  one_leaves q m n (one ∷ two ∷ more) h = absurd h
 
-one_leaves : (test : List Group → Option ℕ → Bool) (q : ℕ) (m n : KnownMachine) (drains : List Drain) → DrainsIf test q drains m n → LeavesUnits m n
-one_leaves test q m n [] h = record {
-  groups = ap (λ (x : KnownMachine). x.ledger.groups) h.1;
-  frame_seat = ap (λ (x : KnownMachine). x.frame_seat) h.1;
-  links = ap (λ (x : KnownMachine). x.links) h.1;
-  killed = ap (λ (x : KnownMachine). x.killed) h.1;
-  counts = ap (λ (x : KnownMachine). x.counts) h.1;
-  usage = λ g. let e = ap (λ (x : KnownMachine). current_of x.ledger g) h.1 in omega (arith, e);
-  stocks = one_drains test q m n [] h;
-}
-one_leaves test q m n (drain ∷ []) h = drain_leaves m n (steps_of_drain (stock_group m q)) q drain.pages h.1.drains (one_drains test q m n (drain ∷ []) h)
-one_leaves test q m n (one ∷ two ∷ more) h = absurd h
-
-pub drains_leave : (test : List Group → Option ℕ → Bool) (k : ℕ) (m n : KnownMachine) (drains : List Drain) → DrainsAllIf test k drains m n → LeavesUnits m n
-drains_leave test zero m n drains h = subst (λ (x : KnownMachine). LeavesUnits m x) (sym h.1) (leaves_units_none m)
-drains_leave test (suc k) m n drains h =
-    leaves_units_both m h.between n (drains_leave test k m h.between h.first h.makes_first) (one_leaves test (suc k) h.between n h.last h.makes_last)
-
--- ---- which steps these are
-
--- none of the steps is a kill, and none is a freeze that missed
-pub record AreQuiet (steps : Run) : Type 0 where
-  pub no_kill : has_kill steps ≡ false
-  pub no_miss : (f : ℕ) → missed_in f steps ≡ 0
-
-both_false : (a b : Bool) → a ≡ false → b ≡ false → (a || b) ≡ false
-both_false a b x y = rw x y
-
-pub quiet_both : (one two : Run) → AreQuiet one → AreQuiet two → AreQuiet (one ++ two)
-quiet_both one two p q = record {
-  no_kill = list_any-append (λ (e : Step × Answer). is_kill e.0.action) one two ∙ both_false (has_kill one) (has_kill two) p.no_kill q.no_kill;
-  no_miss = λ f.
-      let x = p.no_miss f in
-      let y = q.no_miss f in
-      let z : missed_in f (one ++ two) ≡ missed_in f one + missed_in f two =
-      sum_by-append (λ (e : Step × Answer). cond (is_miss f e.0.action e.1) 1 0) one two in
-      omega (arith, x, y, z);
-}
-
-quiet_release : (f : ℕ) (left : Released) → AreQuiet (release_steps f left)
-quiet_release f (Left left) = record { no_kill = refl; no_miss = λ g. refl }
-quiet_release f Returned = record { no_kill = refl; no_miss = λ g. refl }
-
-quiet_units : (units : List Entry) (m : KnownMachine) (steps : Run) (n : KnownMachine) → ReleasesUnits units m steps n → AreQuiet steps
-quiet_units [] m steps n all = subst AreQuiet (sym all.1) (record { no_kill = refl; no_miss = λ f. refl })
-quiet_units (u ∷ rest) m steps n all =
-    subst AreQuiet (sym all.steps_are)
-    (quiet_both (release_steps u.number all.left) all.later (quiet_release u.number all.left) (quiet_units rest all.between all.later n all.others))
-
-pub quiet_drain : (q : ℕ) (o : Option ℕ) (pages : ℕ) → AreQuiet (drain_steps q o pages)
-quiet_drain q None pages = record { no_kill = refl; no_miss = λ f. refl }
-quiet_drain q (Some g) zero = record { no_kill = refl; no_miss = λ f. refl }
-quiet_drain q (Some g) (suc n) = record { no_kill = refl; no_miss = λ f. refl }
-
-pub quiet_drains : (drains : List Drain) → AreQuiet (drain_stocks_steps drains)
-quiet_drains [] = record { no_kill = refl; no_miss = λ f. refl }
-quiet_drains (d ∷ rest) = quiet_both (drain_steps d.cpu d.group d.pages) (drain_stocks_steps rest) (quiet_drain d.cpu d.group d.pages) (quiet_drains rest)
+  pub drains_leave : (k : ℕ) (m n : KnownMachine) (drains : List Drain) → DrainsAllIf t test k drains m n → LeavesUnits t m n
+  drains_leave zero m n drains h = subst (λ (x : KnownMachine). LeavesUnits t m x) (sym h.1) (leaves_units_none t m)
+  drains_leave (suc k) m n drains h =
+      leaves_units_both t m h.between n (drains_leave k m h.between h.first h.makes_first) (one_leaves (suc k) h.between n h.last h.makes_last)
 
 -- ---- a group is killed
 
@@ -409,36 +387,39 @@ last_puts_rise v m a d b n is drained drains first last one two =
 pub record AllKilled (t : KnownTable) (v : ℕ) (m n : KnownMachine) : Type 0 where
   pub kills : KillsGroupBySteps t v m n
   pub marked : n.killed ≡ slice_set m.killed v true
-  pub drained : AreOwnDrained v t.cpus n
+  pub drained : AreOwnDrained t v n
   pub none_kept : HasNoKeptUnit v n
   pub keeps : OnlyReleases t m n
-  pub stocks : OnlyDrains m n
+  pub stocks : OnlyDrains t m n
 
 -- no unit is on an empty list
-none_listed : (t : KnownTable) (w : KnownStockTable) (m : KnownMachine) → IsConsistent t w m → (v : ℕ) → v < 64 → (list : LruList) → entries_in m v list ≡ []
+none_listed : (t : KnownTable) (m : KnownMachine) → IsConsistent t m → (v : ℕ) → v < 64 → (list : LruList) → entries_in m v list ≡ []
     → (f : ℕ) → home_of m.links f ≡ Some (record { owner = v; list = list }) → ⊥
-none_listed t w m ok v fits list empty f home =
-    false≢true (sym (ap (has_unit f) empty) ∙ (listed_is t w m ok v fits list).at_home f home)
+none_listed t m ok v fits list empty f home =
+    false≢true (sym (ap (has_unit f) empty) ∙ (listed_is t m ok v fits list).at_home f home)
 
-keeps_none_of : (t : KnownTable) (w : KnownStockTable) (b n : KnownMachine) → IsConsistent t w b → IsConsistent t w n → (v : ℕ) → v < 64
+keeps_none_of : (t : KnownTable) (b n : KnownMachine) → IsConsistent t b → IsConsistent t n → (v : ℕ) → v < 64
     → entries_in b v Inactive ≡ [] → entries_in n v Active ≡ [] → OnlyLeave b n → (f : ℕ) (list : LruList)
     → home_of n.links f ≡ Some (record { owner = v; list = list }) → ⊥
-keeps_none_of t w b n ok_b ok_n v fits first last leaves f Inactive home = none_listed t w b ok_b v fits Inactive first f (leaves f _ home)
-keeps_none_of t w b n ok_b ok_n v fits first last leaves f Active home = none_listed t w n ok_n v fits Active last f home
+keeps_none_of t b n ok_b ok_n v fits first last leaves f Inactive home = none_listed t b ok_b v fits Inactive first f (leaves f _ home)
+keeps_none_of t b n ok_b ok_n v fits first last leaves f Active home = none_listed t n ok_n v fits Active last f home
 
-pub all_killed : (t : KnownTable) (w : KnownStockTable) (v : ℕ) → v < 64 → (m a d b n : KnownMachine) → a ≡ with_run (with_killed m v) a.run
-    → ((g : ℕ) → current_of a.ledger g ≡ current_of m.ledger g) → MakesForAny t m (kill_steps v) a
-    → (pages : ℕ) → DrainsGroup t v pages a d → AreOwnDrained v t.cpus d
-    → ReleasesUnitsBySteps t (entries_in d v Inactive) d b → entries_in b v Inactive ≡ [] → OnlyReleases t d b → KeepsStocks d b → IsConsistent t w b
-    → ReleasesUnitsBySteps t (entries_in b v Active) b n → entries_in n v Active ≡ [] → OnlyReleases t b n → KeepsStocks b n → IsConsistent t w n → AllKilled t v m n
-all_killed t w v fits m a d b n is usage killed pages drains drained first first_empty first_keeps first_stocks ok_b last last_empty last_keeps last_stocks ok_n =
-    let unit = drains_leave (of_group v) t.cpus a d drains.drains drains.all in
-    let stock : n.stock_seat ≡ d.stock_seat = last_stocks.stock_seat ∙ first_stocks.stock_seat in
+pub all_killed : (t : KnownTable) (v : ℕ) → v < 64 → (m a d b n : KnownMachine) → a ≡ with_run (with_killed m v) a.run
+    → ((g : ℕ) → current_of a.ledger g ≡ current_of m.ledger g) → Makes t m (kill_steps v) a → StaysVisited t m a → IsHeld t m.run.past
+    → (pages : ℕ) → DrainsGroup t v pages a d → AreOwnDrained t v d → StaysVisited t a d
+    → ReleasesUnitsBySteps t (entries_in d v Inactive) d b → entries_in b v Inactive ≡ [] → OnlyReleases t d b → KeepsStocks t d b → IsConsistent t b
+    → ReleasesUnitsBySteps t (entries_in b v Active) b n → entries_in n v Active ≡ [] → OnlyReleases t b n → KeepsStocks t b n → IsConsistent t n → AllKilled t v m n
+all_killed t v fits m a d b n is usage killed visit_killed held pages drains drained visit_drained first first_empty first_keeps first_stocks ok_b last last_empty last_keeps last_stocks ok_n =
+    let unit = drains_leave t (of_group v) t.cpus a d drains.drains drains.all in
+    let stock : (p : ℕ) → part_at t n p ≡ part_at t d p = λ p. last_stocks.stocks p ∙ first_stocks.stocks p in
     let groups : n.ledger.groups ≡ d.ledger.groups = last_keeps.groups ∙ first_keeps.groups in
-    let at_first : OnlyReleases t m a = only_lets_same t m a (ap (λ (x : KnownMachine). x.ledger.groups) is)
-    (λ g. let e = usage g in omega (arith, e)) (ap (λ (x : KnownMachine). x.frame_seat) is)
-    (ap (λ (x : KnownMachine). x.links) is) (kill_steps v) killed in
-    let at_drain : OnlyReleases t a d = only_lets_same t a d unit.groups unit.usage unit.frame_seat unit.links (drain_stocks_steps drains.drains) drains.steps in
+    let kept : (p : ℕ) → part_at t a p ≡ part_at t m p = λ p. parts_after t m (kill_steps v) a killed held p refl in
+    let marks : (p : ℕ) → stock_group t a p ≡ stock_group t m p = λ p. ap (λ (x : Part). x.stock.group) (kept p) in
+    let at_first : OnlyReleases t m a = only_lets_same t m (kill_steps v) a killed held (ap (λ (x : KnownMachine). x.ledger.groups) is)
+    (λ g. let e = usage g in omega (arith, e)) (ap (λ (x : KnownMachine). x.links) is) visit_killed (λ s. refl) (λ f. refl) in
+    let quiet_first = quiet_drains drains.drains in
+    let at_drain : OnlyReleases t a d = only_lets_same t a (drain_stocks_steps drains.drains) d drains.steps (held_after t m (kill_steps v) a killed held)
+    unit.groups unit.usage unit.links visit_drained quiet_first.hold quiet_first.no_miss in
     let later : Run = drain_stocks_steps drains.drains ++ (first.steps ++ last.steps) in
     let quiet : AreQuiet later = quiet_both (drain_stocks_steps drains.drains) (first.steps ++ last.steps) (quiet_drains drains.drains)
     (quiet_both first.steps last.steps (quiet_units (entries_in d v Inactive) d first.steps b first.releases)
@@ -453,15 +434,14 @@ all_killed t w v fits m a d b n is usage killed pages drains drained first first
           first = first.steps;
           last = last.steps;
           seen = a.run;
-          stocks = subst (λ (x : KnownMachine). DrainsAllIf (of_group v) t.cpus drains.drains x d) is drains.all;
+          stocks = subst (λ (x : KnownMachine). DrainsAllIf t (of_group v) t.cpus drains.drains x d) is drains.all;
           inactive = first.releases;
           active = last.releases;
           steps_are = refl;
         };
-        runs = λ c.
-            makes_both t c.number (kill_steps v) (drain_stocks_steps drains.drains ++ (first.steps ++ last.steps)) (visit_state m c) (visit_state a c) (visit_state n c)
-            (killed c) (makes_both t c.number (drain_stocks_steps drains.drains) (first.steps ++ last.steps) (visit_state a c) (visit_state d c) (visit_state n c)
-            (drains.steps c) (makes_both t c.number first.steps last.steps (visit_state d c) (visit_state b c) (visit_state n c) (first.runs c) (last.runs c)));
+        runs = makes_both t (kill_steps v) (drain_stocks_steps drains.drains ++ (first.steps ++ last.steps)) m a n killed
+            (makes_both t (drain_stocks_steps drains.drains) (first.steps ++ last.steps) a d n drains.steps
+            (makes_both t first.steps last.steps d b n first.runs last.runs));
         once = record {
           later = later;
           front = refl;
@@ -473,16 +453,13 @@ all_killed t w v fits m a d b n is usage killed pages drains drained first first
       };
       marked = last_stocks.killed ∙ first_stocks.killed ∙ unit.killed ∙ ap (λ (x : KnownMachine). x.killed) is;
       drained = λ q some few of.
-          ap (λ (s : KnownStockSeat). (account_of s.view q).filled) stock
-          ∙ drained q some few ((λ i. of_group v (sym groups i) (account_of (sym stock i).view q).group) ∙ of);
+          subst HasDrained (sym (stock q)) (drained q some few ((λ i. of_group v (sym groups i) (sym (ap (λ (x : Part). x.stock.group) (stock q)) i)) ∙ of));
       none_kept = λ f h home owner.
-          keeps_none_of t w b n ok_b ok_n v fits first_empty last_empty last_keeps.leaves f h.list
+          keeps_none_of t b n ok_b ok_n v fits first_empty last_empty last_keeps.leaves f h.list
           (home ∙ (λ i. Some (record { owner = owner i; list = h.list })));
       keeps = only_lets_both t m a n at_first (only_lets_both t a d n at_drain (only_lets_both t d b n first_keeps last_keeps));
       stocks = record {
-        of = λ p. ap (λ (x : KnownStockSeat). (account_of x.view p).group) stock ∙ unit.stocks.of p ∙ ap (λ (x : KnownMachine). stock_group x p) is;
-        drained = λ p was.
-            ap (λ (x : KnownStockSeat). (account_of x.view p).filled) stock
-            ∙ unit.stocks.drained p (ap (λ (x : KnownMachine). (account_of x.stock_seat.view p).filled) is ∙ was);
+        of = λ p. ap (λ (x : Part). x.stock.group) (stock p) ∙ unit.stocks.of p ∙ marks p;
+        drained = λ p was. subst HasDrained (sym (stock p)) (unit.stocks.drained p (subst HasDrained (sym (kept p)) was));
       };
     }

@@ -1,7 +1,7 @@
 pub mod Wanting
 pub mod Moving
 pub mod Keeping
-pub mod Shown
+pub mod Grown
 pub mod Meeting
 pub mod Scanning
 pub mod Members

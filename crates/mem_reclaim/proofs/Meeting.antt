@@ -1,5 +1,5 @@
 -- What is done with one unit, and with its list. Serves `try_reclaim` and the scan.
-use Rattle.std.proofs.Common.{◌≡◌, ℕ, ◌==◌, ◌&&◌, ◌⊎◌, Bool, true, false, Option, Some, None, List, [], ◌∷◌, ◌++◌, refl, sym, ap, ◌∙◌, subst}
+use Rattle.std.proofs.Common.{◌≡◌, ◌+◌, ℕ, ◌==◌, ◌&&◌, ◌⊎◌, Bool, true, false, Option, Some, None, List, [], ◌∷◌, ◌++◌, refl, sym, ap, ◌∙◌, subst}
 use Rattle.std.proofs.Common.{inl, inr, arith, cond, eq-eqb}
 use Rattle.std.specs.Prelude.{unwrap_or}
 use Rattle.std.proofs.lemmas.List.{append-nil}
@@ -15,14 +15,17 @@ use Rattle.lru_lists.specs.Queue.{link_at}
 use Rattle.lru_lists.specs.Lists.{entries_without, entry_of, marked}
 use Rattle.step_rules.specs.After.{Run}
 use Rattle.mem_machine.specs.Machines.{KnownMachine, home_of}
-use Rattle.mem_machine.specs.Local.{MakesForAny}
+use Rattle.boot_words.specs.Pasts.{IsHeld}
+use Rattle.mem_machine.specs.Local.{Makes}
+use Rattle.mem_machine.specs.Machines.{IsConsistent}
+use Rattle.mem_reclaim.specs.Moves.{missed_in, misses_of}
 use Rattle.mem_machine.specs.Ageing.{RenewsUnit, entries_in}
 use Rattle.mem_machine.specs.Evicting.{EvictsUnit, Evicts, evict_steps}
 use Rattle.mem_reclaim.specs.Wanted.{progress}
 use Rattle.mem_reclaim.specs.Moves.{FreesBySteps}
 use Rattle.mem_reclaim.specs.Units.{TriesReclaimAs, TriesReclaim}
 use Rattle.mem_reclaim.specs.Staying.{OnlyLeave, IsMissed}
-use Rattle.mem_reclaim.proofs.Moving.{moves_rest, moves_none, moves_try, misses_rose}
+use Rattle.mem_reclaim.proofs.Moving.{moves_rest, moves_none, moves_try, missed_here}
 use Rattle.mem_reclaim.proofs.Wanting.{rested}
 
 -- ---- the three cases
@@ -37,23 +40,24 @@ meets_dirty t spares_marked g e m dirty = record {
 
 pub meets_spared : (t : KnownTable) (spares_marked : Bool) (g f : ℕ) (e : Entry) (m n : KnownMachine) → e.is_dirty ≡ false
     → (spares_marked && e.is_marked) ≡ true
-    → e.number ≡ f → RenewsUnit g f m n → MakesForAny t m [] n → FreesBySteps t 0 m n (TriesReclaim spares_marked g e 1)
+    → e.number ≡ f → RenewsUnit g f m n → Makes t m [] n → FreesBySteps t 0 m n (TriesReclaim spares_marked g e 1)
 meets_spared t spares_marked g f e m n clean spared is renews runs = record {
   steps = [];
   does = subst (λ (x : Bool × Bool × ℕ). TriesReclaimAs x.0 x.1 g x.2 (progress 0 m [] n)) (λ i. (sym clean i, sym spared i, sym is i))
       (record { no_page = refl; renews = renews; no_step = refl });
-  moves = moves_none t m n runs (ap (λ (x : KnownMachine). x.frame_seat) renews.machine) (ap (λ (x : KnownMachine). x.counts) renews.machine);
+  moves = moves_none t m n runs (ap (λ (x : KnownMachine). x.run) renews.machine) (ap (λ (x : KnownMachine). x.counts) renews.machine);
 }
 
-pub meets_tried : (t : KnownTable) (spares_marked : Bool) (g f : ℕ) (e : Entry) (m n : KnownMachine) (answer : Option ℕ) (freed : ℕ) → e.is_dirty ≡ false
-    → (spares_marked && e.is_marked) ≡ false → e.number ≡ f → Evicts f answer m n → MakesForAny t m (evict_steps f answer) n → freed ≡ unwrap_or answer 0
+pub meets_tried : (t : KnownTable) (spares_marked : Bool) (g f : ℕ) (e : Entry) (m n : KnownMachine) (answer : Option ℕ) (freed : ℕ) → IsConsistent t m → IsHeld t m.run.past
+    → e.is_dirty ≡ false
+    → (spares_marked && e.is_marked) ≡ false → e.number ≡ f → Evicts f answer m n → Makes t m (evict_steps f answer) n → freed ≡ unwrap_or answer 0
     → FreesBySteps t freed m n (TriesReclaim spares_marked g e 1)
-meets_tried t spares_marked g f e m n answer freed clean spared is evicts runs pages =
+meets_tried t spares_marked g f e m n answer freed ok held clean spared is evicts runs pages =
     subst (λ (p : ℕ). FreesBySteps t p m n (TriesReclaim spares_marked g e 1)) (sym pages) (record {
       steps = evict_steps f answer;
       does = subst (λ (x : Bool × Bool × ℕ). TriesReclaimAs x.0 x.1 g x.2 (progress (unwrap_or answer 0) m (evict_steps f answer) n)) (λ i. (sym clean i, sym spared i, sym is i))
           (record { answer = answer; evicts = evicts; pages = refl; tries = refl });
-      moves = moves_try t m n f answer evicts runs;
+      moves = moves_try t m n f answer ok held evicts runs;
     })
 
 -- ---- the list that the unit was on
@@ -77,7 +81,7 @@ evicted_entries m n g f pages Active is home =
 
 tried_list : (m n : KnownMachine) (g f : ℕ) (list : LruList) (answer : Option ℕ) → Evicts f answer m n → home_of m.links f ≡ Some (record { owner = g; list = list })
     → MetList g list f m n
-tried_list m n g f list None is home = inl (ap (λ (x : KnownMachine). entries_in x g list) is.machine)
+tried_list m n g f list None is home = inl (ap (λ (x : KnownMachine). entries_in x g list) is)
 tried_list m n g f list (Some pages) is home =
     inr ([], evicted_entries m n g f pages list is home ∙ sym (append-nil (entries_without f (entries_in m g list))))
 
@@ -97,32 +101,34 @@ met_list false m n g want freed e steps list is inactive home = met_as e.is_dirt
 -- ---- if marks don't count, units leave and none joins, and one that stays clean is missed
 
 try_leaves : (m n : KnownMachine) (f : ℕ) (answer : Option ℕ) → Evicts f answer m n → OnlyLeave m n
-try_leaves m n f None is x h home = ap (λ (k : KnownMachine). home_of k.links x) (sym is.machine) ∙ home
+try_leaves m n f None is x h home = ap (λ (k : KnownMachine). home_of k.links x) (sym is) ∙ home
 try_leaves m n f (Some pages) is x h home = elim (cases_eq x f) [
   | inl e ↦ absurd (none-some h (sym (ap (home_of n.links) e ∙ ap (λ (k : Link). k.home) is.list.forgotten) ∙ home))
   | inr ne ↦ sym (is.list.homes x ne) ∙ home
 ]
 
-try_misses : (m n : KnownMachine) (f : ℕ) (answer : Option ℕ) → Evicts f answer m n → (h : Home) → IsMissed m n f h
-try_misses m n f None is h home clean =
-    let a = misses_rose m n f is f in
+try_misses : (m n : KnownMachine) (f : ℕ) (answer : Option ℕ) → Evicts f answer m n → misses_of n f ≡ misses_of m f + missed_in f (evict_steps f answer)
+    → (h : Home) → IsMissed m n f h
+try_misses m n f None is counts h home clean =
+    let here = missed_here f f in
     let one : ◌≡◌ {A = ℕ} (cond (f == f) 1 0) 1 = ap (λ (b : Bool). cond b 1 0) (eq-eqb f f refl) in
-    omega (arith, a, one)
-try_misses m n f (Some pages) is h home clean = absurd (none-some h (sym (ap (λ (k : Link). k.home) is.list.forgotten) ∙ home))
+    omega (arith, counts, here, one)
+try_misses m n f (Some pages) is counts h home clean = absurd (none-some h (sym (ap (λ (k : Link). k.home) is.list.forgotten) ∙ home))
 
 leaves_as : (dirty : Bool) (m n : KnownMachine) (g f freed : ℕ) (steps : Run) → TriesReclaimAs dirty false g f (progress freed m steps n) → OnlyLeave m n
 leaves_as true m n g f freed steps is x h home = ap (λ (k : KnownMachine). home_of k.links x) (sym is.machine) ∙ home
 leaves_as false m n g f freed steps is x h home = try_leaves m n f is.answer is.evicts x h home
 
-misses_as : (dirty : Bool) (m n : KnownMachine) (g f freed : ℕ) (steps : Run) → TriesReclaimAs dirty false g f (progress freed m steps n) → (link_at m.links f).is_dirty ≡ dirty
-    → (h : Home) → IsMissed m n f h
-misses_as true m n g f freed steps is dirt h home clean =
+misses_as : (dirty : Bool) (m n : KnownMachine) (g f freed : ℕ) (steps : Run) → TriesReclaimAs dirty false g f (progress freed m steps n)
+    → misses_of n f ≡ misses_of m f + missed_in f steps → (link_at m.links f).is_dirty ≡ dirty → (h : Home) → IsMissed m n f h
+misses_as true m n g f freed steps is counts dirt h home clean =
     absurd (true≢false (sym dirt ∙ ap (λ (k : KnownMachine). (link_at k.links f).is_dirty) (sym is.machine) ∙ clean))
-misses_as false m n g f freed steps is dirt h home clean = try_misses m n f is.answer is.evicts h home clean
+misses_as false m n g f freed steps is counts dirt h home clean =
+    try_misses m n f is.answer is.evicts (subst (λ (r : Run). misses_of n f ≡ misses_of m f + missed_in f r) is.tries counts) h home clean
 
 pub met_leaves : (m n : KnownMachine) (g want freed : ℕ) (e : Entry) (steps : Run) → TriesReclaim false g e want (progress freed m steps n) → OnlyLeave m n
 met_leaves m n g want freed e steps is = leaves_as e.is_dirty m n g e.number freed steps is
 
 pub met_misses : (m n : KnownMachine) (g want freed : ℕ) (e : Entry) (steps : Run) → TriesReclaim false g e want (progress freed m steps n)
-    → (link_at m.links e.number).is_dirty ≡ e.is_dirty → (h : Home) → IsMissed m n e.number h
-met_misses m n g want freed e steps is dirt = misses_as e.is_dirty m n g e.number freed steps is dirt
+    → misses_of n e.number ≡ misses_of m e.number + missed_in e.number steps → (link_at m.links e.number).is_dirty ≡ e.is_dirty → (h : Home) → IsMissed m n e.number h
+met_misses m n g want freed e steps is counts dirt = misses_as e.is_dirty m n g e.number freed steps is counts dirt

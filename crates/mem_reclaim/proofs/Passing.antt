@@ -5,7 +5,6 @@ use Rattle.std.specs.Int.{bit_at}
 use Rattle.std.proofs.lemmas.Bool.{cases_eq, ltb-true}
 use Rattle.std.proofs.lemmas.Nat.Bits.{bit_at-zero}
 use Rattle.frame_word.specs.Seats.{KnownTable}
-use Rattle.stock_word.specs.Stock.{KnownStockTable}
 use Rattle.group_tree.specs.declared.group.Group.{Group}
 use Rattle.group_tree.specs.Groups.{in_subtree}
 use Rattle.group_charge.specs.Charges.{current_of}
@@ -13,7 +12,7 @@ use Rattle.lru_lists.specs.declared.record.Home.{Home}
 use Rattle.lru_lists.specs.declared.record.LruList.{LruList}
 use Rattle.lru_lists.specs.declared.record.LruList.TheVariants.{Inactive, Active}
 use Rattle.mem_machine.specs.Machines.{KnownMachine, IsConsistent}
-use Rattle.mem_machine.specs.Local.{MakesForAny}
+use Rattle.mem_machine.specs.Local.{Makes}
 use Rattle.mem_machine.specs.Ageing.{AgesGroup}
 use Rattle.mem_machine.specs.Subtrees.{IsSubtree}
 use Rattle.mem_machine.proofs.Dirties.{owner_bound}
@@ -30,7 +29,7 @@ use Rattle.mem_machine.proofs.Listing.{home_inside}
 
 -- ---- a group's first pass
 
-pub aged_leads : (t : KnownTable) (m aged n : KnownMachine) (g want freed : ℕ) → AgesGroup g m aged → MakesForAny t m [] aged
+pub aged_leads : (t : KnownTable) (m aged n : KnownMachine) (g want freed : ℕ) → AgesGroup g m aged → Makes t m [] aged
     → FreesBySteps t freed aged n (ScansList true g Inactive want)
     → FreesBySteps t freed m n (AgesAndScans g want)
 aged_leads t m aged n g want freed ages runs scans =
@@ -40,11 +39,11 @@ aged_leads t m aged n g want freed ages runs scans =
       does = record { aged = aged; ages = ages; scans = scans.does };
       moves = subst (λ (x : ℕ). FreesPages t m x scans.steps n) e
           (moves_both t m aged n 0 freed [] scans.steps
-          (moves_none t m aged runs (ap (λ (x : KnownMachine). x.frame_seat) ages.machine) (ap (λ (x : KnownMachine). x.counts) ages.machine)) scans.moves);
+          (moves_none t m aged runs (ap (λ (x : KnownMachine). x.run) ages.machine) (ap (λ (x : KnownMachine). x.counts) ages.machine)) scans.moves);
     }
 
-pub aged_keeps : (t : KnownTable) (m aged : KnownMachine) (g : ℕ) → AgesGroup g m aged → MakesForAny t m [] aged → Keeps t m aged
-aged_keeps t m aged g ages runs = keeps_owners t m aged ages.machine ages.owners runs
+pub aged_keeps : (t : KnownTable) (m aged : KnownMachine) (g : ℕ) → AgesGroup g m aged → Keeps t m aged
+aged_keeps t m aged g ages = keeps_owners t m aged ages.machine ages.owners
 
 -- usage falls by both parts
 pub usage_both : (t : KnownTable) (a b c : KnownMachine) (g x some more : ℕ) → Keeps t a b
@@ -148,15 +147,15 @@ module _ (t : KnownTable) (first : Bool) (g want : ℕ) (m : KnownMachine) (rest
     missed = λ off less. absurd (omega (arith, less, enough));
   }
 
-  pub pass_done : (w : KnownStockTable) → IsConsistent t w now → rest ≡ 0 → PassEnds t first g want m freed now
-  pass_done w ok all =
+  pub pass_done : IsConsistent t now → rest ≡ 0 → PassEnds t first g want m freed now
+  pass_done ok all =
       let none : (i : ℕ) → bit_at rest i ≡ 0 = λ i. ap (λ (x : ℕ). bit_at x i) all ∙ bit_at-zero i in
       record {
         passes = as_pass t first g want freed m now (so_far_done t (PassesGroup first) (subtree_of m.ledger.groups g) want m freed now
             (subst (λ (l : List ℕ). SoFar t (PassesGroup first) (subtree_of m.ledger.groups g) want m l freed now)
             (no_members rest 0 64 none) s.so_far));
         missed = λ off less f h inside home clean.
-            let fits : h.owner < 64 = owner_bound t w now ok f h (home_inside t w now ok f h home) home in
+            let fits : h.owner < 64 = owner_bound t now ok f h (home_inside t now ok f h home) home in
             s.missed off less f h fits (ap (λ (l : List Group). in_subtree l g h.owner) (sym s.keeps.groups) ∙ inside)
             (λ one. let zero_bit = none h.owner in absurd (omega (arith, one, zero_bit))) home clean;
       }

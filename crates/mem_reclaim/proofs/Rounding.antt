@@ -10,7 +10,7 @@ use Rattle.group_charge.specs.declared.note.Note.{Note}
 use Rattle.group_charge.specs.declared.note.Note.TheVariants.{Asked}
 use Rattle.group_charge.specs.Notes.{noted}
 use Rattle.mem_machine.specs.Machines.{KnownMachine, with_note}
-use Rattle.mem_machine.proofs.Watched.{visits_noted}
+use Rattle.mem_machine.proofs.Made.{visit_same}
 use Rattle.mem_reclaim.specs.Wanted.{AfterNote, FreesNothing, Reclaiming, progress}
 use Rattle.mem_reclaim.specs.Moves.{FreesPages, FreesBySteps}
 use Rattle.mem_reclaim.specs.Passes.{Reclaims}
@@ -24,12 +24,12 @@ use Rattle.mem_reclaim.proofs.Passing.{all_missed}
 -- a note changes nothing that is kept
 pub keeps_noted : (t : KnownTable) (m n : KnownMachine) (note : Note) → Keeps t m n → Keeps t m (with_note n note)
 keeps_noted t m n note k = record {
-  stock_seat = k.stock_seat;
+  stocks = k.stocks;
   killed = k.killed;
   groups = k.groups;
-  opened = k.opened;
+  hold = k.hold;
   usage = k.usage;
-  visit = λ c v. visits_noted t n c (noted n.notes note) (k.visit c v);
+  visit = λ c v. visit_same t n (with_note n note) c refl (k.visit c v);
   dirty = λ f is. let x = k.dirty f is in record { kept = x.kept; dirty = x.dirty };
   owners = k.owners;
   dirt = k.dirt;
@@ -39,12 +39,12 @@ keeps_noted t m n note k = record {
 -- nor does one before
 pub keeps_after_note : (t : KnownTable) (m n : KnownMachine) (note : Note) → Keeps t (with_note m note) n → Keeps t m n
 keeps_after_note t m n note k = record {
-  stock_seat = k.stock_seat;
+  stocks = k.stocks;
   killed = k.killed;
   groups = k.groups;
-  opened = k.opened;
+  hold = k.hold;
   usage = k.usage;
-  visit = λ c v. k.visit c (visits_noted t m c (noted m.notes note) v);
+  visit = λ c v. k.visit c (visit_same t m (with_note m note) c refl v);
   dirty = λ f is. k.dirty f (record { kept = is.kept; dirty = is.dirty });
   owners = k.owners;
   dirt = k.dirt;
@@ -59,7 +59,7 @@ leads_after_note t freed m n note Does leads =
       steps = leads.steps;
       does = leads.does;
       moves = record {
-        runs = λ c. let r = k.runs c in record { leads = r.leads; follows = r.follows; counts = r.counts; noted = r.noted };
+        runs = let r = k.runs in record { holder = r.holder; leads = r.leads; follows = r.follows; counts = r.counts; noted = r.noted };
         pages = k.pages;
         no_kill = k.no_kill;
         misses = k.misses;
@@ -110,7 +110,7 @@ round_noted t g number want m freed x n leads keeps noted =
           missed = leads.moves.missed;
         };
         moves = record {
-          runs = λ c. record { leads = (leads.moves.runs c).leads; follows = (leads.moves.runs c).follows; counts = (leads.moves.runs c).counts; noted = (leads.moves.runs c).noted };
+          runs = record { holder = leads.moves.runs.holder; leads = leads.moves.runs.leads; follows = leads.moves.runs.follows; counts = leads.moves.runs.counts; noted = leads.moves.runs.noted };
           pages = leads.moves.pages;
           no_kill = leads.moves.no_kill;
           misses = leads.moves.misses;

@@ -4,8 +4,7 @@ use Rattle.std.proofs.Common.{refl, sym, ap, ◌∙◌, subst, inl, inr, arith}
 use Rattle.std.proofs.lemmas.Bool.{cases_eq, ne_eqb, false≢true}
 use Rattle.std.proofs.lemmas.Option.{none-some}
 use Rattle.std.proofs.lemmas.List.{append_assoc, append-nil}
-use Rattle.frame_word.specs.Seats.{KnownTable, misses_of}
-use Rattle.stock_word.specs.Stock.{KnownStockTable}
+use Rattle.frame_word.specs.Seats.{KnownTable}
 use Rattle.group_tree.specs.declared.group.Group.{Group}
 use Rattle.group_tree.specs.Groups.{in_subtree}
 use Rattle.group_charge.specs.Charges.{current_of}
@@ -16,7 +15,7 @@ use Rattle.lru_lists.specs.Queue.{link_at}
 use Rattle.lru_lists.specs.Lists.{entry_after, first_entry, entry_of, entries_without}
 use Rattle.mem_machine.specs.Machines.{KnownMachine, IsConsistent, home_of}
 use Rattle.mem_machine.specs.Ageing.{entries_in}
-use Rattle.mem_reclaim.specs.Moves.{FreesBySteps}
+use Rattle.mem_reclaim.specs.Moves.{misses_of, FreesBySteps}
 use Rattle.mem_reclaim.specs.Wanted.{WhileWanted, progress}
 use Rattle.mem_reclaim.specs.Units.{TriesReclaim, ScansList}
 use Rattle.mem_reclaim.specs.Staying.{Keeps, OnlyLeave, IsMissed}
@@ -33,7 +32,7 @@ IsNext next (e ∷ es) = next ≡ Some e
 -- a clean unit on the list is still to be handled, or was missed
 abbrev pub MissedOrLeft : KnownMachine → ℕ → LruList → KnownMachine → List Entry → Type 0
 MissedOrLeft m g list now todo = (f : ℕ) → home_of now.links f ≡ Some (record { owner = g; list = list }) → (link_at now.links f).is_dirty ≡ false
-    → (has_unit f todo ≡ true) ⊎ (misses_of m.frame_seat f < misses_of now.frame_seat f)
+    → (has_unit f todo ≡ true) ⊎ (misses_of m f < misses_of now f)
 
 -- Some units stayed, some are still to be met, and some moved behind them
 pub record ScanSoFar (t : KnownTable) (spares_marked : Bool) (g : ℕ) (list : LruList) (want : ℕ) (m : KnownMachine) (i freed : ℕ) (next : Option Entry)
@@ -55,10 +54,10 @@ first_is_next : (next : Option Entry) (entries : List Entry) → next ≡ first_
 first_is_next next [] is = tt
 first_is_next next (e ∷ es) is = is
 
-pub scan_first : (t : KnownTable) (w : KnownStockTable) (m : KnownMachine) → IsConsistent t w m → (spares_marked : Bool) (g : ℕ) → g < 64
+pub scan_first : (t : KnownTable) (m : KnownMachine) → IsConsistent t m → (spares_marked : Bool) (g : ℕ) → g < 64
     → (list : LruList) (want : ℕ)
     (next : Option Entry) → next ≡ first_entry (entries_in m g list) → ScanSoFar t spares_marked g list want m 0 0 next m
-scan_first t w m ok spares_marked g fits list want next is = record {
+scan_first t m ok spares_marked g fits list want next is = record {
   stayed = [];
   todo = entries_in m g list;
   moved = [];
@@ -70,7 +69,7 @@ scan_first t w m ok spares_marked g fits list want next is = record {
   usage = λ x below. omega arith;
   few = omega arith;
   leaves = λ off f h home. home;
-  missed = λ off f home clean. inl ((listed_is t w m ok g fits list).at_home f home);
+  missed = λ off f home clean. inl ((listed_is t m ok g fits list).at_home f home);
 }
 
 -- ---- the unit that is met next
@@ -91,8 +90,8 @@ ahead_is next (e ∷ es) i n is left lt u some = (es, ap (λ (x : Entry). x ∷ 
     same : (a b : Entry) → Some a ≡ Some b → a ≡ b
     same a b e = cc
 
-module _ (t : KnownTable) (w : KnownStockTable) (spares_marked : Bool) (g : ℕ) (fits : g < 64) (list : LruList) (want : ℕ) (m : KnownMachine) (i freed : ℕ)
-    (next : Option Entry) (now : KnownMachine) (ok : IsConsistent t w now) (s : ScanSoFar t spares_marked g list want m i freed next now)
+module _ (t : KnownTable) (spares_marked : Bool) (g : ℕ) (fits : g < 64) (list : LruList) (want : ℕ) (m : KnownMachine) (i freed : ℕ)
+    (next : Option Entry) (now : KnownMachine) (ok : IsConsistent t now) (s : ScanSoFar t spares_marked g list want m i freed next now)
     (units : ℕ) (counted : units ≡ length (entries_in m g list)) (left : i < units) (u : Entry) (some : next ≡ Some u) where
   entries_are : (rest : List Entry) → s.todo ≡ u ∷ rest → entries_in now g list ≡ s.stayed ++ u ∷ (rest ++ s.moved)
   entries_are rest ahead = s.are ∙ ap (λ (l : List Entry). s.stayed ++ (l ++ s.moved)) ahead
@@ -101,14 +100,14 @@ module _ (t : KnownTable) (w : KnownStockTable) (spares_marked : Bool) (g : ℕ)
   scan_here =
       let a = ahead_is next s.todo i units s.next_is (s.left ∙ sym counted) left u some in
       let ys : List Entry = a.0 ++ s.moved in
-      let is : IsListed now g list (s.stayed ++ u ∷ ys) = subst (IsListed now g list) (entries_are a.0 a.1) (listed_is t w now ok g fits list) in
+      let is : IsListed now g list (s.stayed ++ u ∷ ys) = subst (IsListed now g list) (entries_are a.0 a.1) (listed_is t now ok g fits list) in
       let home = is.homes u.number (has_mid s.stayed ys u u.number refl) in
       record {
         rest = a.0;
         ahead = a.1;
         read = read_mid now.links s.stayed ys u is.read;
         home = home;
-        inside = home_inside t w now ok u.number (record { owner = g; list = list }) home;
+        inside = home_inside t now ok u.number (record { owner = g; list = list }) home;
         front = apart_mid s.stayed ys u is.apart;
       }
 
@@ -150,7 +149,7 @@ module _ (t : KnownTable) (w : KnownStockTable) (spares_marked : Bool) (g : ℕ)
             | inl e ↦
                 let dirt : (link_at now.links u.number).is_dirty ≡ u.is_dirty = sym (ap (λ (x : Entry). x.is_dirty) here.read) in
                 let rose = subst (λ (x : ℕ). IsMissed now then x (record { owner = g; list = list })) e
-                (met_misses now then g 1 r u leads.steps does dirt (record { owner = g; list = list })) home clean in
+                (met_misses now then g 1 r u leads.steps does (leads.moves.misses u.number) dirt (record { owner = g; list = list })) home clean in
                 inr (omega (arith, a, rose))
             | inr ne ↦
                 let out : (u.number == f) ≡ false = ne_eqb u.number f ne in

@@ -2,7 +2,7 @@
 use Rattle.std.specs.Prelude.{◌≡◌, ◌≢◌, ℕ, ◌+◌, ◌-◌, ◌≤◌, true, false, Option, Some, None, List, [], ◌∷◌, ◌++◌}
 use Rattle.std.specs.Prelude.{Bool, length, slice_set}
 use Rattle.std.specs.List.{fold}
-use Rattle.frame_word.specs.Seats.{KnownTable, misses_of}
+use Rattle.frame_word.specs.Seats.{KnownTable}
 use Rattle.group_tree.specs.Groups.{is_oom_group}
 use Rattle.group_charge.specs.Charges.{current_of, with_group_kill_noted, with_kill_noted}
 use Rattle.lru_lists.specs.declared.record.Entry.{Entry}
@@ -14,15 +14,15 @@ use Rattle.mem_machine.specs.declared.releasing.Released.{Released}
 use Rattle.group_charge.specs.declared.note.Note.{Note}
 use Rattle.group_charge.specs.declared.note.Note.TheVariants as note
 use Rattle.mem_machine.specs.Noted.{KnownRun}
-use Rattle.mem_machine.specs.Machines.{HeadsKeptUnit, KnownMachine, active_in, home_of, inactive_in}
+use Rattle.mem_machine.specs.Machines.{HeadsKeptUnit, KnownMachine, active_in, home_of, inactive_in, part_at}
 use Rattle.mem_machine.specs.Local.{Visits}
 use Rattle.mem_machine.specs.Machines.{visit_state, with_run}
 use Rattle.mem_machine.specs.Machines.{with_note}
-use Rattle.mem_machine.specs.Local.{MakesForAny}
+use Rattle.mem_machine.specs.Local.{Makes, local_of}
 use Rattle.mem_machine.specs.Releasing.{Releases, release_steps}
 use Rattle.mem_machine.specs.Steps.{Drain, drain_stocks_steps, kill_steps, note_group_kill_steps}
 use Rattle.mem_machine.specs.Stocks.{DrainsAllIf, IsDrained, of_group, stock_group}
-use Rattle.mem_reclaim.specs.Moves.{Rises, has_kill, kills_in, missed_in, returned_in}
+use Rattle.mem_reclaim.specs.Moves.{Rises, has_kill, kills_in, missed_in, misses_of, returned_in}
 use Rattle.mem_reclaim.specs.declared.noting.CountsBeforeKill.{CountsBeforeKill}
 use Rattle.mem_reclaim.specs.declared.sets.Killed.{Killed}
 use Rattle.mem_reclaim.specs.Sets.{IsKilledRoot, alive_in_subtree, group_kill_note, kill_set}
@@ -45,11 +45,11 @@ abbrev pub ReleasesUnits : List Entry → KnownMachine → Run → KnownMachine 
 ReleasesUnits [] before steps after = (after ≡ before) × (steps ≡ [])
 ReleasesUnits (unit ∷ others) before steps after = ReleasesUnit unit (ReleasesUnits others) before steps after
 
--- the units are released by some steps, whichever CPU holds the lock
+-- the units are released by some steps
 pub record ReleasesUnitsBySteps (table : KnownTable) (units : List Entry) (before after : KnownMachine) : Type 0 where
   pub steps : Run
   pub releases : ReleasesUnits units before steps after
-  pub runs : MakesForAny table before steps after
+  pub runs : Makes table before steps after
 
 -- the machine with the group killed, and with one more kill noted at the group
 abbrev pub with_killed : KnownMachine → ℕ → KnownMachine
@@ -69,7 +69,7 @@ pub record KillsGroup (table : KnownTable) (group : ℕ) (before : KnownMachine)
   pub first : Run
   pub last : Run
   pub seen : KnownRun
-  pub stocks : DrainsAllIf (of_group group) table.cpus drains (with_run (with_killed before group) seen) drained
+  pub stocks : DrainsAllIf table (of_group group) table.cpus drains (with_run (with_killed before group) seen) drained
   pub inactive : ReleasesUnits (inactive_in drained group) drained first between
   pub active : ReleasesUnits (active_in between group) between last after
   pub steps_are : steps ≡ kill_steps group ++ (drain_stocks_steps drains ++ (first ++ last))
@@ -83,11 +83,11 @@ pub record HasOneKillStep (group : ℕ) (before : KnownMachine) (steps : Run) (a
   pub no_miss : (frame : ℕ) → missed_in frame later ≡ 0
   pub returned : Rises before.counts.last_puts (returned_in later) after.counts.last_puts
 
--- a group is killed by some steps, whichever CPU holds the lock
+-- a group is killed by some steps
 pub record KillsGroupBySteps (table : KnownTable) (group : ℕ) (before after : KnownMachine) : Type 0 where
   pub steps : Run
   pub kills : KillsGroup table group before steps after
-  pub runs : MakesForAny table before steps after
+  pub runs : Makes table before steps after
   pub once : HasOneKillStep group before steps after
 
 -- how many kept units the group has
@@ -154,13 +154,13 @@ pub record AreKillsOf (groups : List ℕ) (before : KnownMachine) (steps : Run) 
   pub no_miss : (frame : ℕ) → missed_in frame steps ≡ 0
   pub returned : Rises before.counts.last_puts (returned_in steps) after.counts.last_puts
 
--- exactly these groups are killed, as `Kills` says, by some steps, whichever CPU holds the lock
+-- exactly these groups are killed, as `Kills` says, by some steps
 pub record KillsGroupsBySteps (table : KnownTable) (groups : List ℕ)
     (Kills : KnownMachine → Run → KnownMachine → Type 0)
     (before after : KnownMachine) : Type 0 where
   pub steps : Run
   pub kills : Kills before steps after
-  pub runs : MakesForAny table before steps after
+  pub runs : Makes table before steps after
   pub these : AreKillsOf groups before steps after
 
 -- what is done with a victim and its killed root: if its flag is on, the whole subtree is killed; else only the
@@ -169,9 +169,8 @@ abbrev pub KillsRootOrVictim : Bool → KnownTable → ℕ → Killed → KnownM
 KillsRootOrVictim true table limited killed = KillsSubtree table limited killed.killed_root
 KillsRootOrVictim false table limited killed = KillsGroupNoted table limited killed.victim
 
--- A victim and all groups that die with it are killed for the group `limited`, by some steps, whichever CPU holds the
--- lock. First a note says who is the victim and why. Then the whole subtree is killed if its flag is on, else the
--- victim alone.
+-- A victim and all groups that die with it are killed for the group `limited`, by some steps.
+-- First a note says who is the victim and why. Then the whole subtree is killed if its flag is on, else the victim alone.
 pub record IsKilledBy (table : KnownTable) (limited : ℕ) (killed : Killed) (before after : KnownMachine) : Type 0 where
   pub next : ℕ
   pub follows : IsNext before limited killed.victim next
@@ -179,7 +178,7 @@ pub record IsKilledBy (table : KnownTable) (limited : ℕ) (killed : Killed) (be
   pub steps : Run
   pub kills : KillsRootOrVictim (is_oom_group before.ledger.groups killed.killed_root) table limited killed
       (with_note before (victim_note before limited killed.victim next)) steps after
-  pub runs : MakesForAny table before steps after
+  pub runs : Makes table before steps after
   pub these : AreKillsOf (kill_set before killed) before steps after
 
 -- if the group has a victim, it is killed with all groups that die with it; else nothing changed
@@ -201,23 +200,23 @@ with_all_killed marks groups = fold (λ (old : List Bool) (group : ℕ). slice_s
 -- noted.
 pub record OnlyReleases (table : KnownTable) (before after : KnownMachine) : Type 0 where
   pub groups : after.ledger.groups ≡ before.ledger.groups
-  pub opened : after.frame_seat.view.opened ≡ before.frame_seat.view.opened
+  pub hold : (local_of table after).hold ≡ (local_of table before).hold
   pub usage : (group : ℕ) → current_of after.ledger group ≤ current_of before.ledger group
   pub visit : (cpu : KnownCpu) → Visits table (visit_state before cpu) → Visits table (visit_state after cpu)
   pub leaves : OnlyLeave before after
   pub dirt : (frame : ℕ) → HeadsKeptUnit after frame
       → (link_at after.links frame).is_dirty ≡ (link_at before.links frame).is_dirty
-  pub misses : (frame : ℕ) → misses_of after.frame_seat frame ≡ misses_of before.frame_seat frame
+  pub misses : (frame : ℕ) → misses_of after frame ≡ misses_of before frame
 
 -- the stocks and the killed groups stay the same
-pub record KeepsStocks (before after : KnownMachine) : Type 0 where
-  pub stock_seat : after.stock_seat ≡ before.stock_seat
+pub record KeepsStocks (table : KnownTable) (before after : KnownMachine) : Type 0 where
+  pub stocks : (cpu : ℕ) → part_at table after cpu ≡ part_at table before cpu
   pub killed : after.killed ≡ before.killed
 
 -- each CPU's stock is of the same group, and each drained stock is still drained
-pub record OnlyDrains (before after : KnownMachine) : Type 0 where
-  pub of : (cpu : ℕ) → stock_group after cpu ≡ stock_group before cpu
-  pub drained : (cpu : ℕ) → IsDrained before cpu → IsDrained after cpu
+pub record OnlyDrains (table : KnownTable) (before after : KnownMachine) : Type 0 where
+  pub of : (cpu : ℕ) → stock_group table after cpu ≡ stock_group table before cpu
+  pub drained : (cpu : ℕ) → IsDrained table before cpu → IsDrained table after cpu
 
 -- no unit is kept for the group
 abbrev pub HasNoKeptUnit : ℕ → KnownMachine → Type 0

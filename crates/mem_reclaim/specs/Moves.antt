@@ -1,9 +1,8 @@
--- What the steps of a reclaim do, whichever CPU holds the lock.
-use Rattle.std.specs.Prelude.{◌≡◌, ℕ, ◌+◌, ◌≤◌, ◌==◌, ◌⊎◌, Bool, true, false, List, [], ◌∷◌, ◌++◌}
+-- What the steps of a reclaim do.
+use Rattle.std.specs.Prelude.{◌≡◌, ℕ, ◌+◌, ◌≤◌, ◌==◌, ◌&&◌, ◌⊎◌, Bool, true, false, List, [], ◌∷◌, ◌++◌}
 use Rattle.std.specs.List.{list_any, count_by}
-use Rattle.frame_word.specs.Seats.{KnownTable, misses_of}
+use Rattle.frame_word.specs.Seats.{KnownTable}
 use Rattle.group_tree.specs.Room.{max_count}
-use Rattle.cpu_part.specs.Cpus.{KnownCpu}
 use Rattle.step_rules.specs.declared.step.Action.{Action}
 use Rattle.step_rules.specs.declared.step.Action.TheVariants.{Freeze, Return, Kill}
 use Rattle.step_rules.specs.declared.step.Answer.{Answer}
@@ -11,8 +10,9 @@ use Rattle.step_rules.specs.declared.step.Answer.TheVariants.{Done, Missed}
 use Rattle.step_rules.specs.Phases.{unit_of}
 use Rattle.step_rules.specs.State.{State}
 use Rattle.step_rules.specs.After.{Run, after, unit_size}
+use Rattle.boot_words.specs.Pasts.{own_past}
 use Rattle.mem_machine.specs.Machines.{KnownMachine}
-use Rattle.mem_machine.specs.Local.{MakesForAny, local_of}
+use Rattle.mem_machine.specs.Local.{Makes, local_of}
 use Rattle.mem_machine.specs.Transitions.{Transition, transition}
 use Rattle.mem_reclaim.specs.Wanted.{Reclaiming, progress}
 
@@ -32,15 +32,18 @@ abbrev pub is_miss : ℕ → Action → Answer → Bool
 is_miss frame (Freeze frozen pages) Missed = frozen == frame
 is_miss frame action answer = false
 
--- how many of the steps are freezes of the frame that missed
+-- how many of the steps are freezes of the frame by the zone's seat that missed
 abbrev pub missed_in : ℕ → Run → ℕ
-missed_in frame steps = count_by (λ entry. is_miss frame entry.0.action entry.1) steps
+missed_in frame steps = count_by (λ entry. entry.0.seat == 0 && is_miss frame entry.0.action entry.1) steps
 
--- the misses that the zone's seat noted for each frame rose by the freezes of it that missed among the steps
+-- how often a freeze of the frame missed so far, by the machine's past
+abbrev pub misses_of : KnownMachine → ℕ → ℕ
+misses_of machine frame = missed_in frame (own_past machine.run.past).seen
+
+-- the misses of each frame rose by the freezes of it that missed among the steps
 abbrev pub CountsMisses : Transition KnownMachine → Type 0
 CountsMisses call =
-    (frame : ℕ)
-    → misses_of call.after.frame_seat frame ≡ misses_of call.before.frame_seat frame + missed_in frame call.steps
+    (frame : ℕ) → misses_of call.after frame ≡ misses_of call.before frame + missed_in frame call.steps
 
 -- the step is a freeze, of any frame, that missed
 abbrev pub is_any_miss : Action → Answer → Bool
@@ -83,13 +86,13 @@ kills_in (e ∷ rest) = killed_by e.0.action ++ kills_in rest
 abbrev pub has_kill : Run → Bool
 has_kill steps = list_any (λ entry. is_kill entry.0.action) steps
 
--- Whichever CPU holds the lock, these steps lead from one machine to the other. They free this many pages, and none of
--- them kills a group. The misses that the zone's seat noted for each frame rose by those among the steps. The machine's
--- freezes rose by the number of units that the steps return, and its misses by all misses among them.
+-- These steps lead from one machine to the other. They free this many pages, and none of them kills a group. The misses
+-- of each frame rose by those among the steps. The machine's freezes rose by the number of units that the steps return,
+-- and its misses by all misses among them.
 pub record FreesPages (table : KnownTable) (before : KnownMachine) (freed : ℕ) (steps : Run)
     (after : KnownMachine) : Type 0 where
-  pub runs : MakesForAny table before steps after
-  pub pages : (cpu : KnownCpu) → pages_returned (local_of table before cpu) steps ≡ freed
+  pub runs : Makes table before steps after
+  pub pages : pages_returned (local_of table before) steps ≡ freed
   pub no_kill : has_kill steps ≡ false
   pub misses : CountsMisses (transition table before steps after)
   pub returned : Rises before.counts.freezes (returned_in steps) after.counts.freezes

@@ -1,6 +1,6 @@
 -- What each reclaim keeps, and what it tried.
 use Rattle.std.specs.Prelude.{◌≡◌, ◌≢◌, ℕ, ◌+◌, ◌<◌, ◌≤◌, true, false, Some, None, List}
-use Rattle.frame_word.specs.Seats.{KnownTable, misses_of}
+use Rattle.frame_word.specs.Seats.{KnownTable}
 use Rattle.group_tree.specs.Groups.{in_subtree}
 use Rattle.group_charge.specs.Charges.{current_of}
 use Rattle.lru_lists.specs.declared.record.Link.{Link}
@@ -9,8 +9,9 @@ use Rattle.lru_lists.specs.declared.record.LruList.{LruList}
 use Rattle.lru_lists.specs.Queue.{link_at}
 use Rattle.lru_lists.specs.Lists.{owner_of}
 use Rattle.cpu_part.specs.Cpus.{KnownCpu}
-use Rattle.mem_machine.specs.Machines.{HeadsKeptUnit, KnownMachine, home_of, visit_state}
-use Rattle.mem_machine.specs.Local.{Visits}
+use Rattle.mem_machine.specs.Machines.{HeadsKeptUnit, KnownMachine, home_of, part_at, visit_state}
+use Rattle.mem_machine.specs.Local.{Visits, local_of}
+use Rattle.mem_reclaim.specs.Moves.{misses_of}
 
 -- the frame heads a kept unit that is dirty
 pub record IsDirtyUnit (links : List Link) (frame : ℕ) : Type 0 where
@@ -21,10 +22,10 @@ pub record IsDirtyUnit (links : List Link) (frame : ℕ) : Type 0 where
 -- shut. No usage rises. No dirty unit is freed. Each unit that is kept was kept for the same group, and is as dirty as
 -- before. No miss is forgotten.
 pub record Keeps (table : KnownTable) (before after : KnownMachine) : Type 0 where
-  pub stock_seat : after.stock_seat ≡ before.stock_seat
+  pub stocks : (cpu : ℕ) → part_at table after cpu ≡ part_at table before cpu
   pub killed : after.killed ≡ before.killed
   pub groups : after.ledger.groups ≡ before.ledger.groups
-  pub opened : after.frame_seat.view.opened ≡ before.frame_seat.view.opened
+  pub hold : (local_of table after).hold ≡ (local_of table before).hold
   pub usage : (group : ℕ) → current_of after.ledger group ≤ current_of before.ledger group
   pub visit : (cpu : KnownCpu) → Visits table (visit_state before cpu) → Visits table (visit_state after cpu)
   pub dirty : (frame : ℕ) → IsDirtyUnit before.links frame → IsDirtyUnit after.links frame
@@ -32,7 +33,7 @@ pub record Keeps (table : KnownTable) (before after : KnownMachine) : Type 0 whe
       → owner_of (home_of after.links frame) ≡ owner_of (home_of before.links frame)
   pub dirt : (frame : ℕ) → HeadsKeptUnit after frame
       → (link_at after.links frame).is_dirty ≡ (link_at before.links frame).is_dirty
-  pub misses : (frame : ℕ) → misses_of before.frame_seat frame ≤ misses_of after.frame_seat frame
+  pub misses : (frame : ℕ) → misses_of before frame ≤ misses_of after frame
 
 -- no unit joined a list: each unit that is on a list was on the same list
 abbrev pub OnlyLeave : KnownMachine → KnownMachine → Type 0
@@ -49,7 +50,7 @@ UsageFalls group pages before after =
 abbrev pub IsMissed : KnownMachine → KnownMachine → ℕ → Home → Type 0
 IsMissed before after frame home =
     home_of after.links frame ≡ Some home → (link_at after.links frame).is_dirty ≡ false
-    → misses_of before.frame_seat frame < misses_of after.frame_seat frame
+    → misses_of before frame < misses_of after frame
 
 -- a freeze of each clean unit that is still on this list of the group missed in between
 abbrev pub MissedOnList : ℕ → LruList → KnownMachine → KnownMachine → Type 0

@@ -3,7 +3,7 @@
 ghost use Rattle.std.specs.Prelude.{◌≡◌, ◌<◌, ◌+◌, IsTrue};
 ghost use Rattle.group_tree.specs.Groups.{has_group};
 ghost use Rattle.group_charge.specs.Charges.{current_of};
-ghost use Rattle.mem_machine.specs.Local.{SomeSeenByRun};
+ghost use Rattle.boot_words.specs.Pasts.{IsHeld};
 ghost use Rattle.mem_reclaim.specs.Moves.{FreesBySteps};
 ghost use Rattle.mem_reclaim.specs.Rounds.{ReclaimsAmount, ReclaimsPages};
 ghost use Rattle.mem_reclaim.specs.Staying.{Keeps, MissedAll};
@@ -22,7 +22,7 @@ fn make_reclaim_rounds<N: BootName>(
     asked: u64,
 ) -> u64
     requires there { IsTrue (has_group machine.old.ledger.groups group) }
-    requires shown { SomeSeenByRun N.frames machine.old }
+    requires held { IsHeld N.frames machine.old.run.past }
     ensures rounds { FreesBySteps N.frames result machine.old machine.new (ReclaimsPages group asked) }
     ensures missed { result < asked → MissedAll group machine.old machine.new }
     ensures usage { current_of machine.new.ledger group + result ≡ current_of machine.old.ledger group }
@@ -54,7 +54,7 @@ pub fn reclaim_amount<N: BootName>(
     asked: u64,
 ) -> u64
     requires there { IsTrue (has_group machine.old.ledger.groups group) }
-    requires shown { SomeSeenByRun N.frames machine.old }
+    requires held { IsHeld N.frames machine.old.run.past }
     ensures rounds { FreesBySteps N.frames result machine.old machine.new (ReclaimsAmount group asked) }
     ensures missed { result < asked → MissedAll group machine.old machine.new }
     ensures usage { current_of machine.new.ledger group + result ≡ current_of machine.old.ledger group }

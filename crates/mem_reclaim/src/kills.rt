@@ -5,7 +5,7 @@ ghost use Rattle.group_tree.specs.Groups.{has_group};
 ghost use Rattle.lru_lists.specs.declared.record.LruList.{LruList};
 ghost use Rattle.mem_machine.specs.Machines.{is_killed};
 ghost use Rattle.mem_machine.specs.Ageing.{entries_in};
-ghost use Rattle.mem_machine.specs.Local.{SomeSeenByRun};
+ghost use Rattle.boot_words.specs.Pasts.{IsHeld};
 ghost use Rattle.mem_machine.specs.Stocks.{AreOwnDrained};
 ghost use Rattle.mem_reclaim.specs.Victim.{IsVictim};
 ghost use Rattle.mem_reclaim.specs.Sets.{alive_in_subtree, kill_set};
@@ -28,11 +28,11 @@ fn release_units<N: BootName>(
     group: GroupId,
     list: LruList,
 )
-    requires shown { SomeSeenByRun N.frames machine.old }
+    requires held { IsHeld N.frames machine.old.run.past }
     ensures releases { ReleasesUnitsBySteps N.frames (entries_in machine.old group list) machine.old machine.new }
     ensures empty { entries_in machine.new group list ≡ [] }
     ensures keeps { OnlyReleases N.frames machine.old machine.new }
-    ensures stocks { KeepsStocks machine.old machine.new }
+    ensures stocks { KeepsStocks N.frames machine.old machine.new }
 {
     for _unit in 0..machine.list_len(group, list) {
         machine.prove_consistent();
@@ -50,11 +50,11 @@ fn release_units<N: BootName>(
 fn kill_group<N: BootName>(machine: &mut Machine<N>, tables: &Tables<N>, group: GroupId)
     requires there { IsTrue (has_group machine.old.ledger.groups group) }
     requires alive { is_killed machine.old.killed group ≡ false }
-    requires shown { SomeSeenByRun N.frames machine.old }
+    requires held { IsHeld N.frames machine.old.run.past }
     ensures kills { KillsGroupBySteps N.frames group machine.old machine.new }
     ensures marked { machine.new.killed ≡ slice_set machine.old.killed group true }
-    ensures drained { AreOwnDrained group N.frames.cpus machine.new }
-    ensures stocks { OnlyDrains machine.old machine.new }
+    ensures drained { AreOwnDrained N.frames group machine.new }
+    ensures stocks { OnlyDrains N.frames machine.old machine.new }
     ensures none_kept { HasNoKeptUnit group machine.new }
     ensures keeps { OnlyReleases N.frames machine.old machine.new }
 {
@@ -76,12 +76,12 @@ fn kill_noted<N: BootName>(
     requires limited { IsTrue (has_group machine.old.ledger.groups limited) }
     requires there { IsTrue (has_group machine.old.ledger.groups group) }
     requires alive { is_killed machine.old.killed group ≡ false }
-    requires shown { SomeSeenByRun N.frames machine.old }
+    requires held { IsHeld N.frames machine.old.run.past }
     ensures kills { KillsGroupsBySteps N.frames (group ∷ []) (KillsGroupNoted N.frames limited group) machine.old
         machine.new }
     ensures marked { machine.new.killed ≡ slice_set machine.old.killed group true }
-    ensures drained { AreOwnDrained group N.frames.cpus machine.new }
-    ensures stocks { OnlyDrains machine.old machine.new }
+    ensures drained { AreOwnDrained N.frames group machine.new }
+    ensures stocks { OnlyDrains N.frames machine.old machine.new }
     ensures none_kept { HasNoKeptUnit group machine.new }
     ensures keeps { OnlyReleases N.frames machine.old machine.new }
 {
@@ -99,14 +99,14 @@ fn kill_below<N: BootName>(
 )
     requires limited { IsTrue (has_group machine.old.ledger.groups limited) }
     requires killed_root { IsTrue (has_group machine.old.ledger.groups killed_root) }
-    requires shown { SomeSeenByRun N.frames machine.old }
+    requires held { IsHeld N.frames machine.old.run.past }
     ensures kills { KillsGroupsBySteps N.frames (alive_in_subtree machine.old killed_root)
         (KillsGroups N.frames limited (alive_in_subtree machine.old killed_root)) machine.old machine.new }
     ensures marked { machine.new.killed ≡ with_all_killed machine.old.killed
         (alive_in_subtree machine.old killed_root) }
-    ensures drained { All (λ group. AreOwnDrained group N.frames.cpus machine.new)
+    ensures drained { All (λ group. AreOwnDrained N.frames group machine.new)
         (alive_in_subtree machine.old killed_root) }
-    ensures stocks { OnlyDrains machine.old machine.new }
+    ensures stocks { OnlyDrains N.frames machine.old machine.new }
     ensures none_kept { All (λ group. HasNoKeptUnit group machine.new) (alive_in_subtree machine.old killed_root) }
     ensures keeps { OnlyReleases N.frames machine.old machine.new }
 {
@@ -130,14 +130,14 @@ fn kill_subtree<N: BootName>(
     requires limited { IsTrue (has_group machine.old.ledger.groups limited) }
     requires killed_root { IsTrue (has_group machine.old.ledger.groups killed_root) }
     requires below_root { killed_root ≢ 0 }
-    requires shown { SomeSeenByRun N.frames machine.old }
+    requires held { IsHeld N.frames machine.old.run.past }
     ensures kills { KillsGroupsBySteps N.frames (alive_in_subtree machine.old killed_root)
         (KillsSubtree N.frames limited killed_root) machine.old machine.new }
     ensures marked { machine.new.killed ≡ with_all_killed machine.old.killed
         (alive_in_subtree machine.old killed_root) }
-    ensures drained { All (λ group. AreOwnDrained group N.frames.cpus machine.new)
+    ensures drained { All (λ group. AreOwnDrained N.frames group machine.new)
         (alive_in_subtree machine.old killed_root) }
-    ensures stocks { OnlyDrains machine.old machine.new }
+    ensures stocks { OnlyDrains N.frames machine.old machine.new }
     ensures none_kept { All (λ group. HasNoKeptUnit group machine.new) (alive_in_subtree machine.old killed_root) }
     ensures keeps { OnlyReleases N.frames machine.old machine.new }
 {
@@ -160,14 +160,14 @@ pub fn kill<N: BootName>(
     group: GroupId,
 ) -> Option<Killed>
     requires there { IsTrue (has_group machine.old.ledger.groups group) }
-    requires shown { SomeSeenByRun N.frames machine.old }
+    requires held { IsHeld N.frames machine.old.run.past }
     ensures victim { IsVictim machine.old group (victim_of result) }
     ensures kills { KillsVictim N.frames group result machine.old machine.new }
     ensures marked { IfSome result (λ killed.
         machine.new.killed ≡ with_all_killed machine.old.killed (kill_set machine.old killed)) }
     ensures drained { IfSome result (λ killed.
-        All (λ g. AreOwnDrained g N.frames.cpus machine.new) (kill_set machine.old killed)) }
-    ensures stocks { OnlyDrains machine.old machine.new }
+        All (λ g. AreOwnDrained N.frames g machine.new) (kill_set machine.old killed)) }
+    ensures stocks { OnlyDrains N.frames machine.old machine.new }
     ensures none_kept { IfSome result (λ killed.
         All (λ g. HasNoKeptUnit g machine.new) (kill_set machine.old killed)) }
     ensures keeps { OnlyReleases N.frames machine.old machine.new }

@@ -3,7 +3,7 @@
 ghost use Rattle.std.specs.Prelude.{◌≡◌, ◌<◌, ◌+◌, ◌^◌, true, false, IsTrue};
 ghost use Rattle.group_tree.specs.Groups.{has_group};
 ghost use Rattle.group_charge.specs.Charges.{current_of};
-ghost use Rattle.mem_machine.specs.Local.{SomeSeenByRun};
+ghost use Rattle.boot_words.specs.Pasts.{IsHeld};
 ghost use Rattle.mem_machine.specs.Subtrees.{IsSubtree};
 ghost use Rattle.mem_reclaim.specs.Moves.{FreesBySteps};
 ghost use Rattle.mem_reclaim.specs.Passes.{PassesGroup, ReclaimsPass};
@@ -23,7 +23,7 @@ fn age_and_scan<N: BootName>(
     want: u64,
 ) -> u64
     requires there { IsTrue (has_group machine.old.ledger.groups group) }
-    requires shown { SomeSeenByRun N.frames machine.old }
+    requires held { IsHeld N.frames machine.old.run.past }
     ensures passes { FreesBySteps N.frames result machine.old machine.new (PassesGroup true group want) }
     ensures keeps { Keeps N.frames machine.old machine.new }
     ensures usage { UsageFalls group result machine.old machine.new }
@@ -42,7 +42,7 @@ fn scan_both<N: BootName>(
 ) -> u64
     requires there { IsTrue (has_group machine.old.ledger.groups group) }
     requires wanted { 0 < want }
-    requires shown { SomeSeenByRun N.frames machine.old }
+    requires held { IsHeld N.frames machine.old.run.past }
     ensures passes { FreesBySteps N.frames result machine.old machine.new (PassesGroup false group want) }
     ensures keeps { Keeps N.frames machine.old machine.new }
     ensures usage { UsageFalls group result machine.old machine.new }
@@ -76,7 +76,7 @@ fn reclaim_group<N: BootName>(
 ) -> u64
     requires there { IsTrue (has_group machine.old.ledger.groups group) }
     requires wanted { 0 < want }
-    requires shown { SomeSeenByRun N.frames machine.old }
+    requires held { IsHeld N.frames machine.old.run.past }
     ensures passes { FreesBySteps N.frames result machine.old machine.new (PassesGroup is_first group want) }
     ensures keeps { Keeps N.frames machine.old machine.new }
     ensures usage { UsageFalls group result machine.old machine.new }
@@ -103,7 +103,7 @@ pub(crate) fn reclaim_pass<N: BootName>(
 ) -> u64
     requires there { IsTrue (has_group machine.old.ledger.groups group) }
     requires subtree { IsSubtree machine.old.ledger.groups group groups }
-    requires shown { SomeSeenByRun N.frames machine.old }
+    requires held { IsHeld N.frames machine.old.run.past }
     ensures passes { FreesBySteps N.frames result machine.old machine.new (ReclaimsPass group is_first want) }
     ensures keeps { Keeps N.frames machine.old machine.new }
     ensures usage { current_of machine.new.ledger group + result ≡ current_of machine.old.ledger group }

@@ -3,7 +3,7 @@
 ghost use Rattle.std.specs.Prelude.{◌≡◌, ◌<◌, ◌+◌, ◌^◌, IsTrue, nat_lt};
 ghost use Rattle.group_tree.specs.Groups.{has_group};
 ghost use Rattle.group_charge.specs.Charges.{current_of};
-ghost use Rattle.mem_machine.specs.Local.{SomeSeenByRun};
+ghost use Rattle.boot_words.specs.Pasts.{IsHeld};
 ghost use Rattle.mem_reclaim.specs.Moves.{FreesBySteps};
 ghost use Rattle.mem_reclaim.specs.Passes.{Reclaims};
 ghost use Rattle.mem_reclaim.specs.Staying.{Keeps, MissedAll};
@@ -35,7 +35,7 @@ pub fn reclaim<N: BootName>(
     want: u64,
 ) -> Reclaimed
     requires there { IsTrue (has_group machine.old.ledger.groups group) }
-    requires shown { SomeSeenByRun N.frames machine.old }
+    requires held { IsHeld N.frames machine.old.run.past }
     ensures reclaims { FreesBySteps N.frames result.pages machine.old machine.new (Reclaims group want) }
     ensures tried_all { result.tried_all ≡ nat_lt result.pages want }
     ensures missed { IsTrue result.tried_all → MissedAll group machine.old machine.new }

@@ -3,7 +3,7 @@
 ghost use Rattle.std.specs.Prelude.{◌≡◌, ◌<◌, ◌+◌, ◌^◌, false, IsTrue};
 ghost use Rattle.group_tree.specs.Groups.{has_group};
 ghost use Rattle.lru_lists.specs.declared.record.LruList.TheVariants.{Inactive};
-ghost use Rattle.mem_machine.specs.Local.{SomeSeenByRun};
+ghost use Rattle.boot_words.specs.Pasts.{IsHeld};
 ghost use Rattle.mem_reclaim.specs.Moves.{FreesBySteps};
 ghost use Rattle.mem_reclaim.specs.Units.{ScansList};
 ghost use Rattle.mem_reclaim.specs.Staying.{Keeps, MissedOnList, OnlyLeave, UsageFalls};
@@ -26,7 +26,7 @@ pub(crate) fn scan<N: BootName>(
 ) -> u64
     requires there { IsTrue (has_group machine.old.ledger.groups group) }
     requires inactive { IsTrue spares_marked → list ≡ Inactive }
-    requires shown { SomeSeenByRun N.frames machine.old }
+    requires held { IsHeld N.frames machine.old.run.past }
     ensures scans { FreesBySteps N.frames result machine.old machine.new (ScansList spares_marked group list want) }
     ensures keeps { Keeps N.frames machine.old machine.new }
     ensures usage { UsageFalls group result machine.old machine.new }

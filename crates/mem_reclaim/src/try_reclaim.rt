@@ -4,7 +4,7 @@ ghost use Rattle.std.specs.Prelude.{◌≡◌, ◌<◌, ◌&&◌, Some, IsTrue};
 ghost use Rattle.lru_lists.specs.declared.record.LruList.TheVariants.{Inactive};
 ghost use Rattle.lru_lists.specs.Lists.{entry_of};
 ghost use Rattle.mem_machine.specs.Machines.{home_of};
-ghost use Rattle.mem_machine.specs.Local.{SomeSeenByRun};
+ghost use Rattle.boot_words.specs.Pasts.{IsHeld};
 ghost use Rattle.mem_reclaim.specs.Moves.{FreesBySteps};
 ghost use Rattle.mem_reclaim.specs.Units.{TriesReclaim};
 ghost use Rattle.mem_reclaim.specs.Staying.{Keeps, UsageFalls};
@@ -37,7 +37,7 @@ pub(crate) fn try_reclaim<N: BootName>(
     requires unit { unit ≡ entry_of machine.old.links frame }
     requires home { home_of machine.old.links frame ≡ Some (record { owner = group; list = list }) }
     requires inactive { IsTrue spares_marked → list ≡ Inactive }
-    requires shown { SomeSeenByRun N.frames machine.old }
+    requires held { IsHeld N.frames machine.old.run.past }
     ensures attempts { FreesBySteps N.frames result machine.old machine.new (TriesReclaim spares_marked group unit 1) }
     ensures keeps { Keeps N.frames machine.old machine.new }
     ensures usage { UsageFalls group result machine.old machine.new }
@@ -49,5 +49,6 @@ pub(crate) fn try_reclaim<N: BootName>(
         machine.renew(group, frame);
         return 0;
     }
+    machine.prove_consistent();
     machine.evict(tables, frame).unwrap_or(0)
 }

@@ -8,7 +8,7 @@ use Rattle.group_charge.specs.Charges.{Ledger}
 use Rattle.cpu_part.specs.Cpus.{KnownCpu}
 use Rattle.zone_blocks.specs.declared.config.Config.{Config}
 use Rattle.mem_machine.specs.Machines.{KnownMachine}
-use Rattle.mem_machine.specs.Local.{VisitState, visit_state, Makes}
+use Rattle.mem_machine.specs.Local.{VisitMakes, VisitState, visit_state}
 use Rattle.mem_alloc.specs.declared.faults.AllocFault.{AllocFault}
 use Rattle.mem_alloc.specs.declared.faults.AllocFault.TheVariants.{Over, NoFrames, RequesterKilled}
 use Rattle.mem_alloc.specs.Frames.{AllocatesFrame}
@@ -59,16 +59,13 @@ block_fresh l order (Err RequesterKilled) fresh block none = none
 -- ---- a single frame
 
 pub over_is_there : (t : KnownTable) (sizes : Config) (group : ℕ) (m n : KnownMachine) (c d : KnownCpu) (answer : Result ℕ AllocFault)
-    → BySteps Makes t (AllocatesFrame sizes group answer) (visit_state m c) (visit_state n d) → (g : ℕ) → answer ≡ Err (Over g) → IsTrue (has_group n.ledger.groups g)
+    → BySteps VisitMakes t (AllocatesFrame sizes group answer) (visit_state m c) (visit_state n d) → (g : ℕ) → answer ≡ Err (Over g) → IsTrue (has_group n.ledger.groups g)
 over_is_there t sizes group m n c d answer told g is = frame_over_there t sizes group g m n c d told.steps
     (subst (λ (r : Result ℕ AllocFault). AllocatesFrame sizes group r (transition t (visit_state m c) told.steps (visit_state n d))) is told.does)
 
 pub frame_allocated : (t : KnownTable) (sizes : Config) (path : List ℕ) (group : ℕ) (m n : KnownMachine) (c d : KnownCpu) (answer : Result ℕ AllocFault)
-    → number_at m.ledger.groups path ≡ Some group → BySteps Makes t (AllocatesFrame sizes group answer) (visit_state m c) (visit_state n d)
-    → BySteps Makes t (Allocates sizes path 0 (reply_of n.ledger (outcome_of answer))) (visit_state m c) (visit_state n d)
-frame_allocated t sizes path group m n c d answer found told = record {
-  steps = told.steps;
-  does = allocated sizes path 0 group (transition t (visit_state m c) told.steps (visit_state n d)) found (omega arith) answer
-      (record { frame = λ same. told.does; block = λ more. absurd (more refl) }) (over_is_there t sizes group m n c d answer told);
-  makes = told.makes;
-}
+    (told : BySteps VisitMakes t (AllocatesFrame sizes group answer) (visit_state m c) (visit_state n d)) → number_at m.ledger.groups path ≡ Some group
+    → Allocates sizes path 0 (reply_of n.ledger (outcome_of answer)) (transition t (visit_state m c) told.steps (visit_state n d))
+frame_allocated t sizes path group m n c d answer told found =
+    allocated sizes path 0 group (transition t (visit_state m c) told.steps (visit_state n d)) found (omega arith) answer
+    (record { frame = λ same. told.does; block = λ more. absurd (more refl) }) (over_is_there t sizes group m n c d answer told)

@@ -3,10 +3,8 @@ use Rattle.std.proofs.Common.{◌≡◌, ◌≢◌, ℕ, ◌==◌, ◌&&◌, Boo
 use Rattle.std.specs.List.{fold}
 use Rattle.std.proofs.lemmas.Bool.{and_parts, cases_Bool, eqb-true, false≢true, ne_eqb}
 use Rattle.frame_word.specs.Seats.{KnownTable}
-use Rattle.group_tree.specs.declared.event.EventKey.{EventKey}
-use Rattle.group_tree.specs.Events.{count_of}
 use Rattle.group_tree.specs.Groups.{has_group}
-use Rattle.group_charge.specs.Charges.{Ledger, peak_of, events_of, events_local_of}
+use Rattle.group_charge.specs.Charges.{Ledger, peak_of}
 use Rattle.step_rules.specs.declared.step.Step.{Step}
 use Rattle.step_rules.specs.declared.step.Action.{Action}
 use Rattle.step_rules.specs.declared.step.Action.TheVariants.{Collect, Freeze, Grant, Kill, Make, NoteGroupKill, NoteMax, NoteOom, Put, Return}
@@ -17,7 +15,7 @@ use Rattle.step_rules.specs.Legal.{Allows, is_legal}
 use Rattle.step_rules.specs.After.{IsLegalRun, Run, after, state_of}
 use Rattle.step_rules.specs.Laws.{pushed}
 use Rattle.step_rules.specs.Peaks.{IsPeak}
-use Rattle.step_rules.specs.Events.{events_in, events_local_in, makes_group}
+use Rattle.step_rules.specs.Events.{makes_group}
 use Rattle.step_rules.proofs.LegalTests.{collect_tests, freeze_tests, grant_tests, kill_tests, make_tests, return_tests}
 use Rattle.step_rules.proofs.Noting.{events_are_counted}
 use Rattle.step_rules.proofs.Peaking.{peaks_are_kept}
@@ -25,6 +23,7 @@ use Rattle.step_rules.proofs.Runs.{allowed, legal_from, state_more}
 use Rattle.boot_words.specs.Runs.{HasNoStepOf}
 use Rattle.boot_words.proofs.Holding.{allowed_at, append_none, take_length}
 use Rattle.mem_machine.specs.declared.counts.Counts.{Counts}
+use Rattle.mem_machine.specs.Agreeing.{AgreesWithRun}
 use Rattle.mem_machine.specs.Counting.{counts_after, counts_along, one_more_last_put}
 use Rattle.mem_machine.specs.Interleaving.{zone_of}
 use Rattle.mem_machine.proofs.Followed.{at_stays, below_stays, is_still, only_made, still_peak}
@@ -94,14 +93,9 @@ pub counts_both : (s : State) (xs ys : Run) (x : Counts)
 counts_both s [] ys x = refl
 counts_both s (e ∷ xs) ys x = counts_both (after s e.0.seat e.0.action e.1) xs ys (counts_after s e.0.seat e.0.action e.1 x)
 
--- Of each group that is there after the run, the ledger has the peak and the events of the run; and these are the run's
--- counts of units.
+-- the ledger has the peaks and the events of the run, and these are the run's counts of units
 pub record CountsRun (t : KnownTable) (run : Run) (l : Ledger) (x : Counts) : Type 0 where
-  pub peak : (m : ℕ) → has_group (state_of (zone_of t) run).groups m ≡ true → IsPeak (zone_of t) run m (peak_of l m)
-  pub events : (key : EventKey) (m : ℕ) → has_group (state_of (zone_of t) run).groups m ≡ true
-      → count_of (events_of l m) key ≡ events_in key (zone_of t) run m
-  pub events_local : (key : EventKey) (m : ℕ) → has_group (state_of (zone_of t) run).groups m ≡ true
-      → count_of (events_local_of l m) key ≡ events_local_in key (zone_of t) run m
+  pub agrees : AgreesWithRun t run l
   pub counts : x ≡ counts_in t run
 
 pub legal_front : (zone : Zone) (xs ys : Run) → IsLegalRun zone (xs ++ ys) → IsLegalRun zone xs
@@ -116,14 +110,17 @@ counted_one t run e l x legal ne told =
     let still = other_still s e.0.seat e.0.action e.1 ne ok in
     let was = λ (m : ℕ) (there : has_group (state_of zone (pushed run e.0 e.1)).groups m ≡ true).
     was_there s e.0.seat e.0.action e.1 m still (ap (λ (k : State). has_group k.groups m) (sym (state_more zone run e.0 e.1)) ∙ there) in
+    let had = told.agrees in
     record {
-      peak = λ m there.
-          subst (IsPeak zone (pushed run e.0 e.1) m) (still_peak (state_of zone (pushed run e.0 e.1)) e.0.action e.1 m (peak_of l m) still)
-          (peaks_are_kept.step zone run e.0 e.1 (legal_front zone run (e ∷ []) legal) ok m (peak_of l m) there (told.peak m));
-      events = λ key m there. told.events key m (was m there)
-          ∙ sym ((events_are_counted.step zone run e.0 e.1 key m).below ∙ below_stays key m s e _ still);
-      events_local = λ key m there. told.events_local key m (was m there)
-          ∙ sym ((events_are_counted.step zone run e.0 e.1 key m).local ∙ at_stays key m s e _ still);
+      agrees = record {
+        peak = λ m there.
+            subst (IsPeak zone (pushed run e.0 e.1) m) (still_peak (state_of zone (pushed run e.0 e.1)) e.0.action e.1 m (peak_of l m) still)
+            (peaks_are_kept.step zone run e.0 e.1 (legal_front zone run (e ∷ []) legal) ok m (peak_of l m) there (had.peak m));
+        events = λ key m there. had.events key m (was m there)
+            ∙ sym ((events_are_counted.step zone run e.0 e.1 key m).below ∙ below_stays key m s e _ still);
+        events_local = λ key m there. had.events_local key m (was m there)
+            ∙ sym ((events_are_counted.step zone run e.0 e.1 key m).local ∙ at_stays key m s e _ still);
+      };
       counts = told.counts ∙ sym (counts_both (at_boot zone) run (e ∷ []) _ ∙ other_uncounted s e.0.seat e.0.action e.1 _ ne ok);
     }
 

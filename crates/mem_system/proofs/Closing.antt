@@ -1,40 +1,50 @@
 -- What the closed table says when each CPU has nothing left. Serves the end of a system.
-use Rattle.std.proofs.Common.{◌≡◌, ℕ, zero, suc, ◌+◌, ◌-◌, ◌<◌, ◌≤◌, ◌==◌, false, true, List, [], ◌∷◌, ◌++◌, length, map, take, drop, get_or, refl, sym, ap}
-use Rattle.std.proofs.Common.{◌∙◌, subst, inl, inr, arith, append-nil, append_assoc, eq-eqb}
-use Rattle.std.specs.Prelude.{All, is_some, min, slice_index}
-use Rattle.group_tree.specs.Room.{max_count}
-use Rattle.std.proofs.lemmas.Bool.{cond-true, cond-false, ne_eqb, false≢true}
+use Rattle.std.proofs.Common.{◌≡◌, ◌≢◌, ℕ, suc, ◌+◌, ◌<◌, ◌≤◌, Option, Some, None, true, List, [], ◌∷◌, ◌++◌, length, take, drop, refl, sym, ap}
+use Rattle.std.proofs.Common.{◌∙◌, subst, inl, inr, arith, append-nil, append_assoc}
+use Rattle.std.specs.Prelude.{All, min}
+use Rattle.std.proofs.lemmas.Bool.{cases_eq}
 use Rattle.std.proofs.lemmas.List.{take_all, drop_all}
+use Rattle.group_tree.specs.Room.{max_count}
+use Rattle.frame_word.specs.Seats.{KnownTable}
 use Rattle.frame_word.specs.Totals.{sum_over}
-use Rattle.frame_word.specs.declared.view.FrameView.{FrameView}
-use Rattle.frame_word.specs.Views.{note_of}
-use Rattle.frame_word.specs.ReferenceRule.{mark_base, only, references_in}
-use Rattle.frame_word.specs.ReferenceRule.{opened_in}
-use Rattle.frame_word.specs.Seats.{KnownTable, KnownSeat, view_of}
-use Rattle.stock_word.specs.declared.view.Stock.{Stock}
-use Rattle.stock_word.specs.declared.view.Stock.TheVariants.{NoGroup, HeldBy, DrainedOf}
-use Rattle.stock_word.specs.declared.view.StockView.{StockView}
-use Rattle.stock_word.specs.StockRule.{IsStockOf}
-use Rattle.stock_word.specs.Stock.{KnownStockTable, KnownStockSeat, account_of, view_in, stock_pages_of, is_held}
-use Rattle.cpu_part.specs.Cpus.{KnownCpu, IsIdle}
-use Rattle.step_rules.specs.State.{one_if, times}
-use Rattle.step_rules.specs.After.{Run}
-use Rattle.boot_words.specs.declared.view.Past.{Past}
-use Rattle.boot_words.specs.Pasts.{own_past}
+use Rattle.stock_word.specs.Stock.{stock_pages_of}
+use Rattle.cpu_part.specs.Known.{HasOwn}
+use Rattle.cpu_part.proofs.Owning.{own_same}
+use Rattle.step_rules.specs.declared.phase.Stage.{Stage}
+use Rattle.step_rules.specs.declared.phase.Stage.TheVariants.{FreshAt, BackAt}
+use Rattle.step_rules.specs.declared.phase.Phase.{Phase}
+use Rattle.step_rules.specs.declared.phase.Phase.TheVariants as phase
+use Rattle.step_rules.specs.State.{Part, State, Zone, is_unheld, live_references, times}
+use Rattle.step_rules.specs.After.{Run, state_of}
+use Rattle.step_rules.proofs.Freeing.{zone_of_run}
+use Rattle.step_rules.proofs.Sums.{sum_only}
+use Rattle.boot_words.specs.Closed.{IsClosedRun}
 use Rattle.boot_words.specs.Growth.{IsRunSoFar}
-use Rattle.mem_machine.specs.Machines.{KnownMachine, IsConsistent, home_of}
+use Rattle.boot_words.specs.Hidden.{hide, hide_phase, hide_stage}
+use Rattle.boot_words.specs.Pasts.{own_past}
+use Rattle.boot_words.specs.Rule.{AllOf, BeginsRun, of_number, words_in}
+use Rattle.boot_words.specs.Seats.{zone_of_boot}
+use Rattle.boot_words.specs.Sight.{HasSameLists, IsSettledAndDrained}
+use Rattle.boot_words.specs.Words.{stock_in, stock_said, word_in_phase}
+use Rattle.boot_words.proofs.Counting.{is_low, is_none}
+use Rattle.boot_words.proofs.Left.{zone_left}
+use Rattle.boot_words.proofs.Owning.{lists_are_own}
+use Rattle.boot_words.proofs.Returning.{none_booked}
+use Rattle.mem_machine.specs.declared.frame_state.FrameState.{FrameState}
+use Rattle.mem_machine.specs.declared.frame_state.FrameState.TheVariants.{Free, Lent, Head, Tail}
+use Rattle.mem_machine.specs.FrameStates.{frame_state_at, phase_hidden}
+use Rattle.mem_machine.specs.Machines.{KnownMachine, IsConsistent, IsShownBy, left_by, part_at}
 use Rattle.mem_machine.specs.Places.{NoneLentTo}
 use Rattle.mem_machine.specs.Resting.{Rests}
-use Rattle.boot_words.specs.Seats.{zone_of_boot}
-use Rattle.boot_words.proofs.Resting.{zone_rests}
+use Rattle.mem_machine.specs.Stocks.{HasDrained}
 use Rattle.mem_machine.proofs.NoneLent.{lent_to_cpu, each_is_placed}
-use Rattle.mem_system.specs.declared.audit.Audit.{Audit}
-use Rattle.mem_system.specs.Locked.{KnownLocked, IsQuiet, AllShut}
-use Rattle.mem_system.specs.Cpus.{CpuInRun, parts_of, pasts_of}
-use Rattle.mem_system.specs.Ends.{ForEachCpu, SettlesInVisit, VisitsUnderLock, Empties, IsEmptied, IsAuditOf, IsClosed, HasNoPage, KnownEmptiedBoot}
-use Rattle.mem_system.specs.Ends.{MachineAndCpu, MakesLastVisits}
-use Rattle.mem_system.specs.Ends.{Closes, frame_seat_of, stock_seat_of, steps_of_visits, drops_of, pins_of_all}
 use Rattle.step_watch.proofs.Watching.{watches_both}
+use Rattle.mem_system.specs.declared.audit.Audit.{Audit}
+use Rattle.mem_system.specs.Cpus.{CpuInRun, KnowsItself, parts_of, pasts_of}
+use Rattle.mem_system.specs.Ends.{AreLastWords, Closes, ForEachCpu, SettlesInVisit, VisitsUnderLock, Empties, IsEmptied, IsAuditOf, HasNoPage, KnownEmptiedBoot}
+use Rattle.mem_system.specs.Ends.{MachineAndCpu, MakesLastVisits, steps_of_visits, drops_of, pins_of_all}
+use Rattle.mem_system.specs.Left.{NothingIsLeft}
+use Rattle.mem_system.specs.Locked.{KnownLocked, IsQuiet}
 use Rattle.mem_system.proofs.Locking.{visits_watched}
 use Rattle.mem_system.proofs.Running.{visits_go_on}
 
@@ -52,145 +62,153 @@ written_back k new old long all =
     ap (λ (l : List CpuInRun). take k (new ++ l)) (drop_all (length new) old (omega (arith, long))) ∙ ap (λ (l : List CpuInRun). take k l) (append-nil new)
     ∙ take_all k new (omega (arith, long, all))
 
-pub idle_all : (t : KnownTable) (w : KnownStockTable) (m : KnownMachine) (cpus : List KnownCpu) → All (λ c. IsEmptied t w m c) cpus → All IsIdle cpus
-idle_all t w m cpus all = λ k any inside. (all k any inside).idle
+-- ---- what the state says of one part, and of one frame
 
-pub long_frames : (cpus : List KnownCpu) → length (map frame_seat_of cpus) ≡ length cpus
-long_frames [] = refl
-long_frames (c ∷ cpus) = let rest = long_frames cpus in omega (arith, rest)
+no_pages : (group : Option ℕ) (pages : ℕ) → stock_pages_of (stock_said group pages true) ≡ 0
+no_pages None pages = refl
+no_pages (Some g) pages = refl
 
-pub long_parts : (cpus : List CpuInRun) → length (parts_of cpus) ≡ length cpus
-long_parts [] = refl
-long_parts (c ∷ cpus) = let rest = long_parts cpus in omega (arith, rest)
+-- a drained stock has no page
+drained_none : (part : Part) → HasDrained part → stock_pages_of (stock_in part) ≡ 0
+drained_none part drained = elim drained [
+  | inl none ↦ ap (λ (o : Option ℕ). stock_pages_of (stock_said o part.stock.pages part.stock.is_drained)) none
+  | inr was ↦ ap (λ b. stock_pages_of (stock_said part.stock.group part.stock.pages b)) was ∙ no_pages part.stock.group part.stock.pages
+]
 
-pub long_stocks : (cpus : List KnownCpu) → length (map stock_seat_of cpus) ≡ length cpus
-long_stocks [] = refl
-long_stocks (c ∷ cpus) = let rest = long_stocks cpus in omega (arith, rest)
+hidden_word : (x : Phase) (live : ℕ) → word_in_phase (hide_phase x) live ≡ word_in_phase x live
+hidden_word (phase.Head u stage) live = by stage
+  where
+    by : (k : Stage) → word_in_phase (hide_stage u k) live ≡ word_in_phase (phase.Head u k) live
+    by (FreshAt c) = refl
+    by (BackAt c) = refl
+    by k = refl
+hidden_word x live = refl
 
-view_at : (cpus : List KnownCpu) (k : ℕ) (any : KnownCpu) → k < length cpus → view_in (map stock_seat_of cpus) k ≡ (get_or cpus k any).stock_seat.view
-view_at [] k any inside = absurd (omega (arith, inside))
-view_at (c ∷ cpus) zero any inside = refl
-view_at (c ∷ cpus) (suc k) any inside = view_at cpus k any (omega (arith, inside))
+shown_word : (r : FrameState) (live : ℕ) → word_in_phase (phase_hidden r) live ≡ live
+shown_word Free live = refl
+shown_word (Lent c) live = refl
+shown_word (Head u) live = refl
+shown_word (Tail g) live = refl
 
--- what each CPU's seat counts 0 of is 0 of all
-none_of_all : (h : FrameView → ℕ) (cpus : List KnownCpu) → All (λ c. h c.frame_seat.view ≡ 0) cpus → sum_over h (map view_of (map frame_seat_of cpus)) ≡ 0
-none_of_all h [] all = refl
-none_of_all h (c ∷ cpus) all =
-    let one : h c.frame_seat.view ≡ 0 = all 0 c (omega arith) in
-    let rest = none_of_all h cpus (λ k any inside. all (suc k) any (omega (arith, inside))) in
-    omega (arith, one, rest)
+-- ---- one of the CPUs
 
-not_held : (stock : Stock) → is_held stock ≡ false → stock_pages_of stock ≡ 0
-not_held NoGroup is = refl
-not_held (HeldBy g n) is = absurd (false≢true (sym is))
-not_held (DrainedOf g) is = refl
+-- the CPU of this number, which has nothing left, and of whose past the run goes on
+pub record EndedCpu (t : KnownTable) (m : KnownMachine) (run : Run) (p : ℕ) : Type 0 where
+  pub cpu : CpuInRun
+  pub number : cpu.part.number ≡ p
+  pub emptied : IsEmptied t m cpu.part
+  pub knows : KnowsItself t cpu
+  pub begins : BeginsRun (zone_of_boot t) run (own_past cpu.past)
 
--- a machine all of whose visits are shut, and CPUs that have nothing left, with their seats at the closed table
-module _ (t : KnownTable) (w : KnownStockTable) (m : KnownMachine) (cpus : List KnownCpu) (pasts : List Past) (shut : AllShut m)
-    (all : All (λ c. IsEmptied t w m c) cpus) (closed : IsClosed t w m (map frame_seat_of cpus) (map stock_seat_of cpus) pasts) where
-  ok : IsConsistent t w m
-  ok = closed.consistent
+found : (t : KnownTable) (m : KnownMachine) (run : Run) (p : ℕ) (cpus : List CpuInRun) → All (λ c. IsEmptied t m c) (parts_of cpus) → AllOf (KnowsItself t) cpus
+    → AllOf (BeginsRun (zone_of_boot t) run) (pasts_of cpus) → 1 ≤ sum_over (of_number p) (pasts_of cpus) → EndedCpu t m run p
+found t m run p [] all knows begin some = absurd (omega (arith, some))
+found t m run p (c ∷ cpus) all knows begin some = elim (cases_eq (own_past c.past).number p) [
+  | inl e ↦ record { cpu = c; number = knows.0.is.number ∙ e; emptied = all 0 c.part (omega arith); knows = knows.0; begins = begin.0 }
+  | inr ne ↦
+      let none = is_none (own_past c.past) p ne in
+      found t m run p cpus (λ k any inside. all (suc k) any (omega (arith, inside))) knows.1 begin.1 (omega (arith, some, none))
+]
 
-  abbrev views : List FrameView
-  views = map view_of (map frame_seat_of cpus)
+-- the run leaves the CPU's lists and references as its past did
+pub own_left : (t : KnownTable) (run : Run) (c : CpuInRun) → KnowsItself t c → BeginsRun (zone_of_boot t) run (own_past c.past)
+    → HasOwn (state_of (zone_of_boot t) run) c.part
+own_left t run c knows begins =
+    let zone = zone_of_boot t in
+    let past = own_past c.past in
+    let some = knows.is.past.low in
+    own_same (state_of zone past.seen) c.part knows.own (state_of zone run)
+    (subst (λ (q : ℕ). HasSameLists q (state_of zone past.seen) (state_of zone run)) (sym knows.is.number)
+    (lists_are_own zone past.seen run past.number (λ e. absurd (omega (arith, some, e))) begins.goes))
 
-  is_zone : (m.frame_seat.view.number == 0) ≡ true
-  is_zone = eq-eqb m.frame_seat.view.number 0 ok.seats.frames.1
+-- a machine that rests, CPUs that have nothing left, and the closed table
+module _ (t : KnownTable) (m : KnownMachine) (cpus : List CpuInRun) (words : List ℕ) (ok : IsConsistent t m) (rests : Rests t m)
+    (all : All (λ c. IsEmptied t m c) (parts_of cpus)) (knows : AllOf (KnowsItself t) cpus)
+    (closed : IsClosedRun (zone_of_boot t) words (own_past m.run.past ∷ pasts_of cpus)) where
+  abbrev zone : Zone
+  zone = zone_of_boot t
 
-  -- no CPU's seat has a reference, and only the zone's notes a visit
-  no_reference : (f : ℕ) → sum_over (references_in f) views ≡ 0
-  no_reference f = none_of_all (references_in f) cpus (λ k any inside.
-      let c = all k any inside in (c.tied.noted f).references_are ∙ ap (times f) c.idle.3)
+  abbrev run : Run
+  run = closed.end.run
 
-  no_visit : (p : ℕ) → sum_over (opened_in p) views ≡ 0
-  no_visit p = none_of_all (opened_in p) cpus (λ k any inside.
-      let c = all k any inside in
-      let some = c.tied.seats.some_number in
-      let named = c.tied.seats.frame_number in
-      let c_now = get_or cpus k any in
-      cond-false (c_now.frame_seat.view.number == 0) (slice_index c_now.frame_seat.view.opened p) 0
-      (ne_eqb c_now.frame_seat.view.number 0 (λ e. omega (arith, some, named, e))))
+  abbrev s : State
+  s = state_of (zone_of_boot t) closed.end.run
 
-  abbrev kept : ℕ → ℕ
-  kept f = one_if (is_some (home_of m.links f))
+  -- every CPU's own part hidden, the run leaves what the zone's past left
+  pub hidden : hide s ≡ left_by t m.run.past
+  hidden = zone_left zone run (own_past m.run.past) closed.end.is.legal closed.end.begin.0 rests.past_is.zone_is
 
-  word_of_frame : (f : ℕ) → f < t.frames → slice_index closed.frame_words f ≡ kept f
-  word_of_frame f inside =
-      let rule = closed.rule.each_frame f inside in
-      let zone : (note_of m.frame_seat.view f).references ≡ kept f = (ok.frame_states f inside).references in
-      let none = no_reference f in
-      elim rule.one_case [
-        | inl referenced ↦ let same = referenced.2 in omega (arith, same, zone, none)
-        | inr other ↦ elim other [
-          | inl in_hand ↦ let nothing = in_hand.0 in let no = in_hand.1 in omega (arith, nothing, no, zone, none)
-          | inr passing ↦
-              let p = slice_index closed.frame_words f - mark_base in
-              let low = passing.0 in
-              let high = passing.1 in
-              let visit = closed.rule.each_visit p (omega (arith, low)) (omega (arith, high, low)) in
-              let seen : only 0 m.frame_seat.view (slice_index m.frame_seat.view.opened p) ≡ 0 =
-              cond-true (m.frame_seat.view.number == 0) (slice_index m.frame_seat.view.opened p) 0 is_zone ∙ shut p in
-              let others = no_visit p in
-              let noted = visit.noted in
-              absurd (visit.shut (omega (arith, noted, seen, others)) f inside (omega (arith, low)))
-        ]
-      ]
+  sized : s.zone.cpus ≡ t.cpus
+  sized = ap (λ (z : Zone). z.cpus) (zone_of_run zone run)
 
-  -- each CPU's part is one of them
-  found : (p : ℕ) → 1 ≤ p → p ≤ t.cpus → (c : KnownCpu) × (c.number ≡ p) × IsEmptied t w m c × HasNoPage m closed.stock_words p
-  found p some within =
-      let same = ok.sizes.cpus in
-      let at = closed.each p some (omega (arith, within, same)) in
-      let k = at.place in
-      let long = long_stocks cpus in
-      let inside = at.inside in
-      let any : KnownCpu = record { number = 0; list = []; fresh = []; back = []; pins = []; frame_seat = m.frame_seat; stock_seat = m.stock_seat; drops = 0 } in
-      let c = get_or cpus k any in
-      let there : k < length cpus = omega (arith, long, inside) in
-      let emptied = all k any there in
-      let view = view_at cpus k any there in
-      let number : c.number ≡ p = sym emptied.tied.seats.stock_number ∙ sym (ap (λ v. v.number) view) ∙ at.number in
-      let words = closed.stocks k inside in
-      let drained = ap (λ (q : ℕ). (account_of m.stock_seat.view q).filled) (at.number ∙ sym number) ∙ emptied.drained in
-      let empty : stock_pages_of words.stock ≡ 0 = not_held words.stock (words.held ∙ drained) in
-      let fresh : (view_in (map stock_seat_of cpus) k).fresh ≡ 0 = ap (λ v. v.fresh) view ∙ emptied.tied.within.pages_are ∙ ap length emptied.idle.1 in
-      let noted = words.reported ∙ ok.absorbed (view_in (map stock_seat_of cpus) k).number in
-      let balanced = words.balanced in
-      let book : (account_of m.stock_seat.view (view_in (map stock_seat_of cpus) k).number).book ≡ 0 = omega (arith, balanced, empty, fresh, noted) in (
-        c,
-        number,
-        emptied,
-        subst (λ (q : ℕ). HasNoPage m closed.stock_words q) at.number
-            (record { stock = words.stock; encoded = words.encoded; empty = empty; none_reported = noted; book = book }),
-      )
+  one : (p : ℕ) → 1 ≤ p → p ≤ t.cpus → EndedCpu t m run p
+  one p low high =
+      let count = closed.one_past p in
+      let some = is_low p t.cpus high in
+      let zeroth = rests.past_is.zone_is in
+      let none = is_none (own_past m.run.past) p (λ e. absurd (omega (arith, e, zeroth, low))) in
+      found t m run p cpus all knows closed.end.begin.1 (omega (arith, count, some, none))
 
-  -- the words are those of each CPU's stock
-  told_each : All (λ c. IsStockOf closed.stock_words c.number m.stock_seat.view c.stock_seat.view) cpus
-  told_each k any inside =
-      let c = get_or cpus k any in
-      let long = long_stocks cpus in
-      let view = view_at cpus k any inside in
-      let number : (view_in (map stock_seat_of cpus) k).number ≡ c.number = ap (λ v. v.number) view ∙ (all k any inside).tied.seats.stock_number in
-      subst (λ (z : ℕ × StockView). IsStockOf closed.stock_words z.0 m.stock_seat.view z.1) (λ i. (number i, view i))
-      (closed.stocks k (omega (arith, long, inside)))
+  own_at : (p : ℕ) → 1 ≤ p → p ≤ t.cpus → ((s.parts p).fresh ≡ []) × ((f : ℕ) → s.references p f ≡ 0)
+  own_at p low high =
+      let e = one p low high in
+      let own = own_left t run e.cpu e.knows e.begins in
+      subst (λ (q : ℕ). ((s.parts q).fresh ≡ []) × ((f : ℕ) → s.references q f ≡ 0)) e.number
+      (own.fresh ∙ e.emptied.idle.1, λ f. own.references f ∙ ap (times f) e.emptied.idle.3)
+
+  settled : (p : ℕ) → 1 ≤ p → p ≤ t.cpus → IsSettledAndDrained (s.parts p)
+  settled p low high =
+      let e = one p low high in
+      let left = sym (ap (λ (u : State). u.parts p) hidden) in
+      let told = ok.shown.absorbed p in
+      let unreported = ap (λ (x : Part). x.unreported) left in
+      let reported = ap (λ (x : Part). x.reported) left in record {
+        fresh = (own_at p low high).0;
+        unreported = omega (arith, told, unreported);
+        reported = omega (arith, told, reported);
+        drained = subst HasDrained left (subst (λ (q : ℕ). HasDrained (part_at t m q)) e.number e.emptied.drained);
+      }
+
+  no_page : (p : ℕ) → 1 ≤ p → p ≤ t.cpus → HasNoPage t m (words_in zone words).stocks p
+  no_page p low high =
+      let high' : p ≤ s.zone.cpus = omega (arith, high, sized) in
+      let part = settled p low high in record {
+        words = record {
+          stock = stock_in (s.parts p);
+          encoded = closed.end.is.stocks.stock p low high';
+          empty = drained_none (s.parts p) part.drained;
+          none_reported = closed.end.is.stocks.report p low high' ∙ part.reported;
+        };
+        book = ap (λ (u : State). (u.parts p).book) (sym hidden) ∙ none_booked zone run p closed.end.is.legal part;
+      }
+
+  last_words : AreLastWords t m (words_in zone words).frames
+  last_words f inside =
+      let shown = ap (λ (u : State). u.phases f) hidden ∙ ok.shown.phases f in
+      let live = live_references s f in
+      let none : (p : ℕ) → p < s.zone.cpus + 1 → p ≢ 0 → s.references p f ≡ 0 = λ p low ne. (own_at p (omega (arith, ne)) (omega (arith, low, sized))).1 f in
+      closed.end.is.frames.frame f (subst (λ (z : Zone). f < z.frames) (sym (zone_of_run zone run)) inside)
+      ∙ sym (hidden_word (s.phases f) live) ∙ ap (λ (x : Phase). word_in_phase x live) shown ∙ shown_word (frame_state_at m.frame_states f) live
+      ∙ sum_only (s.zone.cpus + 1) (λ p. s.references p f) 0 (omega arith) none
+      ∙ ap (λ (u : State). u.references 0 f) hidden ∙ ok.shown.references f
 
   none_lent : (p : ℕ) → NoneLentTo p m.frame_states
   none_lent p f is =
-      let cpu = lent_to_cpu t w m ok f p is in
-      let its = found p cpu.0 cpu.1 in
-      subst (λ (q : ℕ). NoneLentTo q m.frame_states) its.1 its.2.none_lent f is
+      let cpu = lent_to_cpu t m ok rests.past_is.legal f p is in
+      let e = one p cpu.0 cpu.1 in
+      subst (λ (q : ℕ). NoneLentTo q m.frame_states) e.number e.emptied.none_lent f is
 
 -- the CPUs' own drops count as returns too
 drops_join : (a b c k most : ℕ) → min (min (a + b + c) most + k) most ≡ min (a + b + min (c + k) most) most
 drops_join a b c k most = omega arith
 
 -- the last visits, from their two rounds
-pub all_visits : (t : KnownTable) (w : KnownStockTable) (l : KnownLocked) (cpus : List CpuInRun) (x : KnownMachine) (rested : List CpuInRun)
+pub all_visits : (t : KnownTable) (l : KnownLocked) (cpus : List CpuInRun) (x : KnownMachine) (rested : List CpuInRun)
     (k : KnownEmptiedBoot)
-    → IsQuiet t w l → pins_of_all (parts_of cpus) ≡ 0 → k.drops ≡ min (drops_of (parts_of cpus)) max_count
+    → IsQuiet t l → pins_of_all (parts_of cpus) ≡ 0 → k.drops ≡ min (drops_of (parts_of cpus)) max_count
     → ForEachCpu (VisitsUnderLock t SettlesInVisit) l.machine cpus x rested → ForEachCpu (VisitsUnderLock t Empties) x rested k.machine k.cpus
-    → MakesLastVisits t w l cpus k
-all_visits t w l cpus x rested k quiet no_pin drops rests empties = record {
+    → MakesLastVisits t l cpus k
+all_visits t l cpus x rested k quiet no_pin drops rests empties = record {
   quiet = quiet;
   no_pin = no_pin;
   settled = x;
@@ -212,38 +230,32 @@ all_visits t w l cpus x rested k quiet no_pin drops rests empties = record {
 }
 
 -- the table is closed
-pub all_closes : (t : KnownTable) (w : KnownStockTable) (k : KnownEmptiedBoot) (a : Audit) (frame_seats : List KnownSeat) (stock_seats : List KnownStockSeat)
-    (pasts : List Past) → AllShut k.machine → All (λ c. IsEmptied t w k.machine c) (parts_of k.cpus) → length k.cpus ≡ t.cpus
-    → Rests t k.machine
-    → (((p : ℕ) → NoneLentTo p k.machine.frame_states) → IsAuditOf t k.machine k.drops a)
-    → IsClosed t w k.machine frame_seats stock_seats pasts → frame_seats ≡ map frame_seat_of (parts_of k.cpus)
-    → stock_seats ≡ map stock_seat_of (parts_of k.cpus) → pasts ≡ pasts_of k.cpus → Closes t w k a
-all_closes t w k a frame_seats stock_seats pasts shut all count rests tells_then closing frames stocks passed =
+pub all_closes : (t : KnownTable) (k : KnownEmptiedBoot) (a : Audit) (words : List ℕ) → NothingIsLeft t k → AllOf (KnowsItself t) k.cpus → IsConsistent t k.machine
+    → IsClosedRun (zone_of_boot t) words (own_past k.machine.run.past ∷ pasts_of k.cpus)
+    → (((p : ℕ) → NoneLentTo p k.machine.frame_states) → IsAuditOf t k.machine k.drops a) → Closes t k a
+all_closes t k a words nothing knows ok closed tells_then =
     let y = k.machine in
-    let parts = parts_of k.cpus in
-    let closed : IsClosed t w y (map frame_seat_of parts) (map stock_seat_of parts) (pasts_of k.cpus) =
-    subst (λ (z : List KnownSeat × List KnownStockSeat × List Past). IsClosed t w y z.0 z.1 z.2) (λ i. (frames i, stocks i, passed i)) closing in
-    let none = none_lent t w y parts (pasts_of k.cpus) shut all closed in
+    let rests = nothing.rests in
+    let all = nothing.all_emptied in
+    let none = none_lent t y k.cpus words ok rests all knows closed in
+    let hide_is = hidden t y k.cpus words ok rests all knows closed in
     let tells = tells_then (λ p f is. none p f is) in
     let placed = each_is_placed y.frame_states (λ f p is. none p f is) in
-    let sized = closed.consistent.sizes.frame_states in
+    let sized = ok.sizes.frame_states in
     let free = tells.free in
     let charged = tells.charged in
     let framed = tells.frames in
     record {
       all_emptied = all;
-      count = count;
+      count = nothing.count;
       none_lent = none;
-      no_page = λ p some within. (found t w y parts (pasts_of k.cpus) shut all closed p some within).3;
-      stock_words = closed.stock_words;
-      told = told_each t w y parts (pasts_of k.cpus) shut all closed;
-      frame_words = closed.frame_words;
-      run = closed.run;
-      is = closed.is;
-      last_words = record { rule = closed.rule; references = word_of_frame t w y parts (pasts_of k.cpus) shut all closed };
+      words = words;
+      end = closed.end;
+      no_page = no_page t y k.cpus words ok rests all knows closed;
+      last_words = last_words t y k.cpus words ok rests all knows closed;
       zone = rests.past_is.zone_is;
-      pasts = closed.beginnings;
-      left = zone_rests (zone_of_boot t) closed.run (own_past y.run.past) closed.is.legal closed.beginnings.0 rests.past_is.zone_is rests.free ∙ rests.left;
+      free = ap (λ (u : State). is_unheld u.hold) hide_is ∙ rests.free;
+      left = subst (IsShownBy t y) (sym hide_is) ok.shown;
       counted = tells;
       adds_up = record {
         places = omega (arith, placed, sized, free, charged, framed);
@@ -252,7 +264,7 @@ all_closes t w k a frame_seats stock_seats pasts shut all count rests tells_then
             let freezes = tells.freezes in
             let dropped = tells.drops in
             let returns = tells.returns in
-            let balanced = closed.consistent.balances in
+            let balanced = ok.balances in
             rw (last_puts, freezes, dropped, returns, balanced) (drops_join y.counts.last_puts y.counts.freezes y.counts.killed_fresh k.drops max_count);
       };
     }

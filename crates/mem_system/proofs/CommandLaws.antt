@@ -7,6 +7,8 @@ use Rattle.group_tree.specs.declared.fault.Fault.TheVariants as fault
 use Rattle.zone_blocks.specs.declared.config.Config.{Config}
 use Rattle.zone_blocks.specs.Config.{IsValidConfig}
 use Rattle.control_files.specs.Files.{name_of_file}
+use Rattle.boot_words.specs.Rule.{words_in}
+use Rattle.boot_words.specs.Seats.{zone_of_boot}
 use Rattle.cpu_part.specs.Cpus.{KnownCpu}
 use Rattle.step_rules.specs.State.{one_if}
 use Rattle.step_rules.specs.After.{Run}
@@ -21,7 +23,7 @@ use Rattle.mem_system.specs.declared.command.Reply.TheVariants as reply
 use Rattle.mem_system.specs.CommandLaws.{EndsLeaveEmptyWords, OnlyCommandsKill, OnlyReclaimFallsShort, ReleasesCutLists}
 use Rattle.mem_system.specs.Commands.{ListStaysWithin}
 use Rattle.mem_system.specs.Releases.{ListsFrame, ReturnsFrames}
-use Rattle.mem_system.specs.Visits.{visit_state_of, visited}
+use Rattle.mem_system.specs.Visits.{visit_state_of}
 use Rattle.mem_system.proofs.Listing.{cut_off}
 
 -- ---- whom the steps of a visit kill
@@ -47,7 +49,7 @@ pub only_commands_kill : OnlyCommandsKill
 only_commands_kill cmd said call served =
     let before = visit_state_of call.before in
     ap kills_in served.steps_are
-    ∙ kills_inside (open_steps before.cpu.number) (settle_steps (visited before)) served.inner (shut_steps before.cpu.number) served.only_inner
+    ∙ kills_inside (open_steps before.cpu.number) (settle_steps call.table before) served.inner (shut_steps before.cpu.number) served.only_inner
 
 -- ---- a Write that is refused
 
@@ -103,14 +105,11 @@ one_at_most true = omega arith
 one_at_most false = omega arith
 
 pub ends_leave_empty_words : EndsLeaveEmptyWords
-ends_leave_empty_words t w emptied audit closes = record {
-  stock_words = closes.stock_words;
-  frame_words = closes.frame_words;
-  each = λ cpu some within.
-      let none = closes.no_page cpu some within in
-      record { stock = none.stock; encoded = none.encoded; empty = none.empty; none_reported = none.none_reported };
+ends_leave_empty_words t emptied audit closes = record {
+  words = words_in (zone_of_boot t) closes.words;
+  each = λ cpu some within. (closes.no_page cpu some within).words;
   references = λ f inside.
-      let is = closes.last_words.references f inside in
+      let is = closes.last_words f inside in
       let most = one_at_most (is_some (home_of emptied.machine.links f)) in
       omega (arith, is, most);
 }

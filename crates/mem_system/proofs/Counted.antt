@@ -2,12 +2,11 @@
 -- invariant of `Locked`.
 use Rattle.std.proofs.Common.{◌≡◌, ◌≢◌, ℕ, ◌==◌, Bool, true, false, List, [], ◌∷◌, ◌++◌, cond, take, refl, sym, ap, ◌∙◌, subst, inl, inr, zero, suc, append_assoc}
 use Rattle.std.specs.Prelude.{IfSome}
-use Rattle.std.specs.List.{fold, slice_get}
+use Rattle.std.specs.List.{slice_get}
 use Rattle.std.proofs.Common.{arith, eq-eqb}
 use Rattle.std.proofs.lemmas.Bool.{cases_Bool, or_left, or_right, true≢false}
 use Rattle.std.proofs.lemmas.List.{append_cancel_left}
 use Rattle.frame_word.specs.Seats.{KnownTable}
-use Rattle.stock_word.specs.Stock.{KnownStockTable}
 use Rattle.group_tree.specs.declared.group.Group.{Group}
 use Rattle.group_tree.specs.Groups.{has_group}
 use Rattle.group_charge.specs.Charges.{Ledger, peak_of}
@@ -32,23 +31,19 @@ use Rattle.step_rules.specs.Returns.{is_killed_return_phase}
 use Rattle.step_rules.proofs.LocalLaws.{other_step_is_hidden, own_step_is_legal}
 use Rattle.step_rules.proofs.Peaking.{peaks_are_kept}
 use Rattle.step_rules.proofs.Runs.{allowed, state_more}
-use Rattle.boot_words.specs.Pasts.{IsHeld, KnownPasts, Locks, Meets, Unlocks, cpu_past, local_by_pasts, own_past}
+use Rattle.boot_words.specs.Pasts.{IsHeld, KnownPasts, Locks, Meets, Unlocks, cpu_past, own_past}
 use Rattle.boot_words.specs.Rule.{AllOf}
 use Rattle.boot_words.specs.Runs.{HasNoStepOf}
 use Rattle.boot_words.proofs.Holding.{allowed_at, append_none}
-use Rattle.cpu_part.specs.Cpus.{KnownCpu}
 use Rattle.mem_machine.specs.declared.counts.Counts.{Counts}
 use Rattle.mem_machine.specs.Agreeing.{AgreesWithRun}
 use Rattle.mem_machine.specs.Counting.{counts_after, counts_along, is_back_passing, one_more_last_put, one_more_return}
 use Rattle.mem_machine.specs.Counts.{no_counts, with_killed_fresh}
 use Rattle.mem_machine.specs.Interleaving.{zone_of}
-use Rattle.mem_machine.specs.Local.{IsSeenByRun, MakesAs, local_of, visit_state}
-use Rattle.mem_machine.specs.Machines.{IsFirst, KnownMachine}
-use Rattle.mem_machine.specs.Noted.{after_made}
+use Rattle.mem_machine.specs.Local.{Makes, local_of, lock_holder}
+use Rattle.mem_machine.specs.Machines.{IsFirst, KnownMachine, with_past}
 use Rattle.mem_machine.specs.Resting.{Rests}
-use Rattle.mem_machine.proofs.Noted.{run_ends}
 use Rattle.mem_machine.proofs.Agreeing.{first_agrees}
-use Rattle.mem_machine.proofs.Reached.{with_past}
 use Rattle.mem_machine.proofs.Tells.{ledgers_agree}
 use Rattle.mem_system.specs.Counted.{VisitsFindCounts}
 use Rattle.mem_system.specs.Locked.{CountsItsRun, counts_in}
@@ -182,26 +177,6 @@ count_mixed zone p run a (e ∷ mixed) b x shows leads mixes =
 
 -- ---- between the machine and the run
 
-as_counted : (t : KnownTable) (run : Run) (l : Ledger) (x : Counts) → (state_of (zone_of t) run).groups ≡ l.groups → AgreesWithRun t run l
-    → x ≡ counts_in t run → CountsRun t run l x
-as_counted t run l x groups told counts =
-    let there = λ (m : ℕ). ap (λ (gs : List Group). has_group gs m) (sym groups) in
-    record {
-      peak = λ m is. told.peak m (there m ∙ is);
-      events = λ key m is. told.events key m (there m ∙ is);
-      events_local = λ key m is. told.events_local key m (there m ∙ is);
-      counts = counts;
-    }
-
-agreed : (t : KnownTable) (run : Run) (l : Ledger) (x : Counts) → (state_of (zone_of t) run).groups ≡ l.groups → CountsRun t run l x → AgreesWithRun t run l
-agreed t run l x groups told =
-    let there = λ (m : ℕ). ap (λ (gs : List Group). has_group gs m) groups in
-    record {
-      peak = λ m is. told.peak m (there m ∙ is);
-      events = λ key m is. told.events key m (there m ∙ is);
-      events_local = λ key m is. told.events_local key m (there m ∙ is);
-    }
-
 -- the run went on by steps of others, and the machine is the same otherwise
 grown : (t : KnownTable) (run rest : Run) (l : Ledger) (x : Counts) (k : KnownMachine) → (own_past k.run.past).seen ≡ run ++ rest → Rests t k
     → HasNoStepOf 0 rest → k.ledger ≡ l → k.counts ≡ x → CountsRun t run l x → CountsItsRun t k
@@ -210,13 +185,10 @@ grown t run rest l x k is rests none ledger counts told =
     let all : CountsRun t (own_past k.run.past).seen k.ledger k.counts =
     subst (λ (v : Run × Ledger × Counts). CountsRun t v.0 v.1 v.2) (λ i. (sym is i, sym ledger i, sym counts i))
     (counted_beside t run rest l x legal none told) in
-    record {
-      agrees = agreed t (own_past k.run.past).seen k.ledger k.counts (ap (λ (s : State). s.groups) rests.left) all;
-      counts = all.counts;
-    }
+    record { agrees = all.agrees; counts = all.counts }
 
-resting : (t : KnownTable) (m : KnownMachine) → Rests t m → CountsItsRun t m → CountsRun t (own_past m.run.past).seen m.ledger m.counts
-resting t m rests told = as_counted t (own_past m.run.past).seen m.ledger m.counts (ap (λ (s : State). s.groups) rests.left) told.agrees told.counts
+resting : (t : KnownTable) (m : KnownMachine) → CountsItsRun t m → CountsRun t (own_past m.run.past).seen m.ledger m.counts
+resting t m told = record { agrees = told.agrees; counts = told.counts }
 
 -- a CPU and the zone met
 pub met_counted : (t : KnownTable) (m k : KnownMachine) (past past' : KnownPasts) → Rests t m → CountsItsRun t m → Meets t m.run.past past k.run.past past'
@@ -225,7 +197,7 @@ met_counted t m k past past' rests told meets rests_after is =
     let more = meets.zone_sees in
     grown t (own_past m.run.past).seen more.between m.ledger m.counts k more.seen rests_after
     (subst (λ (q : ℕ). HasNoStepOf q more.between) rests.past_is.zone_is more.others)
-    (ap (λ (y : KnownMachine). y.ledger) is) (ap (λ (y : KnownMachine). y.counts) is) (resting t m rests told)
+    (ap (λ (y : KnownMachine). y.ledger) is) (ap (λ (y : KnownMachine). y.counts) is) (resting t m told)
 
 -- ---- a visit
 
@@ -234,90 +206,86 @@ one_more seat [] e none ne = (ne, tt)
 one_more seat (d ∷ run) e none ne = (none.0, one_more seat run e none.1 ne)
 
 -- A CPU took the lock, made these steps with the zone's seat, and released the lock.
-pub visit_counted : (t : KnownTable) (m n k : KnownMachine) (c d : KnownCpu) (steps : Run) (past past' held : KnownPasts) → Rests t m → CountsItsRun t m
-    → Locks t m.run.past past held → IsSeenByRun t (visit_state (with_past m held) c)
-    → MakesAs t c.number (visit_state (with_past m held) c) steps (visit_state n d) → Unlocks t n.run.past k.run.past past' → Rests t k
-    → k ≡ with_past n k.run.past → CountsItsRun t k
-visit_counted t m n k c d steps past past' held rests told locks shown makes gives rests_after is =
+pub visit_counted : (t : KnownTable) (m found n k : KnownMachine) (steps : Run) (past past' : KnownPasts) → Rests t m → CountsItsRun t m
+    → found ≡ with_past m found.run.past → Locks t m.run.past past found.run.past → Makes t found steps n
+    → k ≡ with_past n k.run.past → Unlocks t n.run.past k.run.past past' → Rests t k → CountsItsRun t k
+visit_counted t m found n k steps past past' rests told locked locks makes unlocked gives rests_after =
     let zone = zone_of t in
-    let p = c.number in
-    let a = local_of t m c in
-    let b = local_of t n d in
+    let held = found.run.past in
+    let p = lock_holder found in
+    let a = local_of t found in
+    let b = local_of t n in
     let z = own_past m.run.past in
     let z1 = own_past held in
     let z2 = own_past n.run.past in
-    let locked = locks.held in
+    let holds = locks.held.holds in
     let grew = makes.noted.grew in
-    let still : IsHeld t n.run.past = grew.held locked in
+    let still : IsHeld t n.run.past = grew.held locks.held in
     -- taking the lock
     let lock : Step × Answer = (record { seat = (own_past past).number; action = Lock }, Done) in
     let gap = locks.zone_grew.between in
     let is_one : z1.seen ≡ z.seen ++ (gap ++ lock ∷ []) = locks.zone_grew.seen ∙ append_assoc z.seen gap (lock ∷ []) in
-    let legal_one : IsLegalRun zone z1.seen = subst (IsLegalRun zone) (sym locked.holds.same) locked.holds.shows.legal in
+    let legal_one : IsLegalRun zone z1.seen = subst (IsLegalRun zone) (sym holds.same) holds.shows.legal in
     let others = one_more 0 gap lock (subst (λ (q : ℕ). HasNoStepOf q gap) rests.past_is.zone_is locks.zone_grew.others)
-    (λ zero_is. locked.holds.cpu_is (locks.cpu_grew.number ∙ zero_is)) in
-    let told_one : CountsRun t z1.seen m.ledger m.counts = subst (λ (r : Run). CountsRun t r m.ledger m.counts) (sym is_one)
-    (counted_beside t z.seen (gap ++ lock ∷ []) m.ledger m.counts (subst (IsLegalRun zone) is_one legal_one) others (resting t m rests told)) in
-    let shows : ShowsLocal zone z1.seen p a =
-    subst (λ (v : Run × ℕ × State). ShowsLocal zone v.0 v.1 v.2) (λ i. (sym locked.holds.same i, shown.who i, shown.here i)) locked.holds.shows in
-    let agrees_one = agreed t z1.seen m.ledger m.counts (sym (ap (λ (s : State). s.groups) shows.sees)) told_one in
+    (λ zero_is. holds.cpu_is (locks.cpu_grew.number ∙ zero_is)) in
+    let told_one : CountsRun t z1.seen found.ledger found.counts =
+    subst (λ (v : Run × KnownMachine). CountsRun t v.0 v.1.ledger v.1.counts) (λ i. (sym is_one i, sym locked i))
+    (counted_beside t z.seen (gap ++ lock ∷ []) m.ledger m.counts (subst (IsLegalRun zone) is_one legal_one) others (resting t m told)) in
+    let shows : ShowsLocal zone z1.seen p a = subst (λ (r : Run). ShowsLocal zone r p a) (sym holds.same) holds.shows in
     -- the steps of the visit
-    let zone_gains = gained z1 steps z2 (grew.zone_grew locked) in
-    let cpu_gains = gained (cpu_past held) steps (cpu_past n.run.past) (grew.cpu_grew locked) in
+    let zone_gains = gained z1 steps z2 (grew.zone_grew locks.held) in
+    let cpu_gains = gained (cpu_past held) steps (cpu_past n.run.past) (grew.cpu_grew locks.held) in
     let mixed = zone_gains.run in
     let same_run : cpu_gains.run ≡ mixed = append_cancel_left z1.seen cpu_gains.run mixed
-    (ap (λ (l : Run). l ++ cpu_gains.run) locked.holds.same ∙ sym cpu_gains.seen ∙ sym still.holds.same ∙ zone_gains.seen) in
-    let by_zone : AreBehindOthers 0 steps mixed = subst (λ (q : ℕ). AreBehindOthers q steps mixed) locked.holds.zone_is zone_gains.behind in
-    let by_cpu : AreBehindOthers p steps mixed =
-    subst (λ (v : ℕ × Run). AreBehindOthers v.0 steps v.1) (λ i. (shown.who i, same_run i)) cpu_gains.behind in
+    (ap (λ (l : Run). l ++ cpu_gains.run) holds.same ∙ sym cpu_gains.seen ∙ sym still.holds.same ∙ zone_gains.seen) in
+    let by_zone : AreBehindOthers 0 steps mixed = subst (λ (q : ℕ). AreBehindOthers q steps mixed) holds.zone_is zone_gains.behind in
+    let by_cpu : AreBehindOthers p steps mixed = subst (λ (r : Run). AreBehindOthers p steps r) same_run cpu_gains.behind in
     let many = as_many p steps mixed by_cpu in
     let own : own_steps p mixed ≡ steps = just_these p 0 p (zone_and_cpu p) steps mixed by_zone (omega (arith, many)) ∙ all_own p a steps b makes.leads in
     let legal_two : IsLegalRun zone (z1.seen ++ mixed) = subst (IsLegalRun zone) (sym still.holds.same ∙ zone_gains.seen) still.holds.shows.legal in
     let leads : IsLocalRun p a (own_steps p mixed) b = subst (λ (r : Run). IsLocalRun p a r b) (sym own) makes.leads in
     let follows = interleaved zone p z1.seen mixed legal_two (subst Answered (sym own) (all_answered p a steps b makes.leads)) in
-    let agrees_two = ledgers_agree t z1.seen steps mixed (visit_state (with_past m held) c) (visit_state n d) shows agrees_one makes
-    (record { own = own; follows = follows }) in
     let counts : n.counts ≡ counts_in t (z1.seen ++ mixed) =
     makes.counts ∙ ap (counts_along a steps) told_one.counts ∙ ap (λ (r : Run). counts_along a r (counts_in t z1.seen)) (sym own)
     ∙ sym (count_mixed zone p z1.seen a mixed b (counts_in t z1.seen) shows leads follows) ∙ sym (counts_both (at_boot zone) z1.seen mixed no_counts) in
-    let seen : local_by_pasts t n.run.past ≡ b =
-    grew.sees locked ∙ ap (λ (s : State). fold after_made s steps) shown.here ∙ run_ends p a steps b makes.leads in
-    let groups : (state_of zone (z1.seen ++ mixed)).groups ≡ n.ledger.groups =
-    ap (λ (r : Run). (state_of zone r).groups) (sym zone_gains.seen ∙ still.holds.same) ∙ ap (λ (s : State). s.groups) seen in
-    let told_two = as_counted t (z1.seen ++ mixed) n.ledger n.counts groups agrees_two counts in
+    let told_two : CountsRun t (z1.seen ++ mixed) n.ledger n.counts = record {
+      agrees = ledgers_agree t z1.seen steps mixed found n shows told_one.agrees makes (record { own = own; follows = follows });
+      counts = counts;
+    } in
     -- releasing the lock
     let unlock : Step × Answer = (record { seat = (cpu_past n.run.past).number; action = Unlock }, Done) in
     let behind = gives.zone_grew.between ++ unlock ∷ [] in
     grown t (z1.seen ++ mixed) behind n.ledger n.counts k
     (gives.zone_grew.seen ∙ append_assoc z2.seen gives.zone_grew.between (unlock ∷ []) ∙ ap (λ (r : Run). r ++ behind) zone_gains.seen) rests_after
     (one_more 0 gives.zone_grew.between unlock (subst (λ (q : ℕ). HasNoStepOf q gives.zone_grew.between) still.holds.zone_is gives.zone_grew.others)
-    still.holds.cpu_is) (ap (λ (y : KnownMachine). y.ledger) is) (ap (λ (y : KnownMachine). y.counts) is) told_two
+    still.holds.cpu_is) (ap (λ (y : KnownMachine). y.ledger) unlocked) (ap (λ (y : KnownMachine). y.counts) unlocked) told_two
 
 -- ---- a boot
 
-pub first_counted : (t : KnownTable) (w : KnownStockTable) (m : KnownMachine) → IsFirst t w m → (own_past m.run.past).seen ≡ [] → CountsItsRun t m
-first_counted t w m first none = record {
-  agrees = subst (λ (v : Run × Ledger). AgreesWithRun t v.0 v.1) (λ i. (sym none i, sym first.ledger i)) (first_agrees t);
-  counts = first.counts ∙ ap (counts_in t) (sym none);
-}
+pub first_counted : (t : KnownTable) (m : KnownMachine) → IsFirst t m → CountsItsRun t m
+first_counted t m first =
+    let none : (own_past m.run.past).seen ≡ [] = ap (λ (x : KnownPasts). (own_past x).seen) first.past in
+    record {
+      agrees = subst (λ (v : Run × Ledger). AgreesWithRun t v.0 v.1) (λ i. (sym none i, sym first.ledger i)) (first_agrees t);
+      counts = first.counts ∙ ap (counts_in t) (sym none);
+    }
 
 -- ---- from one visit to the next
 
 pub visits_find_counts : VisitsFindCounts
-visits_find_counts t w left found others sound sound_found is none =
+visits_find_counts t left found others sound sound_found is none =
     let here = own_past found.machine.run.past in
-    let quiet = sound_found.quiet in
     let m = found.machine in
     let l = left.machine.ledger in
-    let x = left.machine.counts in
-    let legal = subst (IsLegalRun (zone_of t)) is quiet.rests.past_is.legal in
-    let was : CountsRun t here.seen l x = subst (λ (r : Run). CountsRun t r l x) (sym is)
-    (counted_beside t (own_past left.machine.run.past).seen others l x legal none (resting t left.machine sound.quiet.rests sound.quiet.counted)) in
-    let now = resting t m quiet.rests quiet.counted in
-    let there = λ (g : ℕ). ap (λ (s : State). has_group s.groups g) quiet.rests.left in
+    let legal = subst (IsLegalRun (zone_of t)) is sound_found.quiet.rests.past_is.legal in
+    let was : CountsRun t here.seen l left.machine.counts = subst (λ (r : Run). CountsRun t r l left.machine.counts) (sym is)
+    (counted_beside t (own_past left.machine.run.past).seen others l left.machine.counts legal none (resting t left.machine sound.quiet.counted)) in
+    let now = sound_found.quiet.counted in
+    let there = λ (g : ℕ). ap (λ (gs : List Group). has_group gs g) sound_found.consistent.shown.groups in
     record {
       counts = now.counts ∙ sym was.counts;
-      peak = λ g is. peaks_are_kept.one (zone_of t) here.seen g (peak_of m.ledger g) (peak_of l g) (now.peak g (there g ∙ is)) (was.peak g (there g ∙ is));
-      events = λ key g is. now.events key g (there g ∙ is) ∙ sym (was.events key g (there g ∙ is));
-      events_local = λ key g is. now.events_local key g (there g ∙ is) ∙ sym (was.events_local key g (there g ∙ is));
+      peak = λ g is. peaks_are_kept.one (zone_of t) here.seen g (peak_of m.ledger g) (peak_of l g) (now.agrees.peak g (there g ∙ is))
+          (was.agrees.peak g (there g ∙ is));
+      events = λ key g is. now.agrees.events key g (there g ∙ is) ∙ sym (was.agrees.events key g (there g ∙ is));
+      events_local = λ key g is. now.agrees.events_local key g (there g ∙ is) ∙ sym (was.agrees.events_local key g (there g ∙ is));
     }

@@ -1,35 +1,46 @@
 -- A Dirty that is served right after an Alloc finds the unit that the Alloc gave. Serves `serve_dirty_alloc`.
-use Rattle.std.proofs.Common.{◌≡◌, ◌≢◌, ◌⊎◌, ℕ, zero, suc, ◌^◌, ◌<◌, ◌≤◌, false, true, Some, None, List, [], ◌∷◌, length, refl, sym, ap, ◌∙◌, subst, inl, inr, arith}
+use Rattle.std.proofs.Common.{◌≡◌, ℕ, zero, suc, ◌^◌, ◌<◌, ◌≤◌, false, true, Option, Some, List, [], ◌∷◌, ◌++◌, length, refl, sym, ap, ◌∙◌, subst, inl, inr, arith}
 use Rattle.std.specs.Prelude.{Ok}
 use Rattle.std.specs.Borrow.{Bor}
-use Rattle.std.proofs.lemmas.Bool.{cases_lt}
+use Rattle.std.proofs.lemmas.Bool.{false≢true}
 use Rattle.std.proofs.lemmas.Option.{none-some}
 use Rattle.frame_word.specs.Seats.{KnownTable}
-use Rattle.stock_word.specs.Stock.{KnownStockTable}
 use Rattle.zone_blocks.specs.declared.config.Config.{Config}
 use Rattle.group_tree.specs.declared.fault.Fault.TheVariants.{NotKept}
-use Rattle.step_rules.specs.After.{Run}
-use Rattle.step_rules.specs.State.{times}
+use Rattle.step_rules.specs.declared.step.Action.TheVariants.{Consume}
+use Rattle.step_rules.specs.After.{Run, after, paid}
+use Rattle.step_rules.specs.Legal.{is_legal}
+use Rattle.step_rules.specs.Reaches.{IsLocalRun}
+use Rattle.step_rules.specs.State.{Part, State, Zone, times}
+use Rattle.step_rules.proofs.Basics.{at_same}
 use Rattle.step_rules.proofs.Lists.{times_same}
-use Rattle.cpu_part.specs.Cpus.{IsTied, KnownCpu}
+use Rattle.step_rules.proofs.SoundSteps.{below_frames}
+use Rattle.boot_words.specs.Pasts.{cpu_past}
+use Rattle.boot_words.specs.Seats.{zone_of_boot}
 use Rattle.lru_lists.specs.declared.record.Home.{Home}
-use Rattle.mem_machine.specs.Machines.{IsConsistent, KnownMachine, home_of, is_killed}
+use Rattle.mem_machine.specs.Machines.{IsConsistent, KnownMachine, home_of, is_killed, with_run}
 use Rattle.mem_machine.specs.Lending.{LendsMany}
-use Rattle.mem_machine.specs.Local.{VisitState, group_of_fresh, visit_state}
-use Rattle.mem_machine.specs.Settling.{ReturnsAllBack, Settles, SettlesAllFresh}
+use Rattle.mem_machine.specs.Local.{VisitState, local_of, lock_holder, number_or_0, visit_state}
+use Rattle.mem_machine.specs.Settling.{ReturnsAllBack, SettlesAllFresh, is_fresh_killed, settle_steps}
+use Rattle.mem_machine.specs.Steps.{open_steps, shut_steps, take_front_steps}
+use Rattle.mem_machine.specs.Stocks.{stock_group}
 use Rattle.mem_machine.specs.Transitions.{Transition, transition}
 use Rattle.mem_machine.proofs.Listing.{home_inside}
+use Rattle.mem_machine.proofs.Made.{zone_seen}
+use Rattle.mem_machine.proofs.OwnFrames.{fresh_own}
+use Rattle.mem_reclaim.proofs.Grown.{parts_after}
 use Rattle.mem_alloc.specs.Blocks.{AllocatesBlock, FindsNoBlock, TakesFreeBlock}
 use Rattle.mem_alloc.specs.Charging.{PaysForFrame}
 use Rattle.mem_alloc.specs.Frames.{AllocatesFrame, FillsList, LendsBatch, LendsNoFrame}
 use Rattle.mem_alloc.specs.Room.{MakesRoom}
-use Rattle.mem_alloc.specs.Rounds.{MakesRound, SucceedsInRounds}
+use Rattle.mem_alloc.specs.Rounds.{SucceedsInRounds}
+use Rattle.mem_system.specs.declared.command.Cmd.{Cmd}
 use Rattle.mem_system.specs.declared.command.Cmd.TheVariants.{Alloc, Dirty}
 use Rattle.mem_system.specs.declared.command.Reply.{Reply}
 use Rattle.mem_system.specs.declared.command.Reply.TheVariants.{Done, Frame, Refused}
 use Rattle.mem_system.specs.Allocations.{FreshOf}
 use Rattle.mem_system.specs.Units.{NotesDirt}
-use Rattle.mem_system.specs.Visits.{LockedState, Serves}
+use Rattle.mem_system.specs.Visits.{IsServed, LockedState, begun, visit_state_of, with_run_at}
 
 -- the frame heads a kept unit
 abbrev pub IsHome : KnownMachine → ℕ → Type 0
@@ -102,16 +113,90 @@ paid_alive sizes g call h alive = elim h [
       ]
 ]
 
--- the group of a frame that was taken isn't killed, and is that of the CPU's fresh frames
+-- the group of a frame that was taken isn't killed
 frame_alive : (sizes : Config) (g f : ℕ) (call : Transition VisitState) → AllocatesFrame sizes g (Ok f) call
-    → (is_killed call.after.machine.killed g ≡ false) × (group_of_fresh call.after.cpu ≡ g)
+    → is_killed call.after.machine.killed g ≡ false
 frame_alive sizes g f call h =
     let gets = h.does in
     let paid = paid_alive sizes g (transition call.table call.before gets.paying gets.paid) gets.pays h.is in
-    let filled = filled_killed sizes (transition call.table gets.paid gets.filling gets.filled) gets.fills in (
-      ap (λ (m : KnownMachine). is_killed m.killed g) gets.takes.machine ∙ (ap (λ k. is_killed k g) filled ∙ paid),
-      ap group_of_fresh gets.takes.takes.2,
+    let filled = filled_killed sizes (transition call.table gets.paid gets.filling gets.filled) gets.fills in
+    ap (λ (m : KnownMachine). is_killed m.killed g) gets.takes.machine ∙ (ap (λ k. is_killed k g) filled ∙ paid)
+
+-- ---- the stock after it is of that group
+
+-- a list of local steps is made in two parts
+parts_of : (p : ℕ) (one two : Run) (s u : State) → IsLocalRun p s (one ++ two) u → (v : State) × IsLocalRun p s one v × IsLocalRun p v two u
+parts_of p [] two s u run = (s, refl, run)
+parts_of p (e ∷ one) two s u run =
+    let rest = parts_of p one two (after s e.0.seat e.0.action e.1) u run.1 in (rest.0, (run.0, rest.1), rest.2)
+
+-- a CPU that paid with a page of the group is the one that holds the lock, and its stock is of the group
+taken_group : (p q g : ℕ) (s u : State) → IsLocalRun p s (take_front_steps q g) u → (q ≡ p) × ((u.parts q).stock.group ≡ Some g)
+taken_group p q g s u run =
+    let step = run.0 in (
+      elim step.own [
+        | inl zone ↦ absurd (false≢true (sym (ap (λ (k : ℕ). is_legal s k (Consume g)) zone) ∙ step.legal))
+        | inr own ↦ own
+      ],
+      ap (λ (x : State). (x.parts q).stock.group) (sym run.1) ∙ ap (λ (x : Part). x.stock.group) (at_same s.parts q (paid (s.parts q))) ∙ step.answered.0,
     )
+
+module _ (t : KnownTable) (path : Bor (List ℕ)) (f : ℕ) (start now : LockedState) (a : IsServed t (Alloc path 0) (Frame f) start now) where
+  abbrev group : ℕ
+  group = a.serves.executes.group
+
+  abbrev held_at_end : KnownMachine
+  held_at_end = with_run now.locked.machine a.left
+
+  same_cpu : lock_holder (with_run start.locked.machine a.found) ≡ now.cpu.part.number
+  same_cpu = sym a.makes.holder ∙ a.released.holds.who
+
+  -- when the visit was shut
+  group_seen : ((local_of t held_at_end).parts now.cpu.part.number).stock.group ≡ Some group
+  group_seen =
+      let p = lock_holder (with_run start.locked.machine a.found) in
+      let s = local_of t (with_run start.locked.machine a.found) in
+      let u = local_of t held_at_end in
+      let c = start.cpu.part.number in
+      let gets = (a.serves.executes.allocates.frame refl).does in
+      let q = a.serves.settled.cpu.number in
+      let settling = settle_steps t (visit_state_of start) in
+      let all = subst (λ (r : Run). IsLocalRun p s r u) a.serves.steps_are a.makes.leads in
+      let opened = parts_of p (open_steps c) (settling ++ (a.serves.inner ++ shut_steps c)) s u all in
+      let settled = parts_of p settling (a.serves.inner ++ shut_steps c) opened.0 u opened.2 in
+      let made = parts_of p a.serves.inner (shut_steps c) settled.0 u settled.2 in
+      let inner = subst (λ (r : Run). IsLocalRun p settled.0 r made.0) gets.steps_are made.1 in
+      let paid = parts_of p gets.paying (gets.filling ++ take_front_steps q group) settled.0 made.0 inner in
+      let filled = parts_of p gets.filling (take_front_steps q group) paid.0 made.0 paid.2 in
+      let taken = taken_group p q group filled.0 made.0 filled.2 in
+      subst (λ (k : ℕ). (u.parts k).stock.group ≡ Some group) (taken.0 ∙ same_cpu)
+      (ap (λ (x : State). (x.parts q).stock.group) (sym made.2.1) ∙ taken.1)
+
+  -- the frame is one of the zone
+  pub frame_inside : now.cpu.part.fresh ≡ f ∷ [] → f < t.frames
+  frame_inside fresh =
+      let holds = a.released.holds in
+      let q = now.cpu.part.number in
+      let s = local_of t held_at_end in
+      let p = lock_holder held_at_end in
+      let some : 1 ≤ times f (s.parts p).fresh =
+      subst (λ (k : ℕ). 1 ≤ times f (s.parts k).fresh) (sym holds.who) (let e = ap (times f) (holds.own.fresh ∙ fresh) in let one = times_same f in omega (arith, e, one)) in
+      let mine = fresh_own (zone_of_boot t) (cpu_past a.left.past).seen p holds.held.holds.shows.legal f group some
+      (subst (λ (k : ℕ). (s.parts k).stock.group ≡ Some group) (sym holds.who) group_seen) in
+      let low = below_frames s.zone f mine.framed in
+      let same = ap (λ (z : Zone). z.frames) (zone_seen t a.left.past) in
+      omega (arith, low, same)
+
+  -- when the CPU is settled in its next visit
+  group_then : (cmd : Cmd) (r : Reply) (end : LockedState) (d : IsServed t cmd r now end)
+      → stock_group t (with_run now.locked.machine d.serves.seen) now.cpu.part.number ≡ Some group
+  group_then cmd r end d =
+      let q = now.cpu.part.number in
+      let x = with_run now.locked.machine d.found in
+      ap (λ (y : Part). y.stock.group) (parts_after t x (open_steps q) (with_run now.locked.machine d.serves.seen) d.opens d.taken.holds.held q refl)
+      ∙ ap (λ (y : State). (y.parts q).stock.group) d.taken.locks.found
+      ∙ ap (λ (y : State). (y.parts q).stock.group) a.released.unlocks.left
+      ∙ group_seen
 
 -- ---- the Dirty
 
@@ -119,65 +204,54 @@ none_back : (back : List ℕ) (m n : VisitState) → back ≡ [] → ReturnsAllB
 none_back [] m n none s = s.machine
 none_back (f ∷ rest) m n none s = let e = ap length none in absurd (omega (arith, e))
 
-none_fresh : (fresh : List ℕ) (m n : VisitState) → fresh ≡ [] → SettlesAllFresh fresh m n → n.machine ≡ m.machine
-none_fresh [] m n none s = s.machine
-none_fresh (f ∷ rest) m n none s = let e = ap length none in absurd (omega (arith, e))
+none_fresh : (t : KnownTable) (fresh : List ℕ) (m n : VisitState) → fresh ≡ [] → SettlesAllFresh t fresh m n → n.machine ≡ m.machine
+none_fresh t [] m n none s = s.machine
+none_fresh t (f ∷ rest) m n none s = let e = ap length none in absurd (omega (arith, e))
 
 -- a single fresh frame, of a group that isn't killed, is kept
-one_fresh : (f : ℕ) (m n : VisitState) → is_killed m.machine.killed (group_of_fresh m.cpu) ≡ false → SettlesAllFresh (f ∷ []) m n → IsHome n.machine f
-one_fresh f m n alive s = (_, ap (λ (k : KnownMachine). home_of k.links f) s.rest.machine ∙ (s.first.keeps alive).listed.home)
+one_fresh : (t : KnownTable) (f : ℕ) (m n : VisitState) → is_fresh_killed t m ≡ false → SettlesAllFresh t (f ∷ []) m n → IsHome n.machine f
+one_fresh t f m n alive s = (_, ap (λ (k : KnownMachine). home_of k.links f) s.rest.machine ∙ (s.first.keeps alive).listed.home)
 
--- the frame that the Alloc gave is a kept unit, once its CPU is settled
-settled_home : (t : KnownTable) (path : Bor (List ℕ)) (order f : ℕ) (start now : LockedState) (steps : Run) → Serves (Alloc path order) (Frame f) (transition t start steps now)
-    → FreshOf (Frame f) order now.cpu.part.fresh → now.cpu.part.back ≡ [] → (m : VisitState) → m.machine.killed ≡ now.locked.machine.killed
-    → m.machine.links ≡ now.locked.machine.links → m.cpu ≡ now.cpu.part → (n : VisitState) → Settles m n → IsHome n.machine f
-settled_home t path zero f start now steps a fresh back m killed links same n s =
-    let call = transition t a.settled a.inner (visit_state a.done now.cpu.part) in
-    let g = a.executes.group in
-    let alive = frame_alive start.locked.sizes g f call (a.executes.allocates.frame refl) in
-    let kept = one_fresh f m s.mid
-    (ap (λ k. is_killed k (group_of_fresh m.cpu)) (killed ∙ ap (λ (x : KnownMachine). x.killed) a.machine)
-    ∙ (ap (λ (c : KnownCpu). is_killed a.done.killed (group_of_fresh c)) same ∙ (ap (λ (k : ℕ). is_killed a.done.killed k) alive.1 ∙ alive.0)))
-    (subst (λ (l : List ℕ). SettlesAllFresh l m s.mid) (ap (λ (c : KnownCpu). c.fresh) same ∙ fresh) s.fresh) in
-    (kept.0, ap (λ (k : KnownMachine). home_of k.links f) (none_back m.cpu.back s.mid n (ap (λ (c : KnownCpu). c.back) same ∙ back) s.back) ∙ kept.1)
-settled_home t path (suc less) f start now steps a fresh back m killed links same n s =
-    let call = transition t a.settled a.inner (visit_state a.done now.cpu.part) in
-    let kept = block_home a.executes.group (suc less) f call (a.executes.allocates.block (λ e. omega (arith, e))) in (
-      kept.0,
-      ap (λ (k : KnownMachine). home_of k.links f) (none_back m.cpu.back s.mid n (ap (λ (c : KnownCpu). c.back) same ∙ back) s.back
-          ∙ none_fresh m.cpu.fresh m s.mid (ap (λ (c : KnownCpu). c.fresh) same ∙ fresh) s.fresh)
-          ∙ (ap (λ l. home_of l f) (links ∙ ap (λ (x : KnownMachine). x.links) a.machine) ∙ kept.1),
-    )
+module _ (t : KnownTable) (path : Bor (List ℕ)) (f : ℕ) (start now : LockedState) where
+  -- the frame that the Alloc gave is a kept unit, once its CPU is settled
+  settled_home : (order : ℕ) → IsServed t (Alloc path order) (Frame f) start now → FreshOf (Frame f) order now.cpu.part.fresh → now.cpu.part.back ≡ []
+      → (r : Reply) (end : LockedState) (d : IsServed t (Dirty f) r now end) → IsHome d.serves.settled.machine f
+  settled_home zero a fresh back r end d =
+      let m = with_run_at (begun (visit_state_of now)) d.serves.seen in
+      let s = d.serves.settles in
+      let g = group t path f start now a in
+      let call = transition t a.serves.settled a.serves.inner (visit_state a.serves.done now.cpu.part) in
+      let alive = ap (λ (x : KnownMachine). is_killed x.killed g) a.serves.machine
+      ∙ frame_alive start.locked.sizes g f call (a.serves.executes.allocates.frame refl) in
+      let kept = one_fresh t f m s.mid
+      (ap (λ (o : Option ℕ). is_killed now.locked.machine.killed (number_or_0 o)) (group_then t path f start now a (Dirty f) r end d) ∙ alive)
+      (subst (λ (l : List ℕ). SettlesAllFresh t l m s.mid) fresh s.fresh) in
+      (kept.0, ap (λ (k : KnownMachine). home_of k.links f) (none_back m.cpu.back s.mid d.serves.settled back s.back) ∙ kept.1)
+  settled_home (suc less) a fresh back r end d =
+      let m = with_run_at (begun (visit_state_of now)) d.serves.seen in
+      let s = d.serves.settles in
+      let call = transition t a.serves.settled a.serves.inner (visit_state a.serves.done now.cpu.part) in
+      let kept = block_home a.serves.executes.group (suc less) f call (a.serves.executes.allocates.block (λ e. omega (arith, e))) in (
+        kept.0,
+        ap (λ (k : KnownMachine). home_of k.links f) (none_back m.cpu.back s.mid d.serves.settled back s.back ∙ none_fresh t m.cpu.fresh m s.mid fresh s.fresh)
+            ∙ (ap (λ (x : KnownMachine). home_of x.links f) a.serves.machine ∙ kept.1),
+      )
 
-unit_noted : (f : ℕ) (r : Reply) (call : Transition KnownMachine) → NotesDirt f true r call → IsHome call.before f → r ≡ Done
-unit_noted f Done call h home = refl
-unit_noted f (Refused NotKept) call h home = absurd (none-some home.0 (sym h.on_no_list ∙ home.1))
-unit_noted f r call h home = absurd h
+  unit_noted : (r : Reply) (call : Transition KnownMachine) → NotesDirt f true r call → IsHome call.before f → r ≡ Done
+  unit_noted Done call h home = refl
+  unit_noted (Refused NotKept) call h home = absurd (none-some home.0 (sym h.on_no_list ∙ home.1))
+  unit_noted r call h home = absurd h
 
--- so the reply to the Dirty is Done
-pub dirty_done : (t : KnownTable) (path : Bor (List ℕ)) (order f : ℕ) (start now : LockedState) (steps : Run) → Serves (Alloc path order) (Frame f) (transition t start steps now)
-    → FreshOf (Frame f) order now.cpu.part.fresh → now.cpu.part.back ≡ [] → (r : Reply) (end : LockedState) (more : Run) → Serves (Dirty f) r (transition t now more end)
-    → r ≡ Done
-dirty_done t path order f start now steps a fresh back r end more d =
-    unit_noted f r _ d.executes.does.does (settled_home t path order f start now steps a fresh back _ refl refl refl d.settled d.settles)
+  -- so the reply to the Dirty is Done
+  pub dirty_done : (order : ℕ) → IsServed t (Alloc path order) (Frame f) start now → FreshOf (Frame f) order now.cpu.part.fresh → now.cpu.part.back ≡ []
+      → (r : Reply) (end : LockedState) → IsServed t (Dirty f) r now end → r ≡ Done
+  dirty_done order a fresh back r end d = unit_noted r _ d.serves.executes.does.does (settled_home order a fresh back r end d)
 
--- ---- the frame is one of the zone
-
-fresh_inside : (t : KnownTable) (w : KnownStockTable) (c : KnownCpu) (f : ℕ) → IsTied t w c → c.fresh ≡ f ∷ [] → f < t.frames
-fresh_inside t w c f tied fresh = elim (cases_lt f t.frames) [
-  | inl below ↦ below
-  | inr past ↦
-      let none = (tied.noted f).in_table past in
-      let one = times_same f in
-      let is = ap (times f) fresh in
-      absurd (omega (arith, none, one, is))
-]
-
-pub given_inside : (t : KnownTable) (w : KnownStockTable) (path : Bor (List ℕ)) (order f : ℕ) (start now : LockedState) (steps : Run)
-    → Serves (Alloc path order) (Frame f) (transition t start steps now) → FreshOf (Frame f) order now.cpu.part.fresh → IsTied t w now.cpu.part
-    → IsConsistent t w now.locked.machine → f < t.frames
-given_inside t w path zero f start now steps a fresh tied ok = fresh_inside t w now.cpu.part f tied fresh
-given_inside t w path (suc less) f start now steps a fresh tied ok =
-    let call = transition t a.settled a.inner (visit_state a.done now.cpu.part) in
-    let kept = block_home a.executes.group (suc less) f call (a.executes.allocates.block (λ e. omega (arith, e))) in
-    home_inside t w now.locked.machine ok f kept.0 (ap (λ (x : KnownMachine). home_of x.links f) a.machine ∙ kept.1)
+  -- the frame is one of the zone
+  pub given_inside : (order : ℕ) → IsServed t (Alloc path order) (Frame f) start now → FreshOf (Frame f) order now.cpu.part.fresh
+      → IsConsistent t now.locked.machine → f < t.frames
+  given_inside zero a fresh ok = frame_inside t path f start now a fresh
+  given_inside (suc less) a fresh ok =
+      let call = transition t a.serves.settled a.serves.inner (visit_state a.serves.done now.cpu.part) in
+      let kept = block_home a.serves.executes.group (suc less) f call (a.serves.executes.allocates.block (λ e. omega (arith, e))) in
+      home_inside t now.locked.machine ok f kept.0 (ap (λ (x : KnownMachine). home_of x.links f) a.serves.machine ∙ kept.1)

@@ -1,11 +1,10 @@
 -- Serves the loops over the CPUs at the end of a system: what the visits so far did.
 use Rattle.std.proofs.Common.{◌≡◌, ℕ, zero, suc, ◌+◌, ◌<◌, ◌≤◌, List, [], ◌∷◌, ◌++◌, length, take, drop, get_or, refl, sym, ap, ◌∙◌, subst, arith, append_assoc, append-nil}
 use Rattle.std.specs.Prelude.{slice_set, sum_by, All}
-use Rattle.std.proofs.lemmas.List.{drop_more, take_more_set, drop-set-lt, length-set, take_all, drop_all}
+use Rattle.std.proofs.lemmas.List.{drop_more, take_more_set, drop-set-lt, length-set, nil_from_length, take_all, drop_all}
 use Rattle.std.proofs.lemmas.List.Sums.{get_or-le-sum_by, sum_by-cons}
-use Rattle.std.proofs.lemmas.List.Elements.{All-append}
+use Rattle.std.proofs.lemmas.List.Elements.{All-push}
 use Rattle.frame_word.specs.Seats.{KnownTable}
-use Rattle.stock_word.specs.Stock.{KnownStockTable}
 use Rattle.cpu_part.specs.Cpus.{KnownCpu}
 use Rattle.mem_machine.specs.Machines.{KnownMachine}
 use Rattle.mem_system.specs.Cpus.{CpuInRun, parts_of}
@@ -56,12 +55,6 @@ so_far_end Visit i m cpus x now so_far past =
 
 -- ---- what holds of each
 
--- what holds of each CPU's part holds of each part
-pub all_parts : (P : KnownCpu → Type 0) (cpus : List CpuInRun) → All (λ c. P c.part) cpus → All P (parts_of cpus)
-all_parts P [] all k any inside = absurd (omega (arith, inside))
-all_parts P (c ∷ cpus) all zero any inside = all zero c (omega arith)
-all_parts P (c ∷ cpus) all (suc k) any inside = all_parts P cpus (λ j other within. all (suc j) other (omega (arith, within))) k any (omega (arith, inside))
-
 pub parts_all : (P : KnownCpu → Type 0) (cpus : List CpuInRun) → All P (parts_of cpus) → All (λ c. P c.part) cpus
 parts_all P [] all k any inside = absurd (omega (arith, inside))
 parts_all P (c ∷ cpus) all zero any inside = all zero c.part (omega arith)
@@ -72,38 +65,21 @@ sum_parts h [] = refl
 sum_parts h (c ∷ cpus) =
     sum_by-cons h c.part (parts_of cpus) ∙ ap (λ (n : ℕ). h c.part + n) (sum_parts h cpus) ∙ sym (sum_by-cons (λ (d : CpuInRun). h d.part) c cpus)
 
-pub all_still : (P Q : CpuInRun → Type 0) (cpus : List CpuInRun) → ((c : CpuInRun) → P c → Q c) → All P cpus → All Q cpus
-all_still P Q cpus still all = λ k any inside. still (get_or cpus k any) (all k any inside)
-
-nothing_left : (l : List ℕ) → length l ≡ 0 → l ≡ []
-nothing_left [] h = refl
-nothing_left (x ∷ xs) h = absurd (omega (arith, h))
-
 pub no_pin_at : (cpus now : List CpuInRun) (i : ℕ) (any : CpuInRun) → i < length now → length now ≡ length cpus → drop i now ≡ drop i cpus
     → pins_of_all (parts_of cpus) ≡ 0 → (get_or now i any).part.pins ≡ []
 no_pin_at cpus now i any inside long left none =
     let within : i < length cpus = omega (arith, inside, long) in
     let part = get_or-le-sum_by (λ (c : CpuInRun). length c.part.pins) cpus i any within in
     let all = sum_parts (λ c. length c.pins) cpus in
-    ap (λ (l : List CpuInRun). (get_or l 0 any).part.pins) (same_next i cpus now any within long left) ∙ nothing_left _ (omega (arith, part, all, none))
+    ap (λ (l : List CpuInRun). (get_or l 0 any).part.pins) (same_next i cpus now any within long left) ∙ nil_from_length _ (omega (arith, part, all, none))
 
-pub emptied_still : (t : KnownTable) (w : KnownStockTable) (x y : KnownMachine) → LendsAndFillsNone x y → (c : KnownCpu) → IsEmptied t w x c → IsEmptied t w y c
-emptied_still t w x y alone c emptied =
-    record {
-      tied = emptied.tied;
-      idle = emptied.idle;
-      none_lent = alone.none_lent c.number emptied.none_lent;
-      drained = alone.drained c.number
-          emptied.drained;
-    }
-
-all_of_one : (P : CpuInRun → Type 0) (d : CpuInRun) → P d → All P (d ∷ [])
-all_of_one P d one zero any inside = one
-all_of_one P d one (suc k) any inside = absurd (omega (arith, inside))
+pub emptied_still : (t : KnownTable) (x y : KnownMachine) → LendsAndFillsNone t x y → (c : KnownCpu) → IsEmptied t x c → IsEmptied t y c
+emptied_still t x y alone c emptied =
+    record { idle = emptied.idle; none_lent = alone.none_lent c.number emptied.none_lent; drained = alone.drained c.number emptied.drained }
 
 pub all_more : (P : CpuInRun → Type 0) (now : List CpuInRun) (i : ℕ) (d : CpuInRun) → i < length now → All P (take i now) → P d
     → All P (take (i + 1) (slice_set now i d))
-all_more P now i d inside all one = subst (All P) (sym (take_more_set now i d inside)) (All-append P (take i now) (d ∷ []) all (all_of_one P d one))
+all_more P now i d inside all one = subst (All P) (sym (take_more_set now i d inside)) (All-push P (take i now) d all one)
 
 pub all_taken : (P : CpuInRun → Type 0) (now : List CpuInRun) (i : ℕ) → length now ≤ i → All P (take i now) → All P now
 all_taken P now i past all = subst (All P) (take_all i now past) all

@@ -4,7 +4,6 @@ use Rattle.frame_word.specs.Seats.{KnownTable}
 use Rattle.group_tree.specs.declared.group.Group.{Group}
 use Rattle.group_tree.specs.Groups.{in_subtree, limit_of}
 use Rattle.group_tree.proofs.CallerLemmas.{limit_of-limited}
-use Rattle.cpu_part.specs.Cpus.{KnownCpu}
 use Rattle.step_rules.specs.After.{Run}
 use Rattle.mem_machine.specs.Machines.{KnownMachine}
 use Rattle.mem_reclaim.specs.declared.sets.Killed.{Killed}
@@ -21,12 +20,12 @@ use Rattle.mem_system.proofs.Found.{found_there}
 
 pub commands_kill_whole_sets : CommandsKillWholeSets
 commands_kill_whole_sets cmd said call served before rest made g is kills =
-    die_with_their_sets (MayAskFor cmd served.settled.machine.ledger.groups) call.table served.settled.machine served.settled.cpu served.inner before rest
+    die_with_their_sets (MayAskFor cmd served.settled.machine.ledger.groups) call.table served.settled.machine served.inner before rest
     made g served.no_rash is kills
 
 -- when everything else was tried for what the command asked
-module _ (cmd : Cmd) (was : List Group) (t : KnownTable) (s : KnownMachine) (c : KnownCpu) (tried : Run) (killed : Killed)
-    (last : WasLast (MayAskFor cmd was) t s c tried killed) where
+module _ (cmd : Cmd) (was : List Group) (t : KnownTable) (s : KnownMachine) (tried : Run) (killed : Killed)
+    (last : WasLast (MayAskFor cmd was) t s tried killed) where
   abbrev asked : Ask
   asked = record { groups_before = was; groups = last.now.ledger.groups; limited = last.limited; pages = last.need }
 
@@ -60,19 +59,19 @@ module _ (cmd : Cmd) (was : List Group) (t : KnownTable) (s : KnownMachine) (c :
         few = asks.below.few;
       }
 
-kills_for : (cmd : Cmd) (was : List Group) (t : KnownTable) (s : KnownMachine) (c : KnownCpu) (tried : Run) (killed : Killed)
-    (last : WasLast (MayAskFor cmd was) t s c tried killed) → KillsFor cmd was last.now.ledger last.limited
-kills_for (Write path file value) was t s c tried killed last =
-    above_written (Write path file value) was t s c tried killed last path.now file.now value.now last.asked
-kills_for (Alloc path order) was t s c tried killed last =
-    over_on_path (Alloc path order) was t s c tried killed last path.now order last.asked
-kills_for other was t s c tried killed last = absurd last.asked
+kills_for : (cmd : Cmd) (was : List Group) (t : KnownTable) (s : KnownMachine) (tried : Run) (killed : Killed)
+    (last : WasLast (MayAskFor cmd was) t s tried killed) → KillsFor cmd was last.now.ledger last.limited
+kills_for (Write path file value) was t s tried killed last =
+    above_written (Write path file value) was t s tried killed last path.now file.now value.now last.asked
+kills_for (Alloc path order) was t s tried killed last =
+    over_on_path (Alloc path order) was t s tried killed last path.now order last.asked
+kills_for other was t s tried killed last = absurd last.asked
 
 pub commands_kill_over_limits : CommandsKillOverLimits
 commands_kill_over_limits cmd said call served before rest made g is kills =
     let s = served.settled in
-    let come = kills_come_last (MayAskFor cmd s.machine.ledger.groups) call.table s.machine s.cpu served.inner before rest made g served.no_rash is kills in
+    let come = kills_come_last (MayAskFor cmd s.machine.ledger.groups) call.table s.machine served.inner before rest made g served.no_rash is kills in
     record {
       comes_last = come;
-      reason = kills_for cmd s.machine.ledger.groups call.table s.machine s.cpu come.tried come.killed come.last;
+      reason = kills_for cmd s.machine.ledger.groups call.table s.machine come.tried come.killed come.last;
     }

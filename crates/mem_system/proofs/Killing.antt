@@ -4,9 +4,10 @@ use Rattle.std.specs.Prelude.{Result, Ok, Err, nat_le}
 use Rattle.std.specs.List.{flat_map}
 use Rattle.std.proofs.lemmas.Bool.{cases_eq, cases_lt, leb-false}
 use Rattle.frame_word.specs.Seats.{KnownTable}
+use Rattle.boot_words.specs.Pasts.{IsHeld}
 use Rattle.group_tree.specs.declared.group.Group.{Group}
 use Rattle.group_tree.specs.declared.fault.Fault.TheVariants as fault
-use Rattle.group_tree.specs.Groups.{has_group, in_subtree, limit_of, number_at, with_limit}
+use Rattle.group_tree.specs.Groups.{in_subtree, limit_of, number_at, with_limit}
 use Rattle.group_tree.specs.Room.{fits_limit}
 use Rattle.group_tree.proofs.CallerLemmas.{limit_of-limited}
 use Rattle.group_charge.specs.Charges.{current_of}
@@ -14,37 +15,37 @@ use Rattle.zone_blocks.specs.declared.config.Config.{Config}
 use Rattle.control_files.specs.declared.file.File.{File}
 use Rattle.control_files.specs.declared.file.File.TheVariants.{Max, OomGroup, Reclaim}
 use Rattle.cpu_part.specs.Cpus.{KnownCpu}
-use Rattle.step_rules.specs.State.{State}
 use Rattle.step_rules.specs.After.{Run}
 use Rattle.mem_machine.specs.declared.releasing.Released.TheVariants as released
 use Rattle.mem_machine.specs.Machines.{KnownMachine, with_run}
-use Rattle.mem_machine.specs.Local.{IsLocalRun, VisitState, local_of, visit_state}
+use Rattle.mem_machine.specs.Local.{VisitState, visit_state}
 use Rattle.mem_machine.specs.Releasing.{release_steps}
 use Rattle.mem_machine.specs.Settling.{return_all_steps, all_fresh_steps, fresh_steps, is_fresh_killed, return_steps, settle_steps}
 use Rattle.mem_machine.specs.Steps.{drain_stocks_steps, lend_steps, open_steps, remove_steps, set_max_steps, shut_steps}
+use Rattle.mem_machine.specs.Stocks.{of_subtree}
+use Rattle.mem_machine.specs.Transitions.{Transition, transition}
 use Rattle.mem_reclaim.specs.Moves.{has_kill}
-use Rattle.mem_reclaim.proofs.LettingGo.{quiet_drains}
+use Rattle.mem_reclaim.proofs.LettingGo.{drains_leave, quiet_drains}
 use Rattle.mem_alloc.specs.declared.faults.AllocFault.{AllocFault}
 use Rattle.mem_alloc.specs.declared.faults.AllocFault.TheVariants.{Over, NoFrames, RequesterKilled}
 use Rattle.mem_alloc.specs.Kills.{has_room_at}
-use Rattle.mem_machine.specs.Transitions.{Transition, transition}
+use Rattle.mem_alloc.specs.Room.{with_limit_noted}
 use Rattle.mem_alloc.specs.NoRash.{NoRashKill}
-use Rattle.mem_alloc.proofs.NoRash.{Passes, all_same, RashFree, drained_on, drains_pass, keeps_pass, missed_since, passes_both, passes_same, rash_both, rash_quiet, tame_kills}
-use Rattle.mem_alloc.proofs.Missing.{back_calm}
+use Rattle.mem_alloc.proofs.Calm.{back_calm}
+use Rattle.mem_alloc.proofs.NoRash.{Passes, RashFree, drained_on, keeps_pass, missed_since, passes_both, passes_same, rash_both, rash_quiet, tame_kills}
 use Rattle.mem_alloc.proofs.NoRashAllocs.{block_no_rash, frame_no_rash, no_kill_both}
-use Rattle.mem_system.proofs.Found.{found_there}
 use Rattle.mem_system.specs.declared.command.Cmd.{Cmd}
 use Rattle.mem_system.specs.declared.command.Cmd.TheVariants.{Mkdir, Rmdir, Write, Read, Settle, Owner, Release, Alloc}
 use Rattle.mem_system.specs.declared.command.Reply.{Reply}
 use Rattle.mem_system.specs.declared.command.Reply.TheVariants as reply
 use Rattle.mem_system.specs.Groups.{MakesGroup, Removes}
 use Rattle.mem_system.specs.Files.{IsFileOf, IsLimitFor, SetsFile, SetsLimit, Writes, with_limit_of}
-use Rattle.mem_alloc.specs.Room.{with_limit_noted}
 use Rattle.mem_system.specs.Usage.{LowersUsage, LowersAbove, LowersByKills, KeepsToLimit}
 use Rattle.mem_system.specs.Allocations.{Allocates, AllocatesFor}
 use Rattle.mem_system.specs.Releases.{CutsList, ListsFrame, ReleasesFrame, ReturnsFrames}
 use Rattle.mem_system.specs.Asks.{MayAskFor}
 use Rattle.mem_system.specs.Commands.{Executes}
+use Rattle.mem_system.proofs.Found.{found_there}
 
 -- ---- commands that kill nobody
 
@@ -67,7 +68,7 @@ removes_quiet path (reply.Refused other) call h = ap has_kill h.1.steps_are
 removes_quiet path other call h = absurd h
 
 cuts_quiet : (sizes : Config) (call : Transition VisitState) → CutsList sizes call → has_kill call.steps ≡ false
-cuts_quiet sizes call h = ap has_kill h.steps_are ∙ (back_calm call.before.cpu.number h.cut).no_kill
+cuts_quiet sizes call h = ap has_kill h.steps_are ∙ back_calm call.before.cpu.number h.cut
 
 lists_quiet : (sizes : Config) (f : ℕ) (call : Transition VisitState) → ListsFrame sizes f call → has_kill call.steps ≡ false
 lists_quiet sizes f call h =
@@ -88,159 +89,139 @@ releases_quiet sizes f reply.Returned call h = returns_quiet sizes f call h
 releases_quiet sizes f (reply.Refused fault.NotKept) call h = ap has_kill h.does.stays.steps_are
 releases_quiet sizes f other call h = absurd h
 
--- ---- a limit that is written
+-- a note before the steps changes nothing of what they pass on
+passes_told : (t : KnownTable) (g : ℕ) (m n : KnownMachine) (steps : Run) → Passes t (with_limit_noted m g 0) steps n → Passes t m steps n
+passes_told t g m n steps p = record {
+  runs = record { holder = p.runs.holder; leads = p.runs.leads; follows = p.runs.follows; counts = p.runs.counts; noted = p.runs.noted };
+  owners = p.owners;
+  dirt = p.dirt;
+}
 
-module _ (t : KnownTable) (MayAsk : List Group → ℕ → ℕ → Type 0) (s : KnownMachine) (c : KnownCpu) where
-  -- a note before the steps changes nothing of what they pass on
-  passes_told : (g : ℕ) (m n : KnownMachine) (steps : Run) → Passes t c (with_limit_noted m g 0) steps n → Passes t c m steps n
-  passes_told g m n steps p = record {
-    runs = p.runs;
-    tied = record { misses = p.tied.misses; owners = p.tied.owners; dirt = p.tied.dirt };
-  }
+module _ (t : KnownTable) (MayAsk : List Group → ℕ → ℕ → Type 0) (s : KnownMachine) (held : IsHeld t s.run.past) where
+  -- the steps of the whole command kill nobody
+  quiet : (steps : Run) → has_kill steps ≡ false → NoRashKill t MayAsk s steps
+  quiet steps none = rash_quiet t MayAsk s held [] steps none
+
+  -- ---- a limit that is written
 
   -- usage is lowered by kills, in steps that come after others
   kills_rash : (g limit : ℕ) (made : Run) (m : KnownMachine) (steps : Run) (n : KnownMachine) → limit_of m.ledger.groups g ≡ Some limit
-      → MayAsk m.ledger.groups g 0 → Passes t c s made m → LowersByKills g limit (transition t m steps n) → RashFree t MayAsk s c made steps
+      → MayAsk m.ledger.groups g 0 → Passes t s made m → LowersByKills g limit (transition t m steps n) → RashFree t MayAsk s made steps
   kills_rash g limit made m steps n is asked since h =
       let x = h.lowered in
       let low = h.lowers in
       let y = low.drained in
       let first = drain_stocks_steps low.drains in
       let told = with_limit_noted m g 0 in
-      let drains = passes_told g m y first (drains_pass t c g t.cpus told y low.drains low.drains_all (low.drain_runs c).leads) in
-      let after_drains = passes_both t c s m y made first since drains in
-      let rounds = keeps_pass t c y x low.reclaims.steps low.reclaims.moves.runs low.keeps low.reclaims.moves.misses in
-      let lowering = subst (λ (k : Run). Passes t c m k x) (sym low.steps_are) (passes_both t c m y x first low.reclaims.steps drains rounds) in
-      let groups : x.ledger.groups ≡ m.ledger.groups = low.keeps.groups ∙ (all_same g t.cpus told y low.drains low.drains_all).groups in
+      let same = drains_leave t (of_subtree g) t.cpus told y low.drains low.drains_all in
+      let drains = passes_told t g m y first (passes_same t told y first low.drain_runs same.links) in
+      let after_drains = passes_both t s m y made first since drains in
+      let rounds = keeps_pass t y x low.reclaims.steps low.reclaims.moves.runs low.keeps in
+      let lowering = subst (λ (k : Run). Passes t m k x) (sym low.steps_are) (passes_both t m y x first low.reclaims.steps drains rounds) in
+      let groups : x.ledger.groups ≡ m.ledger.groups = low.keeps.groups ∙ same.groups in
       let here : limit_of x.ledger.groups g ≡ Some limit = ap (λ (l : List Group). limit_of l g) groups ∙ is in
       let missed = λ (over : has_room_at x.ledger g 0 ≡ false).
       let full : nat_le (current_of x.ledger g + 0) limit ≡ false = sym (ap (λ (o : Option ℕ). fits_limit o (current_of x.ledger g + 0)) here) ∙ over in
       let more = leb-false (current_of x.ledger g + 0) limit full in
-      missed_since t MayAsk s c g (made ++ first) y x after_drains (low.missed (omega (arith, more))) in
-      let drained = drained_on t MayAsk s c g y x low.keeps.groups low.keeps.stock_seat low.none_held in
+      missed_since t MayAsk s held g (made ++ first) y x after_drains (low.missed (omega (arith, more))) in
+      let drained = drained_on t MayAsk s held g y x low.keeps.groups low.keeps.stocks low.none_held in
       let still = subst (λ (l : List Group). MayAsk l g 0) (sym groups) asked in
-      let killing = tame_kills t MayAsk s c None g 0 (made ++ h.lowering) x h.killing n still (passes_both t c s m x made h.lowering since lowering) drained
+      let killing = tame_kills t MayAsk s held None g 0 (made ++ h.lowering) x h.killing n still (passes_both t s m x made h.lowering since lowering) drained
       missed h.kills in
-      subst (λ (k : Run). RashFree t MayAsk s c made k) (sym h.steps_are) (rash_both t MayAsk s c made h.lowering h.killing
-      (rash_quiet t MayAsk s c made h.lowering (lowers_quiet g limit (transition t told h.lowering x) low)) killing.rash)
+      subst (λ (k : Run). RashFree t MayAsk s made k) (sym h.steps_are) (rash_both t MayAsk s held made h.lowering h.killing
+      (rash_quiet t MayAsk s held made h.lowering (lowers_quiet g limit (transition t told h.lowering x) low)) killing.rash)
 
   lowers_rash : (g limit : ℕ) (made : Run) (m : KnownMachine) (steps : Run) (n : KnownMachine) → limit_of m.ledger.groups g ≡ Some limit
-      → MayAsk m.ledger.groups g 0 → Passes t c s made m → LowersAbove g limit (transition t m steps n) → RashFree t MayAsk s c made steps
+      → MayAsk m.ledger.groups g 0 → Passes t s made m → LowersAbove g limit (transition t m steps n) → RashFree t MayAsk s made steps
   lowers_rash g limit made m steps n is asked since h = elim (cases_lt limit (current_of m.ledger g)) [
     | inl above ↦ kills_rash g limit made m steps n is asked since (h.above above)
-    | inr within ↦ rash_quiet t MayAsk s c made steps (ap has_kill (h.within within).steps_are)
+    | inr within ↦ rash_quiet t MayAsk s held made steps (ap has_kill (h.within within).steps_are)
   ]
 
   keeps_rash : (g : ℕ) (of : Option ℕ) (made : Run) (m : KnownMachine) (steps : Run) (n : KnownMachine) → limit_of m.ledger.groups g ≡ of
-      → MayAsk m.ledger.groups g 0 → Passes t c s made m → KeepsToLimit g of (transition t m steps n) → RashFree t MayAsk s c made steps
-  keeps_rash g None made m steps n is asked since h = rash_quiet t MayAsk s c made steps (ap has_kill h.steps_are)
+      → MayAsk m.ledger.groups g 0 → Passes t s made m → KeepsToLimit g of (transition t m steps n) → RashFree t MayAsk s made steps
+  keeps_rash g None made m steps n is asked since h = rash_quiet t MayAsk s held made steps (ap has_kill h.steps_are)
   keeps_rash g (Some limit) made m steps n is asked since h = lowers_rash g limit made m steps n is asked since h
 
-  sets_rash : (g : ℕ) (of : Option ℕ) (steps : Run) (n : KnownMachine) (z : State) → has_group s.ledger.groups g ≡ true
-      → MayAsk (with_limit s.ledger.groups g of) g 0 → IsLocalRun c.number (local_of t s c) steps z
-      → SetsLimit g of (transition t s steps n) → RashFree t MayAsk s c [] steps
-  sets_rash g of steps n z there asked whole h =
+  sets_rash : (path : List ℕ) (g : ℕ) (of : Option ℕ) (steps : Run) (n : KnownMachine) → number_at s.ledger.groups path ≡ Some g
+      → MayAsk (with_limit s.ledger.groups g of) g 0 → SetsLimit g of (transition t s steps n) → NoRashKill t MayAsk s steps
+  sets_rash path g of steps n found asked h =
       let x = with_run (with_limit_of s g of) h.seen in
       let first = set_max_steps g of in
-      let all = subst (λ (k : Run). IsLocalRun c.number (local_of t s c) k z) h.steps_are whole in
-      let set = passes_same t c s x first (all.0, refl) refl refl (record { no_kill = refl; no_miss = λ f. refl }) in
-      subst (λ (k : Run). RashFree t MayAsk s c [] k) (sym h.steps_are) (rash_both t MayAsk s c [] first h.lowering
-      (rash_quiet t MayAsk s c [] first refl)
-      (keeps_rash g of first x h.lowering n (limit_of-limited s.ledger.groups g of there) asked set h.keeps))
+      let set = passes_same t s x first h.sets refl in
+      subst (λ (k : Run). RashFree t MayAsk s [] k) (sym h.steps_are) (rash_both t MayAsk s held [] first h.lowering
+      (rash_quiet t MayAsk s held [] first refl)
+      (keeps_rash g of first x h.lowering n (limit_of-limited s.ledger.groups g of (found_there s.ledger.groups path g found)) asked set h.keeps))
+
+  -- a value that is set kills only by the limit that it writes
+  module _ (path name value : List ℕ) (asks : (g : ℕ) (of : Option ℕ) → IsLimitFor s.ledger.groups path name value g of
+      → MayAsk (with_limit s.ledger.groups g of) g 0) where
+    set_no_rash : (g : ℕ) (file : File) (steps : Run) (n : KnownMachine) → IsFileOf s.ledger.groups path name g file
+        → SetsFile file value g (transition t s steps n) → NoRashKill t MayAsk s steps
+    set_no_rash g Max steps n is h =
+        sets_rash path g h.limit steps n is.number (asks g h.limit (record { file = is; reads = h.reads })) h.sets
+    set_no_rash g OomGroup steps n is h = quiet steps (ap has_kill h.sets.steps_are)
+    set_no_rash g Reclaim steps n is h = quiet steps (ap has_kill h.steps_are ∙ h.reclaims.moves.no_kill)
+    set_no_rash g file steps n is h = absurd h
+
+    writes_no_rash : (said : Reply) (steps : Run) (n : KnownMachine) → Writes path name value said (transition t s steps n) → NoRashKill t MayAsk s steps
+    writes_no_rash reply.Done steps n h = set_no_rash h.group h.file steps n h.is_file h.sets
+    writes_no_rash (reply.Refused fault) steps n h = elim h [
+      | inl r ↦ quiet steps (ap has_kill r.1.steps_are)
+      | inr short ↦ let frees = short.falls.frees in quiet steps (ap has_kill frees.steps_are ∙ frees.reclaims.moves.no_kill)
+    ]
+    writes_no_rash other steps n h = absurd h
+
+  -- ---- an allocation
+
+  module _ (c : KnownCpu) (sizes : Config) (path : List ℕ) (order : ℕ) (asks : (g over : ℕ) → number_at s.ledger.groups path ≡ Some g
+      → in_subtree s.ledger.groups over g ≡ true → 2 ^ order ≤ 8 → MayAsk s.ledger.groups over (2 ^ order)) where
+    allocates_for : (answer : Result ℕ AllocFault) (steps : Run) (n : VisitState)
+        → AllocatesFor sizes path order answer (transition t (visit_state s c) steps n) → NoRashKill t MayAsk s steps
+    allocates_for answer steps n h = elim (cases_eq order 0) [
+      | inl frame ↦
+          let one : 2 ^ order ≡ 1 = ap (λ (k : ℕ). 2 ^ k) frame in
+          let may = subst (λ (p : ℕ). (over : ℕ) → in_subtree s.ledger.groups over h.group ≡ true → p ≤ 8 → MayAsk s.ledger.groups over p) one
+          (λ over below few. asks h.group over h.found below few) in
+          frame_no_rash t MayAsk s c held h.group may sizes answer steps n (h.allocates.frame frame)
+      | inr block ↦
+          block_no_rash t MayAsk s c held h.group order (λ over below few. asks h.group over h.found below few) answer steps n (h.allocates.block block)
+    ]
+
+    allocates_no_rash : (said : Reply) (steps : Run) (n : VisitState) → Allocates sizes path order said (transition t (visit_state s c) steps n)
+        → NoRashKill t MayAsk s steps
+    allocates_no_rash (reply.Frame f) steps n h = allocates_for (Ok f) steps n h
+    allocates_no_rash (reply.OverLimit g text) steps n h = allocates_for (Err (Over g)) steps n h.0
+    allocates_no_rash (reply.Refused fault.NoGroup) steps n h = quiet steps (ap has_kill h.1.steps_are)
+    allocates_no_rash (reply.Refused fault.BadOrder) steps n h = quiet steps (ap has_kill h.stays.steps_are)
+    allocates_no_rash (reply.Refused fault.NoFrames) steps n h = allocates_for (Err NoFrames) steps n h
+    allocates_no_rash (reply.Refused fault.Killed) steps n h = allocates_for (Err RequesterKilled) steps n h
+    allocates_no_rash other steps n h = absurd h
 
 -- ---- all commands
 
--- a value that is set kills only by the limit that it writes
-set_no_rash : (t : KnownTable) (cmd : Cmd) (path name value : List ℕ) (g : ℕ) (file : File) (s : KnownMachine) (c : KnownCpu) (steps : Run)
-    (n : KnownMachine) (z : State) → IsFileOf s.ledger.groups path name g file
-    → ((h : ℕ) (of : Option ℕ) → IsLimitFor s.ledger.groups path name value h of → MayAskFor cmd s.ledger.groups (with_limit s.ledger.groups h of) h 0)
-    → IsLocalRun c.number (local_of t s c) steps z → SetsFile file value g (transition t s steps n)
-    → NoRashKill t (MayAskFor cmd s.ledger.groups) s c steps
-set_no_rash t cmd path name value g Max s c steps n z is asks whole h =
-    sets_rash t (MayAskFor cmd s.ledger.groups) s c g h.limit steps n z (found_there s.ledger.groups path g is.number)
-    (asks g h.limit (record { file = is; reads = h.reads })) whole h.sets
-set_no_rash t cmd path name value g OomGroup s c steps n z is asks whole h =
-    rash_quiet t (MayAskFor cmd s.ledger.groups) s c [] steps (ap has_kill h.sets.steps_are)
-set_no_rash t cmd path name value g Reclaim s c steps n z is asks whole h =
-    rash_quiet t (MayAskFor cmd s.ledger.groups) s c [] steps (ap has_kill h.steps_are ∙ h.reclaims.moves.no_kill)
-set_no_rash t cmd path name value g file s c steps n z is asks whole h = absurd h
-
-writes_no_rash : (t : KnownTable) (cmd : Cmd) (path name value : List ℕ) (said : Reply) (s : KnownMachine) (c : KnownCpu) (steps : Run) (n : KnownMachine)
-    (z : State) → ((g : ℕ) (of : Option ℕ) → IsLimitFor s.ledger.groups path name value g of
-    → MayAskFor cmd s.ledger.groups (with_limit s.ledger.groups g of) g 0)
-    → IsLocalRun c.number (local_of t s c) steps z → Writes path name value said (transition t s steps n)
-    → NoRashKill t (MayAskFor cmd s.ledger.groups) s c steps
-writes_no_rash t cmd path name value reply.Done s c steps n z asks whole h =
-    set_no_rash t cmd path name value h.group h.file s c steps n z h.is_file asks whole h.sets
-writes_no_rash t cmd path name value (reply.Refused fault) s c steps n z asks whole h = elim h [
-  | inl r ↦ rash_quiet t (MayAskFor cmd s.ledger.groups) s c [] steps (ap has_kill r.1.steps_are)
-  | inr short ↦
-      let frees = short.falls.frees in
-      rash_quiet t (MayAskFor cmd s.ledger.groups) s c [] steps (ap has_kill frees.steps_are ∙ frees.reclaims.moves.no_kill)
-]
-writes_no_rash t cmd path name value other s c steps n z asks whole h = absurd h
-
-allocates_for : (t : KnownTable) (cmd : Cmd) (sizes : Config) (path : List ℕ) (order : ℕ) (answer : Result ℕ AllocFault) (s : KnownMachine) (c : KnownCpu)
-    (steps : Run) (n : VisitState) (z : State)
-    → ((g over : ℕ) → number_at s.ledger.groups path ≡ Some g → in_subtree s.ledger.groups over g ≡ true → 2 ^ order ≤ 8
-    → MayAskFor cmd s.ledger.groups s.ledger.groups over (2 ^ order))
-    → IsLocalRun c.number (local_of t s c) steps z → AllocatesFor sizes path order answer (transition t (visit_state s c) steps n)
-    → NoRashKill t (MayAskFor cmd s.ledger.groups) s c steps
-allocates_for t cmd sizes path order answer s c steps n z asks whole h = elim (cases_eq order 0) [
-  | inl frame ↦
-      let one : 2 ^ order ≡ 1 = ap (λ (k : ℕ). 2 ^ k) frame in
-      let may = subst (λ (p : ℕ). (over : ℕ) → in_subtree s.ledger.groups over h.group ≡ true → p ≤ 8
-      → MayAskFor cmd s.ledger.groups s.ledger.groups over p) one (λ over below few. asks h.group over h.found below few) in
-      frame_no_rash t (MayAskFor cmd s.ledger.groups) s c h.group may sizes answer steps n z whole (h.allocates.frame frame)
-  | inr block ↦
-      block_no_rash t (MayAskFor cmd s.ledger.groups) s c h.group order (λ over below few. asks h.group over h.found below few)
-      answer steps n z whole (h.allocates.block block)
-]
-
-allocates_no_rash : (t : KnownTable) (cmd : Cmd) (sizes : Config) (path : List ℕ) (order : ℕ) (said : Reply) (s : KnownMachine) (c : KnownCpu)
-    (steps : Run) (n : VisitState) (z : State)
-    → ((g over : ℕ) → number_at s.ledger.groups path ≡ Some g → in_subtree s.ledger.groups over g ≡ true → 2 ^ order ≤ 8
-    → MayAskFor cmd s.ledger.groups s.ledger.groups over (2 ^ order))
-    → IsLocalRun c.number (local_of t s c) steps z → Allocates sizes path order said (transition t (visit_state s c) steps n)
-    → NoRashKill t (MayAskFor cmd s.ledger.groups) s c steps
-allocates_no_rash t cmd sizes path order (reply.Frame f) s c steps n z asks whole h =
-    allocates_for t cmd sizes path order (Ok f) s c steps n z asks whole h
-allocates_no_rash t cmd sizes path order (reply.OverLimit g text) s c steps n z asks whole h =
-    allocates_for t cmd sizes path order (Err (Over g)) s c steps n z asks whole h.0
-allocates_no_rash t cmd sizes path order (reply.Refused fault.NoGroup) s c steps n z asks whole h =
-    rash_quiet t (MayAskFor cmd s.ledger.groups) s c [] steps (ap has_kill h.1.steps_are)
-allocates_no_rash t cmd sizes path order (reply.Refused fault.BadOrder) s c steps n z asks whole h =
-    rash_quiet t (MayAskFor cmd s.ledger.groups) s c [] steps (ap has_kill h.stays.steps_are)
-allocates_no_rash t cmd sizes path order (reply.Refused fault.NoFrames) s c steps n z asks whole h =
-    allocates_for t cmd sizes path order (Err NoFrames) s c steps n z asks whole h
-allocates_no_rash t cmd sizes path order (reply.Refused fault.Killed) s c steps n z asks whole h =
-    allocates_for t cmd sizes path order (Err RequesterKilled) s c steps n z asks whole h
-allocates_no_rash t cmd sizes path order other s c steps n z asks whole h = absurd h
-
-pub obeys_no_rash : (t : KnownTable) (sizes : Config) (cmd : Cmd) (said : Reply) (s : KnownMachine) (c : KnownCpu) (steps : Run) (n : VisitState) (z : State)
-    → Executes sizes cmd said (transition t (visit_state s c) steps n) → IsLocalRun c.number (local_of t s c) steps z
-    → NoRashKill t (MayAskFor cmd s.ledger.groups) s c steps
-obeys_no_rash t sizes (Mkdir path) said s c steps n z h whole =
-    rash_quiet t (MayAskFor (Mkdir path) s.ledger.groups) s c [] steps (makes_quiet path.now said (transition t s steps n.machine) h.does)
-obeys_no_rash t sizes (Rmdir path) said s c steps n z h whole =
-    rash_quiet t (MayAskFor (Rmdir path) s.ledger.groups) s c [] steps (removes_quiet path.now said (transition t s steps n.machine) h.does)
-obeys_no_rash t sizes (Write path file value) said s c steps n z h whole =
-    writes_no_rash t (Write path file value) path.now file.now value.now said s c steps n.machine z
-    (λ g of asked. record { limit = of; asks = asked; now_is = refl; no_page = refl }) whole h.does
-obeys_no_rash t sizes (Read path file) said s c steps n z h whole =
-    rash_quiet t (MayAskFor (Read path file) s.ledger.groups) s c [] steps (ap has_kill h.1.steps_are)
-obeys_no_rash t sizes Settle said s c steps n z h whole =
-    rash_quiet t (MayAskFor Settle s.ledger.groups) s c [] steps (ap has_kill h.1.steps_are)
-obeys_no_rash t sizes (Owner f) said s c steps n z h whole =
-    rash_quiet t (MayAskFor (Owner f) s.ledger.groups) s c [] steps (ap has_kill h.1.steps_are)
-obeys_no_rash t sizes (Release f) said s c steps n z h whole =
-    rash_quiet t (MayAskFor (Release f) s.ledger.groups) s c [] steps (releases_quiet sizes f said (transition t (visit_state s c) steps n) h)
-obeys_no_rash t sizes (Alloc path order) said s c steps n z h whole =
-    allocates_no_rash t (Alloc path order) sizes path.now order said s c steps n z
-    (λ g over found below few. record { group = g; found = found; same = refl; below = record { on_path = below; need_is = refl; few = few } }) whole h
--- any other makes no step
-obeys_no_rash t sizes cmd said s c steps n z h whole =
-    rash_quiet t (MayAskFor cmd s.ledger.groups) s c [] steps (ap has_kill h.does.steps_are)
+module _ (t : KnownTable) (sizes : Config) (s : KnownMachine) (c : KnownCpu) (held : IsHeld t s.run.past) where
+  pub obeys_no_rash : (cmd : Cmd) (said : Reply) (steps : Run) (n : VisitState) → Executes sizes cmd said (transition t (visit_state s c) steps n)
+      → NoRashKill t (MayAskFor cmd s.ledger.groups) s steps
+  obeys_no_rash (Mkdir path) said steps n h =
+      quiet t (MayAskFor (Mkdir path) s.ledger.groups) s held steps (makes_quiet path.now said (transition t s steps n.machine) h.does)
+  obeys_no_rash (Rmdir path) said steps n h =
+      quiet t (MayAskFor (Rmdir path) s.ledger.groups) s held steps (removes_quiet path.now said (transition t s steps n.machine) h.does)
+  obeys_no_rash (Write path file value) said steps n h =
+      writes_no_rash t (MayAskFor (Write path file value) s.ledger.groups) s held path.now file.now value.now
+      (λ g of asked. record { limit = of; asks = asked; now_is = refl; no_page = refl }) said steps n.machine h.does
+  obeys_no_rash (Read path file) said steps n h =
+      quiet t (MayAskFor (Read path file) s.ledger.groups) s held steps (ap has_kill h.1.steps_are)
+  obeys_no_rash Settle said steps n h = quiet t (MayAskFor Settle s.ledger.groups) s held steps (ap has_kill h.1.steps_are)
+  obeys_no_rash (Owner f) said steps n h = quiet t (MayAskFor (Owner f) s.ledger.groups) s held steps (ap has_kill h.1.steps_are)
+  obeys_no_rash (Release f) said steps n h =
+      quiet t (MayAskFor (Release f) s.ledger.groups) s held steps (releases_quiet sizes f said (transition t (visit_state s c) steps n) h)
+  obeys_no_rash (Alloc path order) said steps n h =
+      allocates_no_rash t (MayAskFor (Alloc path order) s.ledger.groups) s held c sizes path.now order
+      (λ g over found below few. record { group = g; found = found; same = refl; below = record { on_path = below; need_is = refl; few = few } })
+      said steps n h
+  -- any other makes no step
+  obeys_no_rash cmd said steps n h = quiet t (MayAskFor cmd s.ledger.groups) s held steps (ap has_kill h.does.steps_are)
 
 -- ---- the steps around it
 
@@ -253,11 +234,11 @@ return_quiet : (p : ℕ) (frames : List ℕ) → has_kill (flat_map (return_step
 return_quiet p [] = refl
 return_quiet p (f ∷ frames) = no_kill_both (return_steps p f) (flat_map (return_steps p) frames) refl (return_quiet p frames)
 
-settle_quiet : (now : VisitState) → has_kill (settle_steps now) ≡ false
-settle_quiet now =
-    no_kill_both (all_fresh_steps now) (return_all_steps now) (fresh_quiet (is_fresh_killed now) now.cpu.number now.cpu.fresh)
+settle_quiet : (t : KnownTable) (now : VisitState) → has_kill (settle_steps t now) ≡ false
+settle_quiet t now =
+    no_kill_both (all_fresh_steps t now) (return_all_steps now) (fresh_quiet (is_fresh_killed t now) now.cpu.number now.cpu.fresh)
     (return_quiet now.cpu.number now.cpu.back)
 
-pub around_quiet : (p : ℕ) (now : VisitState) → has_kill (open_steps p ++ (settle_steps now ++ shut_steps p)) ≡ false
-around_quiet p now =
-    no_kill_both (open_steps p) (settle_steps now ++ shut_steps p) refl (no_kill_both (settle_steps now) (shut_steps p) (settle_quiet now) refl)
+pub around_quiet : (t : KnownTable) (p : ℕ) (now : VisitState) → has_kill (open_steps p ++ (settle_steps t now ++ shut_steps p)) ≡ false
+around_quiet t p now =
+    no_kill_both (open_steps p) (settle_steps t now ++ shut_steps p) refl (no_kill_both (settle_steps t now) (shut_steps p) (settle_quiet t now) refl)

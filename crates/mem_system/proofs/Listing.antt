@@ -12,7 +12,7 @@ use Rattle.mem_machine.specs.declared.releasing.Released.TheVariants.{Returned}
 use Rattle.mem_machine.specs.FrameStates.{frame_state_at}
 use Rattle.mem_machine.specs.Machines.{KnownMachine}
 use Rattle.mem_machine.specs.Lending.{UnlistsMany}
-use Rattle.mem_machine.specs.Local.{visit_state, MakesAs, Makes}
+use Rattle.mem_machine.specs.Local.{visit_state, Makes, VisitMakes}
 use Rattle.mem_machine.specs.Releasing.{ReturnsUnit, release_steps}
 use Rattle.mem_system.specs.Commands.{BySteps}
 use Rattle.mem_system.specs.Releases.{ListsFrame, ReturnsFrames}
@@ -32,7 +32,6 @@ pub record Cut (frames : List ℕ) (m : KnownMachine) (c : KnownCpu) (n : KnownM
   pub number : d.number ≡ c.number
   pub fresh : d.fresh ≡ c.fresh
   pub back : d.back ≡ c.back
-  pub opened : n.frame_seat.view.opened ≡ m.frame_seat.view.opened
   pub free : (f : ℕ) → frame_state_at m.frame_states f ≡ Free → frame_state_at n.frame_states f ≡ Free
 
 pub cut_off : (frames : List ℕ) (m : KnownMachine) (c : KnownCpu) (n : KnownMachine) (d : KnownCpu) → UnlistsMany frames (visit_state m c) (visit_state n d) → Cut frames m c n d
@@ -41,7 +40,6 @@ cut_off [] m c n d t = record {
   number = ap (λ (e : KnownCpu). e.number) t.cpu;
   fresh = ap (λ (e : KnownCpu). e.fresh) t.cpu;
   back = ap (λ (e : KnownCpu). e.back) t.cpu;
-  opened = ap (λ (k : KnownMachine). k.frame_seat.view.opened) t.machine;
   free = λ f is. ap (λ (k : KnownMachine). frame_state_at k.frame_states f) t.machine ∙ is;
 }
 cut_off (f ∷ rest) m c n d t =
@@ -52,7 +50,6 @@ cut_off (f ∷ rest) m c n d t =
       number = more.number ∙ ap (λ (e : KnownCpu). e.number) one.cpu;
       fresh = more.fresh ∙ ap (λ (e : KnownCpu). e.fresh) one.cpu;
       back = more.back ∙ ap (λ (e : KnownCpu). e.back) one.cpu;
-      opened = more.opened ∙ ap (λ (k : KnownMachine). k.frame_seat.view.opened) one.machine;
       free = λ g is. more.free g (ap (λ (k : KnownMachine). frame_state_at k.frame_states g) one.machine ∙ set_free m.frame_states f g is);
     }
 
@@ -75,8 +72,8 @@ left_over k list left listed split =
 
 -- a single frame was freed and added to the list
 pub returned_single : (t : KnownTable) (sizes : Config) (f : ℕ) (m freed n : KnownMachine) (c d : KnownCpu) (returns : ReturnsUnit f m freed)
-    → returns.unit.order ≡ 0 → MakesAs t c.number (visit_state m c) (release_steps f Returned) (visit_state freed c)
-    → BySteps Makes t (ListsFrame sizes f) (visit_state freed c) (visit_state n d) → BySteps Makes t (ReturnsFrames sizes f) (visit_state m c) (visit_state n d)
+    → returns.unit.order ≡ 0 → Makes t m (release_steps f Returned) freed
+    → BySteps VisitMakes t (ListsFrame sizes f) (visit_state freed c) (visit_state n d) → BySteps VisitMakes t (ReturnsFrames sizes f) (visit_state m c) (visit_state n d)
 returned_single t sizes f m freed n c d returns single first lists = record {
   steps = release_steps f Returned ++ lists.steps;
   does = record {
@@ -87,13 +84,13 @@ returned_single t sizes f m freed n c d returns single first lists = record {
     block = λ more. absurd (more single);
     steps_are = refl;
   };
-  makes = makes_both t c.number (release_steps f Returned) lists.steps (visit_state m c) (visit_state freed c) (visit_state n d) first lists.makes;
+  makes = makes_both t (release_steps f Returned) lists.steps m freed n first lists.makes;
 }
 
 -- a block was freed
 pub returned_block : (t : KnownTable) (sizes : Config) (f : ℕ) (m freed : KnownMachine) (c : KnownCpu) (returns : ReturnsUnit f m freed)
-    → returns.unit.order ≢ 0 → MakesAs t c.number (visit_state m c) (release_steps f Returned) (visit_state freed c)
-    → BySteps Makes t (ReturnsFrames sizes f) (visit_state m c) (visit_state freed c)
+    → returns.unit.order ≢ 0 → Makes t m (release_steps f Returned) freed
+    → BySteps VisitMakes t (ReturnsFrames sizes f) (visit_state m c) (visit_state freed c)
 returned_block t sizes f m freed c returns more first = record {
   steps = release_steps f Returned;
   does = record {

@@ -10,7 +10,7 @@ use Rattle.step_rules.specs.After.{Run, after}
 use Rattle.step_rules.specs.Reaches.{IsLocalRun, is_own, own_steps}
 use Rattle.boot_words.specs.Growth.{GrewByAll}
 use Rattle.boot_words.specs.Runs.{HasNoStepOf}
-use Rattle.boot_words.specs.declared.view.Past.{Past}
+use Rattle.boot_words.specs.declared.past.Past.{Past}
 use Rattle.boot_words.proofs.Holding.{append_none}
 
 -- the run is these steps, each behind steps of other seats
@@ -115,9 +115,6 @@ just_these cpu one other own (e ∷ steps) run h most =
 
 pub zone_and_cpu : (cpu : ℕ) → AreOwn cpu 0 cpu
 zone_and_cpu cpu seat not_zone not_cpu = ap (λ (b : Bool). b || seat == cpu) (ne_eqb seat 0 not_zone) ∙ ne_eqb seat cpu not_cpu
-
-pub cpu_and_zone : (cpu : ℕ) → AreOwn cpu cpu 0
-cpu_and_zone cpu seat not_cpu not_zone = zone_and_cpu cpu seat not_zone not_cpu
 
 pub own_is : (cpu seat : ℕ) → (seat ≡ 0) ⊎ (seat ≡ cpu) → is_own cpu seat ≡ true
 own_is cpu seat (inl is) = ap (λ (b : Bool). b || seat == cpu) (eq-eqb seat 0 is)

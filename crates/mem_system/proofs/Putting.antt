@@ -5,19 +5,19 @@ use Rattle.std.proofs.lemmas.List.{map-append, nil_from_length, take_all, take_m
 use Rattle.std.proofs.lemmas.List.Sorted.{IsPermutation-append_right, IsPermutation-refl, IsPermutation-trans}
 use Rattle.std.proofs.lemmas.List.Sums.{sum_by-append, sum_by-cons}
 use Rattle.frame_word.specs.Seats.{KnownTable}
-use Rattle.stock_word.specs.Stock.{KnownStockTable}
 use Rattle.frame_word.specs.declared.answers.Put.{Put}
 use Rattle.frame_word.specs.declared.answers.Put.TheVariants.{Left, Last}
 use Rattle.step_rules.specs.After.{Run}
 use Rattle.boot_words.specs.Growth.{GrewByAll}
 use Rattle.boot_words.specs.Pasts.{own_past}
-use Rattle.boot_words.specs.Rule.{AllOf, IsPastOf}
+use Rattle.boot_words.specs.Rule.{AllOf, BeginsRun}
+use Rattle.boot_words.specs.Seats.{zone_of_boot}
 use Rattle.boot_words.proofs.Gaining.{grown_number}
-use Rattle.boot_words.proofs.Growing.{all_grew_both}
+use Rattle.boot_words.proofs.Grown.{all_grew_both}
 use Rattle.cpu_part.specs.Cpus.{KnownCpu}
 use Rattle.cpu_part.specs.Calls.{UnpinAnswers}
 use Rattle.cpu_part.specs.Told.{steps_of_put}
-use Rattle.cpu_part.proofs.Tied.{length_parted}
+use Rattle.cpu_part.proofs.Counts.{one_shorter}
 use Rattle.mem_machine.specs.Local.{VisitState}
 use Rattle.mem_machine.specs.Machines.{KnownMachine}
 use Rattle.mem_system.specs.Cpus.{CpuInRun, between_locks, parts_of, pasts_of}
@@ -36,11 +36,11 @@ parted f Last c d one = one.0
 
 same_number : (f : ℕ) (answer : Put) (c d : KnownCpu) → UnpinAnswers f answer c d → d.number ≡ c.number
 same_number f (Left n) c d one = ap (λ (x : KnownCpu). x.number) one.3
-same_number f Last c d one = ap (λ (x : KnownCpu). x.number) one.3
+same_number f Last c d one = ap (λ (x : KnownCpu). x.number) one.1
 
 -- a reference less
 pub fewer_pins : (f : ℕ) (answer : Put) (c d : KnownCpu) → UnpinAnswers f answer c d → length d.pins < length c.pins
-fewer_pins f answer c d one = let fewer = length_parted f c.pins d.pins (parted f answer c d one) in omega (arith, fewer)
+fewer_pins f answer c d one = let fewer = one_shorter f c.pins d.pins (parted f answer c d one) in omega (arith, fewer)
 
 pub put_none : (c : CpuInRun) → PutsPins c c
 put_none c = record { puts = []; number = refl; pins = IsPermutation-refl c.part.pins; run = refl }
@@ -111,7 +111,7 @@ none_at_end i cpus so_far past = subst (λ (l : List CpuInRun). pins_of_all (par
 
 module _ (t : KnownTable) (run : Run) where
   ends_cpu : (m n x y : KnownMachine) (a b c d : CpuInRun) → PutsPins a b → b.part.pins ≡ [] → VisitsUnderLock t SettlesInVisit (machine_and_cpu m b) (machine_and_cpu n c)
-      → VisitsUnderLock t Empties (machine_and_cpu x c) (machine_and_cpu y d) → IsPastOf run (own_past d.past) → EndsCpu run a
+      → VisitsUnderLock t Empties (machine_and_cpu x c) (machine_and_cpu y d) → BeginsRun (zone_of_boot t) run (own_past d.past) → EndsCpu t run a
   ends_cpu m n x y a b c d puts none settles empties is_last =
       let k = a.part.number in
       let one = grown_number (own_past a.past) (unpin_steps k puts.puts) (own_past b.past) puts.run in
@@ -135,7 +135,7 @@ module _ (t : KnownTable) (run : Run) where
   -- each CPU, from its parked part to the end of the run
   pub each_ends : (m n x y : KnownMachine) (parked cpus settled emptied : List CpuInRun) → EachPuts parked cpus → pins_of_all (parts_of cpus) ≡ 0
       → ForEachCpu (VisitsUnderLock t SettlesInVisit) m cpus n settled → ForEachCpu (VisitsUnderLock t Empties) x settled y emptied
-      → AllOf (IsPastOf run) (pasts_of emptied) → AllOf (EndsCpu run) parked
+      → AllOf (BeginsRun (zone_of_boot t) run) (pasts_of emptied) → AllOf (EndsCpu t run) parked
   each_ends m n x y [] cpus settled emptied puts none settles empties last = tt
   each_ends m n x y (a ∷ parked) [] settled emptied puts none settles empties last = absurd puts
   each_ends m n x y (a ∷ parked) (b ∷ cpus) [] emptied puts none settles empties last = absurd settles
@@ -160,9 +160,9 @@ zone_grew t Does m (c ∷ cpus) n (d ∷ left) visits =
     (zone_grew t Does visits.between cpus n left visits.rest)
 
 -- an end of this system, whose pins were put before it
-pub puts_and_ends : (t : KnownTable) (w : KnownStockTable) (locked : KnownLocked) (parts left : List CpuInRun) (ended : SystemEnd) → IsSound t w locked
-    → ended.held ≡ pins_of_all (parts_of parts) → EachPuts parts left → Ends t w locked left ended.audit → PutsAndEnds t w locked parts ended
-puts_and_ends t w locked parts left ended sound held puts ends =
+pub puts_and_ends : (t : KnownTable) (locked : KnownLocked) (parts left : List CpuInRun) (ended : SystemEnd) → IsSound t locked
+    → ended.held ≡ pins_of_all (parts_of parts) → EachPuts parts left → Ends t locked left ended.audit → PutsAndEnds t locked parts ended
+puts_and_ends t locked parts left ended sound held puts ends =
     let visits = ends.visits in
     let settling = steps_of_visits t SettlesInVisit locked.machine left visits.settled visits.settled_cpus visits.settles in
     let emptying = steps_of_visits t Empties visits.settled visits.settled_cpus ends.emptied.machine ends.emptied.cpus visits.empties in
@@ -172,7 +172,7 @@ puts_and_ends t w locked parts left ended sound held puts ends =
       left = left;
       puts = puts;
       ends = ends;
-      each = each_ends t ends.closes.run _ _ _ _ parts left _ _ puts visits.no_pin visits.settles visits.empties ends.closes.pasts.1;
+      each = each_ends t ends.closes.end.run _ _ _ _ parts left _ _ puts visits.no_pin visits.settles visits.empties ends.closes.end.begin.1;
       zone = subst (λ (r : Run). GrewByAll (own_past locked.machine.run.past) r (own_past ends.emptied.machine.run.past)) (sym visits.steps_are)
           (all_grew_both (own_past locked.machine.run.past) settling (own_past visits.settled.run.past) emptying (own_past ends.emptied.machine.run.past)
           (zone_grew t SettlesInVisit locked.machine left visits.settled visits.settled_cpus visits.settles)

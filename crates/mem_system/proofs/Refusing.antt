@@ -3,21 +3,19 @@ use Rattle.std.proofs.Common.{ℕ, [], List, refl, inl}
 use Rattle.frame_word.specs.Seats.{KnownTable}
 use Rattle.group_tree.specs.declared.fault.Fault.{Fault}
 use Rattle.group_tree.specs.declared.fault.Fault.TheVariants.{BadName, HasChildren, NoGroup}
-use Rattle.cpu_part.specs.Cpus.{KnownCpu}
 use Rattle.mem_machine.specs.Machines.{KnownMachine}
-use Rattle.mem_machine.specs.Local.{visit_state, Makes, MakesForAny}
-use Rattle.mem_machine.proofs.Followed.{makes_none}
+use Rattle.mem_machine.specs.Local.{Makes}
 use Rattle.mem_machine.specs.Transitions.{BySteps, transition}
+use Rattle.mem_machine.proofs.Followed.{makes_none}
 use Rattle.mem_system.specs.declared.command.Reply.TheVariants.{Refused}
-use Rattle.mem_system.specs.Commands.{BySteps, OfMachine}
 use Rattle.mem_system.specs.Files.{HasNoFile, Writes}
 use Rattle.mem_system.specs.Groups.{Removes}
 use Rattle.mem_system.specs.Leaves.{HasNoLeaf}
 
 -- there is no group to remove
-pub none_removed : (t : KnownTable) (path : List ℕ) (fault : Fault) (m : KnownMachine) (c : KnownCpu) → HasNoLeaf m.ledger.groups path fault
-    → BySteps Makes t (OfMachine (Removes path (Refused fault))) (visit_state m c) (visit_state m c)
-none_removed t path fault m c none = record { steps = []; does = stays fault none; makes = makes_none t c.number (visit_state m c) }
+pub none_removed : (t : KnownTable) (path : List ℕ) (fault : Fault) (m : KnownMachine) → HasNoLeaf m.ledger.groups path fault
+    → BySteps Makes t (Removes path (Refused fault)) m m
+none_removed t path fault m none = record { steps = []; does = stays fault none; makes = makes_none t m }
   where
     stays : (f : Fault) → HasNoLeaf m.ledger.groups path f → Removes path (Refused f) (transition t m [] m)
     stays BadName why = (why, record { machine = refl; steps_are = refl })
@@ -27,9 +25,9 @@ none_removed t path fault m c none = record { steps = []; does = stays fault non
 
 -- there is no file to write
 pub none_written : (t : KnownTable) (path name value : List ℕ) (fault : Fault) (m : KnownMachine) → HasNoFile m.ledger.groups path name fault
-    → BySteps MakesForAny t (Writes path name value (Refused fault)) m m
+    → BySteps Makes t (Writes path name value (Refused fault)) m m
 none_written t path name value fault m none = record {
   steps = [];
   does = inl (inl none, record { machine = refl; steps_are = refl });
-  makes = λ c. makes_none t c.number (visit_state m c);
+  makes = makes_none t m;
 }

@@ -8,17 +8,17 @@ use Rattle.step_rules.specs.declared.step.Action.TheVariants.{Lock, Unlock}
 use Rattle.step_rules.specs.declared.step.Answer.TheVariants.{Done}
 use Rattle.step_rules.specs.State.{State}
 use Rattle.step_rules.specs.After.{Run, after}
-use Rattle.boot_words.specs.declared.view.Past.{Past}
-use Rattle.boot_words.specs.Allowed.{GrewBy}
+use Rattle.boot_words.specs.declared.past.Past.{Past}
+use Rattle.boot_words.specs.Runs.{GrewBy}
 use Rattle.boot_words.specs.Rule.{AllOf}
 use Rattle.boot_words.specs.Pasts.{KnownPasts, Locks, Unlocks, cpu_past, own_past}
 use Rattle.boot_words.specs.Growth.{GainsSteps, IsRunSoFar}
-use Rattle.boot_words.proofs.Growing.{all_grew_both}
+use Rattle.boot_words.proofs.Grown.{all_grew_both}
 use Rattle.boot_words.proofs.Holding.{append_none}
 use Rattle.boot_words.proofs.Gaining.{gains_go_on, of_two_seats, visit_gains}
-use Rattle.mem_machine.specs.Machines.{KnownMachine}
+use Rattle.mem_machine.specs.Machines.{KnownMachine, with_run}
 use Rattle.mem_machine.specs.Noted.{PastsGrowBy}
-use Rattle.mem_machine.specs.Local.{IsLocalRun, VisitState}
+use Rattle.mem_machine.specs.Local.{IsLocalRun, VisitState, local_of}
 use Rattle.mem_machine.specs.Steps.{cpu_makes}
 use Rattle.mem_system.specs.Commands.{Transition}
 use Rattle.mem_system.specs.Cpus.{CpuInRun, VisitsInRun, between_locks, pasts_of}
@@ -62,9 +62,12 @@ visit_under_lock_gains : (t : KnownTable) (Does : Transition VisitState → Type
     → GainsSteps (own_past m.run.past) (own_past c.past) (between_locks c.part.number v.visit.steps) (own_past n.run.past) (own_past d.past)
 visit_under_lock_gains t Does m c n d v zone =
     let p = c.part.number in
-    visit_gains (own_past m.run.past) (own_past c.past) (between_locks p v.visit.steps) (own_past n.run.past) (own_past d.past) v.run.zone_grew v.run.cpu_grew zone
-    (λ other some ne. of_two_seats p (between_locks p v.visit.steps) (inr refl, locked_of_two p _ v.visit.steps _ v.visit.makes.leads) other some
-    (λ is. ne (is ∙ sym v.run.number)))
+    let steps = v.visit.steps in
+    let a = local_of t (with_run m v.found) in
+    let b = local_of t v.left in
+    let leads : IsLocalRun p a steps b = subst (λ (q : ℕ). IsLocalRun q a steps b) v.holder v.visit.makes.leads in
+    visit_gains (own_past m.run.past) (own_past c.past) (between_locks p steps) (own_past n.run.past) (own_past d.past) v.run.zone_grew v.run.cpu_grew zone
+    (λ other some ne. of_two_seats p (between_locks p steps) (inr refl, locked_of_two p a steps b leads) other some (λ is. ne (is ∙ sym v.run.number)))
 
 -- the first past behind others, and what stands there when it is another
 at_front : (before : List Past) (p : Past) (rest : List Past) → slice_get (before ++ p ∷ rest) (length before) ≡ Some p

@@ -1,147 +1,179 @@
--- Serves `serve`. Once a visit was opened and shut again, no visit is open.
-use Rattle.std.proofs.Common.{◌≡◌, ℕ, List, [], ◌∷◌, ◌++◌, get_or, refl, sym, ap, ◌∙◌, subst, inl, inr}
-use Rattle.std.proofs.lemmas.Bool.{cases_Bool}
-use Rattle.std.proofs.lemmas.Bool.Decides.{eqb_tells}
-use Rattle.frame_word.specs.Views.{put_at}
+-- A whole visit under the lock, from what its calls say. Serves `serve_outcome` and `serve_frame_outcome`.
+use Rattle.std.proofs.Common.{◌≡◌, ℕ, true, false, ◌++◌, refl, sym, ap, ◌∙◌, subst}
+use Rattle.std.specs.List.{flat_map}
+use Rattle.std.proofs.lemmas.Bool.{false≢true}
 use Rattle.frame_word.specs.Seats.{KnownTable}
-use Rattle.frame_word.proofs.Notes.{put_here, put_else}
+use Rattle.step_rules.specs.declared.phase.Hold.{Hold}
+use Rattle.step_rules.specs.declared.phase.Hold.TheVariants.{HeldBy, Unheld, Visiting}
+use Rattle.step_rules.specs.State.{Part, is_unheld, visits}
+use Rattle.step_rules.specs.After.{Run, state_of}
+use Rattle.boot_words.specs.Cpus.{KnownCpuSeat}
+use Rattle.boot_words.specs.Pasts.{IsHeld, Locks, Unlocks, own_past}
+use Rattle.boot_words.specs.Seats.{zone_of_boot}
 use Rattle.cpu_part.specs.Cpus.{KnownCpu}
-use Rattle.mem_machine.specs.Machines.{KnownMachine, is_killed, with_run, without_notes}
-use Rattle.mem_machine.specs.Local.{IsSeenByRun, local_of, group_of_fresh, visit_state, MakesAs, Makes}
-use Rattle.mem_machine.specs.Settling.{SettlesFresh, SettlesAllFresh, ReturnsAllBack, Settles, settle_steps}
+use Rattle.cpu_part.specs.Known.{KnowsItsPart}
+use Rattle.mem_machine.specs.Machines.{KnownMachine, is_killed, with_past, with_run, without_notes}
+use Rattle.mem_machine.specs.Local.{Holds, IsShut, Makes, number_or_0, visit_state}
+use Rattle.mem_machine.specs.Resting.{Rests}
+use Rattle.mem_machine.specs.Settling.{Settles, fresh_steps, return_all_steps, settle_steps}
 use Rattle.mem_machine.specs.Steps.{open_steps, shut_steps}
+use Rattle.mem_machine.specs.Transitions.{transition}
+use Rattle.mem_machine.proofs.Followed.{makes_both}
+use Rattle.mem_reclaim.proofs.Grown.{held_after, misses_after}
 use Rattle.mem_system.specs.declared.command.Cmd.{Cmd}
 use Rattle.mem_system.specs.declared.command.Reply.{Reply}
-use Rattle.mem_system.specs.Locked.{KnownLocked, AllShut}
-use Rattle.mem_system.proofs.Killing.{around_quiet, obeys_no_rash}
-use Rattle.mem_system.proofs.Missing.{obeys_counts}
-use Rattle.mem_system.specs.Commands.{BySteps, Executes, transition}
+use Rattle.mem_system.specs.Commands.{Executes}
 use Rattle.mem_system.specs.Cpus.{cpu_in_run}
-use Rattle.mem_system.specs.Visits.{with_visit_of, locked_state, IsServed}
+use Rattle.mem_system.specs.Locked.{AllShut, CountsItsRun, KnownLocked}
+use Rattle.mem_system.specs.Visits.{IsServed, locked_state, visit_steps}
+use Rattle.mem_system.proofs.Counted.{visit_counted}
+use Rattle.mem_system.proofs.Killing.{around_quiet, obeys_no_rash}
+use Rattle.mem_system.proofs.Locking.{part_locked, run_twice}
 use Rattle.mem_system.proofs.Running.{visit_in_run}
-use Rattle.mem_machine.proofs.Followed.{makes_both}
-use Rattle.mem_machine.proofs.Reached.{makes_unheld, shown_same, with_past}
-use Rattle.mem_machine.specs.Noted.{KnownRun}
-use Rattle.boot_words.specs.Pasts.{KnownPasts, Locks, Unlocks, own_past}
-use Rattle.step_rules.specs.After.{Run}
+use Rattle.mem_system.proofs.Turns.{same_settle}
 
-pub all_shut : (m x n : KnownMachine) (p : ℕ) (left : KnownRun) → AllShut m → x.frame_seat.view.opened ≡ put_at 0 m.frame_seat.view.opened p 1
-    → n ≡ with_run (with_visit_of x p 0) left → AllShut n
-all_shut m x n p left shut opened is q =
-    let now = ap (λ (k : KnownMachine). get_or k.frame_seat.view.opened q 0) is in
-    elim (eqb_tells q p) [
-      | inl same ↦ now ∙ ap (λ (r : ℕ). get_or (put_at 0 x.frame_seat.view.opened p 0) r 0) same.1 ∙ put_here 0 x.frame_seat.view.opened p 0
-      | inr other ↦ now ∙ put_else 0 x.frame_seat.view.opened p q 0 other.1 ∙ ap (λ (l : List ℕ). get_or l q 0) opened
-          ∙ put_else 0 m.frame_seat.view.opened p q 1 other.1 ∙ shut q
-    ]
+-- while the lock is free, no visit is open
+free_shut : (p : ℕ) (hold : Hold) → is_unheld hold ≡ true → visits p hold ≡ false
+free_shut p Unheld free = refl
+free_shut p (HeldBy q) free = absurd (false≢true free)
+free_shut p (Visiting q) free = absurd (false≢true free)
 
--- a settled frame leaves the visits as they were
-settled_fresh : (f : ℕ) (m n : KnownMachine) (c d : KnownCpu) → SettlesFresh f (visit_state m c) (visit_state n d) → n.frame_seat.view.opened ≡ m.frame_seat.view.opened
-settled_fresh f m n c d s = elim (cases_Bool (is_killed m.killed (group_of_fresh c))) [
-  | inl killed ↦ ap (λ (k : KnownMachine). k.frame_seat.view.opened) (s.drops killed).machine
-  | inr alive ↦ ap (λ (k : KnownMachine). k.frame_seat.view.opened) (s.keeps alive).machine
-]
+pub resting_shut : (t : KnownTable) (m : KnownMachine) → Rests t m → AllShut t m
+resting_shut t m rests p = free_shut p (state_of (zone_of_boot t) (own_past m.run.past).seen).hold rests.free
 
-settled_all : (frames : List ℕ) (m n : KnownMachine) (c d : KnownCpu) → SettlesAllFresh frames (visit_state m c) (visit_state n d) → n.frame_seat.view.opened ≡ m.frame_seat.view.opened
-settled_all [] m n c d s = ap (λ (k : KnownMachine). k.frame_seat.view.opened) s.machine
-settled_all (f ∷ rest) m n c d s = settled_all rest s.between.machine n s.between.cpu d s.rest ∙ settled_fresh f m s.between.machine c s.between.cpu s.first
+-- notes that are forgotten leave who holds the lock, and what it sees
+pub forgotten_holds : (t : KnownTable) (m n : KnownMachine) (c : KnownCpu) → n ≡ without_notes m → Holds t (visit_state m c) → Holds t (visit_state n c)
+forgotten_holds t m n c is holds = subst (λ (k : KnownMachine). Holds t (visit_state k c)) (sym is) (record { held = holds.held; who = holds.who; own = holds.own })
 
-returned_all : (frames : List ℕ) (m n : KnownMachine) (c d : KnownCpu) → ReturnsAllBack frames (visit_state m c) (visit_state n d) → n.frame_seat.view.opened ≡ m.frame_seat.view.opened
-returned_all [] m n c d s = ap (λ (k : KnownMachine). k.frame_seat.view.opened) s.machine
-returned_all (f ∷ rest) m n c d s = returned_all rest s.between.machine n s.between.cpu d s.rest ∙ ap (λ (k : KnownMachine). k.frame_seat.view.opened) s.first.machine
+pub forgotten_shut : (t : KnownTable) (m n : KnownMachine) (p : ℕ) → n ≡ without_notes m → IsShut t m p → IsShut t n p
+forgotten_shut t m n p is shut = subst (λ (k : KnownMachine). IsShut t k p) (sym is) shut
 
-pub settled_opened : (m n : KnownMachine) (c d : KnownCpu) → Settles (visit_state m c) (visit_state n d) → n.frame_seat.view.opened ≡ m.frame_seat.view.opened
-settled_opened m n c d s = returned_all c.back s.mid.machine n s.mid.cpu d s.back ∙ settled_all c.fresh m s.mid.machine c s.mid.cpu s.fresh
+-- What the calls of a visit say, one after the other. The CPU takes the lock, earlier notes are forgotten, the visit is
+-- opened, the CPU is settled, inner steps are made, the visit is shut, and the CPU releases the lock.
+pub record GoesThrough (t : KnownTable) (m : KnownMachine) (c : KnownCpu) (seat : KnownCpuSeat) (inner : Run) (k : KnownMachine) (d : KnownCpu) (seat' : KnownCpuSeat) : Type 0 where
+  pub found : KnownMachine
+  pub begun : KnownMachine
+  pub entered : KnownMachine
+  pub mid : KnownMachine
+  pub settled : KnownCpu
+  pub done : KnownMachine
+  pub left : KnownMachine
+  pub knows : KnowsItsPart t seat c
+  pub locks : found ≡ with_past m found.run.past
+  pub takes : Locks t m.run.past seat.seat found.run.past
+  pub holds : Holds t (visit_state found c)
+  pub shut : IsShut t found c.number
+  pub forgets : begun ≡ without_notes found
+  pub opens : entered ≡ with_run begun entered.run
+  pub opening : Makes t begun (open_steps c.number) entered
+  pub settles : Settles t (visit_state entered c) (visit_state mid settled)
+  pub settling : Makes t entered (settle_steps t (visit_state entered c)) mid
+  pub same : settled.number ≡ c.number
+  pub making : Makes t mid inner done
+  pub still : d.number ≡ settled.number
+  pub shuts : left ≡ with_run done left.run
+  pub shutting : Makes t done (shut_steps d.number) left
+  pub left_holds : Holds t (visit_state left d)
+  pub left_shut : IsShut t left d.number
+  pub unlocks : k ≡ with_past left k.run.past
+  pub gives : Unlocks t left.run.past k.run.past seat'.seat
 
--- notes that are forgotten leave what the lock's holder sees
-pub forgotten_shown : (t : KnownTable) (m n : KnownMachine) (c : KnownCpu) → n ≡ without_notes m → IsSeenByRun t (visit_state m c) → IsSeenByRun t (visit_state n c)
-forgotten_shown t m n c is shown = subst (λ (k : KnownMachine). IsSeenByRun t (visit_state k c)) (sym is)
-    (shown_same t (visit_state m c) (visit_state (without_notes m) c) shown refl refl refl)
+module _ (t : KnownTable) (m : KnownMachine) (c : KnownCpu) (seat : KnownCpuSeat) (inner : Run) (k : KnownMachine) (d : KnownCpu) (seat' : KnownCpuSeat)
+    (v : GoesThrough t m c seat inner k d seat') where
+  begun_is : v.begun ≡ with_run (without_notes m) v.begun.run
+  begun_is = run_twice (without_notes m) (without_notes v.found) v.begun (record (m.run) { past = v.found.run.past }) v.found.run (ap without_notes v.locks) v.forgets
 
--- the visits after the whole command: the caller's was opened and shut, the others stayed shut
-pub command_shuts : (m entered mid x n : KnownMachine) (c c1 c2 c3 : KnownCpu) (found left : KnownRun) → AllShut m
-    → entered ≡ with_run (with_visit_of (without_notes m) c.number 1) found → c1 ≡ c → c2.number ≡ c1.number → c3.number ≡ c2.number
-    → Settles (visit_state entered c1) (visit_state mid c2) → x.frame_seat.view.opened ≡ mid.frame_seat.view.opened
-    → n ≡ with_run (with_visit_of x c3.number 0) left → AllShut n
-command_shuts m entered mid x n c c1 c2 c3 found left shut opened same second third settles stays after =
-    all_shut m x n c.number left shut (stays ∙ settled_opened entered mid c1 c2 settles ∙ ap (λ (k : KnownMachine). k.frame_seat.view.opened) opened)
-    (after ∙ ap (λ (q : ℕ). with_run (with_visit_of x q 0) left) (third ∙ second ∙ ap (λ (y : KnownCpu). y.number) same))
+  entered_is : v.entered ≡ with_run (without_notes m) v.entered.run
+  entered_is = run_twice (without_notes m) v.begun v.entered v.begun.run v.entered.run begun_is v.opens
 
--- the visit was opened after the lock was taken and the notes forgotten; the run is another now in any case
-pub opened_so : (m m1 m2 entered : KnownMachine) (p : ℕ) (past : KnownPasts) (run : KnownRun) → m1 ≡ with_past m past → m2 ≡ without_notes m1
-    → entered ≡ with_run (with_visit_of m2 p 1) run → entered ≡ with_run (with_visit_of (without_notes m) p 1) run
-opened_so m m1 m2 entered p past run lock forgot is = is ∙ ap (λ (y : KnownMachine). with_run (with_visit_of y p 1) run) (forgot ∙ ap without_notes lock)
+  begun_held : IsHeld t v.begun.run.past
+  begun_held = subst (λ (x : KnownMachine). IsHeld t x.run.past) (sym v.forgets) v.takes.held
 
--- what has another run has its own
-only_run : (k m : KnownMachine) (run : KnownRun) → k ≡ with_run m run → k ≡ with_run m k.run
-only_run k m run is = is ∙ ap (λ (z : KnownMachine). with_run m z.run) (sym is)
+  -- the same frames are settled by the same steps as before the lock was taken
+  settle_same : settle_steps t (visit_state v.entered c) ≡ settle_steps t (visit_state m c)
+  settle_same =
+      same_settle t v.begun v.entered c v.opens begun_held v.opening
+      ∙ ap (λ (x : KnownMachine). settle_steps t (visit_state x c)) (v.forgets ∙ ap without_notes v.locks)
+      ∙ ap (λ (q : Part). flat_map (fresh_steps (is_killed m.killed (number_or_0 q.stock.group)) c.number) c.fresh ++ return_all_steps (visit_state m c))
+      (part_locked t m.run.past seat.seat v.found.run.past v.takes c.number)
 
--- All steps of a visit, from those of its four parts. The CPU took the lock first, so the machine had found this past.
-pub all_made : (t : KnownTable) (m0 : KnownMachine) (c d : KnownCpu) (entered mid x n : KnownMachine) (c1 c2 c3 : KnownCpu) (found : KnownPasts) (inner : Run)
-    → entered ≡ with_run (with_visit_of (without_notes m0) c.number 1) entered.run → c1 ≡ c → c2.number ≡ c1.number → c3.number ≡ c2.number
-    → MakesAs t c.number (visit_state (without_notes (with_past m0 found)) c) (open_steps c.number) (visit_state entered c1)
-    → MakesAs t c1.number (visit_state entered c1) (settle_steps (visit_state entered c1)) (visit_state mid c2)
-    → MakesAs t c2.number (visit_state mid c2) inner (visit_state x c3) → MakesAs t c3.number (visit_state x c3) (shut_steps c3.number) (visit_state n d)
-    → MakesAs t c.number (visit_state (with_past m0 found) c) (open_steps c.number
-    ++ (settle_steps (visit_state (with_run (with_visit_of (without_notes m0) c.number 1) entered.run) c) ++ (inner ++ shut_steps c.number))) (visit_state n d)
-all_made t m0 c d entered mid x n c1 c2 c3 found inner opened same second third first rests does last =
+  -- the machine found, and what it is when the visit is opened and when it is shut
+  found_is : v.found ≡ with_run m v.found.run
+  found_is = run_twice m m v.found m.run _ refl v.locks
+
+  left_is : v.left ≡ with_run k v.left.run
+  left_is = sym (ap (λ (x : KnownMachine). with_run x v.left.run) v.unlocks)
+
+  -- the visit is opened, whether or not the notes are forgotten
+  opened : Makes t (with_run m v.found.run) (open_steps c.number) (with_run m v.entered.run)
+  opened =
+      let all : Makes t (without_notes (with_run m v.found.run)) (open_steps c.number) (with_run (without_notes m) v.entered.run) =
+      subst (λ (x : KnownMachine × KnownMachine). Makes t x.0 (open_steps c.number) x.1) (λ i. ((v.forgets ∙ ap without_notes found_is) i, entered_is i)) v.opening in
+      record { holder = all.holder; leads = all.leads; follows = all.follows; counts = all.counts; noted = all.noted }
+
+  -- all steps of the visit
+  all_made : Makes t v.found (visit_steps t (visit_state m c) inner) v.left
+  all_made =
+      let p = c.number in
+      let middle = settle_steps t (visit_state m c) in
+      let forgot : Makes t (without_notes v.found) (open_steps p) v.entered = subst (λ (x : KnownMachine). Makes t x (open_steps p) v.entered) v.forgets v.opening in
+      let first : Makes t v.found (open_steps p) v.entered =
+      record { holder = forgot.holder; leads = forgot.leads; follows = forgot.follows; counts = forgot.counts; noted = forgot.noted } in
+      let rests : Makes t v.entered middle v.mid = subst (λ (s : Run). Makes t v.entered s v.mid) settle_same v.settling in
+      let ended : Makes t v.done (shut_steps p) v.left = subst (λ (q : ℕ). Makes t v.done (shut_steps q) v.left) (v.still ∙ v.same) v.shutting in
+      makes_both t (open_steps p) (middle ++ (inner ++ shut_steps p)) v.found v.entered v.left first
+      (makes_both t middle (inner ++ shut_steps p) v.entered v.mid v.left rests (makes_both t inner (shut_steps p) v.mid v.done v.left v.making ended))
+
+  -- the machine still counts its run
+  pub counted : Rests t m → CountsItsRun t m → Rests t k → CountsItsRun t k
+  counted rests told rests_after =
+      visit_counted t m v.found v.left k (visit_steps t (visit_state m c) inner) seat.seat seat'.seat rests told v.locks v.takes all_made v.unlocks v.gives rests_after
+
+-- the whole command
+pub served : (t : KnownTable) (cmd : Cmd) (reply : Reply) (l k : KnownLocked) (c : KnownCpu) (seat : KnownCpuSeat) (inner : Run) (d : KnownCpu) (seat' : KnownCpuSeat)
+    (v : GoesThrough t l.machine c seat inner k.machine d seat') → k.sizes ≡ l.sizes
+    → Executes l.sizes cmd reply (transition t (visit_state v.mid v.settled) inner (visit_state v.done d))
+    → IsServed t cmd reply (locked_state l (cpu_in_run c seat)) (locked_state k (cpu_in_run d seat'))
+served t cmd reply l k c seat inner d seat' v sizes executed =
     let p = c.number in
-    let m = with_past m0 found in
-    let begins = with_run (with_visit_of (without_notes m0) p 1) entered.run in
-    let two : c2.number ≡ p = second ∙ ap (λ (y : KnownCpu). y.number) same in
-    let three : c3.number ≡ p = third ∙ two in
-    let before : KnownMachine × KnownCpu → Type 0 = λ (y : KnownMachine × KnownCpu). MakesAs t p (visit_state m c) (open_steps p) (visit_state y.0 y.1) in
-    let begun : MakesAs t p (visit_state m c) (open_steps p) (visit_state begins c) =
-    subst before (λ i. (opened i, same i)) (record { leads = first.leads; follows = first.follows; counts = first.counts; noted = first.noted }) in
-    let rested : MakesAs t p (visit_state begins c) (settle_steps (visit_state begins c)) (visit_state mid c2) =
-    subst (λ (y : KnownMachine × KnownCpu). MakesAs t y.1.number (visit_state y.0 y.1) (settle_steps (visit_state y.0 y.1)) (visit_state mid c2)) (λ i. (opened i, same i)) rests in
-    let inside = subst (λ (q : ℕ). MakesAs t q (visit_state mid c2) inner (visit_state x c3)) two does in
-    let ended = subst (λ (q : ℕ). MakesAs t q (visit_state x c3) (shut_steps q) (visit_state n d)) three last in
-    makes_both t p (open_steps p) (settle_steps (visit_state begins c) ++ (inner ++ shut_steps p)) (visit_state m c) (visit_state begins c)
-    (visit_state n d) begun
-    (makes_both t p (settle_steps (visit_state begins c)) (inner ++ shut_steps p) (visit_state begins c) (visit_state mid c2) (visit_state n d) rested
-    (makes_both t p inner (shut_steps p) (visit_state mid c2) (visit_state x c3) (visit_state n d) inside ended))
-
--- The whole command, from its four parts. The CPU took the lock first, so the machine had found this past, and released it
--- last.
-pub served : (t : KnownTable) (cmd : Cmd) (l k : KnownLocked) (c d : KnownCpu) (reply : Reply) (entered mid x n : KnownMachine) (c1 c2 c3 : KnownCpu)
-    (found : KnownPasts) → l.machine.run.past.pasts ≡ own_past l.machine.run.past ∷ []
-    → entered ≡ with_run (with_visit_of (without_notes l.machine) c.number 1) entered.run → c1 ≡ c → c2.number ≡ c1.number → c3.number ≡ c2.number
-    → n ≡ with_run (with_visit_of x c3.number 0) n.run → k.machine ≡ with_past n k.machine.run.past → d ≡ c3 → k.sizes ≡ l.sizes
-    → MakesAs t c.number (visit_state (without_notes (with_past l.machine found)) c) (open_steps c.number) (visit_state entered c1)
-    → Settles (visit_state entered c1) (visit_state mid c2) → MakesAs t c1.number (visit_state entered c1) (settle_steps (visit_state entered c1)) (visit_state mid c2)
-    → BySteps Makes t (Executes l.sizes cmd reply) (visit_state mid c2) (visit_state x c3)
-    → MakesAs t c3.number (visit_state x c3) (shut_steps c3.number) (visit_state n d)
-    → (past past' : KnownPasts) → (own_past past).number ≡ c.number → Locks t l.machine.run.past past found → Unlocks t n.run.past k.machine.run.past past'
-    → IsServed t cmd reply (locked_state l (cpu_in_run c past)) (locked_state k (cpu_in_run d past'))
-served t cmd l k c d reply entered mid x n c1 c2 c3 found alone opened same second third shut unlocked after sizes first settles rests executed last past past' its takes gives =
-    let p = c.number in
-    let m = with_past l.machine found in
-    let begins = with_run (with_visit_of (without_notes l.machine) p 1) entered.run in
-    let two : c2.number ≡ p = second ∙ ap (λ (y : KnownCpu). y.number) same in
-    let three : c3.number ≡ p = third ∙ two in
-    let settled : Settles (visit_state begins c) (visit_state mid c2) = subst (λ (y : KnownMachine × KnownCpu). Settles (visit_state y.0 y.1) (visit_state mid c2)) (λ i. (opened i, same i)) settles in
-    let steps = open_steps p ++ (settle_steps (visit_state begins c) ++ (executed.steps ++ shut_steps p)) in
-    let all : MakesAs t p (visit_state m c) steps (visit_state n d) =
-    all_made t l.machine c d entered mid x n c1 c2 c3 found executed.steps opened same second third first rests executed.makes last in
+    let m = l.machine in
+    let steps = visit_steps t (visit_state m c) inner in
+    let all = all_made t m c seat inner k.machine d seat' v in
+    let its : (own_past seat.seat).number ≡ p = sym v.knows.is.number ∙ v.knows.number in
+    let held = held_after t v.entered (settle_steps t (visit_state v.entered c)) v.mid v.settling
+    (held_after t v.begun (open_steps p) v.entered v.opening (begun_held t m c seat inner k.machine d seat' v)) in
     record {
       steps = steps;
       serves = record {
-        settled = visit_state mid c2;
-        seen = entered.run;
-        settles = settled;
-        inner = executed.steps;
-        done = x;
-        executes = subst (λ (y : KnownCpu). Executes l.sizes cmd reply (transition t (visit_state mid c2) executed.steps (visit_state x y))) (sym after) executed.does;
-        no_rash = obeys_no_rash t l.sizes cmd reply mid c2 executed.steps (visit_state x c3) (local_of t x c3) executed.does executed.makes.leads;
-        only_inner = around_quiet p (visit_state begins c);
-        misses = obeys_counts l.sizes cmd reply (transition t (visit_state mid c2) executed.steps (visit_state x c3)) executed.does;
-        machine = only_run k.machine (with_visit_of x p 0) _
-            (unlocked ∙ (λ i. with_past (shut i) k.machine.run.past) ∙ ap (λ (q : ℕ). with_past (with_run (with_visit_of x q 0) n.run) k.machine.run.past) three);
+        settled = visit_state v.mid v.settled;
+        seen = v.entered.run;
+        settles = subst (λ (x : KnownMachine). Settles t (visit_state x c) (visit_state v.mid v.settled)) (entered_is t m c seat inner k.machine d seat' v) v.settles;
+        inner = inner;
+        done = v.done;
+        executes = executed;
+        no_rash = obeys_no_rash t l.sizes v.mid v.settled held cmd reply inner (visit_state v.done d) executed;
+        only_inner = around_quiet t p (visit_state m c);
+        misses = misses_after t v.mid inner v.done v.making held;
+        machine = run_twice v.done v.left k.machine _ _ v.shuts v.unlocks;
         sizes = sizes;
         steps_are = refl;
       };
-      makes = subst (λ (y : KnownMachine). MakesAs t p (visit_state l.machine c) steps (visit_state y d)) (sym unlocked)
-          (makes_unheld t p m n c d steps l.machine.run.past k.machine.run.past alone all);
-      run = visit_in_run t p steps l.machine.run.past past found n.run.past k.machine.run.past past' its takes all.noted.grew gives;
+      found = v.found.run;
+      left = v.left.run;
+      taken = record {
+        locks = v.takes;
+        watch = ap (λ (x : KnownMachine). x.run.watch) v.locks;
+        holds = subst (λ (x : KnownMachine). Holds t (visit_state x c)) (found_is t m c seat inner k.machine d seat' v) v.holds;
+        shut = subst (λ (x : KnownMachine). IsShut t x p) (found_is t m c seat inner k.machine d seat' v) v.shut;
+      };
+      opens = opened t m c seat inner k.machine d seat' v;
+      makes = subst (λ (x : KnownMachine × KnownMachine). Makes t x.0 steps x.1)
+          (λ i. (found_is t m c seat inner k.machine d seat' v i, left_is t m c seat inner k.machine d seat' v i)) all;
+      released = record {
+        holds = subst (λ (x : KnownMachine). Holds t (visit_state x d)) (left_is t m c seat inner k.machine d seat' v) v.left_holds;
+        shut = subst (λ (x : KnownMachine). IsShut t x d.number) (left_is t m c seat inner k.machine d seat' v) v.left_shut;
+        watch = ap (λ (x : KnownMachine). x.run.watch) v.unlocks;
+        unlocks = v.gives;
+      };
+      run = visit_in_run t p steps m.run.past seat.seat v.found.run.past v.left.run.past k.machine.run.past seat'.seat its v.takes all.noted.grew v.gives;
     }

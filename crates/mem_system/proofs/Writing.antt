@@ -9,7 +9,7 @@ use Rattle.control_files.specs.Flag.{IsNoFlagText}
 use Rattle.control_files.specs.Limit.{ReadsAmount, IsNoAmountText, IsNoLimitText, IsTooGreat}
 use Rattle.frame_word.specs.Seats.{KnownTable}
 use Rattle.mem_machine.specs.Machines.{KnownMachine}
-use Rattle.mem_machine.specs.Local.{visit_state, MakesForAny}
+use Rattle.mem_machine.specs.Local.{Makes}
 use Rattle.mem_machine.proofs.Followed.{makes_none}
 use Rattle.group_charge.specs.Charges.{current_of}
 use Rattle.mem_reclaim.specs.Moves.{FreesBySteps}
@@ -35,21 +35,21 @@ refused_amount value fault (inr limit) great none = subst (λ (f : Fault). Refus
 
 -- the file is there, and nothing changes
 pub refused_by : (t : KnownTable) (file : File) (value : List ℕ) (g : ℕ) (fault : Fault) (m : KnownMachine) → RefusesValue file value fault
-    → BySteps MakesForAny t (WritesTo file value g (Refused fault)) m m
+    → BySteps Makes t (WritesTo file value g (Refused fault)) m m
 refused_by t file value g fault m why = record {
   steps = [];
   does = inl (why, record { machine = refl; steps_are = refl });
-  makes = λ c. makes_none t c.number (visit_state m c);
+  makes = makes_none t m;
 }
 
 -- the same by the path and the name of the file
 pub refused_at : (t : KnownTable) (path name value : List ℕ) (g : ℕ) (file : File) (fault : Fault) (m : KnownMachine)
     → IsFileOf m.ledger.groups path name g file → RefusesValue file value fault
-    → BySteps MakesForAny t (Writes path name value (Refused fault)) m m
+    → BySteps Makes t (Writes path name value (Refused fault)) m m
 refused_at t path name value g file fault m is why = record {
   steps = [];
   does = inl (inr (record { group = g; file = file; is_file = is; refuses = why }), record { machine = refl; steps_are = refl });
-  makes = λ c. makes_none t c.number (visit_state m c);
+  makes = makes_none t m;
 }
 
 -- what a write to the file does, by its path and its name
@@ -62,8 +62,8 @@ written_by t path name value g file call is (Refused fault) (inr short) = inr (r
 written_by t path name value g file call is other none = absurd none
 
 pub written_at : (t : KnownTable) (path name value : List ℕ) (g : ℕ) (file : File) (m n : KnownMachine) (reply : Reply)
-    → IsFileOf m.ledger.groups path name g file → BySteps MakesForAny t (WritesTo file value g reply) m n
-    → BySteps MakesForAny t (Writes path name value reply) m n
+    → IsFileOf m.ledger.groups path name g file → BySteps Makes t (WritesTo file value g reply) m n
+    → BySteps Makes t (Writes path name value reply) m n
 written_at t path name value g file m n reply is made = record {
   steps = made.steps;
   does = written_by t path name value g file (transition t m made.steps n) is reply made.does;
@@ -84,7 +84,7 @@ module _ (t : KnownTable) (value : List ℕ) (g asked freed : ℕ) (m n : KnownM
     (leads : FreesBySteps t freed m n (ReclaimsAmount g asked)) (missed : freed < asked → MissedAll g m n)
     (usage : current_of n.ledger g + freed ≡ current_of m.ledger g) (keeps : Keeps t m n) where
   -- all that was asked for is freed
-  pub reclaims_all : asked ≤ freed → BySteps MakesForAny t (WritesTo Reclaim value g Done) m n
+  pub reclaims_all : asked ≤ freed → BySteps Makes t (WritesTo Reclaim value g Done) m n
   reclaims_all enough = record {
     steps = leads.steps;
     does = record {
@@ -102,7 +102,7 @@ module _ (t : KnownTable) (value : List ℕ) (g asked freed : ℕ) (m n : KnownM
   }
 
   -- less is freed
-  pub reclaims_less : freed < asked → BySteps MakesForAny t (WritesTo Reclaim value g (Refused Again)) m n
+  pub reclaims_less : freed < asked → BySteps Makes t (WritesTo Reclaim value g (Refused Again)) m n
   reclaims_less less = record {
     steps = leads.steps;
     does = inr (record {

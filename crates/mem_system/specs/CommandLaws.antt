@@ -2,9 +2,6 @@
 use Rattle.std.specs.Prelude.{◌≡◌, ℕ, ◌≤◌, ◌<◌, ◌⊎◌, List, [], slice_index}
 use Rattle.std.specs.Borrow.{Bor}
 use Rattle.frame_word.specs.Seats.{KnownTable}
-use Rattle.stock_word.specs.declared.view.Stock.{Stock}
-use Rattle.stock_word.specs.Stock.{KnownStockTable, stock_pages_of, word_of}
-use Rattle.stock_word.specs.StockRule.{report_index, stock_index}
 use Rattle.zone_blocks.specs.declared.config.Config.{Config}
 use Rattle.zone_blocks.specs.Config.{IsValidConfig}
 use Rattle.group_tree.specs.declared.fault.Fault.{Fault}
@@ -19,7 +16,8 @@ use Rattle.mem_system.specs.declared.command.Cmd.TheVariants.{Write}
 use Rattle.mem_system.specs.declared.command.Reply.{Reply}
 use Rattle.mem_system.specs.declared.command.Reply.TheVariants.{Refused}
 use Rattle.mem_system.specs.Commands.{ListStaysWithin}
-use Rattle.mem_system.specs.Ends.{Closes, KnownEmptiedBoot}
+use Rattle.boot_words.specs.Words.{Words}
+use Rattle.mem_system.specs.Ends.{Closes, HasEmptyWords, KnownEmptiedBoot}
 use Rattle.mem_system.specs.Releases.{ReleasesFrame}
 use Rattle.mem_system.specs.Visits.{Transition, LockedState, Serves}
 
@@ -43,22 +41,14 @@ ReleasesCutLists =
     (sizes : Config) (frame : ℕ) (reply : Reply) (call : Transition VisitState) → IsValidConfig sizes
     → ReleasesFrame sizes frame reply call → ListStaysWithin sizes call.before.cpu call.after.cpu
 
--- the CPU's stock word holds no page, and its report word is 0
-pub record HasEmptyWords (stock_words : List ℕ) (cpu : ℕ) : Type 0 where
-  pub stock : Stock
-  pub encoded : slice_index stock_words (stock_index cpu) ≡ word_of stock
-  pub empty : stock_pages_of stock ≡ 0
-  pub none_reported : slice_index stock_words (report_index cpu) ≡ 0
-
 -- the last words: no CPU's words hold a page, and no frame's word counts more than the zone's reference
 pub record LeavesEmptyWords (table : KnownTable) : Type 0 where
-  pub stock_words : List ℕ
-  pub frame_words : List ℕ
-  pub each : (cpu : ℕ) → 1 ≤ cpu → cpu ≤ table.cpus → HasEmptyWords stock_words cpu
-  pub references : (frame : ℕ) → frame < table.frames → slice_index frame_words frame ≤ 1
+  pub words : Words
+  pub each : (cpu : ℕ) → 1 ≤ cpu → cpu ≤ table.cpus → HasEmptyWords words.stocks cpu
+  pub references : (frame : ℕ) → frame < table.frames → slice_index words.frames frame ≤ 1
 
 -- when the table is closed, no page and no CPU's reference is left in any word
 abbrev pub EndsLeaveEmptyWords : Type 0
 EndsLeaveEmptyWords =
-    (table : KnownTable) (stock_table : KnownStockTable) (emptied : KnownEmptiedBoot) (audit : Audit)
-    → Closes table stock_table emptied audit → LeavesEmptyWords table
+    (table : KnownTable) (emptied : KnownEmptiedBoot) (audit : Audit)
+    → Closes table emptied audit → LeavesEmptyWords table

@@ -1,7 +1,6 @@
 -- What each command does inside a visit, by which steps, and with which reply.
 use Rattle.std.specs.Prelude.{◌≡◌, ℕ, true, false, ◌+◌, ◌<◌, ◌≤◌, List, [], length}
 use Rattle.frame_word.specs.Seats.{KnownTable}
-use Rattle.stock_word.specs.Stock.{KnownStockTable}
 use Rattle.cpu_part.specs.Cpus.{KnownCpu}
 use Rattle.zone_blocks.specs.declared.config.Config.{Config}
 use Rattle.zone_blocks.specs.Config.{IsValidConfig}
@@ -40,12 +39,12 @@ IsOfZone table command = NamesFrameBelow table.frames command
 
 -- What a command finds inside its visit. The CPU is visited and settled, the sizes are in their ranges, and the tables
 -- have these sizes.
-pub record MayExecute (table : KnownTable) (stock_table : KnownStockTable) (sizes : Config)
+pub record MayExecute (table : KnownTable) (sizes : Config)
     (now : VisitState) : Type 0 where
   pub visit : Visits table now
   pub settled : IsSettled now.cpu
   pub valid : IsValidConfig sizes
-  pub sized : IsSizedAs sizes table stock_table
+  pub sized : IsSizedAs sizes table
 
 -- what the command does inside the visit, and its reply
 abbrev pub Executes : Config → Cmd → Reply → Transition VisitState → Type 0

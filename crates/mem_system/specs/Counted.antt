@@ -1,7 +1,6 @@
 -- What a visit finds counted.
 use Rattle.std.specs.Prelude.{◌≡◌, ℕ, ◌++◌, true}
 use Rattle.frame_word.specs.Seats.{KnownTable}
-use Rattle.stock_word.specs.Stock.{KnownStockTable}
 use Rattle.group_tree.specs.declared.event.EventKey.{EventKey}
 use Rattle.group_tree.specs.Events.{count_of}
 use Rattle.group_tree.specs.Groups.{has_group}
@@ -25,7 +24,7 @@ pub record CountsStay (left found : KnownMachine) : Type 0 where
 -- Suppose that a visit left one sound value behind the lock, and that another was found, to whose zone's past only steps
 -- of other seats were added. Then all counts are those that the visit left.
 abbrev pub VisitsFindCounts : Type 0
-VisitsFindCounts = (table : KnownTable) (stock_table : KnownStockTable) (left found : KnownLocked) (others : Run)
-    → IsSound table stock_table left → IsSound table stock_table found
+VisitsFindCounts = (table : KnownTable) (left found : KnownLocked) (others : Run)
+    → IsSound table left → IsSound table found
     → (own_past found.machine.run.past).seen ≡ (own_past left.machine.run.past).seen ++ others → HasNoStepOf 0 others
     → CountsStay left.machine found.machine

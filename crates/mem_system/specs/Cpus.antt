@@ -1,22 +1,35 @@
 -- What contracts see of a CPU, and how a visit goes on with its past and the zone's.
 use Rattle.std.specs.Prelude.{◌≡◌, ℕ, List, [], ◌∷◌, ◌++◌, map}
+use Rattle.frame_word.specs.Seats.{KnownTable}
 use Rattle.step_rules.specs.declared.step.Action.TheVariants.{Lock, Unlock}
 use Rattle.step_rules.specs.declared.step.Answer.TheVariants.{Done}
 use Rattle.step_rules.specs.After.{Run}
-use Rattle.boot_words.specs.declared.view.Past.{Past}
+use Rattle.stock_word.specs.declared.view.Stock.{Stock}
+use Rattle.boot_words.specs.declared.past.Past.{Past}
 use Rattle.boot_words.specs.Pasts.{KnownPasts, own_past}
 use Rattle.boot_words.specs.Growth.{GrewByAll}
+use Rattle.boot_words.specs.Cpus.{KnownCpuSeat}
 use Rattle.cpu_part.specs.Cpus.{KnownCpu}
+use Rattle.cpu_part.specs.Known.{KnowsItsPart}
 use Rattle.mem_machine.specs.Steps.{cpu_makes}
 
--- a CPU as callers have it: its part, and its own past of the run
+-- a CPU as callers have it: its part, its own past of the run, and the stock that it saw last
 pub record CpuInRun : Type 0 where
   pub part : KnownCpu
   pub past : KnownPasts
+  pub last : Stock
 
--- the CPU with this part and this past
-abbrev pub cpu_in_run : KnownCpu → KnownPasts → CpuInRun
-cpu_in_run part past = record { part = part; past = past }
+-- the CPU with this part and this seat
+abbrev pub cpu_in_run : KnownCpu → KnownCpuSeat → CpuInRun
+cpu_in_run part seat = record { part = part; past = seat.seat; last = seat.last }
+
+-- the CPU's seat
+abbrev pub seat_of : CpuInRun → KnownCpuSeat
+seat_of cpu = record { seat = cpu.past; number = cpu.part.number; last = cpu.last }
+
+-- the CPU knows its own part by its seat
+abbrev pub KnowsItself : KnownTable → CpuInRun → Type 0
+KnowsItself table cpu = KnowsItsPart table (seat_of cpu) cpu.part
 
 -- the parts of the CPUs
 abbrev pub parts_of : List CpuInRun → List KnownCpu

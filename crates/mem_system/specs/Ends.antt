@@ -1,40 +1,37 @@
 -- How a system ends. Each CPU is settled, then each CPU's list is returned and its stock drained, each in a visit under
 -- the lock, and then the table is closed.
-use Rattle.std.specs.Prelude.{◌≡◌, ℕ, ◌+◌, ◌≤◌, ◌<◌, false, is_some, List, [], ◌∷◌, ◌++◌, length, map, min}
+use Rattle.std.specs.Prelude.{◌≡◌, ℕ, ◌+◌, ◌≤◌, ◌<◌, is_some, true, List, [], ◌∷◌, ◌++◌, length, min}
 use Rattle.std.specs.Prelude.{sum_by, slice_index, All}
-use Rattle.atomic_table.specs.Seated.{TableId}
-use Rattle.frame_word.specs.ReferenceRule.{ReferenceRule}
 use Rattle.step_rules.specs.declared.step.Action.TheVariants.{Lock, Unlock}
 use Rattle.step_rules.specs.declared.step.Answer.TheVariants.{Done}
-use Rattle.step_rules.specs.State.{one_if}
+use Rattle.step_rules.specs.State.{is_unheld, one_if}
 use Rattle.step_rules.specs.After.{Run, state_of}
-use Rattle.frame_word.specs.Seats.{KnownTable, KnownSeat, view_of}
+use Rattle.frame_word.specs.Seats.{KnownTable}
 use Rattle.stock_word.specs.declared.view.Stock.{Stock}
-use Rattle.stock_word.specs.Stock.{KnownStockTable, KnownStockSeat, account_of, view_in, word_of, stock_pages_of}
-use Rattle.stock_word.specs.StockRule.{IsStockOf, stock_index, report_index}
+use Rattle.stock_word.specs.Stock.{word_of, stock_pages_of}
+use Rattle.stock_word.specs.StockRule.{stock_index, report_index}
 use Rattle.group_tree.specs.Room.{max_count}
 use Rattle.boot_words.specs.Seats.{zone_of_boot}
-use Rattle.boot_words.specs.Words.{IsRunOf}
-use Rattle.boot_words.specs.Pasts.{own_past}
+use Rattle.boot_words.specs.Pasts.{cpu_past, own_past}
 use Rattle.boot_words.specs.Hidden.{hide}
-use Rattle.boot_words.specs.Rule.{AllOf, IsPastOf}
+use Rattle.boot_words.specs.Rule.{words_in}
+use Rattle.boot_words.specs.Closed.{IsClosedRun, IsEndOfRun, pasts_of_cpus}
+use Rattle.boot_words.specs.Cpus.{KnownCpuSeat}
 use Rattle.boot_words.specs.Growth.{IsRunSoFar}
-use Rattle.boot_words.specs.declared.view.Past.{Past}
-use Rattle.cpu_part.specs.Cpus.{KnownCpu, IsTied, IsIdle}
-use Rattle.mem_machine.specs.Machines.{KnownMachine, IsConsistent, home_of, with_run}
+use Rattle.cpu_part.specs.Cpus.{KnownCpu, IsIdle}
+use Rattle.mem_machine.specs.Machines.{KnownMachine, IsConsistent, IsShownBy, home_of, part_at, with_run}
 use Rattle.mem_machine.specs.Noted.{KnownRun}
-use Rattle.mem_machine.specs.Resting.{hidden_of}
 use Rattle.mem_machine.specs.Settling.{Settles}
 use Rattle.mem_machine.specs.Lending.{UnlistsMany}
-use Rattle.mem_machine.specs.Stocks.{Drains, stock_group}
+use Rattle.mem_machine.specs.Stocks.{Drains, IsDrained, stock_group}
 use Rattle.mem_machine.specs.Steps.{cpu_makes, open_steps, shut_steps, drain_list_steps, drain_steps}
 use Rattle.mem_machine.specs.Places.{frames_free, frames_in_groups, NoneLentTo}
 use Rattle.mem_system.specs.declared.audit.Audit.{Audit}
 use Rattle.mem_system.specs.Locked.{KnownLocked, IsQuiet}
-use Rattle.mem_machine.specs.Local.{VisitState, visit_state, Makes}
+use Rattle.mem_machine.specs.Local.{VisitState, visit_state, VisitMakes}
 use Rattle.mem_system.specs.Commands.{Transition, BySteps}
 use Rattle.mem_system.specs.Cpus.{CpuInRun, VisitsInRun, between_locks, parts_of, pasts_of}
-use Rattle.mem_system.specs.Visits.{with_visit_of, with_run_at, visited, visit_steps}
+use Rattle.mem_system.specs.Visits.{with_run_at, visit_steps}
 use Rattle.step_watch.specs.Watched.{Watches}
 
 -- how many pins the CPUs have together
@@ -49,25 +46,23 @@ drops_of cpus = sum_by (λ cpu. cpu.drops) cpus
 pub record SettlesInVisit (call : Transition VisitState) : Type 0 where
   pub settled : KnownMachine
   pub seen : KnownRun
-  pub settles : Settles (with_run_at (visited call.before) seen) (visit_state settled call.after.cpu)
-  pub machine : call.after.machine
-      ≡ with_run (with_visit_of settled call.before.cpu.number 0) call.after.machine.run
-  pub steps_are : call.steps ≡ visit_steps call.before []
+  pub settles : Settles call.table (with_run_at call.before seen) (visit_state settled call.after.cpu)
+  pub machine : call.after.machine ≡ with_run settled call.after.machine.run
+  pub steps_are : call.steps ≡ visit_steps call.table call.before []
 
 -- in a visit, all frames of the CPU's list are returned to the zone, and then its stock is drained
 pub record Empties (call : Transition VisitState) : Type 0 where
   pub emptied : KnownMachine
   pub seen : KnownRun
-  pub takes : UnlistsMany call.before.cpu.list (with_run_at (visited call.before) seen)
+  pub takes : UnlistsMany call.before.cpu.list (with_run_at call.before seen)
       (visit_state emptied call.after.cpu)
   pub pages : ℕ
   pub drained : KnownMachine
-  pub drains : Drains call.before.cpu.number pages emptied drained
-  pub machine : call.after.machine
-      ≡ with_run (with_visit_of drained call.before.cpu.number 0) call.after.machine.run
+  pub drains : Drains call.table call.before.cpu.number pages emptied drained
+  pub machine : call.after.machine ≡ with_run drained call.after.machine.run
   pub steps_are : call.steps ≡ open_steps call.before.cpu.number
       ++ (drain_list_steps call.before.cpu.number call.before.cpu.list
-      ++ (drain_steps call.before.cpu.number (stock_group emptied call.before.cpu.number) pages
+      ++ (drain_steps call.before.cpu.number (stock_group call.table emptied call.before.cpu.number) pages
       ++ shut_steps call.before.cpu.number))
 
 -- the machine, and a CPU that doesn't hold its lock
@@ -85,8 +80,9 @@ pub record VisitsUnderLock (table : KnownTable) (Does : Transition VisitState �
     : Type 0 where
   pub found : KnownRun
   pub left : KnownMachine
+  pub holder : (cpu_past found.past).number ≡ before.cpu.part.number
   pub lock : Watches before.machine.run.watch (cpu_makes before.cpu.part.number Lock Done ∷ []) found.watch
-  pub visit : BySteps Makes table Does (visit_state (with_run before.machine found) before.cpu.part)
+  pub visit : BySteps VisitMakes table Does (visit_state (with_run before.machine found) before.cpu.part)
       (visit_state left after.cpu.part)
   pub unlock : Watches left.run.watch (cpu_makes before.cpu.part.number Unlock Done ∷ []) after.machine.run.watch
   pub machine : after.machine ≡ with_run left after.machine.run
@@ -127,18 +123,15 @@ pub record IsSettledUnpinned (cpu : KnownCpu) : Type 0 where
   pub no_pin : cpu.pins ≡ []
 
 -- the CPU has no frame on any of its lists and no pin, no frame is lent to it, and its stock is drained
-pub record IsEmptied (table : KnownTable) (stock_table : KnownStockTable) (machine : KnownMachine)
-    (cpu : KnownCpu) : Type 0 where
-  pub tied : IsTied table stock_table cpu
+pub record IsEmptied (table : KnownTable) (machine : KnownMachine) (cpu : KnownCpu) : Type 0 where
   pub idle : IsIdle cpu
   pub none_lent : NoneLentTo cpu.number machine.frame_states
-  pub drained : (account_of machine.stock_seat.view cpu.number).filled ≡ false
+  pub drained : IsDrained table machine cpu.number
 
 -- no frame was lent to a CPU that had none, and no drained stock was filled
-pub record LendsAndFillsNone (before after : KnownMachine) : Type 0 where
+pub record LendsAndFillsNone (table : KnownTable) (before after : KnownMachine) : Type 0 where
   pub none_lent : (cpu : ℕ) → NoneLentTo cpu before.frame_states → NoneLentTo cpu after.frame_states
-  pub drained : (cpu : ℕ) → (account_of before.stock_seat.view cpu).filled ≡ false
-      → (account_of after.stock_seat.view cpu).filled ≡ false
+  pub drained : (cpu : ℕ) → IsDrained table before cpu → IsDrained table after cpu
 
 -- The audit counts the machine's frames, last puts and freezes. Its drops are the machine's killed fresh frames
 -- and the CPUs' own drops, which its returns have too. A count stays at its greatest value.
@@ -157,63 +150,28 @@ pub record AddsUp (audit : Audit) : Type 0 where
   pub places : audit.free + audit.charged ≡ audit.frames
   pub balances : audit.returns ≡ min (audit.last_puts + audit.freezes + audit.drops) max_count
 
--- the CPU's seat at the frames
-abbrev pub frame_seat_of : KnownCpu → KnownSeat
-frame_seat_of cpu = cpu.frame_seat
+-- The table is closed with the machine's seat and those of these CPUs. The machine was consistent. There is one legal run
+-- whose state has just these words, and each past is a beginning of it; there is no other past.
+pub record IsClosed (table : KnownTable) (machine : KnownMachine) (cpus : List KnownCpuSeat) (words : List ℕ) : Type 0 where
+  pub consistent : IsConsistent table machine
+  pub closed : IsClosedRun (zone_of_boot table) words (machine.run.past.pasts ++ pasts_of_cpus cpus)
 
--- the CPU's seat at the stocks
-abbrev pub stock_seat_of : KnownCpu → KnownStockSeat
-stock_seat_of cpu = cpu.stock_seat
+-- The words of the frames at the end: a frame's word is 1, the zone's reference, if the frame heads a kept unit, else 0.
+abbrev pub AreLastWords : KnownTable → KnownMachine → List ℕ → Type 0
+AreLastWords table machine frame_words = (frame : ℕ) → frame < table.frames
+    → slice_index frame_words frame ≡ one_if (is_some (home_of machine.links frame))
 
--- both seats of the CPU are of this table
-pub record SitsAt (table : TableId) (cpu : KnownCpu) : Type 0 where
-  pub frames : cpu.frame_seat.table ≡ table
-  pub stocks : cpu.stock_seat.table ≡ table
-
--- one of the seats is the CPU's
-pub record HasSeatOf (seats : List KnownStockSeat) (cpu : ℕ) : Type 0 where
-  pub place : ℕ
-  pub inside : place < length seats
-  pub number : (view_in seats place).number ≡ cpu
-
--- the stock words are what the zone's seat and the CPU's seat at this index of the list know of that CPU's stock
-abbrev pub StockWordsAgreeAt : (stock_words : List ℕ) → KnownMachine → (seats : List KnownStockSeat) (place : ℕ)
-    → Type 0
-StockWordsAgreeAt stock_words machine seats place =
-    IsStockOf stock_words (view_in seats place).number machine.stock_seat.view (view_in seats place)
-
--- The table is closed with these seats and the machine's. The machine was consistent, and the frames' words keep the
--- reference rule. Each CPU has a seat at the stocks, and the stock words are what that seat and the machine's know. There
--- is one legal run whose last state has just these words. The machine's past and these pasts are beginnings of it.
-pub record IsClosed (table : KnownTable) (stock_table : KnownStockTable) (machine : KnownMachine)
-    (frame_seats : List KnownSeat) (stock_seats : List KnownStockSeat) (pasts : List Past) : Type 0 where
-  pub consistent : IsConsistent table stock_table machine
-  pub frame_words : List ℕ
-  pub rule : ReferenceRule table.frames table.cpus frame_words
-      ((machine.frame_seat.view ∷ map view_of frame_seats) ∷ [])
-  pub stock_words : List ℕ
-  pub each : (cpu : ℕ) → 0 < cpu → cpu ≤ stock_table.cpus → HasSeatOf stock_seats cpu
-  pub stocks : (place : ℕ) → place < length stock_seats → StockWordsAgreeAt stock_words machine stock_seats place
-  pub run : Run
-  pub is : IsRunOf (zone_of_boot table) (record { frames = frame_words; stocks = stock_words }) run
-  pub beginnings : AllOf (IsPastOf run) (own_past machine.run.past ∷ pasts)
-
--- The words of the frames at the end. They keep the reference rule with the views of all seats. A frame's word
--- is 1, the zone's reference, if the frame heads a kept unit, else 0.
-pub record AreLastWords (table : KnownTable) (machine : KnownMachine) (cpus : List KnownCpu)
-    (last : List ℕ) : Type 0 where
-  pub rule : ReferenceRule table.frames table.cpus last
-      ((machine.frame_seat.view ∷ map view_of (map frame_seat_of cpus)) ∷ [])
-  pub references : (frame : ℕ) → frame < table.frames
-      → slice_index last frame ≡ one_if (is_some (home_of machine.links frame))
-
--- no page is left in the CPU's stock word, in its report word, or in its book
-pub record HasNoPage (machine : KnownMachine) (stock_words : List ℕ) (cpu : ℕ) : Type 0 where
+-- the CPU's stock word holds no page, and its report word is 0
+pub record HasEmptyWords (stock_words : List ℕ) (cpu : ℕ) : Type 0 where
   pub stock : Stock
   pub encoded : slice_index stock_words (stock_index cpu) ≡ word_of stock
   pub empty : stock_pages_of stock ≡ 0
   pub none_reported : slice_index stock_words (report_index cpu) ≡ 0
-  pub book : (account_of machine.stock_seat.view cpu).book ≡ 0
+
+-- no page is left in the CPU's words, or in its book
+pub record HasNoPage (table : KnownTable) (machine : KnownMachine) (stock_words : List ℕ) (cpu : ℕ) : Type 0 where
+  pub words : HasEmptyWords stock_words cpu
+  pub book : (part_at table machine cpu).book ≡ 0
 
 -- a boot whose last visits are made: its machine, the CPUs, and how many fresh frames the CPUs put back on their own
 -- lists
@@ -225,10 +183,10 @@ pub record KnownEmptiedBoot : Type 0 where
 -- The last visits of a boot without pins, each under the lock. Each CPU is settled, then each CPU's list is returned
 -- and its stock drained, by steps that the machine's counts follow. These are all steps, in order, and the machine's
 -- watch took them. The run so far goes on by them.
-pub record MakesLastVisits (table : KnownTable) (stock_table : KnownStockTable) (locked : KnownLocked)
+pub record MakesLastVisits (table : KnownTable) (locked : KnownLocked)
     (cpus : List CpuInRun)
     (emptied : KnownEmptiedBoot) : Type 0 where
-  pub quiet : IsQuiet table stock_table locked
+  pub quiet : IsQuiet table locked
   pub no_pin : pins_of_all (parts_of cpus) ≡ 0
   pub settled : KnownMachine
   pub settled_cpus : List CpuInRun
@@ -243,33 +201,28 @@ pub record MakesLastVisits (table : KnownTable) (stock_table : KnownStockTable) 
   pub so_far : (earlier : Run) → IsRunSoFar earlier (own_past locked.machine.run.past) (pasts_of cpus)
       → IsRunSoFar (earlier ++ steps) (own_past emptied.machine.run.past) (pasts_of emptied.cpus)
 
--- The table of a boot is closed after its last visits. No frame is lent to anyone, and no stock has a page. The closed
--- words are what the seats know, and there is one legal run whose last state has just these words. The pasts of the zone
--- and of all CPUs are beginnings of it. It leaves the lock free, and every CPU's own part hidden, its last state is what
--- the machine shows. The audit counts what the machine and the CPUs counted, and it adds up.
-pub record Closes (table : KnownTable) (stock_table : KnownStockTable) (emptied : KnownEmptiedBoot)
-    (audit : Audit) : Type 0 where
-  pub all_emptied : All (λ cpu. IsEmptied table stock_table emptied.machine cpu) (parts_of emptied.cpus)
+-- The table of a boot is closed after its last visits. No frame is lent to anyone, and no stock has a page. There is one
+-- legal run whose state has just the last words, and the pasts of the zone and of all CPUs are beginnings of it. It leaves
+-- the lock free, and every CPU's own part hidden, its last state is what the machine shows. The audit counts what the
+-- machine and the CPUs counted, and it adds up.
+pub record Closes (table : KnownTable) (emptied : KnownEmptiedBoot) (audit : Audit) : Type 0 where
+  pub all_emptied : All (λ cpu. IsEmptied table emptied.machine cpu) (parts_of emptied.cpus)
   pub count : length emptied.cpus ≡ table.cpus
   pub none_lent : (cpu : ℕ) → NoneLentTo cpu emptied.machine.frame_states
-  pub stock_words : List ℕ
-  pub told : All (λ cpu. IsStockOf stock_words cpu.number emptied.machine.stock_seat.view cpu.stock_seat.view)
-      (parts_of emptied.cpus)
+  pub words : List ℕ
+  pub end : IsEndOfRun (zone_of_boot table) words (own_past emptied.machine.run.past ∷ pasts_of emptied.cpus)
   pub no_page : (cpu : ℕ) → 1 ≤ cpu → cpu ≤ table.cpus
-      → HasNoPage emptied.machine stock_words cpu
-  pub frame_words : List ℕ
-  pub last_words : AreLastWords table emptied.machine (parts_of emptied.cpus) frame_words
-  pub run : Run
-  pub is : IsRunOf (zone_of_boot table) (record { frames = frame_words; stocks = stock_words }) run
+      → HasNoPage table emptied.machine (words_in (zone_of_boot table) words).stocks cpu
+  pub last_words : AreLastWords table emptied.machine (words_in (zone_of_boot table) words).frames
   pub zone : (own_past emptied.machine.run.past).number ≡ 0
-  pub pasts : AllOf (IsPastOf run) (own_past emptied.machine.run.past ∷ pasts_of emptied.cpus)
-  pub left : hide (state_of (zone_of_boot table) run) ≡ hidden_of table emptied.machine
+  pub free : is_unheld (state_of (zone_of_boot table) end.run).hold ≡ true
+  pub left : IsShownBy table emptied.machine (hide (state_of (zone_of_boot table) end.run))
   pub counted : IsAuditOf table emptied.machine emptied.drops audit
   pub adds_up : AddsUp audit
 
 -- the end of a boot without pins: its last visits are made, and then its table is closed
-pub record Ends (table : KnownTable) (stock_table : KnownStockTable) (locked : KnownLocked) (cpus : List CpuInRun)
+pub record Ends (table : KnownTable) (locked : KnownLocked) (cpus : List CpuInRun)
     (audit : Audit) : Type 0 where
   pub emptied : KnownEmptiedBoot
-  pub visits : MakesLastVisits table stock_table locked cpus emptied
-  pub closes : Closes table stock_table emptied audit
+  pub visits : MakesLastVisits table locked cpus emptied
+  pub closes : Closes table emptied audit

@@ -6,8 +6,6 @@ use Rattle.group_tree.specs.Groups.{number_at}
 use Rattle.group_tree.specs.declared.fault.Fault.{Fault}
 use Rattle.group_tree.specs.declared.fault.Fault.TheVariants.{NoGroup, NoFile, ReadOnly, BadLimit, BadNumber, Again}
 use Rattle.group_charge.specs.Charges.{Ledger, current_of, with_group_limit, with_oom_flag}
-use Rattle.frame_word.specs.Seats.{KnownTable}
-use Rattle.cpu_part.specs.Cpus.{KnownCpu}
 use Rattle.control_files.specs.declared.file.File.{File}
 use Rattle.control_files.specs.declared.file.File.TheVariants.{Max, OomGroup, Reclaim}
 use Rattle.control_files.specs.Files.{name_of_file, file_text, is_writable}
@@ -15,8 +13,7 @@ use Rattle.control_files.specs.Flag.{IsFlagText, IsNoFlagText}
 use Rattle.control_files.specs.Limit.{ReadsAmount, ReadsAs, IsTooGreat, IsNoAmountText, IsNoLimitText}
 use Rattle.step_rules.specs.After.{Run}
 use Rattle.mem_machine.specs.Machines.{KnownMachine, with_run}
-use Rattle.mem_machine.specs.Local.{KeepsVisit, Visits}
-use Rattle.mem_machine.specs.Local.{visit_state}
+use Rattle.mem_machine.specs.Local.{Makes}
 use Rattle.mem_machine.specs.Noted.{KnownRun}
 use Rattle.mem_machine.specs.Steps.{set_max_steps, set_oom_group_steps}
 use Rattle.mem_reclaim.specs.Moves.{FreesBySteps}
@@ -26,12 +23,6 @@ use Rattle.mem_machine.specs.Transitions.{Transition, MachineStays, transition}
 use Rattle.mem_system.specs.declared.command.Reply.{Reply}
 use Rattle.mem_system.specs.declared.command.Reply.TheVariants.{Text, Done, Refused}
 use Rattle.mem_system.specs.Usage.{KeepsToLimit}
-
--- the visit of each CPU that was visited before is kept
-abbrev pub KeepsAnyVisit : KnownTable → (before after : KnownMachine) → Type 0
-KeepsAnyVisit table before after =
-    (cpu : KnownCpu) → Visits table (visit_state before cpu)
-    → KeepsVisit table (visit_state before cpu) (visit_state after cpu)
 
 -- the group has this path and isn't the root, and the name is that of its file
 pub record IsFileOf (groups : List Group) (path name : List ℕ) (group : ℕ) (file : File) : Type 0 where
@@ -73,6 +64,8 @@ with_limit_of machine group limit = record machine { ledger = with_group_limit m
 pub record SetsLimit (group : ℕ) (limit : Option ℕ) (call : Transition KnownMachine) : Type 0 where
   pub lowering : Run
   pub seen : KnownRun
+  pub sets : Makes call.table call.before (set_max_steps group limit)
+      (with_run (with_limit_of call.before group limit) seen)
   pub keeps : KeepsToLimit group limit
       (transition call.table (with_run (with_limit_of call.before group limit) seen) lowering call.after)
   pub steps_are : call.steps ≡ set_max_steps group limit ++ lowering

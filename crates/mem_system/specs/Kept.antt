@@ -2,7 +2,6 @@
 use Rattle.std.specs.Prelude.{length}
 use Rattle.std.specs.Vec.{vec_capacity}
 use Rattle.frame_word.specs.Seats.{KnownTable}
-use Rattle.stock_word.specs.Stock.{KnownStockTable}
 use Rattle.mem_system.specs.declared.lock.Locked.TheInside.{Inside}
 use Rattle.mem_system.specs.Locked.{KnownLocked, IsEmptyWithRoom, IsQuiet}
 
@@ -12,7 +11,7 @@ locked_of fields = record { machine = fields.machine; sizes = fields.sizes }
 
 -- while the lock is free, what lies behind it is quiet, with room for the seats of all CPUs, which are gathered at the
 -- end
-pub record IsSoundInside {N : Type 0} (table : KnownTable) (stock_table : KnownStockTable) (fields : Inside N)
+pub record IsSoundInside {N : Type 0} (table : KnownTable) (fields : Inside N)
     : Type 0 where
-  pub quiet : IsQuiet table stock_table (locked_of fields)
+  pub quiet : IsQuiet table (locked_of fields)
   pub seats : IsEmptyWithRoom fields.sizes.cpus (length fields.seats.items) (vec_capacity fields.seats)

@@ -5,7 +5,6 @@ use Rattle.frame_word.specs.Seats.{KnownTable}
 use Rattle.group_tree.specs.declared.group.Group.{Group}
 use Rattle.group_tree.specs.Groups.{in_subtree, limit_of, number_at}
 use Rattle.group_charge.specs.Charges.{Ledger, current_of}
-use Rattle.cpu_part.specs.Cpus.{KnownCpu}
 use Rattle.step_rules.specs.declared.step.Action.TheVariants.{Kill}
 use Rattle.step_rules.specs.declared.step.Answer.{Answer}
 use Rattle.step_rules.specs.declared.step.Step.{Step}
@@ -26,8 +25,8 @@ abbrev pub CommandsKillWholeSets : Type 0
 CommandsKillWholeSets =
     (cmd : Cmd) (reply : Reply) (call : Transition LockedState) (served : Serves cmd reply call) (before rest : Run)
     (made : Step × Answer) (group : ℕ) → served.inner ≡ before ++ made ∷ rest → made.0.action ≡ Kill group
-    → DiesWithItsSet (MayAskFor cmd served.settled.machine.ledger.groups) call.table served.settled.machine
-    served.settled.cpu before made rest
+    → DiesWithItsSet (MayAskFor cmd served.settled.machine.ledger.groups) call.table served.settled.machine before made
+    rest
 
 -- the value is the text of a limit of the group, to whose memory.max it is written, and the group's usage is above it
 pub record IsAboveWritten (path name value : List ℕ) (groups : List Group) (ledger : Ledger) (limited : ℕ)
@@ -55,9 +54,9 @@ KillsFor (Alloc path order) groups now limited = IsOverOnPath path.now order gro
 KillsFor other groups now limited = ⊥
 
 -- the kill comes last, and when everything else was tried there was this reason for it
-pub record IsKilledFor (cmd : Cmd) (table : KnownTable) (start : KnownMachine) (cpu : KnownCpu) (before : Run)
-    (group : ℕ) : Type 0 where
-  pub comes_last : ComesLast (MayAskFor cmd start.ledger.groups) table start cpu before group
+pub record IsKilledFor (cmd : Cmd) (table : KnownTable) (start : KnownMachine) (before : Run) (group : ℕ)
+    : Type 0 where
+  pub comes_last : ComesLast (MayAskFor cmd start.ledger.groups) table start before group
   pub reason : KillsFor cmd start.ledger.groups comes_last.last.now.ledger comes_last.last.limited
 
 -- A Write kills only while the usage is above the limit that its value writes. An Alloc kills only while its own pages
@@ -66,4 +65,4 @@ abbrev pub CommandsKillOverLimits : Type 0
 CommandsKillOverLimits =
     (cmd : Cmd) (reply : Reply) (call : Transition LockedState) (served : Serves cmd reply call) (before rest : Run)
     (made : Step × Answer) (group : ℕ) → served.inner ≡ before ++ made ∷ rest → made.0.action ≡ Kill group
-    → IsKilledFor cmd call.table served.settled.machine served.settled.cpu before group
+    → IsKilledFor cmd call.table served.settled.machine before group

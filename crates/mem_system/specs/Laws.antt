@@ -16,5 +16,4 @@ abbrev pub CommandsKillLast : Type 0
 CommandsKillLast =
     (cmd : Cmd) (reply : Reply) (call : Transition LockedState) (served : Serves cmd reply call) (before rest : Run)
     (made : Step × Answer) (group : ℕ) → served.inner ≡ before ++ made ∷ rest → made.0.action ≡ Kill group
-    → ComesLast (MayAskFor cmd served.settled.machine.ledger.groups) call.table served.settled.machine
-    served.settled.cpu before group
+    → ComesLast (MayAskFor cmd served.settled.machine.ledger.groups) call.table served.settled.machine before group

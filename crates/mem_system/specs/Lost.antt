@@ -1,18 +1,19 @@
 -- That no unit is lost: each charged unit is on a list of its group, fresh or back at a CPU, or has references.
-use Rattle.std.specs.Prelude.{◌≡◌, ◌⊎◌, ℕ, ◌≤◌, Some, List, [], ◌∷◌, map, slice_get}
-use Rattle.frame_word.specs.Totals.{SameTotals}
-use Rattle.frame_word.specs.declared.view.FrameView.{FrameView}
-use Rattle.frame_word.specs.ReferenceRule.{ReferenceRule}
+use Rattle.std.specs.Prelude.{◌≡◌, ◌⊎◌, ℕ, ◌≤◌, Some, List, slice_get}
 use Rattle.frame_word.specs.Seats.{KnownTable}
-use Rattle.stock_word.specs.Stock.{KnownStockTable}
 use Rattle.step_rules.specs.State.{times}
-use Rattle.cpu_part.specs.Cpus.{KnownCpu, IsTied}
+use Rattle.step_rules.specs.After.{Run, IsLegalRun, state_of}
+use Rattle.boot_words.specs.Seats.{zone_of_boot}
+use Rattle.boot_words.specs.Pasts.{own_past}
+use Rattle.boot_words.specs.Rule.{BeginsRun}
+use Rattle.cpu_part.specs.Cpus.{KnownCpu}
+use Rattle.cpu_part.specs.Known.{HasOwn}
 use Rattle.step_rules.specs.declared.phase.ChargedUnit.{ChargedUnit}
 use Rattle.lru_lists.specs.declared.record.Home.{Home}
 use Rattle.mem_machine.specs.declared.frame_state.FrameState.TheVariants.{Lent, Head, Tail}
 use Rattle.mem_machine.specs.FrameStates.{IsTailOf, frame_state_at}
 use Rattle.mem_machine.specs.Machines.{KnownMachine, IsConsistent, home_of}
-use Rattle.mem_system.specs.Locked.{AllShut}
+use Rattle.mem_machine.specs.Resting.{Rests}
 
 -- the unit is kept: its head is on a list of the group, which has a reference of the zone
 abbrev pub IsKeptFor : KnownMachine → (group head : ℕ) → Type 0
@@ -41,22 +42,20 @@ pub record NoUnitIsLost (machine : KnownMachine) (cpus : List KnownCpu) : Type 0
   pub lent : (frame number : ℕ) → frame_state_at machine.frame_states frame ≡ Lent number
       → SomeCpu cpus (HasLent number frame)
 
--- The frames' words keep the reference rule. The views of all seats are that of the machine's seat and those of these
--- CPUs' seats, however seats are joined. Each CPU's lists and pins are what its seats know.
-pub record AreAllSeats (table : KnownTable) (stock_table : KnownStockTable) (machine : KnownMachine)
-    (cpus : List KnownCpu) : Type 0 where
-  pub words : List ℕ
-  pub seats : List (List FrameView)
-  pub rule : ReferenceRule table.frames table.cpus words seats
-  pub views : SameTotals ((machine.frame_seat.view ∷ map (λ cpu. cpu.frame_seat.view) cpus) ∷ []) seats
-  pub tied : (index : ℕ) (cpu : KnownCpu) → slice_get cpus index ≡ Some cpu → IsTied table stock_table cpu
+-- These are all CPUs of the table, and their lists and pins are their own after a legal run of which the machine's past is
+-- a beginning, after which no step needs the lock.
+pub record AreAllCpus (table : KnownTable) (machine : KnownMachine) (cpus : List KnownCpu) : Type 0 where
+  pub run : Run
+  pub legal : IsLegalRun (zone_of_boot table) run
+  pub begins : BeginsRun (zone_of_boot table) run (own_past machine.run.past)
+  pub all : (number : ℕ) → 1 ≤ number → number ≤ table.cpus → SomeCpu cpus (λ cpu. cpu.number ≡ number)
+  pub own : (index : ℕ) (cpu : KnownCpu) → slice_get cpus index ≡ Some cpu → HasOwn (state_of (zone_of_boot table) run) cpu
 
--- no unit of the machine is lost, whatever the CPUs are that have all other seats
-abbrev pub LosesNoUnit : KnownTable → KnownStockTable → KnownMachine → Type 0
-LosesNoUnit table stock_table machine =
-    (cpus : List KnownCpu) → AreAllSeats table stock_table machine cpus → NoUnitIsLost machine cpus
+-- no unit of the machine is lost, whatever the CPUs are
+abbrev pub LosesNoUnit : KnownTable → KnownMachine → Type 0
+LosesNoUnit table machine = (cpus : List KnownCpu) → AreAllCpus table machine cpus → NoUnitIsLost machine cpus
 
--- a consistent machine without an open visit has lost no unit
+-- a consistent machine whose lock nobody holds has lost no unit
 abbrev pub ConsistentMachinesLoseNoUnit : Type 0
-ConsistentMachinesLoseNoUnit = (table : KnownTable) (stock_table : KnownStockTable) (machine : KnownMachine)
-    → IsConsistent table stock_table machine → AllShut machine → LosesNoUnit table stock_table machine
+ConsistentMachinesLoseNoUnit = (table : KnownTable) (machine : KnownMachine)
+    → IsConsistent table machine → Rests table machine → LosesNoUnit table machine

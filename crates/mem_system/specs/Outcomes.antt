@@ -6,7 +6,7 @@ use Rattle.group_charge.specs.Charges.{Ledger}
 use Rattle.control_files.specs.Files.{file_text}
 use Rattle.frame_word.specs.Seats.{KnownTable}
 use Rattle.mem_machine.specs.Machines.{KnownMachine}
-use Rattle.mem_machine.specs.Local.{VisitState, Makes, MakesForAny}
+use Rattle.mem_machine.specs.Local.{VisitState, Makes, VisitMakes}
 use Rattle.mem_machine.specs.Transitions.{Transition, BySteps}
 use Rattle.mem_system.specs.declared.outcome.Outcome.{Outcome}
 use Rattle.mem_system.specs.declared.outcome.Outcome.TheVariants as outcome
@@ -52,10 +52,10 @@ HasItsGroups ledger other = Unit {0}
 abbrev pub ComesTo : KnownTable → Outcome → (Reply → Transition VisitState → Type 0) → (before after : VisitState)
     → Type 0
 ComesTo table outcome Does before after =
-    BySteps Makes table (Does (reply_of after.machine.ledger outcome)) before after
+    BySteps VisitMakes table (Does (reply_of after.machine.ledger outcome)) before after
 
--- the same for a call on the machine alone, whichever CPU holds the lock
-abbrev pub ComesToForAny : KnownTable → Outcome → (Reply → Transition KnownMachine → Type 0)
+-- the same for a call on the machine alone
+abbrev pub ComesToAlone : KnownTable → Outcome → (Reply → Transition KnownMachine → Type 0)
     → (before after : KnownMachine) → Type 0
-ComesToForAny table outcome Does before after =
-    BySteps MakesForAny table (Does (reply_of after.ledger outcome)) before after
+ComesToAlone table outcome Does before after =
+    BySteps Makes table (Does (reply_of after.ledger outcome)) before after

@@ -18,11 +18,11 @@ pub record HeadsNoUnit (frame : ℕ) (call : Transition KnownMachine) : Type 0 w
   pub on_no_list : home_of call.before.links frame ≡ None
   pub stays : MachineStays call
 
--- an act on the unit that a frame heads: it makes no step, and leaves the zone's seat alone
+-- an act on the unit that a frame heads: it makes no step
 pub record MakesNoStep (Does : Transition KnownMachine → Type 0) (call : Transition KnownMachine) : Type 0 where
   pub does : Does call
   pub steps_are : call.steps ≡ []
-  pub seat : call.after.frame_seat ≡ call.before.frame_seat
+  pub run : call.after.run ≡ call.before.run
 
 -- Touch: the unit is marked, on the inactive list; or it moved, unmarked, to the newest end of the active list; or the
 -- frame heads no kept unit

@@ -3,7 +3,7 @@ use Rattle.std.specs.Prelude.{◌≡◌, ℕ, ◌<◌, ◌≤◌, Option, Some, 
 use Rattle.group_charge.specs.Charges.{current_of}
 use Rattle.step_rules.specs.After.{Run}
 use Rattle.mem_machine.specs.Machines.{KnownMachine}
-use Rattle.mem_machine.specs.Local.{MakesForAny}
+use Rattle.mem_machine.specs.Local.{Makes}
 use Rattle.mem_machine.specs.Steps.{Drain, drain_stocks_steps}
 use Rattle.mem_machine.specs.Stocks.{DrainsAllBelow, AreDrained}
 use Rattle.mem_reclaim.specs.Moves.{FreesBySteps}
@@ -19,9 +19,9 @@ use Rattle.mem_machine.specs.Transitions.{Transition, transition, MachineStays}
 pub record LowersUsage (group limit : ℕ) (call : Transition KnownMachine) : Type 0 where
   pub drains : List Drain
   pub drained : KnownMachine
-  pub drains_all : DrainsAllBelow group call.table.cpus drains call.before drained
-  pub none_held : AreDrained group call.table.cpus drained
-  pub drain_runs : MakesForAny call.table call.before (drain_stocks_steps drains) drained
+  pub drains_all : DrainsAllBelow call.table group call.table.cpus drains call.before drained
+  pub none_held : AreDrained call.table group drained
+  pub drain_runs : Makes call.table call.before (drain_stocks_steps drains) drained
   pub freed : ℕ
   pub reclaims : FreesBySteps call.table freed drained call.after
       (ReclaimsRounds group (pages_missing group 0 limit) max_rounds)

@@ -1,15 +1,16 @@
 -- How a command is served: in a visit of its CPU, under the lock.
 use Rattle.std.specs.Prelude.{◌≡◌, ℕ, false, Some, List, [], ◌++◌}
 use Rattle.std.specs.Borrow.{Bor}
-use Rattle.frame_word.specs.Seats.{KnownTable, LentIsBorrowed, NothingPasses, seat_with_visit}
-use Rattle.stock_word.specs.Stock.{KnownStockTable}
+use Rattle.frame_word.specs.Seats.{KnownTable}
 use Rattle.zone_blocks.specs.declared.config.Config.{Config}
+use Rattle.boot_words.specs.Pasts.{Locks, Unlocks}
 use Rattle.group_tree.specs.Groups.{number_at}
 use Rattle.step_rules.specs.After.{Run}
 use Rattle.mem_machine.specs.Machines.{KnownMachine, with_run, without_notes}
-use Rattle.mem_machine.specs.Local.{VisitState, visit_state, Makes}
+use Rattle.mem_machine.specs.Local.{VisitState, visit_state, Holds, IsShut, Makes}
 use Rattle.mem_machine.specs.Noted.{KnownRun}
 use Rattle.mem_machine.specs.Settling.{Settles, settle_steps}
+use Rattle.mem_machine.specs.Showing.{stock_left}
 use Rattle.mem_machine.specs.Steps.{open_steps, shut_steps}
 use Rattle.mem_reclaim.specs.Moves.{has_kill}
 -- a call, described by the state before it, its steps and the state after it
@@ -26,18 +27,9 @@ use Rattle.mem_system.specs.Asks.{MayAskFor}
 use Rattle.mem_system.specs.Cpus.{CpuInRun, VisitsInRun}
 use Rattle.mem_system.specs.Commands.{Executes, ListAndFreshStayWithin}
 
--- the machine with the CPU's visit open (1) or shut (0)
-abbrev pub with_visit_of : KnownMachine → (cpu state : ℕ) → KnownMachine
-with_visit_of machine cpu state =
-    record machine { frame_seat = seat_with_visit machine.frame_seat cpu state }
-
--- the visit state after the CPU's visit is opened
-abbrev pub visited : VisitState → VisitState
-visited before = visit_state (with_visit_of before.machine before.cpu.number 1) before.cpu
-
--- the visit state after all earlier notes are forgotten and the CPU's visit is opened
+-- the visit state after all earlier notes are forgotten
 abbrev pub begun : VisitState → VisitState
-begun before = visited (visit_state (without_notes before.machine) before.cpu)
+begun before = visit_state (without_notes before.machine) before.cpu
 
 -- the visit state with another run
 abbrev pub with_run_at : VisitState → KnownRun → VisitState
@@ -57,9 +49,9 @@ abbrev pub visit_state_of : LockedState → VisitState
 visit_state_of now = visit_state now.locked.machine now.cpu.part
 
 -- the steps of a visit: it is opened, its CPU is settled, the inner steps are made, and it is shut
-abbrev pub visit_steps : VisitState → Run → Run
-visit_steps before inner =
-    open_steps before.cpu.number ++ (settle_steps (visited before) ++ (inner ++ shut_steps before.cpu.number))
+abbrev pub visit_steps : KnownTable → VisitState → Run → Run
+visit_steps table before inner =
+    open_steps before.cpu.number ++ (settle_steps table before ++ (inner ++ shut_steps before.cpu.number))
 
 -- A command under the lock. Earlier notes are forgotten, the caller's visit is opened, the caller is settled, the
 -- command is executed, and the visit is shut. The command kills a group only after it tried everything else, and only
@@ -67,25 +59,45 @@ visit_steps before inner =
 pub record Serves (cmd : Cmd) (reply : Reply) (call : Transition LockedState) : Type 0 where
   pub settled : VisitState
   pub seen : KnownRun
-  pub settles : Settles (with_run_at (begun (visit_state_of call.before)) seen) settled
+  pub settles : Settles call.table (with_run_at (begun (visit_state_of call.before)) seen) settled
   pub inner : Run
   pub done : KnownMachine
   pub executes : Executes call.before.locked.sizes cmd reply
       (transition call.table settled inner (visit_state done call.after.cpu.part))
-  pub no_rash : NoRashKill call.table (MayAskFor cmd settled.machine.ledger.groups) settled.machine settled.cpu inner
-  pub only_inner : has_kill (visit_steps (visit_state_of call.before) []) ≡ false
+  pub no_rash : NoRashKill call.table (MayAskFor cmd settled.machine.ledger.groups) settled.machine inner
+  pub only_inner : has_kill (visit_steps call.table (visit_state_of call.before) []) ≡ false
   pub misses : CountsMisses (transition call.table settled.machine inner done)
-  pub machine : call.after.locked.machine
-      ≡ with_run (with_visit_of done call.before.cpu.part.number 0) call.after.locked.machine.run
+  pub machine : call.after.locked.machine ≡ with_run done call.after.locked.machine.run
   pub sizes : call.after.locked.sizes ≡ call.before.locked.sizes
-  pub steps_are : call.steps ≡ visit_steps (visit_state_of call.before) inner
+  pub steps_are : call.steps ≡ visit_steps call.table (visit_state_of call.before) inner
 
--- A command was served under the lock with this reply: these steps lead from one locked state to the other, and the
--- machine's counts follow them. The CPU took the lock in the run before them, and released it after them.
+-- The CPU takes the lock, which the watch doesn't see. It holds the lock with this run, and its visit is shut.
+pub record TakesLock (table : KnownTable) (before : LockedState) (found : KnownRun) : Type 0 where
+  pub locks : Locks table before.locked.machine.run.past before.cpu.past found.past
+  pub watch : found.watch ≡ before.locked.machine.run.watch
+  pub holds : Holds table (visit_state (with_run before.locked.machine found) before.cpu.part)
+  pub shut : IsShut table (with_run before.locked.machine found) before.cpu.part.number
+
+-- The CPU holds the lock with this run, its visit is shut, and it releases the lock, which the watch doesn't see.
+pub record ReleasesLock (table : KnownTable) (left : KnownRun) (after : LockedState) : Type 0 where
+  pub holds : Holds table (visit_state (with_run after.locked.machine left) after.cpu.part)
+  pub shut : IsShut table (with_run after.locked.machine left) after.cpu.part.number
+  pub watch : after.locked.machine.run.watch ≡ left.watch
+  pub unlocks : Unlocks table left.past after.locked.machine.run.past after.cpu.past
+
+-- A command was served under the lock with this reply. The CPU took the lock, and found this run. It opened its visit by
+-- the first of these steps. They lead from the machine with that run to the machine with the run that the CPU left, and the
+-- machine's counts follow them. Then the CPU released the lock.
 pub record IsServed (table : KnownTable) (cmd : Cmd) (reply : Reply) (before after : LockedState) : Type 0 where
   pub steps : Run
   pub serves : Serves cmd reply (transition table before steps after)
-  pub makes : Makes table (visit_state_of before) steps (visit_state_of after)
+  pub found : KnownRun
+  pub left : KnownRun
+  pub taken : TakesLock table before found
+  pub opens : Makes table (with_run before.locked.machine found) (open_steps before.cpu.part.number)
+      (with_run before.locked.machine serves.seen)
+  pub makes : Makes table (with_run before.locked.machine found) steps (with_run after.locked.machine left)
+  pub released : ReleasesLock table left after
   pub run : VisitsInRun before.cpu.part.number steps before.locked.machine.run.past before.cpu.past
       after.locked.machine.run.past after.cpu.past
 
@@ -102,21 +114,18 @@ ServesFrameOutcome table group outcome before after =
     → ServesOutcome table (Alloc path 0) outcome before after
 
 -- What a visit leaves. If the CPU's list had at most `high` frames, its list and its fresh frames together have at most
--- `high`. No frame is in transit between the CPU and the zone. The frames lent to the CPU are those that its seat has
--- borrowed.
+-- `high`. The CPU has seen its stock as it is.
 pub record EndsVisit (table : KnownTable) (before after : LockedState) : Type 0 where
   pub at_most_high : ListAndFreshStayWithin before.locked.sizes before.cpu.part after.cpu.part
-  pub still : NothingPasses table after.locked.machine.frame_seat after.cpu.part.frame_seat
-  pub lent : LentIsBorrowed table after.locked.machine.frame_seat after.cpu.part.frame_seat
+  pub last : after.cpu.last ≡ stock_left table after.locked.machine after.cpu.part.number
 
 -- What a visit through the lock says. Some sound value was behind the lock, with these sizes. The CPU was served with
--- it, and a sound value was left. The frames lent to the CPU after it are those that its seat has borrowed.
-pub record IsVisited (table : KnownTable) (stock_table : KnownStockTable) (sizes : Config)
+-- it, and a sound value was left.
+pub record IsVisited (table : KnownTable) (sizes : Config)
     (Served : LockedState → LockedState → Type 0) (before after : CpuInRun) : Type 0 where
   pub found : KnownLocked
   pub left : KnownLocked
   pub sizes_are : found.sizes ≡ sizes
-  pub sound_before : IsSound table stock_table found
+  pub sound_before : IsSound table found
   pub served : Served (locked_state found before) (locked_state left after)
-  pub sound_after : IsSound table stock_table left
-  pub lent : LentIsBorrowed table left.machine.frame_seat after.part.frame_seat
+  pub sound_after : IsSound table left

@@ -2,8 +2,7 @@
 
 ghost use Rattle.std.specs.Prelude.{◌≡◌, ℕ, IsTrue, Err};
 ghost use Rattle.group_tree.specs.Groups.{has_group};
-ghost use Rattle.mem_machine.specs.Local.{KeepsVisit};
-ghost use Rattle.mem_machine.specs.Local.{visit_state, Makes};
+ghost use Rattle.mem_machine.specs.Local.{KeepsVisit, VisitMakes, visit_state};
 ghost use Rattle.mem_alloc.specs.declared.faults.AllocFault.TheVariants as cause_is;
 ghost use Rattle.mem_system.specs.Allocations.{Allocates, AllocatesAs, FreshOf, outcome_of};
 ghost use Rattle.mem_system.specs.Outcomes.{ComesTo, HasItsGroups, reply_of};
@@ -42,9 +41,9 @@ fn allocate_as<N: BootName>(
     group: GroupId,
     order: Order,
 ) -> Result<Frame, AllocFault>
-    requires visit { MayExecute N.frames N.stocks sizes (visit_state machine.old cpu.old) }
+    requires visit { MayExecute N.frames sizes (visit_state machine.old cpu.old) }
     requires there { IsTrue (has_group machine.old.ledger.groups group) }
-    ensures allocates { BySteps Makes N.frames (AllocatesAs sizes group order result)
+    ensures allocates { BySteps VisitMakes N.frames (AllocatesAs sizes group order result)
         (visit_state machine.old cpu.old) (visit_state machine.new cpu.new) }
     ensures stays { KeepsVisit N.frames (visit_state machine.old cpu.old) (visit_state machine.new cpu.new) }
     ensures fresh { FreshOf (reply_of machine.new.ledger (outcome_of result)) order cpu.new.fresh }
@@ -67,7 +66,7 @@ pub(crate) fn allocate<N: BootName>(
     path: &[u8],
     order: u32,
 ) -> Outcome
-    requires visit { MayExecute N.frames N.stocks sizes (visit_state machine.old cpu.old) }
+    requires visit { MayExecute N.frames sizes (visit_state machine.old cpu.old) }
     ensures allocates { ComesTo N.frames result (Allocates sizes path.now order)
         (visit_state machine.old cpu.old) (visit_state machine.new cpu.new) }
     ensures groups { HasItsGroups machine.new.ledger result }

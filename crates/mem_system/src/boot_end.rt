@@ -55,7 +55,7 @@ pub fn make_last_visits<N: BootName>(
     mut cpus: Vec<Cpu<N>>,
 ) -> Result<EmptiedBoot<N>, Pinned<N>>
     requires { length cpus.items ≡ N.frames.cpus }
-    ensures visits { IfOk result (MakesLastVisits N.frames N.stocks locked cpus.items) }
+    ensures visits { IfOk result (MakesLastVisits N.frames locked cpus.items) }
     ensures pins { IfErr result (λ pinned. pinned.pins ≡ pins_of_all (parts_of cpus.items)) }
     ensures some_pin { IfErr result (λ pinned. 1 ≤ pinned.pins) }
     ensures locked { IfErr result (λ pinned. pinned.locked ≡ locked) }
@@ -98,7 +98,7 @@ pub fn end<N: BootName>(
     cpus: Vec<Cpu<N>>,
 ) -> Result<Audit, Pinned<N>>
     requires { length cpus.items ≡ N.frames.cpus }
-    ensures ends { IfOk result (λ audit. Ends N.frames N.stocks locked cpus.items audit) }
+    ensures ends { IfOk result (λ audit. Ends N.frames locked cpus.items audit) }
     ensures pins { IfErr result (λ pinned. pinned.pins ≡ pins_of_all (parts_of cpus.items)) }
     ensures some_pin { IfErr result (λ pinned. 1 ≤ pinned.pins) }
     ensures locked { IfErr result (λ pinned. pinned.locked ≡ locked) }

@@ -2,7 +2,9 @@
 
 ghost use Rattle.std.specs.Prelude.{◌≡◌, [], length, All, IfOk};
 ghost use Rattle.boot_words.specs.Growth.{IsRunSoFar};
-ghost use Rattle.boot_words.specs.Opening.{opening_seats, zone_seats};
+ghost use Rattle.boot_words.specs.Cpus.{IsAwayCpu};
+ghost use Rattle.boot_words.specs.Opening.{cpus_at_first, seat_at_first};
+ghost use Rattle.boot_words.specs.Rule.{AllOf};
 ghost use Rattle.boot_words.specs.Pasts.{own_past};
 ghost use Rattle.mem_machine.specs.Machines.{IsFirst};
 ghost use Rattle.cpu_part.specs.Cpus.{IsIdle};
@@ -14,7 +16,7 @@ ghost use Rattle.mem_system.specs.declared.boots.BootFault.TheVariants.{NoMemory
 use crate::cpus::Cpu;
 use crate::lock::Locked;
 use crate::system::System;
-use boot_words::{BootWords, OwnSeats};
+use boot_words::{BootWords, CpuSeat, PastSeat};
 use cpu_part::{BootName, Tables};
 use mem_machine::Machine;
 use std::alloc::{AllocError, Global};
@@ -43,22 +45,20 @@ impl From<AllocError> for BootFault {
 pub struct Boot {
     pub(crate) sizes: Config,
     pub(crate) words: BootWords,
-    // The zone's seats.
-    pub(crate) zone: OwnSeats,
+    pub(crate) zone: PastSeat,
     // The CPUs' seats, in order.
-    pub(crate) cpus: Vec<OwnSeats>,
+    pub(crate) cpus: Vec<CpuSeat>,
 }
 
 impl Model for Boot {
-    ghost use Rattle.cpu_part.specs.Cpus.{stock_table_of};
     ghost use Rattle.mem_system.specs.Boots.{KnownBoot, IsBooted};
 
     ghost Value = { KnownBoot };
 
-    ghost view = { λ b. record { sizes = b.sizes; frames = b.words; stocks = stock_table_of b.words } };
+    ghost view = { λ b. record { sizes = b.sizes; frames = b.words } };
 
     ghost invariant = { λ b.
-        IsBooted (record { sizes = b.sizes; frames = b.words; stocks = stock_table_of b.words }) b.zone b.cpus.items };
+        IsBooted (record { sizes = b.sizes; frames = b.words }) b.zone b.cpus.items };
 }
 
 impl Boot {
@@ -70,12 +70,11 @@ impl Boot {
         alloc: Global,
     ) -> Result<(Locked<N>, Tables<N>, Vec<Cpu<N>>), AllocError>
         requires frames { self.frames ≡ N.frames }
-        requires stocks { self.stocks ≡ N.stocks }
-        ensures machine { IfOk result (λ parts. IsFirst N.frames N.stocks parts.0.machine) }
+        ensures machine { IfOk result (λ parts. IsFirst N.frames parts.0.machine) }
         ensures sizes { IfOk result (λ parts. parts.0.sizes ≡ self.sizes) }
-        ensures cpus { IfOk result (λ parts. parts_of parts.2.items ≡ first_cpus N.frames N.stocks 1 self.sizes.cpus) }
+        ensures cpus { IfOk result (λ parts. parts_of parts.2.items ≡ first_cpus 1 self.sizes.cpus) }
         ensures count { IfOk result (λ parts. length parts.2.items ≡ N.frames.cpus) }
-        ensures sized { IfOk result (λ _. IsSizedAs self.sizes N.frames N.stocks) }
+        ensures sized { IfOk result (λ _. IsSizedAs self.sizes N.frames) }
         ensures so_far { IfOk result (λ parts.
             IsRunSoFar [] (own_past parts.0.machine.run.past) (pasts_of parts.2.items)) }
     {
@@ -101,10 +100,9 @@ impl Boot {
     /// says what lies behind it.
     pub fn start<N: BootName>(self, alloc: Global) -> Result<(System<N>, Vec<Cpu<N>>), AllocError>
         requires frames { self.frames ≡ N.frames }
-        requires stocks { self.stocks ≡ N.stocks }
         ensures sizes { IfOk result (λ started. started.0.sizes ≡ self.sizes) }
         ensures cpus { IfOk result (λ started.
-            parts_of started.1.items ≡ first_cpus N.frames N.stocks 1 self.sizes.cpus) }
+            parts_of started.1.items ≡ first_cpus 1 self.sizes.cpus) }
         ensures count { IfOk result (λ started. length started.1.items ≡ N.frames.cpus) }
     {
         let (locked, tables, cpus) = self.into_parts(alloc)?;
@@ -118,14 +116,14 @@ fn new_locked<N: BootName>(
     alloc: Global,
     sizes: Config,
     tables: &Tables<N>,
-    zone: OwnSeats,
+    zone: PastSeat,
 ) -> Result<Locked<N>, AllocError>
     requires valid { IsValidConfig sizes }
-    requires sized { IsSizedAs sizes N.frames N.stocks }
-    requires zone { zone ≡ zone_seats N.frames.table N.frames.frames }
-    ensures machine { IfOk result (λ locked. IsFirst N.frames N.stocks locked.machine) }
+    requires sized { IsSizedAs sizes N.frames }
+    requires zone { zone ≡ seat_at_first N.frames.table 0 }
+    ensures machine { IfOk result (λ locked. IsFirst N.frames locked.machine) }
     ensures sizes { IfOk result (λ locked. locked.sizes ≡ sizes) }
-    ensures past { IfOk result (λ locked. locked.machine.run.past ≡ zone.past) }
+    ensures past { IfOk result (λ locked. locked.machine.run.past ≡ zone) }
 {
     let seats = Vec::with_capacity(alloc, sizes.cpus as usize)?;
     let machine = Machine::<N>::new(alloc, tables, zone)?;
@@ -136,17 +134,15 @@ fn new_locked<N: BootName>(
     })
 }
 
-// A part for each CPU, from its seats.
+// A part for each CPU, from its seat.
 fn make_cpus<N: BootName>(
     alloc: Global,
     cpus: u32,
-    mut seats: Vec<OwnSeats>,
+    mut seats: Vec<CpuSeat>,
 ) -> Result<Vec<Cpu<N>>, AllocError>
-    requires seats { seats.items ≡ opening_seats N.frames.table 1 cpus }
-    requires stocks { N.stocks.table ≡ N.frames.table }
-    requires cpus { cpus ≡ N.frames.cpus }
-    requires stock_cpus { cpus ≡ N.stocks.cpus }
-    ensures parts { IfOk result (λ made. parts_of made.items ≡ first_cpus N.frames N.stocks 1 cpus) }
+    requires seats { seats.items ≡ cpus_at_first N.frames.table 1 cpus }
+    requires away { AllOf (IsAwayCpu N.frames) seats.items }
+    ensures parts { IfOk result (λ made. parts_of made.items ≡ first_cpus 1 cpus) }
     ensures pasts { IfOk result (λ made. pasts_of made.items ≡ first_pasts 1 cpus) }
 {
     let mut made = Vec::with_capacity(alloc, cpus as usize)?;
@@ -167,7 +163,7 @@ fn take_apart<N: BootName>(mut cpus: Vec<Cpu<N>>)
     requires { All IsIdle (parts_of cpus.items) }
 {
     while let Some(cpu) = cpus.pop() {
-        let _ = cpu.into_seats();
+        let _ = cpu.into_seat();
     }
     cpus.destroy_empty();
 }

@@ -1,7 +1,6 @@
 //! The commands that a CPU gives under the lock, how they are executed, and their replies.
 
-ghost use Rattle.mem_machine.specs.Local.{KeepsVisit};
-ghost use Rattle.mem_machine.specs.Local.{visit_state};
+ghost use Rattle.mem_machine.specs.Local.{KeepsVisit, visit_state};
 ghost use Rattle.mem_system.specs.Outcomes.{ComesTo, HasItsGroups, reply_of};
 ghost use Rattle.mem_system.specs.Commands.{FreshAfter, IsOfZone, ListAndFreshStayWithin, MayExecute, Executes};
 
@@ -115,7 +114,7 @@ pub(crate) fn execute<N: BootName>(
     cmd: &Cmd<'_>,
 ) -> Outcome
     requires zone { IsOfZone N.frames cmd.now }
-    requires visit { MayExecute N.frames N.stocks sizes (visit_state machine.old cpu.old) }
+    requires visit { MayExecute N.frames sizes (visit_state machine.old cpu.old) }
     ensures executed { ComesTo N.frames result (Executes sizes cmd.now)
         (visit_state machine.old cpu.old) (visit_state machine.new cpu.new) }
     ensures groups { HasItsGroups machine.new.ledger result }
@@ -125,7 +124,7 @@ pub(crate) fn execute<N: BootName>(
 {
     match cmd {
         Cmd::Mkdir { path } => make_group(machine, tables, path),
-        Cmd::Rmdir { path } => remove_group(machine, tables, cpu, path),
+        Cmd::Rmdir { path } => remove_group(machine, tables, path),
         Cmd::Write { path, file, value } => write_file(machine, tables, path, file, value),
         Cmd::Read { path, file } => read_file(machine.charges(), path, file),
         Cmd::Settle => Outcome::Done,

@@ -2,19 +2,22 @@
 
 ghost use Rattle.std.specs.Prelude.{◌≡◌, ◌≢◌, ◌+◌, ◌<◌, ◌≤◌, ◌↔◌, [], length, Ok, IfOk, IsTrue, MatchOption, MatchResult};
 ghost use Rattle.frame_word.specs.declared.answers.Get.TheVariants.{Zero};
-ghost use Rattle.frame_word.specs.Seats.{IsInNoHand, seat_number};
 ghost use Rattle.boot_words.specs.Growth.{GrewByAll};
-ghost use Rattle.boot_words.specs.Pasts.{IsCpuPast, own_past};
+ghost use Rattle.boot_words.specs.Calls.{RacesAt};
+ghost use Rattle.boot_words.specs.Cpus.{IsAwayCpu};
+ghost use Rattle.boot_words.specs.Opening.{cpu_at_first};
+ghost use Rattle.boot_words.specs.Pasts.{own_past};
+ghost use Rattle.boot_words.specs.Seats.{zone_of_boot};
 ghost use Rattle.stock_word.specs.declared.view.Stock.TheVariants.{NoGroup};
 ghost use Rattle.stock_word.specs.Stock.{HasWord};
 ghost use Rattle.group_tree.specs.declared.fault.Fault.TheVariants.{PinsFull};
 ghost use Rattle.step_rules.specs.State.{times};
-ghost use Rattle.cpu_part.specs.Cpus.{IsIdle, IsTied, most_fresh, most_listed, most_pins};
-ghost use Rattle.cpu_part.specs.Calls.{DropAnswers, FastAnswers, IfGot, PinAnswers, UnpinAnswers};
+ghost use Rattle.cpu_part.specs.Cpus.{AreWithin, IsIdle, IsUnlisted, first_cpu, most_fresh, most_listed, most_pins};
+ghost use Rattle.cpu_part.specs.Calls.{DropAnswers, FastAnswers, IfGot, IfRaced, PinAnswers, UnpinAnswers};
 ghost use Rattle.cpu_part.specs.Told.{steps_of_drop, steps_of_fast, steps_of_get, steps_of_put};
-ghost use Rattle.mem_system.specs.Boots.{AreFirstSeats, part_at_first};
+ghost use Rattle.mem_system.specs.Cpus.{KnowsItself, cpu_in_run, seat_of};
 
-use boot_words::{OwnSeats, PastSeat};
+use boot_words::CpuSeat;
 use cpu_part::{BootName, Cpu as CpuPart, Dropped, Fast, Tables};
 use frame_word::{Frame, Get, Put};
 use group_tree::fault::Fault;
@@ -22,12 +25,12 @@ use std::alloc::{AllocError, Global};
 use std::marker::Model;
 use stock_word::Stock;
 
-/// What a CPU has for itself: its part of the memory controller, and its own past of the run. By the past it knows its
-/// own lists and pins, whatever others did since its last step. `into_seats` consumes it.
+/// What a CPU has for itself: its part of the memory controller, and its seat with its own past of the run. By the past it
+/// knows its own lists and pins, whatever others did since its last step. `into_seat` consumes it.
 pub struct Cpu<N: BootName> {
     pub(crate) part: CpuPart<N>,
     // Empty while the CPU holds the lock: the machine has it then.
-    pub(crate) past: PastSeat,
+    pub(crate) past: CpuSeat,
 }
 
 impl<N: BootName> Model for Cpu<N> {
@@ -42,49 +45,35 @@ impl<N: BootName> Model for Cpu<N> {
 }
 
 impl<N: BootName> Cpu<N> {
-    // The CPU that has these seats and did nothing yet. All room that its calls need is reserved. `AllocError` if memory
+    // The CPU that has this seat and did nothing yet. All room that its calls need is reserved. `AllocError` if memory
     // runs out.
-    pub(crate) fn new(alloc: Global, seats: OwnSeats) -> Result<Cpu<N>, AllocError>
-        requires seats { AreFirstSeats N.frames (seat_number seats.frames) seats }
-        requires stocks { N.stocks.table ≡ N.frames.table }
-        requires cpus { N.stocks.cpus ≡ N.frames.cpus }
-        ensures part { IfOk result (λ c. c.part ≡ part_at_first N.frames N.stocks (seat_number seats.frames)) }
-        ensures past { IfOk result (λ c. c.past ≡ seats.past) }
+    pub(crate) fn new(alloc: Global, seat: CpuSeat) -> Result<Cpu<N>, AllocError>
+        requires seat { seat ≡ cpu_at_first N.frames.table seat.number }
+        requires away { IsAwayCpu N.frames seat }
+        ensures { IfOk result (λ c. c ≡ cpu_in_run (first_cpu seat.number) seat) }
     {
-        let OwnSeats {
-            past,
-            frames,
-            stocks,
-        } = seats;
-        let part = CpuPart::<N>::new(alloc, frames, stocks)?;
-        Ok(Cpu { part, past })
+        let part = CpuPart::<N>::new(alloc, seat.number())?;
+        Ok(Cpu { part, past: seat })
     }
 
-    /// The CPU's seats, once nothing is left: no frame on the lists and no pin.
-    pub fn into_seats(self) -> OwnSeats
+    /// The CPU's seat, once nothing is left: no frame on the lists and no pin.
+    pub fn into_seat(self) -> CpuSeat
         requires { IsIdle self.part }
-        ensures past { result.past ≡ self.past }
-        ensures past_is { IsCpuPast N.frames self.past }
-        ensures frames { result.frames ≡ self.part.frame_seat }
-        ensures stocks { result.stocks ≡ self.part.stock_seat }
+        ensures seat { result ≡ seat_of self }
+        ensures knows { KnowsItself N.frames self }
     {
         let Cpu { part, past } = self;
-        let (frames, stocks) = part.into_seats();
-        OwnSeats {
-            past,
-            frames,
-            stocks,
-        }
+        part.end();
+        past
     }
 
-    /// Takes the front of the list for group `group` (0 to 63), and pays for it from the CPU's stock. The answer is the
+    /// Takes the front of the list for the group, and pays for it from the CPU's stock. The answer is the
     /// first of these that holds: 32 fresh frames, an empty list, what the stock says; else the frame.
     pub fn alloc_fast(&mut self, tables: &Tables<N>, group: u32) -> Fast
-        requires { group < 64 }
-        ensures answer { FastAnswers group result self.old.part self.new.part }
+        ensures answer { FastAnswers group result self.old.last self.old.part self.new.last self.new.part }
         ensures frame { IfGot result (λ f. f < N.frames.frames) }
         ensures run { GrewByAll (own_past self.old.past)
-            (steps_of_fast self.old.part.number group result self.old.part.stock_seat.view.last)
+            (steps_of_fast self.old.part.number group result self.old.last)
             (own_past self.new.past) }
     {
         self.part.alloc_fast(tables, &mut self.past, group)
@@ -95,9 +84,9 @@ impl<N: BootName> Cpu<N> {
     /// stays at 2^64 - 1.
     pub fn drop_fresh(&mut self, tables: &Tables<N>, frame: Frame) -> Dropped
         requires { 1 ≤ times frame self.old.part.fresh }
-        ensures answer { DropAnswers frame result self.old.part self.new.part }
+        ensures answer { DropAnswers frame result self.old.last self.old.part self.new.last self.new.part }
         ensures run { GrewByAll (own_past self.old.past)
-            (steps_of_drop self.old.part.number frame result self.old.part.stock_seat.view.last)
+            (steps_of_drop self.old.part.number frame result self.old.last)
             (own_past self.new.past) }
     {
         self.part.drop_fresh(tables, &mut self.past, frame)
@@ -109,11 +98,13 @@ impl<N: BootName> Cpu<N> {
         requires { frame < N.frames.frames }
         ensures answer { MatchResult result
             (λ answer. (length self.old.part.back + length self.old.part.pins < most_pins)
-            × PinAnswers frame answer self.old.part self.new.part)
+            × PinAnswers frame answer self.old.part self.new.part
+            × IfRaced answer (RacesAt (zone_of_boot N.frames) (own_past self.old.past) frame))
             (λ fault. (fault ≡ PinsFull) × (length self.old.part.back + length self.old.part.pins ≡ most_pins)
             × (self.new.part ≡ self.old.part)) }
         ensures never_zero { 1 ≤ times frame self.old.part.pins → result ≢ Ok Zero }
-        ensures in_no_hand { IfOk result (λ answer. answer ≢ Zero → IsInNoHand self.old.part.frame_seat frame) }
+        ensures unlisted { IfOk result (λ answer. answer ≢ Zero → IsUnlisted frame self.old.part) }
+        ensures last { self.new.last ≡ self.old.last }
         ensures run { GrewByAll (own_past self.old.past) (steps_of_get self.old.part.number frame result)
             (own_past self.new.past) }
     {
@@ -124,7 +115,8 @@ impl<N: BootName> Cpu<N> {
     pub fn put(&mut self, tables: &Tables<N>, frame: Frame) -> Put
         requires { 1 ≤ times frame self.old.part.pins }
         ensures answer { UnpinAnswers frame result self.old.part self.new.part }
-        ensures in_no_hand { IsInNoHand self.old.part.frame_seat frame }
+        ensures unlisted { IsUnlisted frame self.old.part }
+        ensures last { self.new.last ≡ self.old.last }
         ensures run { GrewByAll (own_past self.old.past) (steps_of_put self.old.part.number frame result)
             (own_past self.new.past) }
     {
@@ -134,7 +126,8 @@ impl<N: BootName> Cpu<N> {
     /// The CPU's number, from 1 up.
     pub fn number(&self) -> u32
         ensures number { result ≡ self.now.part.number }
-        ensures tied { IsTied N.frames N.stocks self.now.part }
+        ensures within { AreWithin (length self.now.part.list) (length self.now.part.fresh)
+            (length self.now.part.back) (length self.now.part.pins) }
         ensures in_run { (own_past self.now.past).number ≡ self.now.part.number }
     {
         self.part.number()
@@ -165,7 +158,7 @@ impl<N: BootName> Cpu<N> {
     /// A frame that is pinned, if there is one.
     pub fn first_pin(&self) -> Option<Frame>
         ensures { MatchOption result (self.now.part.pins ≡ [])
-            (λ f. (1 ≤ times f self.now.part.pins) × (f < N.frames.frames)) }
+            (λ f. 1 ≤ times f self.now.part.pins) }
     {
         self.part.first_pin()
     }
@@ -182,7 +175,6 @@ impl<N: BootName> Cpu<N> {
     pub fn fresh_len(&self) -> usize
         ensures count { result ≡ length self.now.part.fresh }
         ensures bound { result ≤ most_fresh }
-        ensures pages { result ≡ self.now.part.stock_seat.view.fresh }
     {
         self.part.fresh_len()
     }
@@ -197,11 +189,11 @@ impl<N: BootName> Cpu<N> {
     /// The stock that the CPU saw last; its fresh frames are of that stock's group. The stock may have been drained
     /// since.
     pub fn last_stock(&self) -> Stock
-        ensures last { result ≡ self.now.part.stock_seat.view.last }
+        ensures last { result ≡ self.now.last }
         ensures has_word { HasWord result }
         ensures none_fresh { result ≡ NoGroup → self.now.part.fresh ≡ [] }
     {
-        self.part.last_stock()
+        self.past.last()
     }
 
     /// How often a fresh frame was dropped to the list. Each is one drop and one return. The count stays at 2^64 - 1.

@@ -33,7 +33,6 @@ pub fn serve_dirty_alloc<N: BootName>(
         return outcome;
     };
     locked.prove_quiet();
-    let _tied = cpu.number();
     let _done = serve_outcome(locked, tables, cpu, &Cmd::Dirty { frame });
     outcome
 }
@@ -42,7 +41,7 @@ impl<N: BootName> System<N> {
     /// Allocates a dirty unit as `serve_dirty_alloc` does, in one hold of the lock. As with `visit`, the contract says that
     /// some sound value was behind the lock, and that a sound value was left.
     pub fn alloc_dirty<R: Wait>(&self, rt: &R, cpu: &mut Cpu<N>, path: &[u8], order: u32) -> Outcome
-        ensures served { IsVisited N.frames N.stocks self.now.sizes (ServesDirtyAlloc N.frames path.entry order result)
+        ensures served { IsVisited N.frames self.now.sizes (ServesDirtyAlloc N.frames path.entry order result)
             cpu.old cpu.new }
         ensures settled { IsSettled cpu.new.part }
     {

@@ -3,16 +3,16 @@
 ghost use Rattle.std.specs.Prelude.{◌≡◌, length, map, All};
 ghost use Rattle.std.specs.Vec.{vec_capacity};
 ghost use Rattle.boot_words.specs.Rule.{AllOf};
-ghost use Rattle.boot_words.specs.Closing.{all_pasts_in, frame_seats, stock_seats, AreAt};
+ghost use Rattle.boot_words.specs.Closed.{HasCpuPast};
 ghost use Rattle.cpu_part.specs.Cpus.{IsIdle};
 ghost use Rattle.mem_machine.specs.Resting.{Rests};
 ghost use Rattle.mem_system.specs.Locked.{IsEmptyWithRoom};
-ghost use Rattle.mem_system.specs.Cpus.{parts_of, pasts_of};
-ghost use Rattle.mem_system.specs.Ends.{Closes, IsClosed, SitsAt, frame_seat_of, stock_seat_of};
+ghost use Rattle.mem_system.specs.Cpus.{KnowsItself, parts_of, seat_of};
+ghost use Rattle.mem_system.specs.Ends.{Closes, IsClosed};
 
 use crate::audit::{Audit, take_audit};
 use crate::cpus::Cpu;
-use boot_words::OwnSeats;
+use boot_words::{ClosedWords, CpuSeat};
 use cpu_part::{BootName, Tables};
 use mem_machine::Machine;
 use std::marker::Model;
@@ -23,7 +23,7 @@ pub struct EmptiedBoot<N: BootName> {
     pub(crate) machine: Machine<N>,
     pub(crate) tables: Tables<N>,
     pub(crate) cpus: Vec<Cpu<N>>,
-    pub(crate) seats: Vec<OwnSeats>,
+    pub(crate) seats: Vec<CpuSeat>,
     // The fresh frames that the CPUs put back on their own lists, at most 2^64 - 1.
     pub(crate) drops: u64,
 }
@@ -40,7 +40,7 @@ impl<N: BootName> Model for EmptiedBoot<N> {
 
     ghost view = { λ s. record { machine = s.machine; cpus = s.cpus.items; drops = s.drops } };
 
-    ghost invariant = { λ s. NothingIsLeft N.frames N.stocks
+    ghost invariant = { λ s. NothingIsLeft N.frames
         (record { machine = s.machine; cpus = s.cpus.items; drops = s.drops })
         × IsEmptyWithRoom N.frames.cpus (length s.seats.items) (vec_capacity s.seats) };
 }
@@ -55,7 +55,7 @@ impl<N: BootName> EmptiedBoot<N> {
 
     /// Closes the table and returns what was counted.
     pub fn close(self) -> Audit
-        ensures { Closes N.frames N.stocks self result }
+        ensures { Closes N.frames self result }
     {
         let EmptiedBoot {
             machine,
@@ -66,36 +66,35 @@ impl<N: BootName> EmptiedBoot<N> {
         } = self;
         let audit = take_audit(&machine, &tables, drops);
         let seats = gather_seats(cpus, seats);
-        close_tables(machine, tables, seats);
+        drop(close_table(machine, tables, seats));
         audit
     }
 }
 
 // The seats of CPUs that have nothing left, in a list that has room for them.
-fn gather_seats<N: BootName>(mut cpus: Vec<Cpu<N>>, mut seats: Vec<OwnSeats>) -> Vec<OwnSeats>
+fn gather_seats<N: BootName>(mut cpus: Vec<Cpu<N>>, mut seats: Vec<CpuSeat>) -> Vec<CpuSeat>
     requires idle { All IsIdle (parts_of cpus.items) }
-    requires at { All (SitsAt N.frames.table) (parts_of cpus.items) }
     requires room { IsEmptyWithRoom (length cpus.items) (length seats.items) (vec_capacity seats) }
-    ensures frames { frame_seats result.items ≡ map frame_seat_of (parts_of cpus.items) }
-    ensures stocks { stock_seats result.items ≡ map stock_seat_of (parts_of cpus.items) }
-    ensures pasts { all_pasts_in result.items ≡ pasts_of cpus.items }
-    ensures at { AllOf (AreAt N.frames.table) result.items }
+    ensures seats { result.items ≡ map seat_of cpus.items }
+    ensures knows { AllOf (KnowsItself N.frames) cpus.items }
 {
     while !cpus.is_empty() {
-        seats.push_reserved(cpus.remove(0).into_seats());
+        seats.push_reserved(cpus.remove(0).into_seat());
     }
     cpus.destroy_empty();
     seats
 }
 
 // Takes the machine apart and closes the table with all its seats.
-fn close_tables<N: BootName>(machine: Machine<N>, tables: Tables<N>, seats: Vec<OwnSeats>)
+fn close_table<N: BootName>(
+    machine: Machine<N>,
+    tables: Tables<N>,
+    seats: Vec<CpuSeat>,
+) -> ClosedWords
     requires rests { Rests N.frames machine }
-    requires seats { AllOf (AreAt N.frames.table) seats.items }
+    requires seats { AllOf (HasCpuPast N.frames) seats.items }
     requires count { length seats.items ≡ N.frames.cpus }
-    ensures { IsClosed N.frames N.stocks machine (frame_seats seats.items) (stock_seats seats.items)
-        (all_pasts_in seats.items) }
+    ensures { IsClosed N.frames machine seats.items result.words }
 {
-    let words = tables.into_words();
-    let _closed = words.close(machine.into_seats(), seats);
+    tables.into_words().close(machine.into_past(), seats)
 }

@@ -29,7 +29,7 @@ pub fn put_and_end<N: BootName>(
     mut cpus: Vec<Cpu<N>>,
 ) -> SystemEnd
     requires { length cpus.items ≡ N.frames.cpus }
-    ensures { PutsAndEnds N.frames N.stocks locked cpus.items result }
+    ensures { PutsAndEnds N.frames locked cpus.items result }
 {
     prove_sizes(&tables);
     locked.prove_quiet();
@@ -46,7 +46,7 @@ impl<N: BootName> System<N> {
     /// behind the lock, so the contract says that some sound value was there and ended so.
     pub fn put_and_end(self, cpus: Vec<Cpu<N>>) -> SystemEnd
         requires { length cpus.items ≡ N.frames.cpus }
-        ensures { BehindLock N.frames N.stocks (λ found. PutsAndEnds N.frames N.stocks found cpus.items result) }
+        ensures { BehindLock N.frames (λ found. PutsAndEnds N.frames found cpus.items result) }
     {
         let (locked, tables) = self.into_parts();
         put_and_end(locked, tables, cpus)

@@ -2,11 +2,11 @@
 
 ghost use Rattle.std.specs.Prelude.{◌≢◌, ℕ, IsTrue, IfOk, IfErr, List};
 ghost use Rattle.group_tree.specs.Groups.{has_group};
-ghost use Rattle.mem_system.specs.Outcomes.{ComesToForAny, HasItsGroups, reply_of};
-ghost use Rattle.mem_machine.specs.Local.{MakesForAny, SomeSeenByRun};
+ghost use Rattle.mem_system.specs.Outcomes.{ComesToAlone, HasItsGroups, reply_of};
+ghost use Rattle.boot_words.specs.Pasts.{IsHeld};
+ghost use Rattle.mem_machine.specs.Local.{Makes, StaysVisited};
 ghost use Rattle.mem_machine.specs.Transitions.{BySteps};
-ghost use Rattle.mem_system.specs.Files.{IsFileOf, HasNoFile, Reads, Writes, WritesTo};
-ghost use Rattle.mem_system.specs.Files.{KeepsAnyVisit, SetsLimit};
+ghost use Rattle.mem_system.specs.Files.{IsFileOf, HasNoFile, Reads, SetsLimit, Writes, WritesTo};
 ghost use Rattle.control_files.specs.declared.file.File.{File};
 ghost use Rattle.control_files.specs.Limit.{ReadsAmount};
 
@@ -56,9 +56,9 @@ fn set_limit<N: BootName>(
 )
     requires there { IsTrue (has_group machine.old.ledger.groups group) }
     requires below_root { group ≢ 0 }
-    requires shown { SomeSeenByRun N.frames machine.old }
-    ensures sets { BySteps MakesForAny N.frames (SetsLimit group limit) machine.old machine.new }
-    ensures stays { KeepsAnyVisit N.frames machine.old machine.new }
+    requires held { IsHeld N.frames machine.old.run.past }
+    ensures sets { BySteps Makes N.frames (SetsLimit group limit) machine.old machine.new }
+    ensures visit { StaysVisited N.frames machine.old machine.new }
 {
     machine.set_max(tables, group, limit);
     if let Some(limit) = limit {
@@ -75,10 +75,10 @@ fn write_limit<N: BootName>(
 ) -> Outcome
     requires there { IsTrue (has_group machine.old.ledger.groups group) }
     requires below_root { group ≢ 0 }
-    requires shown { SomeSeenByRun N.frames machine.old }
-    ensures written { ComesToForAny N.frames result (WritesTo File.Max value.now group) machine.old machine.new }
+    requires held { IsHeld N.frames machine.old.run.past }
+    ensures written { ComesToAlone N.frames result (WritesTo File.Max value.now group) machine.old machine.new }
     ensures groups { HasItsGroups machine.new.ledger result }
-    ensures stays { KeepsAnyVisit N.frames machine.old machine.new }
+    ensures visit { StaysVisited N.frames machine.old machine.new }
 {
     match read_limit(value) {
         Ok(limit) => {
@@ -98,10 +98,10 @@ fn write_flag<N: BootName>(
 ) -> Outcome
     requires there { IsTrue (has_group machine.old.ledger.groups group) }
     requires below_root { group ≢ 0 }
-    requires shown { SomeSeenByRun N.frames machine.old }
-    ensures written { ComesToForAny N.frames result (WritesTo File.OomGroup value.now group) machine.old machine.new }
+    requires held { IsHeld N.frames machine.old.run.past }
+    ensures written { ComesToAlone N.frames result (WritesTo File.OomGroup value.now group) machine.old machine.new }
     ensures groups { HasItsGroups machine.new.ledger result }
-    ensures stays { KeepsAnyVisit N.frames machine.old machine.new }
+    ensures visit { StaysVisited N.frames machine.old machine.new }
 {
     match read_flag(value) {
         Ok(flag) => {
@@ -120,11 +120,11 @@ fn reclaim_asked<N: BootName>(
     asked: u64,
 ) -> Outcome
     requires there { IsTrue (has_group machine.old.ledger.groups group) }
-    requires shown { SomeSeenByRun N.frames machine.old }
+    requires held { IsHeld N.frames machine.old.run.past }
     ensures written { (value : List ℕ) → ReadsAmount value asked
-        → ComesToForAny N.frames result (WritesTo File.Reclaim value group) machine.old machine.new }
+        → ComesToAlone N.frames result (WritesTo File.Reclaim value group) machine.old machine.new }
     ensures groups { HasItsGroups machine.new.ledger result }
-    ensures stays { KeepsAnyVisit N.frames machine.old machine.new }
+    ensures visit { StaysVisited N.frames machine.old machine.new }
 {
     if reclaim_amount(machine, tables, group, asked) < asked {
         Outcome::Refused(Fault::Again)
@@ -141,10 +141,10 @@ fn write_reclaim<N: BootName>(
     value: &[u8],
 ) -> Outcome
     requires there { IsTrue (has_group machine.old.ledger.groups group) }
-    requires shown { SomeSeenByRun N.frames machine.old }
-    ensures written { ComesToForAny N.frames result (WritesTo File.Reclaim value.now group) machine.old machine.new }
+    requires held { IsHeld N.frames machine.old.run.past }
+    ensures written { ComesToAlone N.frames result (WritesTo File.Reclaim value.now group) machine.old machine.new }
     ensures groups { HasItsGroups machine.new.ledger result }
-    ensures stays { KeepsAnyVisit N.frames machine.old machine.new }
+    ensures visit { StaysVisited N.frames machine.old machine.new }
 {
     match read_amount(value) {
         Ok(asked) => reclaim_asked(machine, tables, group, asked),
@@ -160,10 +160,10 @@ pub(crate) fn write_file<N: BootName>(
     name: &[u8],
     value: &[u8],
 ) -> Outcome
-    requires shown { SomeSeenByRun N.frames machine.old }
-    ensures written { ComesToForAny N.frames result (Writes path.now name.now value.now) machine.old machine.new }
+    requires held { IsHeld N.frames machine.old.run.past }
+    ensures written { ComesToAlone N.frames result (Writes path.now name.now value.now) machine.old machine.new }
     ensures groups { HasItsGroups machine.new.ledger result }
-    ensures stays { KeepsAnyVisit N.frames machine.old machine.new }
+    ensures visit { StaysVisited N.frames machine.old machine.new }
 {
     let (group, file) = match find_file(machine.charges(), path, name) {
         Ok(found) => found,

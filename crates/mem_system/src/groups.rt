@@ -1,16 +1,15 @@
 //! Making and removing groups.
 
-ghost use Rattle.std.specs.Prelude.{◌≡◌, ◌<◌, [], MatchResult};
-ghost use Rattle.mem_machine.specs.Local.{KeepsVisit, SomeSeenByRun, Visits};
+ghost use Rattle.std.specs.Prelude.{MatchResult};
+ghost use Rattle.boot_words.specs.Pasts.{IsHeld};
+ghost use Rattle.mem_machine.specs.Local.{StaysVisited};
 ghost use Rattle.mem_system.specs.Leaves.{IsLeafAt, HasNoLeaf};
-ghost use Rattle.mem_system.specs.Outcomes.{ComesTo, ComesToForAny, HasItsGroups};
+ghost use Rattle.mem_system.specs.Outcomes.{ComesToAlone, HasItsGroups};
 ghost use Rattle.mem_system.specs.Groups.{MakesGroup, Removes};
-ghost use Rattle.mem_system.specs.Commands.{OfMachine};
-ghost use Rattle.mem_machine.specs.Local.{visit_state};
 
 use crate::outcome::Outcome;
 use crate::usage::lower_usage;
-use cpu_part::{BootName, Cpu as CpuPart, Tables};
+use cpu_part::{BootName, Tables};
 use group_charge::charges::Charges;
 use group_tree::fault::Fault;
 use group_tree::group::GroupId;
@@ -22,10 +21,10 @@ pub(crate) fn make_group<N: BootName>(
     tables: &Tables<N>,
     path: &[u8],
 ) -> Outcome
-    requires shown { SomeSeenByRun N.frames machine.old }
-    ensures made { ComesToForAny N.frames result (MakesGroup path.now) machine.old machine.new }
+    requires held { IsHeld N.frames machine.old.run.past }
+    ensures made { ComesToAlone N.frames result (MakesGroup path.now) machine.old machine.new }
     ensures groups { HasItsGroups machine.new.ledger result }
-    ensures seat { machine.new.frame_seat ≡ machine.old.frame_seat }
+    ensures visit { StaysVisited N.frames machine.old machine.new }
 {
     match machine.make(tables, path) {
         Ok(group) => Outcome::Group(group),
@@ -55,16 +54,12 @@ fn find_leaf(charges: &Charges, path: &[u8]) -> Result<GroupId, Fault>
 pub(crate) fn remove_group<N: BootName>(
     machine: &mut Machine<N>,
     tables: &Tables<N>,
-    cpu: &mut CpuPart<N>,
     path: &[u8],
 ) -> Outcome
-    requires visit { Visits N.frames (visit_state machine.old cpu.old) }
-    requires none_fresh { cpu.old.fresh ≡ [] }
-    ensures removed { ComesTo N.frames result (λ reply. OfMachine (Removes path.now reply))
-        (visit_state machine.old cpu.old) (visit_state machine.new cpu.new) }
-    ensures cpu { cpu.new ≡ cpu.old }
+    requires held { IsHeld N.frames machine.old.run.past }
+    ensures removed { ComesToAlone N.frames result (Removes path.now) machine.old machine.new }
     ensures groups { HasItsGroups machine.new.ledger result }
-    ensures stays { KeepsVisit N.frames (visit_state machine.old cpu.old) (visit_state machine.new cpu.new) }
+    ensures visit { StaysVisited N.frames machine.old machine.new }
 {
     let group = match find_leaf(machine.charges(), path) {
         Ok(group) => group,
@@ -74,6 +69,6 @@ pub(crate) fn remove_group<N: BootName>(
     if machine.current(group) > 0 {
         return Outcome::Refused(Fault::Busy);
     }
-    machine.remove(tables, cpu, group);
+    machine.remove(tables, group);
     Outcome::Done
 }

@@ -3,12 +3,11 @@
 
 ghost use Rattle.std.specs.Prelude.{◌≡◌, [], All};
 ghost use Rattle.mem_machine.specs.Resting.{Rests};
-ghost use Rattle.mem_system.specs.Locked.{AllShut};
 ghost use Rattle.mem_system.specs.Commands.{BySteps};
 ghost use Rattle.mem_system.specs.Ends.{Empties, ForEachCpu, SettlesInVisit, VisitsUnderLock};
 ghost use Rattle.mem_system.specs.Cpus.{parts_of};
 ghost use Rattle.mem_system.specs.Ends.{IsEmptied, IsSettledUnpinned, LendsAndFillsNone, machine_and_cpu, pins_of_all};
-ghost use Rattle.mem_machine.specs.Local.{IsSeenByRun, visit_state, Makes};
+ghost use Rattle.mem_machine.specs.Local.{Holds, IsShut, visit_state, VisitMakes};
 
 use crate::cpus::Cpu;
 use cpu_part::{BootName, Cpu as CpuPart, Tables};
@@ -17,13 +16,13 @@ use step_rules::step::{Action, Answer};
 
 // Settles the CPU in a visit.
 fn settle_cpu<N: BootName>(machine: &mut Machine<N>, tables: &Tables<N>, cpu: &mut CpuPart<N>)
-    requires shut { AllShut machine.old }
-    requires shown { IsSeenByRun N.frames (visit_state machine.old cpu.old) }
+    requires shut { IsShut N.frames machine.old cpu.old.number }
+    requires holds { Holds N.frames (visit_state machine.old cpu.old) }
     requires no_pin { cpu.old.pins ≡ [] }
-    ensures settles { BySteps Makes N.frames SettlesInVisit (visit_state machine.old cpu.old)
+    ensures settles { BySteps VisitMakes N.frames SettlesInVisit (visit_state machine.old cpu.old)
         (visit_state machine.new cpu.new) }
-    ensures shut { AllShut machine.new }
-    ensures shown { IsSeenByRun N.frames (visit_state machine.new cpu.new) }
+    ensures shut { IsShut N.frames machine.new cpu.new.number }
+    ensures holds { Holds N.frames (visit_state machine.new cpu.new) }
     ensures settled { IsSettledUnpinned cpu.new }
 {
     machine.open(tables, cpu);
@@ -33,15 +32,15 @@ fn settle_cpu<N: BootName>(machine: &mut Machine<N>, tables: &Tables<N>, cpu: &m
 
 // Returns the list of the settled CPU to the zone and drains its stock, in a visit.
 fn empty_cpu<N: BootName>(machine: &mut Machine<N>, tables: &Tables<N>, cpu: &mut CpuPart<N>)
-    requires shut { AllShut machine.old }
-    requires shown { IsSeenByRun N.frames (visit_state machine.old cpu.old) }
+    requires shut { IsShut N.frames machine.old cpu.old.number }
+    requires holds { Holds N.frames (visit_state machine.old cpu.old) }
     requires settled { IsSettledUnpinned cpu.old }
-    ensures empties { BySteps Makes N.frames Empties (visit_state machine.old cpu.old)
+    ensures empties { BySteps VisitMakes N.frames Empties (visit_state machine.old cpu.old)
         (visit_state machine.new cpu.new) }
-    ensures shut { AllShut machine.new }
-    ensures shown { IsSeenByRun N.frames (visit_state machine.new cpu.new) }
-    ensures emptied { IsEmptied N.frames N.stocks machine.new cpu.new }
-    ensures others { LendsAndFillsNone machine.old machine.new }
+    ensures shut { IsShut N.frames machine.new cpu.new.number }
+    ensures holds { Holds N.frames (visit_state machine.new cpu.new) }
+    ensures emptied { IsEmptied N.frames machine.new cpu.new }
+    ensures others { LendsAndFillsNone N.frames machine.old machine.new }
 {
     machine.open(tables, cpu);
     let listed = cpu.list_len() as u32;
@@ -53,12 +52,10 @@ fn empty_cpu<N: BootName>(machine: &mut Machine<N>, tables: &Tables<N>, cpu: &mu
 
 // Settles the CPU in a visit under the lock.
 fn settle_under_lock<N: BootName>(machine: &mut Machine<N>, tables: &Tables<N>, cpu: &mut Cpu<N>)
-    requires shut { AllShut machine.old }
     requires rests { Rests N.frames machine.old }
     requires no_pin { cpu.old.part.pins ≡ [] }
     ensures settles { VisitsUnderLock N.frames SettlesInVisit
         (machine_and_cpu machine.old cpu.old) (machine_and_cpu machine.new cpu.new) }
-    ensures shut { AllShut machine.new }
     ensures rests { Rests N.frames machine.new }
     ensures settled { IsSettledUnpinned cpu.new.part }
 {
@@ -72,15 +69,13 @@ fn settle_under_lock<N: BootName>(machine: &mut Machine<N>, tables: &Tables<N>, 
 
 // Returns the list of the settled CPU to the zone and drains its stock, in a visit under the lock.
 fn empty_under_lock<N: BootName>(machine: &mut Machine<N>, tables: &Tables<N>, cpu: &mut Cpu<N>)
-    requires shut { AllShut machine.old }
     requires rests { Rests N.frames machine.old }
     requires settled { IsSettledUnpinned cpu.old.part }
     ensures empties { VisitsUnderLock N.frames Empties
         (machine_and_cpu machine.old cpu.old) (machine_and_cpu machine.new cpu.new) }
-    ensures shut { AllShut machine.new }
     ensures rests { Rests N.frames machine.new }
-    ensures emptied { IsEmptied N.frames N.stocks machine.new cpu.new.part }
-    ensures others { LendsAndFillsNone machine.old machine.new }
+    ensures emptied { IsEmptied N.frames machine.new cpu.new.part }
+    ensures others { LendsAndFillsNone N.frames machine.old machine.new }
 {
     let cpu_number = cpu.number();
     machine.lock(tables, &cpu.part, &mut cpu.past);
@@ -96,12 +91,10 @@ pub(crate) fn settle_all<N: BootName>(
     tables: &Tables<N>,
     cpus: &mut [Cpu<N>],
 )
-    requires shut { AllShut machine.old }
     requires rests { Rests N.frames machine.old }
     requires no_pin { pins_of_all (parts_of cpus.old) ≡ 0 }
     ensures settles { ForEachCpu (VisitsUnderLock N.frames SettlesInVisit)
         machine.old cpus.old machine.new cpus.new }
-    ensures shut { AllShut machine.new }
     ensures rests { Rests N.frames machine.new }
     ensures settled { All IsSettledUnpinned (parts_of cpus.new) }
 {
@@ -116,13 +109,11 @@ pub(crate) fn empty_all<N: BootName>(
     tables: &Tables<N>,
     cpus: &mut [Cpu<N>],
 )
-    requires shut { AllShut machine.old }
     requires rests { Rests N.frames machine.old }
     requires settled { All IsSettledUnpinned (parts_of cpus.old) }
     ensures empties { ForEachCpu (VisitsUnderLock N.frames Empties) machine.old cpus.old machine.new cpus.new }
-    ensures shut { AllShut machine.new }
     ensures rests { Rests N.frames machine.new }
-    ensures emptied { All (λ cpu. IsEmptied N.frames N.stocks machine.new cpu) (parts_of cpus.new) }
+    ensures emptied { All (λ cpu. IsEmptied N.frames machine.new cpu) (parts_of cpus.new) }
 {
     for cpu in cpus.iter_mut() {
         empty_under_lock(machine, tables, cpu);

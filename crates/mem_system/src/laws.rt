@@ -44,9 +44,9 @@ pub fn ends_leave_empty_words()
     ensures { EndsLeaveEmptyWords }
 {}
 
-/// No unit is lost while the frames' words keep the reference rule with all seats. The head of each charged unit is on a
-/// list of its group, or a CPU has it: as a back frame, or by a reference. Each frame lent to a CPU is on that CPU's
-/// list or fresh there.
+/// No unit is lost while nobody holds the lock, whatever all CPUs did since. The head of each charged unit is on a list
+/// of its group, or a CPU has it: as a back frame, or by a reference. Each frame lent to a CPU is on that CPU's list or
+/// fresh there.
 pub fn no_unit_is_lost()
     ensures { ConsistentMachinesLoseNoUnit }
 {}

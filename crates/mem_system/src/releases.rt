@@ -5,11 +5,10 @@ ghost use Rattle.zone_blocks.specs.Config.{IsValidConfig};
 ghost use Rattle.step_rules.specs.declared.phase.ChargedUnit.{ChargedUnit};
 ghost use Rattle.mem_machine.specs.declared.frame_state.FrameState.TheVariants.{Free, Head};
 ghost use Rattle.mem_machine.specs.FrameStates.{frame_state_at};
-ghost use Rattle.mem_machine.specs.Local.{KeepsVisit, Visits};
+ghost use Rattle.mem_machine.specs.Local.{KeepsVisit, VisitMakes, Visits, visit_state};
 ghost use Rattle.mem_system.specs.Outcomes.{ComesTo, HasItsGroups};
 ghost use Rattle.mem_system.specs.Releases.{CutsList, ListsFrame, ReleasesFrame};
 ghost use Rattle.mem_system.specs.Commands.{BySteps, ListStaysWithin};
-ghost use Rattle.mem_machine.specs.Local.{visit_state, Makes};
 
 use crate::outcome::Outcome;
 use crate::units::find_unit;
@@ -40,7 +39,7 @@ fn cut_list<N: BootName>(
 )
     requires visit { Visits N.frames (visit_state machine.old cpu.old) }
     requires sizes { IsValidConfig sizes }
-    ensures cuts { BySteps Makes N.frames (CutsList sizes) (visit_state machine.old cpu.old)
+    ensures cuts { BySteps VisitMakes N.frames (CutsList sizes) (visit_state machine.old cpu.old)
         (visit_state machine.new cpu.new) }
     ensures visit { Visits N.frames (visit_state machine.new cpu.new) }
     ensures room { length cpu.new.list < 256 }
@@ -64,7 +63,7 @@ fn list_frame<N: BootName>(
     requires frame { frame < N.frames.frames }
     requires free { frame_state_at machine.old.frame_states frame ≡ Free }
     requires none_fresh { cpu.old.fresh ≡ [] }
-    ensures lists { BySteps Makes N.frames (ListsFrame sizes frame) (visit_state machine.old cpu.old)
+    ensures lists { BySteps VisitMakes N.frames (ListsFrame sizes frame) (visit_state machine.old cpu.old)
         (visit_state machine.new cpu.new) }
     ensures stays { KeepsVisit N.frames (visit_state machine.old cpu.old) (visit_state machine.new cpu.new) }
     ensures fresh { cpu.new.fresh ≡ cpu.old.fresh }

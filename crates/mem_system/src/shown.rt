@@ -1,16 +1,12 @@
-//! Texts that need a look at words: a CPU's stock, and the kept units of a group. Each is of the machine as a settled
-//! CPU finds it, under the lock.
+//! Texts of what a settled CPU finds, under the lock: its stock, and the kept units of a group.
 
 ghost use Rattle.std.specs.Prelude.{◌≡◌, ◌++◌, false, true, IfOk, Ok};
 ghost use Rattle.std.specs.String.{string_bytes};
 ghost use Rattle.group_tree.specs.Groups.{number_at};
 ghost use Rattle.machine_texts.specs.Stock.{stock_line_text};
-ghost use Rattle.mem_machine.specs.Local.{visit_state};
-ghost use Rattle.mem_machine.specs.Showing.{stock_now};
-ghost use Rattle.mem_machine.specs.Stocks.{with_look};
+ghost use Rattle.mem_machine.specs.Showing.{stock_left};
 ghost use Rattle.mem_system.specs.Commands.{IsSettled};
 ghost use Rattle.mem_system.specs.Shown.{ReadsAfterSettling, UnitsAt};
-ghost use Rattle.mem_system.specs.Visits.{visit_state_of};
 
 use crate::cpus::Cpu;
 use crate::lock::Locked;
@@ -20,36 +16,19 @@ use cpu_part::{BootName, Tables};
 use machine_texts::{write_stock, write_units};
 use std::alloc::AllocError;
 use std::sync::Wait;
-use stock_word::Stock;
 
-/// Adds a line about the CPU alone: its stock as it is now, by one look at the stock's word, and how many frames and
-/// pins it has. Another CPU's visit may have drained the stock since the CPU last saw it. It fails only if memory runs
-/// out.
+/// Adds a line about the CPU alone: its stock, and how many frames and pins it has. The CPU has just made a visit, so it
+/// has seen its stock as it is. It fails only if memory runs out.
 pub fn write_own_stock<N: BootName>(
-    locked: &mut Locked<N>,
-    tables: &Tables<N>,
-    cpu: &mut Cpu<N>,
+    locked: &Locked<N>,
+    cpu: &Cpu<N>,
     text: &mut String,
 ) -> Result<(), AllocError>
-    ensures text { IfOk result (λ _. string_bytes text.new
-        ≡ string_bytes text.old ++ stock_line_text (visit_state locked.old.machine cpu.old.part)) }
-    ensures locked { locked.new ≡ record locked.old { machine = with_look locked.old.machine } }
-    ensures cpu { cpu.new ≡ cpu.old }
+    requires last { cpu.now.last ≡ stock_left N.frames locked.now.machine cpu.now.part.number }
+    ensures { IfOk result (λ _. string_bytes text.new
+        ≡ string_bytes text.old ++ stock_line_text N.frames locked.now.machine cpu.now.part) }
 {
-    let stock = locked.look_at_stock(tables, cpu);
-    write_stock(locked.charges().tree(), &cpu.part, stock, text)
-}
-
-impl<N: BootName> Locked<N> {
-    /// The stock of any CPU of the boot as it is now, by one look at the stock's word. Another CPU's visit may have
-    /// drained it since the CPU itself last saw it. The zone's seat counts the look as a step.
-    pub fn look_at_stock(&mut self, tables: &Tables<N>, cpu: &mut Cpu<N>) -> Stock
-        ensures stock { result ≡ stock_now (visit_state self.old.machine cpu.old.part) }
-        ensures locked { self.new ≡ record self.old { machine = with_look self.old.machine } }
-        ensures cpu { cpu.new ≡ cpu.old }
-    {
-        self.machine.look_at_stock(tables, &mut cpu.part)
-    }
+    write_stock(locked.charges().tree(), &cpu.part, cpu.last_stock(), text)
 }
 
 /// Adds a line for each kept unit of the group of this path, or `none` if it has none, and returns true. If no group
@@ -61,7 +40,7 @@ pub fn write_units_at<N: BootName>(
     path: &[u8],
     text: &mut String,
 ) -> Result<bool, AllocError>
-    ensures units { UnitsAt (number_at locked.old.machine.ledger.groups path.now)
+    ensures units { UnitsAt N.frames (number_at locked.old.machine.ledger.groups path.now)
         ((result ≡ Ok false) × (text.new ≡ text.old))
         (λ shown. IfOk result (λ is_there. (is_there ≡ true)
         × (string_bytes text.new ≡ string_bytes text.old ++ shown)))
@@ -85,10 +64,10 @@ impl<N: BootName> System<N> {
         cpu: &mut Cpu<N>,
         text: &mut String,
     ) -> Result<(), AllocError>
-        ensures text { ReadsAfterSettling N.frames N.stocks (λ settled machine.
+        ensures text { ReadsAfterSettling N.frames (λ settled machine.
             (IfOk result (λ _. string_bytes text.new
-            ≡ string_bytes text.old ++ stock_line_text (visit_state_of settled)))
-            × (machine ≡ with_look settled.locked.machine)) cpu.old cpu.new }
+            ≡ string_bytes text.old ++ stock_line_text N.frames settled.locked.machine settled.cpu.part))
+            × (machine ≡ settled.locked.machine)) cpu.old cpu.new }
         ensures settled { IsSettled cpu.new.part }
     {
         let mut guard = self.lock(rt);
@@ -96,7 +75,7 @@ impl<N: BootName> System<N> {
         locked.prove_quiet();
         settle(locked, &self.tables, cpu);
         locked.prove_quiet();
-        let told = write_own_stock(locked, &self.tables, cpu, text);
+        let told = write_own_stock(locked, cpu, text);
         locked.prove_quiet();
         told
     }
@@ -110,8 +89,8 @@ impl<N: BootName> System<N> {
         path: &[u8],
         text: &mut String,
     ) -> Result<bool, AllocError>
-        ensures text { ReadsAfterSettling N.frames N.stocks (λ settled machine.
-            UnitsAt (number_at settled.locked.machine.ledger.groups path.now)
+        ensures text { ReadsAfterSettling N.frames (λ settled machine.
+            UnitsAt N.frames (number_at settled.locked.machine.ledger.groups path.now)
             ((result ≡ Ok false) × (text.new ≡ text.old))
             (λ shown. IfOk result (λ is_there. (is_there ≡ true)
             × (string_bytes text.new ≡ string_bytes text.old ++ shown)))

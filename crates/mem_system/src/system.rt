@@ -4,7 +4,6 @@ ghost use Rattle.std.specs.Prelude.{◌≡◌};
 ghost use Rattle.std.specs.Sync.Mutex.{mutex_guard_value};
 ghost use Rattle.group_tree.specs.Groups.{number_at};
 ghost use Rattle.group_charge.specs.Charges.{AreCharges};
-ghost use Rattle.cpu_part.specs.Cpus.{stock_table_of};
 ghost use Rattle.mem_machine.specs.Machines.{IsConsistent};
 ghost use Rattle.mem_system.specs.Locked.{IsQuiet, SeenBehindLock};
 ghost use Rattle.mem_system.specs.Commands.{IsOfZone, IsSettledAfter};
@@ -36,16 +35,14 @@ pub struct System<N: BootName> {
 }
 
 impl<N: BootName> Model for System<N> {
-    ghost use Rattle.cpu_part.specs.Cpus.{stock_table_of};
     ghost use Rattle.mem_system.specs.Boots.{IsSizedAs, KnownSystem};
     ghost use Rattle.zone_blocks.specs.Config.{IsValidConfig};
 
     ghost Value = { KnownSystem };
 
-    ghost view = { λ s.
-        record { frames = s.tables.words; stocks = stock_table_of s.tables.words; sizes = s.sizes } };
+    ghost view = { λ s. record { frames = s.tables.words; sizes = s.sizes } };
 
-    ghost invariant = { λ s. IsValidConfig s.sizes × IsSizedAs s.sizes N.frames N.stocks };
+    ghost invariant = { λ s. IsValidConfig s.sizes × IsSizedAs s.sizes N.frames };
 }
 
 // Waits after a try of this number, from 0: pauses 1 to 1,024 times, twice as often after each try, and gives up the
@@ -65,7 +62,6 @@ impl<N: BootName> System<N> {
     /// tables and sizes, because none can look through the lock.
     pub fn of(locked: Locked<N>, tables: Tables<N>) -> System<N>
         ensures frames { result.frames ≡ tables.words }
-        ensures stocks { result.stocks ≡ stock_table_of tables.words }
         ensures sizes { result.sizes ≡ locked.sizes }
     {
         let sizes = locked.sizes();
@@ -80,12 +76,11 @@ impl<N: BootName> System<N> {
     /// Takes the system apart after all sharing ended: returns what lies behind the lock, as the last visit left it,
     /// and its tables. Clauses say only what always holds behind the lock.
     pub fn into_parts(self) -> (Locked<N>, Tables<N>)
-        ensures quiet { IsQuiet N.frames N.stocks result.0 }
-        ensures consistent { IsConsistent N.frames N.stocks result.0.machine }
+        ensures quiet { IsQuiet N.frames result.0 }
+        ensures consistent { IsConsistent N.frames result.0.machine }
         ensures charges { AreCharges result.0.machine.ledger }
         ensures sizes { result.0.sizes ≡ self.sizes }
         ensures frames { result.1.words ≡ self.frames }
-        ensures stocks { stock_table_of result.1.words ≡ self.stocks }
     {
         let System {
             locked,
@@ -101,7 +96,6 @@ impl<N: BootName> System<N> {
     /// The tables that N names, for the calls that take no lock.
     pub fn tables(&self) -> &Tables<N>
         ensures frames { result.now.words ≡ N.frames }
-        ensures stocks { stock_table_of result.now.words ≡ N.stocks }
     {
         &self.tables
     }
@@ -137,7 +131,7 @@ impl<N: BootName> System<N> {
     /// The group of this path; None if no group has it. It takes the lock and settles nothing. As with `visit`, the
     /// clause says that there was such a value behind the lock. The CPU makes no step, but sees the run that led to that.
     pub fn find<R: Wait>(&self, rt: &R, cpu: &mut Cpu<N>, path: &[u8]) -> Option<GroupId>
-        ensures { SeenBehindLock N.frames N.stocks
+        ensures { SeenBehindLock N.frames
             (λ found. result ≡ number_at found.machine.ledger.groups path.now) cpu.old cpu.new }
     {
         let mut guard = self.lock(rt);
@@ -150,12 +144,12 @@ impl<N: BootName> System<N> {
     /// Serves one command of the CPU: takes the lock, serves the command, and releases the lock. A frame that the
     /// command names is a frame of the zone. No clause can name what lies behind the lock. So the contract says that
     /// some sound value was there, with the system's sizes, that `serve` did its work on it, and that a sound value was
-    /// left. The frames lent to the CPU afterwards are those that its seat has borrowed. The code calls the form of
-    /// `serve` that writes the reply in place, because returning a reply by value copies its room for a path.
+    /// left. The code calls the form of `serve` that writes the reply in place, because returning a reply by value copies
+    /// its room for a path.
     #[inline(always)]
     pub fn visit<R: Wait>(&self, rt: &R, cpu: &mut Cpu<N>, cmd: &Cmd<'_>) -> Reply
         requires { IsOfZone N.frames cmd.now }
-        ensures served { IsVisited N.frames N.stocks self.now.sizes (IsServed N.frames cmd.now result) cpu.old cpu.new }
+        ensures served { IsVisited N.frames self.now.sizes (IsServed N.frames cmd.now result) cpu.old cpu.new }
         ensures settled { IsSettledAfter cmd.now result cpu.new.part }
     {
         self.visit_with(rt, cpu, cmd, &NoGate)
@@ -172,7 +166,7 @@ impl<N: BootName> System<N> {
         gate: &G,
     ) -> Reply
         requires { IsOfZone N.frames cmd.now }
-        ensures served { IsVisited N.frames N.stocks self.now.sizes (IsServed N.frames cmd.now result) cpu.old cpu.new }
+        ensures served { IsVisited N.frames self.now.sizes (IsServed N.frames cmd.now result) cpu.old cpu.new }
         ensures settled { IsSettledAfter cmd.now result cpu.new.part }
     {
         let mut reply = Reply::Done;
@@ -193,7 +187,7 @@ impl<N: BootName> System<N> {
         reply: &mut Reply,
     )
         requires { IsOfZone N.frames cmd.now }
-        ensures served { IsVisited N.frames N.stocks self.now.sizes (IsServed N.frames cmd.now reply.new) cpu.old cpu.new }
+        ensures served { IsVisited N.frames self.now.sizes (IsServed N.frames cmd.now reply.new) cpu.old cpu.new }
         ensures settled { IsSettledAfter cmd.now reply.new cpu.new.part }
     {
         let mut guard = self.lock(rt);

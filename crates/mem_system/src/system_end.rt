@@ -26,7 +26,7 @@ impl<N: BootName> System<N> {
     pub fn shutdown(self, cpus: Vec<Cpu<N>>) -> Result<Audit, Held<N>>
         requires { length cpus.items ≡ N.frames.cpus }
         ensures ends { IfOk result (λ audit.
-            BehindLock N.frames N.stocks (λ found. Ends N.frames N.stocks found cpus.items audit)) }
+            BehindLock N.frames (λ found. Ends N.frames found cpus.items audit)) }
         ensures frames { IfOk result (λ audit. audit.frames ≡ N.frames.frames) }
         ensures adds_up { IfOk result (λ audit. AddsUp audit) }
         ensures no_pin { IfOk result (λ _. pins_of_all (parts_of cpus.items) ≡ 0) }

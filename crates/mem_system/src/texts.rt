@@ -64,7 +64,7 @@ impl<N: BootName> System<N> {
         alloc: Global,
         cpu: &mut Cpu<N>,
     ) -> Result<Vec<u8>, AllocError>
-        ensures text { ReadsUnderLock N.frames N.stocks
+        ensures text { ReadsUnderLock N.frames
             (λ machine. IfOk result (λ text. text.items ≡ show_text machine)) cpu.old cpu.new }
         ensures settled { IsSettled cpu.new.part }
     {
@@ -83,7 +83,7 @@ impl<N: BootName> System<N> {
         alloc: Global,
         cpu: &mut Cpu<N>,
     ) -> Result<Vec<u8>, AllocError>
-        ensures text { ReadsUnderLock N.frames N.stocks
+        ensures text { ReadsUnderLock N.frames
             (λ machine. IfOk result (λ text. text.items ≡ blocks_text machine.blocks)) cpu.old cpu.new }
         ensures settled { IsSettled cpu.new.part }
     {

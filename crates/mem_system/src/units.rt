@@ -3,7 +3,7 @@
 ghost use Rattle.std.specs.Prelude.{◌≡◌, ◌<◌, None, IfSome, IfNone};
 ghost use Rattle.mem_machine.specs.Machines.{home_of};
 ghost use Rattle.mem_system.specs.Units.{IsUnitOf, MakesNoStep, TouchesFrame, NotesDirt};
-ghost use Rattle.mem_system.specs.Outcomes.{ComesToForAny, HasItsGroups};
+ghost use Rattle.mem_system.specs.Outcomes.{ComesToAlone, HasItsGroups};
 
 use crate::outcome::Outcome;
 use cpu_part::{BootName, Tables};
@@ -36,7 +36,7 @@ pub(crate) fn touch_frame<N: BootName>(
     frame: u32,
 ) -> Outcome
     requires { frame < N.frames.frames }
-    ensures touched { ComesToForAny N.frames result (λ reply. MakesNoStep (TouchesFrame frame reply)) machine.old machine.new }
+    ensures touched { ComesToAlone N.frames result (λ reply. MakesNoStep (TouchesFrame frame reply)) machine.old machine.new }
     ensures groups { HasItsGroups machine.new.ledger result }
 {
     let Some(frame) = find_unit(machine, tables, frame) else {
@@ -56,7 +56,7 @@ pub(crate) fn note_dirt<N: BootName>(
     is_dirty: bool,
 ) -> Outcome
     requires { frame < N.frames.frames }
-    ensures noted { ComesToForAny N.frames result (λ reply. MakesNoStep (NotesDirt frame is_dirty reply)) machine.old machine.new }
+    ensures noted { ComesToAlone N.frames result (λ reply. MakesNoStep (NotesDirt frame is_dirty reply)) machine.old machine.new }
     ensures groups { HasItsGroups machine.new.ledger result }
 {
     let Some(frame) = find_unit(machine, tables, frame) else {

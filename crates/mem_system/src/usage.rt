@@ -2,7 +2,8 @@
 
 ghost use Rattle.std.specs.Prelude.{IsTrue};
 ghost use Rattle.group_tree.specs.Groups.{has_group};
-ghost use Rattle.mem_machine.specs.Local.{MakesForAny, SomeSeenByRun, StaysVisited};
+ghost use Rattle.boot_words.specs.Pasts.{IsHeld};
+ghost use Rattle.mem_machine.specs.Local.{Makes, StaysVisited};
 ghost use Rattle.mem_machine.specs.Transitions.{BySteps};
 ghost use Rattle.mem_system.specs.Usage.{LowersAbove, LowersUsage};
 
@@ -21,8 +22,9 @@ pub(crate) fn lower_usage<N: BootName>(
     limit: u32,
 )
     requires there { IsTrue (has_group machine.old.ledger.groups group) }
-    requires shown { SomeSeenByRun N.frames machine.old }
-    ensures { BySteps MakesForAny N.frames (LowersUsage group limit) machine.old machine.new }
+    requires held { IsHeld N.frames machine.old.run.past }
+    ensures lowers { BySteps Makes N.frames (LowersUsage group limit) machine.old machine.new }
+    ensures visit { StaysVisited N.frames machine.old machine.new }
 {
     machine.drain_stocks(tables, group);
     reclaim_to_limit(machine, tables, group, 0, limit);
@@ -37,8 +39,8 @@ pub(crate) fn keep_to_limit<N: BootName>(
     limit: u32,
 )
     requires there { IsTrue (has_group machine.old.ledger.groups group) }
-    requires shown { SomeSeenByRun N.frames machine.old }
-    ensures lowers { BySteps MakesForAny N.frames (LowersAbove group limit) machine.old machine.new }
+    requires held { IsHeld N.frames machine.old.run.past }
+    ensures lowers { BySteps Makes N.frames (LowersAbove group limit) machine.old machine.new }
     ensures visit { StaysVisited N.frames machine.old machine.new }
 {
     if limit < machine.current(group) {

@@ -37,11 +37,11 @@ pub fn serve_outcome<N: BootName>(
     ensures groups { HasItsGroups locked.new.machine.ledger result }
     ensures settled { IsSettledAfter cmd.now (reply_of locked.new.machine.ledger result) cpu.new.part }
     ensures ends { EndsVisit N.frames (locked_state locked.old cpu.old) (locked_state locked.new cpu.new) }
-    ensures lost { LosesNoUnit N.frames N.stocks locked.new.machine }
+    ensures lost { LosesNoUnit N.frames locked.new.machine }
 {
     locked.machine.lock(tables, &cpu.part, &mut cpu.past);
     locked.machine.forget_notes();
-    locked.machine.open(tables, &mut cpu.part);
+    locked.machine.open(tables, &cpu.part);
     locked.machine.settle(tables, &mut cpu.part);
     let outcome = execute(
         &mut locked.machine,
@@ -50,7 +50,7 @@ pub fn serve_outcome<N: BootName>(
         locked.sizes,
         cmd,
     );
-    locked.machine.shut(tables, &mut cpu.part);
+    locked.machine.shut(tables, &cpu.part);
     locked.machine.unlock(tables, &cpu.part, &mut cpu.past);
     locked.machine.prove_consistent();
     outcome
@@ -111,16 +111,16 @@ pub fn serve_frame_outcome<N: BootName>(
     ensures fresh { FreshOf (reply_of locked.new.machine.ledger result) 0 cpu.new.part.fresh }
     ensures back { cpu.new.part.back ≡ [] }
     ensures ends { EndsVisit N.frames (locked_state locked.old cpu.old) (locked_state locked.new cpu.new) }
-    ensures lost { LosesNoUnit N.frames N.stocks locked.new.machine }
+    ensures lost { LosesNoUnit N.frames locked.new.machine }
 {
     let sizes = locked.sizes;
     let machine = &mut locked.machine;
     machine.lock(tables, &cpu.part, &mut cpu.past);
     machine.forget_notes();
-    machine.open(tables, &mut cpu.part);
+    machine.open(tables, &cpu.part);
     machine.settle(tables, &mut cpu.part);
     let answer = alloc_frame(machine, tables, &mut cpu.part, sizes, group);
-    machine.shut(tables, &mut cpu.part);
+    machine.shut(tables, &cpu.part);
     machine.unlock(tables, &cpu.part, &mut cpu.past);
     machine.prove_consistent();
     outcome_of(&answer)

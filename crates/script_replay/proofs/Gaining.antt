@@ -1,12 +1,12 @@
 -- What the zone's past and a CPU's past gain by a command, and how the run so far goes on. Serves `try_unlocked`,
 -- `try_in_order`, `alloc_in_order`, and what is told of each line.
-use Rattle.std.proofs.Common.{◌≡◌, ◌≢◌, ◌∙◌, ℕ, Bool, true, false, Some, List, [], ◌++◌, append-nil, ap, inl, inr, refl, subst, sym}
-use Rattle.std.specs.Prelude.{slice_set, if◌then◌else◌}
+use Rattle.std.proofs.Common.{◌≡◌, ◌≢◌, ◌∙◌, ℕ, Bool, true, false, Option, Some, None, List, [], ◌++◌, append-nil, ap, inl, inr, refl, subst, sym}
+use Rattle.std.specs.Prelude.{IfNone, IfSome, slice_set, if◌then◌else◌}
 use Rattle.std.specs.Option.{option_map}
 use Rattle.std.specs.List.{slice_get}
 use Rattle.std.proofs.lemmas.List.{map-set}
 use Rattle.std.proofs.lemmas.Option.{slice_get-map}
-use Rattle.boot_words.specs.declared.view.Past.{Past}
+use Rattle.boot_words.specs.declared.past.Past.{Past}
 use Rattle.boot_words.specs.Rule.{AllOf}
 use Rattle.boot_words.specs.Pasts.{KnownPasts, Meets, own_past}
 use Rattle.boot_words.specs.Growth.{GrewByAll, IsRunSoFar, changes_nothing}
@@ -16,6 +16,7 @@ use Rattle.frame_word.specs.declared.answers.Put.TheVariants as put
 use Rattle.frame_word.specs.Seats.{KnownTable}
 use Rattle.stock_word.specs.declared.view.Stock.{Stock}
 use Rattle.stock_word.specs.Stock.{is_held}
+use Rattle.group_tree.specs.declared.fault.Fault.TheVariants.{PinsFull, NotPinned}
 use Rattle.cpu_part.specs.declared.answers.Fast.{Fast}
 use Rattle.cpu_part.specs.declared.answers.Fast.TheVariants as fast
 use Rattle.cpu_part.specs.Told.{one_step, steps_of_fast, steps_of_put}
@@ -25,14 +26,17 @@ use Rattle.step_rules.specs.declared.step.Action.TheVariants as step
 use Rattle.step_rules.specs.declared.step.Answer.{Answer}
 use Rattle.step_rules.specs.declared.step.Answer.TheVariants as step_answer
 use Rattle.step_rules.specs.After.{Run}
+use Rattle.step_watch.specs.Watched.{Watches}
 use Rattle.step_watch.proofs.Watching.{watches_both, watches_none}
-use Rattle.mem_machine.specs.Machines.{with_past}
+use Rattle.mem_machine.specs.Machines.{left_by, with_past}
 use Rattle.mem_system.specs.Cpus.{CpuInRun, pasts_of}
 use Rattle.mem_system.specs.Locked.{KnownLocked}
 use Rattle.mem_system.specs.Visits.{LockedState, locked_state}
+use Rattle.reply_texts.specs.declared.steps.UnlockedAnswer.{UnlockedAnswer}
 use Rattle.reply_texts.specs.declared.steps.UnlockedAnswer.TheVariants as unlocked
 use Rattle.script_lines.specs.declared.line.Command.TheVariants as command
-use Rattle.script_replay.specs.Answers.{Gains, MakesAlone, OnlySaw, OnlyWatched, locked_with_run, steps_alone}
+use Rattle.script_lines.specs.declared.line.Command.{Command}
+use Rattle.script_replay.specs.Answers.{AnswersAlone, Gains, MakesAlone, NeedsLock, OnlySaw, OnlyWatched, locked_with_run, steps_alone}
 use Rattle.script_replay.specs.Lines.{RunGoesOn, HasRun, SystemState, system_state}
 
 -- ---- the steps of a call without the lock
@@ -79,24 +83,71 @@ module _ (n : ℕ) (before after : KnownPasts) where
 
 -- ---- behind the lock
 
-pub saw_none : (l : KnownLocked) → OnlySaw [] l l
-saw_none l = record { locked = refl; watched = watches_none l.machine.run.watch }
+pub saw_none : (t : KnownTable) (l : KnownLocked) → OnlySaw t [] l l
+saw_none t l = record { locked = refl; watched = watches_none l.machine.run.watch; left = refl }
 
--- the zone's past sees more at a meeting
-pub met_saw : (l m : KnownLocked) → m ≡ record l { machine = with_past l.machine m.machine.run.past } → OnlySaw [] l m
-met_saw l m is = subst (OnlySaw [] l) (sym is) (record { locked = refl; watched = watches_none l.machine.run.watch })
-
-pub watched_saw : (steps : Run) (l m : KnownLocked) → OnlyWatched steps l m → OnlySaw steps l m
-watched_saw steps l m only = record {
-  locked = subst (λ (x : KnownLocked). x ≡ locked_with_run l x.machine.run) (sym only.locked) refl;
-  watched = only.watched;
+-- the zone's past sees more at a meeting, and leaves the same
+met_saw : (t : KnownTable) (l m : KnownLocked) (c c' : KnownPasts) → m ≡ record l { machine = with_past l.machine m.machine.run.past }
+    → Meets t l.machine.run.past c m.machine.run.past c' → OnlySaw t [] l m
+met_saw t l m c c' is meets = record {
+  locked = is ∙ ap (λ (x : KnownLocked). locked_with_run l x.machine.run) (sym is);
+  watched = subst (λ (x : KnownLocked). Watches l.machine.run.watch [] x.machine.run.watch) (sym is) (watches_none l.machine.run.watch);
+  left = meets.left;
 }
 
-pub saw_both : (one two : Run) (l m n : KnownLocked) → OnlySaw one l m → OnlySaw two m n → OnlySaw (one ++ two) l n
-saw_both one two l m n first second = record {
+pub watched_saw : (t : KnownTable) (steps : Run) (l m : KnownLocked) → OnlyWatched steps l m → OnlySaw t steps l m
+watched_saw t steps l m only = record {
+  locked = only.locked ∙ ap (λ (x : KnownLocked). locked_with_run l x.machine.run) (sym only.locked);
+  watched = only.watched;
+  left = ap (λ (x : KnownLocked). left_by t x.machine.run.past) only.locked;
+}
+
+pub saw_both : (t : KnownTable) (one two : Run) (l m n : KnownLocked) → OnlySaw t one l m → OnlySaw t two m n → OnlySaw t (one ++ two) l n
+saw_both t one two l m n first second = record {
   locked = second.locked ∙ ap (λ (x : KnownLocked). locked_with_run x n.machine.run) first.locked;
   watched = watches_both l.machine.run.watch one m.machine.run.watch two n.machine.run.watch first.watched second.watched;
+  left = second.left ∙ first.left;
 }
+
+-- both meetings around a call without the lock
+pub both_saw : (t : KnownTable) (l m n : KnownLocked) (c c' d d' : KnownPasts) → m ≡ record l { machine = with_past l.machine m.machine.run.past }
+    → Meets t l.machine.run.past c m.machine.run.past c' → n ≡ record m { machine = with_past m.machine n.machine.run.past }
+    → Meets t m.machine.run.past d n.machine.run.past d' → OnlySaw t [] l n
+both_saw t l m n c c' d d' is meets later again = saw_both t [] [] l m n (met_saw t l m c c' is meets) (met_saw t m n d d' later again)
+
+-- ---- a call between two meetings: what it says names no past
+
+alone_anywhere : (command : Command) (c d : CpuInRun) (said : UnlockedAnswer) (p q : KnownPasts) → AnswersAlone command c d said
+    → AnswersAlone command (record c { past = p }) (record d { past = q }) said
+alone_anywhere (command.Fast g) c d (unlocked.Fast fast) p q is = is
+alone_anywhere (command.Get f) c d (unlocked.Got got) p q is = is
+alone_anywhere (command.Get f) c d (unlocked.Refused PinsFull) p q is = is
+alone_anywhere (command.Put f) c d (unlocked.Put put) p q is = is
+alone_anywhere (command.Put f) c d (unlocked.Refused NotPinned) p q is = is
+alone_anywhere (command.Release f) c d unlocked.Listed p q is = record { fresh = is.fresh; listed = is.listed }
+alone_anywhere command c d said p q is = absurd is
+
+vain_anywhere : (command : Command) (c d : CpuInRun) (p q : KnownPasts) → NeedsLock command c d → NeedsLock command (record c { past = p }) (record d { past = q })
+vain_anywhere (command.Release f) c d p q (inl is) = inl (record { none_fresh = is.none_fresh; stays = is.stays })
+vain_anywhere (command.Release f) c d p q (inr is) = inr (record { fresh = is.fresh; drained = is.drained })
+vain_anywhere (command.Fast g) c d p q is = absurd is
+vain_anywhere (command.Get f) c d p q is = absurd is
+vain_anywhere (command.Put f) c d p q is = absurd is
+vain_anywhere command c d p q is = is
+
+module _ (command : Command) (c c1 c2 d : CpuInRun) (part : c1.part ≡ c.part) (last : c1.last ≡ c.last) (part' : d.part ≡ c2.part) (last' : d.last ≡ c2.last) where
+  -- the same, but for the pasts
+  met : (Is : CpuInRun → CpuInRun → Type 0) → Is (record c1 { past = c.past }) (record c2 { past = d.past }) → Is c d
+  met Is = subst (λ (x : CpuInRun × CpuInRun). Is x.0 x.1)
+      (λ i. (record { part = part i; past = c.past; last = last i }, record { part = sym part' i; past = d.past; last = sym last' i }))
+
+  pub alone_met : (o : Option UnlockedAnswer) → IfSome o (AnswersAlone command c1 c2) → IfSome o (AnswersAlone command c d)
+  alone_met None is = tt
+  alone_met (Some said) is = met (λ x y. AnswersAlone command x y said) (alone_anywhere command c1 c2 said c.past d.past is)
+
+  pub vain_met : (o : Option UnlockedAnswer) → IfNone o (NeedsLock command c1 c2) → IfNone o (NeedsLock command c d)
+  vain_met None is = met (NeedsLock command) (vain_anywhere command c1 c2 c.past d.past is)
+  vain_met (Some said) is = tt
 
 -- ---- what the pasts gain
 

@@ -1,29 +1,23 @@
 -- The lines that were served so far, and their history. Serves `serve_line`, `replay`.
-use Rattle.std.proofs.Common.{Result, IfOk, ◌≡◌, ℕ, Bool, ◌+◌, ◌-◌, ◌<◌, ◌≤◌, true, false, Some, None, List, [], ◌∷◌, ◌++◌, length, take, get_or, append-nil, ap, refl, sym, ◌∙◌, subst, arith, inl, inr}
+use Rattle.std.proofs.Common.{Result, IfOk, ◌≡◌, ℕ, Bool, ◌+◌, ◌-◌, ◌<◌, true, false, Some, List, [], ◌∷◌, ◌++◌, length, take, get_or, append-nil, ap, refl, sym, ◌∙◌, subst, arith}
 use Rattle.std.specs.Prelude.{slice_set}
 use Rattle.std.specs.Option.{option_map}
 use Rattle.std.specs.List.{slice_get}
 use Rattle.std.specs.declared.string.String.{String}
 use Rattle.std.specs.String.{string_bytes}
-use Rattle.std.proofs.lemmas.Bool.{cases_eq}
 use Rattle.std.proofs.lemmas.List.{get_or_default, map-set}
-use Rattle.std.proofs.lemmas.Option.{slice_get_within, slice_get_read, slice_get-map, none-some}
+use Rattle.std.proofs.lemmas.Option.{slice_get_read, slice_get-map}
 use Rattle.frame_word.specs.Seats.{KnownTable}
-use Rattle.stock_word.specs.declared.view.Stock.{Stock}
-use Rattle.stock_word.specs.declared.view.Stock.TheVariants as stock_is
-use Rattle.stock_word.specs.Stock.{KnownStockTable, group_of}
 use Rattle.cpu_part.specs.Cpus.{KnownCpu}
 use Rattle.step_rules.specs.After.{Run, IsLegalRun}
 use Rattle.step_watch.specs.Watched.{has_legal_steps}
 use Rattle.mem_machine.specs.Interleaving.{zone_of}
 use Rattle.mem_machine.specs.Agreeing.{AgreesWithRun}
 use Rattle.mem_history.specs.Whole.{ShowsAll}
-use Rattle.mem_history.specs.Kept.{AreTied, IsTiedPart}
-use Rattle.mem_history.proofs.Wholes.{set_here, set_else}
 use Rattle.mem_history.proofs.Promised.{the_whole_is_promised}
 use Rattle.mem_history.proofs.Deciding.{legal_front}
 use Rattle.mem_system.specs.Cpus.{CpuInRun, parts_of}
-use Rattle.mem_system.specs.Locked.{KnownLocked, IsQuiet, IsSound}
+use Rattle.mem_system.specs.Locked.{KnownLocked, IsSound}
 use Rattle.mem_system.specs.Visits.{transition, locked_state}
 use Rattle.script_lines.specs.declared.line.Command.{Command}
 use Rattle.script_lines.specs.declared.line.Line.{Line}
@@ -31,7 +25,7 @@ use Rattle.script_lines.specs.declared.line.Line.TheVariants.{Go, At}
 use Rattle.script_replay.specs.Answers.{AddsText, ServesCommand, WritesCommand}
 use Rattle.script_replay.specs.Lines.{SystemState, system_state, AtPart, InOrder, ServesLine, ServesAll, StopsAt, number_in_script}
 use Rattle.script_replay.specs.History.{Past, past, past_line, HasHistory, Replays, ReplaysLegally, ServesAndKeeps}
-use Rattle.script_replay.specs.History.{StopsFor, HoldsOfPart}
+use Rattle.script_replay.specs.History.{StopsFor}
 use Rattle.script_replay.specs.declared.owned_replay.Stopped.TheVariants.{NotLegal}
 use Rattle.script_replay.specs.Ranges.{LineInRange}
 use Rattle.script_replay.specs.declared.form.Form.{Form}
@@ -45,11 +39,6 @@ use Rattle.script_replay.proofs.Telling.{at_ok}
 
 -- ---- one line
 
-no_group : (x : Stock) → group_of x ≡ None → x ≡ stock_is.NoGroup
-no_group stock_is.NoGroup e = refl
-no_group (stock_is.HeldBy h n) e = absurd (none-some h (sym e))
-no_group (stock_is.DrainedOf h) e = absurd (none-some h (sym e))
-
 -- the part of a CPU among the parts
 part_at : (cpus : List CpuInRun) (k : ℕ) (c : CpuInRun) → slice_get cpus k ≡ Some c → slice_get (parts_of cpus) k ≡ Some c.part
 part_at cpus k c is_part = slice_get-map (λ (x : CpuInRun). x.part) cpus k ∙ ap (option_map (λ (x : CpuInRun). x.part)) is_part
@@ -57,28 +46,13 @@ part_at cpus k c is_part = slice_get-map (λ (x : CpuInRun). x.part) cpus k ∙ 
 parts_set : (cpus : List CpuInRun) (k : ℕ) (d : CpuInRun) → parts_of (slice_set cpus k d) ≡ slice_set (parts_of cpus) k d.part
 parts_set cpus k d = map-set (λ (x : CpuInRun). x.part) cpus k d
 
--- the other parts stay what their seats know
-tied_set : {locked : KnownLocked} (t : KnownTable) (w : KnownStockTable) (cpus : List KnownCpu) (k : ℕ) (c d : KnownCpu) → slice_get cpus k ≡ Some c
-    → HoldsOfPart t w locked d → AreTied t w cpus → AreTied t w (slice_set cpus k d)
-tied_set t w cpus k c d is_part held all j e at = elim (cases_eq j k) [
-  | inl here ↦
-      let is : e ≡ d = set_here cpus k d e (slice_get_within cpus k c is_part) (subst (λ (i : ℕ). slice_get (slice_set cpus k d) i ≡ Some e) here at) in
-      subst (IsTiedPart t w) (sym is) (record { tied = held.tied; none_fresh = λ z. ap length (held.none_fresh (no_group d.stock_seat.view.last z)) })
-  | inr ne ↦ all j e (set_else cpus k j d e ne at)
-]
-
-pub tied_still : {locked : KnownLocked} (t : KnownTable) (w : KnownStockTable) (cpus : List CpuInRun) (k : ℕ) (c d : CpuInRun) → slice_get cpus k ≡ Some c
-    → HoldsOfPart t w locked d.part → AreTied t w (parts_of cpus) → AreTied t w (parts_of (slice_set cpus k d))
-tied_still t w cpus k c d is_part held all =
-    subst (AreTied t w) (sym (parts_set cpus k d)) (tied_set t w (parts_of cpus) k c.part d.part (part_at cpus k c is_part) held all)
-
 -- a command that was served at the part that was read
 pub part_read : (on : Terms) (before after : KnownLocked) (cpus : List CpuInRun) (line : Line) (cpu : ℕ) (command : Command) (c d : CpuInRun)
     {number : ℕ} {Z U E : Type 0} (r : Result U E) (old new : String Z) → on.is_numbered ≡ false → line ≡ At number cpu command →
     LineInRange on.frames.frames (length cpus) line → c ≡ get_or cpus (cpu - 1) c →
-    AddsText r old new (ServesCommand on command (locked_state before c) (locked_state after d)) → HoldsOfPart on.frames on.stocks after d.part →
+    AddsText r old new (ServesCommand on command (locked_state before c) (locked_state after d)) → IsSound on.frames after →
     AddsText r old new (ServesAndKeeps on line (system_state before cpus) (system_state after (slice_set cpus (cpu - 1) d)))
-part_read on before after cpus line cpu command c d {number = number} r old new plain is there read answered held =
+part_read on before after cpus line cpu command c d {number = number} r old new plain is there read answered sound =
     let named : LineInRange on.frames.frames (length cpus) (At number cpu command) = subst (LineInRange on.frames.frames (length cpus)) is there in
     let low = named.low in
     let high = named.high in
@@ -96,37 +70,34 @@ part_read on before after cpus line cpu command c d {number = number} r old new 
               };
               goes_on = part_goes_on before after cpus (cpu - 1) c d answered.so.steps is_part answered.so.gains;
             });
-        keeps = record {
-          holds = held.sound;
-          tied = λ all. tied_still on.frames on.stocks cpus (cpu - 1) c d is_part held all;
-        };
+        sound = sound;
       };
       added = answered.added;
     }
 
 -- nothing is done for `go`, and nothing is added
-pub go_keeps : (t : KnownTable) (w : KnownStockTable) (is_explained : Bool) (before : KnownLocked) (cpus : List CpuInRun) {Z U E : Type 0} (r : Result U E)
-    (answers : String Z) (line : Line) → line ≡ Go → IsSound t w before
-    → AddsText r answers answers (ServesAndKeeps (terms t w is_explained) line (system_state before cpus) (system_state before cpus))
-go_keeps t w is_explained before cpus r answers line is holds = record {
+pub go_keeps : (t : KnownTable) (is_explained : Bool) (before : KnownLocked) (cpus : List CpuInRun) {Z U E : Type 0} (r : Result U E)
+    (answers : String Z) (line : Line) → line ≡ Go → IsSound t before
+    → AddsText r answers answers (ServesAndKeeps (terms t is_explained) line (system_state before cpus) (system_state before cpus))
+go_keeps t is_explained before cpus r answers line is holds = record {
   text = [];
-  so = subst (λ (x : Line). ServesAndKeeps (terms t w is_explained) x (system_state before cpus) (system_state before cpus) []) (sym is) (record {
+  so = subst (λ (x : Line). ServesAndKeeps (terms t is_explained) x (system_state before cpus) (system_state before cpus) []) (sym is) (record {
     there = tt;
     serves = record {
       steps = [];
       tells = record { plain = []; so = record { text_is = refl; stays = refl; steps_are = refl }; text_is = refl };
       goes_on = goes_on_none (system_state before cpus);
     };
-    keeps = record { holds = holds; tied = λ all. all };
+    sound = holds;
   });
   added = at_ok r (sym (append-nil (string_bytes answers)));
 }
 
 -- the same line with its number
-pub numbered_keeps : (t : KnownTable) (w : KnownStockTable) (is_explained : Bool) (line : Line) (s e : SystemState) (text : List ℕ)
-    → ServesAndKeeps (terms t w is_explained) line s e text
-    → ServesAndKeeps (numbered_terms t w is_explained true) line s e (numbered_text (number_in_script line) text)
-numbered_keeps t w is_explained line s e text keeps = record {
+pub numbered_keeps : (t : KnownTable) (is_explained : Bool) (line : Line) (s e : SystemState) (text : List ℕ)
+    → ServesAndKeeps (terms t is_explained) line s e text
+    → ServesAndKeeps (numbered_terms t is_explained true) line s e (numbered_text (number_in_script line) text)
+numbered_keeps t is_explained line s e text keeps = record {
   there = keeps.there;
   serves = record {
     steps = keeps.serves.steps;
@@ -137,27 +108,27 @@ numbered_keeps t w is_explained line s e text keeps = record {
     };
     goes_on = keeps.serves.goes_on;
   };
-  keeps = keeps.keeps;
+  sound = keeps.sound;
 }
 
 -- a line that was answered into a text of its own, which is then added with the number, as far as there is memory
-pub number_added : (t : KnownTable) (w : KnownStockTable) (is_explained : Bool) (line : Line) (s e : SystemState) {Z U E : Type 0} (r : Result U E)
-    (old new : String Z) (number : ℕ) (said plain : List ℕ) → ServesAndKeeps (terms t w is_explained) line s e said → plain ≡ said
+pub number_added : (t : KnownTable) (is_explained : Bool) (line : Line) (s e : SystemState) {Z U E : Type 0} (r : Result U E)
+    (old new : String Z) (number : ℕ) (said plain : List ℕ) → ServesAndKeeps (terms t is_explained) line s e said → plain ≡ said
     → number ≡ number_in_script line → IfOk r (λ _. string_bytes new ≡ string_bytes old ++ numbered_text number plain)
-    → AddsText r old new (ServesAndKeeps (numbered_terms t w is_explained true) line s e)
-number_added t w is_explained line s e r old new number said plain keeps is numbers added = record {
+    → AddsText r old new (ServesAndKeeps (numbered_terms t is_explained true) line s e)
+number_added t is_explained line s e r old new number said plain keeps is numbers added = record {
   text = numbered_text (number_in_script line) said;
-  so = numbered_keeps t w is_explained line s e said keeps;
+  so = numbered_keeps t is_explained line s e said keeps;
   added = subst (λ (b : ℕ × List ℕ). IfOk r (λ _. string_bytes new ≡ string_bytes old ++ numbered_text b.0 b.1)) (λ i. (numbers i, is i)) added;
 }
 
 -- an answer in this form, by whether lines are numbered in it
-pub formed : (t : KnownTable) (w : KnownStockTable) (form : Form) (line : Line) (s e : SystemState) {Z U E : Type 0} (r : Result U E) (old new : String Z)
+pub formed : (t : KnownTable) (form : Form) (line : Line) (s e : SystemState) {Z U E : Type 0} (r : Result U E) (old new : String Z)
     (is_numbered : Bool) → form.is_numbered ≡ is_numbered
-    → AddsText r old new (ServesAndKeeps (numbered_terms t w form.is_explained is_numbered) line s e)
-    → AddsText r old new (ServesAndKeeps (form_terms t w form) line s e)
-formed t w form line s e r old new is_numbered is adds =
-    subst (λ (b : Bool). AddsText r old new (ServesAndKeeps (numbered_terms t w form.is_explained b) line s e)) (sym is) adds
+    → AddsText r old new (ServesAndKeeps (numbered_terms t form.is_explained is_numbered) line s e)
+    → AddsText r old new (ServesAndKeeps (form_terms t form) line s e)
+formed t form line s e r old new is_numbered is adds =
+    subst (λ (b : Bool). AddsText r old new (ServesAndKeeps (numbered_terms t form.is_explained b) line s e)) (sym is) adds
 
 -- ---- the lines so far
 
@@ -177,43 +148,39 @@ all_served on (line ∷ lines) s e text all = record {
 
 -- ---- their history
 
-pub some_cpu : (t : KnownTable) (w : KnownStockTable) (locked : KnownLocked) → IsQuiet t w locked → 1 ≤ t.cpus
-some_cpu t w locked quiet = let sized = quiet.sized.cpus in let low = quiet.valid.cpus_low in omega arith
-
 -- a run shows the state; if the ledger before had the peaks and event counts of the run before, the ledger now has
 -- those of this run
 abbrev Follows : KnownTable → Run → SystemState → Run → SystemState → Type 0
 Follows t earlier s run e = ShowsAll t run e.locked.machine (parts_of e.cpus) × (AgreesWithRun t earlier s.locked.machine.ledger → AgreesWithRun t run e.locked.machine.ledger)
 
 pub line_follows : (on : Terms) (run : Run) (line : Line) (s e : SystemState) (text : List ℕ) → ShowsAll on.frames run s.locked.machine (parts_of s.cpus) →
-    AreTied on.frames on.stocks (parts_of s.cpus) → (keeps : ServesAndKeeps on line s e text) →
+    (keeps : ServesAndKeeps on line s e text) →
     IsLegalRun (zone_of on.frames) (run ++ keeps.serves.steps) →
     Follows on.frames run s (run ++ keeps.serves.steps) e
-line_follows on run Go s e text shows tied keeps legal =
+line_follows on run Go s e text shows keeps legal =
     subst (λ (r : Run). Follows on.frames run s r e) (sym (ap (λ (r : Run). run ++ r) keeps.serves.tells.so.steps_are ∙ append-nil run))
     (subst (λ (x : SystemState). Follows on.frames run s run x) (sym keeps.serves.tells.so.stays) (shows, λ told. told))
-line_follows on run (At number cpu command) s e text shows tied keeps legal =
+line_follows on run (At number cpu command) s e text shows keeps legal =
     let steps = keeps.serves.steps in
     let is : AtPart cpu (λ part left. WritesCommand on.is_explained command
     (transition on.frames (locked_state s.locked part) steps (locked_state e.locked left)) keeps.serves.tells.plain) s.cpus e.cpus = keeps.serves.tells.so in
     subst (λ (cpus : List KnownCpu). ShowsAll on.frames (run ++ steps) e.locked.machine cpus
     × (AgreesWithRun on.frames run s.locked.machine.ledger → AgreesWithRun on.frames (run ++ steps) e.locked.machine.ledger))
     (sym (ap parts_of is.cpus ∙ parts_set s.cpus (cpu - 1) is.left))
-    (command_follows on.frames on.stocks run s.locked (parts_of s.cpus) (cpu - 1) is.part shows (part_at s.cpus (cpu - 1) is.part is.is_part) tied on.is_explained command steps (locked_state e.locked is.left) keeps.serves.tells.plain
-    keeps.there.names is.done keeps.keeps.holds.quiet.shut legal)
+    (command_follows on.frames run s.locked (parts_of s.cpus) (cpu - 1) is.part shows (part_at s.cpus (cpu - 1) is.part is.is_part) on.is_explained command steps (locked_state e.locked is.left) keeps.serves.tells.plain
+    keeps.there.names is.done keeps.sound.consistent legal)
 
 pub keeps_history : (on : Terms) (lines : List Line) (before : Past) (e : SystemState) (text : List ℕ) →
-    (IsLegalRun (zone_of on.frames) before.run → ShowsAll on.frames before.run before.now.locked.machine (parts_of before.now.cpus)) → AreTied on.frames on.stocks (parts_of before.now.cpus) →
+    (IsLegalRun (zone_of on.frames) before.run → ShowsAll on.frames before.run before.now.locked.machine (parts_of before.now.cpus)) →
     ServesAllAndKeeps on lines before.now e text → HasHistory on lines before e text
-keeps_history on [] before e text shows tied all = all
-keeps_history on (line ∷ lines) before e text shows tied all =
+keeps_history on [] before e text shows all = all
+keeps_history on (line ∷ lines) before e text shows all =
     let one = all.serves_first in
     let mid = all.between in
     let steps : Run = one.serves.steps in
     let next : Run = before.run ++ steps in
     let follows : IsLegalRun (zone_of on.frames) next → Follows on.frames before.run before.now next mid =
-    λ legal. line_follows on before.run line before.now mid all.first (shows (legal_front (zone_of on.frames) before.run steps legal)) tied one legal in
-    let tied_then : AreTied on.frames on.stocks (parts_of mid.cpus) = one.keeps.tied tied in record {
+    λ legal. line_follows on before.run line before.now mid all.first (shows (legal_front (zone_of on.frames) before.run steps legal)) one legal in record {
       first = all.first;
       rest = all.rest;
       between = mid;
@@ -223,10 +190,9 @@ keeps_history on (line ∷ lines) before e text shows tied all =
       goes_on = one.serves.goes_on;
       kept_where_legal = λ legal. record {
         tells = (follows legal).1;
-        promise = the_whole_is_promised on.frames on.stocks next mid.locked.machine (parts_of mid.cpus) (follows legal).0 one.keeps.holds.consistent one.keeps.holds.charges tied_then
-            (some_cpu on.frames on.stocks mid.locked one.keeps.holds.quiet);
+        promise = the_whole_is_promised on.frames next mid.locked.machine (parts_of mid.cpus) (follows legal).0 one.sound.consistent one.sound.charges;
       };
-      tells = keeps_history on lines (past_line before steps mid) e all.rest (λ legal. (follows legal).0) tied_then all.serves_rest;
+      tells = keeps_history on lines (past_line before steps mid) e all.rest (λ legal. (follows legal).0) all.serves_rest;
       text_is = all.text_is;
     }
 
@@ -234,7 +200,7 @@ keeps_history on (line ∷ lines) before e text shows tied all =
 pub all_replayed : (on : Terms) (lines : List Line) (s e : SystemState) (text : List ℕ) → ServesAllAndKeeps on lines s e text → Replays on lines s e text
 all_replayed on lines s e text all = record {
   served = all_served on lines s e text all;
-  history = λ run shows tied. keeps_history on lines (past run s) e text (λ legal. shows) tied all;
+  history = λ run shows. keeps_history on lines (past run s) e text (λ legal. shows) all;
 }
 
 -- and legally, if the watch allowed all their steps
@@ -242,7 +208,7 @@ pub all_replayed_legally : (on : Terms) (lines : List Line) (s e : SystemState) 
     → has_legal_steps e.locked.machine.run.watch ≡ true → ReplaysLegally on lines s e text
 all_replayed_legally on lines s e text all allowed = let replays = all_replayed on lines s e text all in record {
   served = replays.served;
-  history = λ shows tied told new. legal_history on lines s e text (replays.history [] shows tied) told new allowed;
+  history = λ shows told new. legal_history on lines s e text (replays.history [] shows) told new allowed;
 }
 
 -- memory ran out for the text of the next line

@@ -12,7 +12,7 @@ pub mod Following
 pub mod Seeing
 pub mod UnderLock
 pub mod Visiting
-pub mod Looking
+pub mod UnitTexts
 pub mod Owning
 pub mod Threads
 pub mod Running

@@ -4,9 +4,8 @@ use Rattle.std.specs.Prelude.{length, slice_set}
 use Rattle.std.specs.List.{slice_get}
 use Rattle.std.proofs.lemmas.Option.{slice_get_read}
 use Rattle.frame_word.specs.Seats.{KnownTable}
-use Rattle.stock_word.specs.Stock.{KnownStockTable}
 use Rattle.mem_system.specs.Cpus.{CpuInRun}
-use Rattle.mem_system.specs.Locked.{KnownLocked}
+use Rattle.mem_system.specs.Locked.{IsSound, KnownLocked}
 use Rattle.mem_system.specs.Visits.{LockedState, Transition, locked_state, transition}
 use Rattle.reply_texts.specs.LineAnswer.{LineAnswer}
 use Rattle.reply_texts.specs.LineAnswer as answer
@@ -16,48 +15,43 @@ use Rattle.script_lines.specs.declared.line.Command.TheVariants.{Settle, Blocks,
 use Rattle.script_lines.specs.declared.line.Line.TheVariants.{At}
 use Rattle.script_replay.specs.Answers.{AnswersCommand, IsAnswerText, IsSettledText, ServesAnswer, WritesCommand}
 use Rattle.script_replay.specs.Commands.{HasValueAnswer, OnlySettles}
-use Rattle.script_replay.specs.History.{HoldsOfPart, ServesAndKeeps}
+use Rattle.script_replay.specs.History.{ServesAndKeeps}
 use Rattle.script_replay.specs.Lines.{SystemState, system_state}
 use Rattle.script_replay.specs.Ranges.{CpuCommandInRange}
 use Rattle.script_replay.specs.Terms.{Terms, terms}
 use Rattle.script_replay.specs.ValueAnswers.{SaysCommand}
 use Rattle.script_replay.proofs.Gaining.{part_goes_on}
-use Rattle.script_replay.proofs.Going.{all_replayed, tied_still}
+use Rattle.script_replay.proofs.Going.{all_replayed}
 
 -- ---- the text of what is said
 
-settled_text : (command : Command) (left : LockedState) → HasValueAnswer command → OnlySettles command
-    → IsSettledText false command (answer_text answer.Settled) left left.locked.machine
-settled_text Settle left has settles = (refl, refl)
-settled_text Blocks left has settles = absurd has
-settled_text Show left has settles = absurd has
-settled_text Stock left has settles = absurd has
-settled_text (Units path) left has settles = absurd has
-settled_text command left has settles = absurd settles
+settled_text : (t : KnownTable) (command : Command) (left : LockedState) → HasValueAnswer command → OnlySettles command
+    → IsSettledText t false command (answer_text answer.Settled) left
+settled_text t Settle left has settles = refl
+settled_text t Blocks left has settles = absurd has
+settled_text t Show left has settles = absurd has
+settled_text t Stock left has settles = absurd has
+settled_text t (Units path) left has settles = absurd has
+settled_text t command left has settles = absurd settles
 
 said_text : (command : Command) (call : Transition LockedState) (answer : LineAnswer) → HasValueAnswer command
-    → AnswersCommand false command call answer → IsAnswerText false command answer (answer_text answer) call.after call.after.locked.machine
-said_text command call (answer.Served reply) has so = (sym (append-nil (answer_text (answer.Served reply))), refl)
-said_text command call answer.Settled has so = settled_text command call.after has so.answers.is_answer.0
-said_text command call (answer.Unlocked said) has so = (sym (append-nil (answer_text (answer.Unlocked said))), refl)
+    → AnswersCommand false command call answer → IsAnswerText call.table false command answer (answer_text answer) call.after
+said_text command call (answer.Served reply) has so = sym (append-nil (answer_text (answer.Served reply)))
+said_text command call answer.Settled has so = settled_text call.table command call.after has so.answers.is_answer.0
+said_text command call (answer.Unlocked said) has so = sym (append-nil (answer_text (answer.Unlocked said)))
 
 as_text : (command : Command) (call : Transition LockedState) (answer : LineAnswer) → HasValueAnswer command → AnswersCommand false command call answer
     → WritesCommand false command call (answer_text answer)
-as_text command call answer has so = record {
-  left = call.after;
-  answer = answer;
-  answered = so;
-  writes = record { told = said_text command call answer has so; sizes = refl; cpu = refl };
-}
+as_text command call answer has so = record { answer = answer; answered = so; told = said_text command call answer has so }
 
 -- ---- a command at its part
 
-module _ (table : KnownTable) (stock_table : KnownStockTable) (l m : KnownLocked) (cpus : List CpuInRun) (cpu : ℕ) (command : Command) (c d : CpuInRun) (answer : LineAnswer)
+module _ (table : KnownTable) (l m : KnownLocked) (cpus : List CpuInRun) (cpu : ℕ) (command : Command) (c d : CpuInRun) (answer : LineAnswer)
     (there : CpuCommandInRange table.frames (length cpus) cpu command) (has : HasValueAnswer command) (is_part : slice_get cpus (cpu - 1) ≡ Some c)
-    (says : ServesAnswer (terms table stock_table false) command (locked_state l c) (locked_state m d) answer)
-    (held : HoldsOfPart table stock_table m d.part) where
+    (says : ServesAnswer (terms table false) command (locked_state l c) (locked_state m d) answer)
+    (sound : IsSound table m) where
   abbrev on : Terms
-  on = terms table stock_table false
+  on = terms table false
 
   abbrev before : SystemState
   before = system_state l cpus
@@ -83,13 +77,10 @@ module _ (table : KnownTable) (stock_table : KnownStockTable) (l m : KnownLocked
       };
       goes_on = part_goes_on l m cpus (cpu - 1) c d says.steps is_part says.gains;
     };
-    keeps = record {
-      holds = held.sound;
-      tied = λ all. tied_still table stock_table cpus (cpu - 1) c d is_part held all;
-    };
+    sound = sound;
   }
 
-  pub command_said : SaysCommand table stock_table cpu command before after answer
+  pub command_said : SaysCommand table cpu command before after answer
   command_said = record {
     says = record { part = c; left = d; is_part = is_part; done = says; cpus = refl };
     replays = λ number. all_replayed on (At number cpu command ∷ []) before after (answer_text answer) (record {

@@ -9,7 +9,6 @@ use Rattle.step_rules.specs.declared.step.Answer.TheVariants as step_answer
 use Rattle.step_rules.specs.After.{Run, IsLegalRun}
 use Rattle.step_watch.specs.Watched.{KnownWatch, Watches, IsNewWatch, SawRun, has_legal_steps}
 use Rattle.step_watch.proofs.Watching.{watches_none, watches_both, watched_runs_are_legal}
-use Rattle.mem_machine.specs.Noted.{KnownRun}
 use Rattle.mem_machine.specs.Interleaving.{zone_of}
 use Rattle.mem_machine.specs.Steps.{cpu_makes}
 use Rattle.mem_machine.specs.Agreeing.{AgreesWithRun}
@@ -26,7 +25,6 @@ use Rattle.script_lines.specs.declared.line.Line.{Line}
 use Rattle.script_lines.specs.declared.line.Line.TheVariants.{Go, At}
 use Rattle.script_replay.specs.Answers.{AnswersCommand, AnswersUnlocked, IsServedUnderLock, OnlySaw, WritesCommand}
 use Rattle.script_replay.proofs.Gaining.{saw_none}
-use Rattle.script_replay.proofs.Looking.{answer_looked}
 use Rattle.script_replay.specs.History.{Past, past, past_line, steps_of, KeepsHistory, HasHistory, HasLegalHistory, AllLinesGoOn, LegalHistoriesKeepIt}
 use Rattle.script_replay.specs.Lines.{SystemState, HasRun, WritesLine}
 use Rattle.script_replay.specs.Terms.{Terms}
@@ -45,10 +43,10 @@ module _ (t : KnownTable) (before : LockedState) (steps : Run) (after : LockedSt
   abbrev SeesAll : Type 0
   SeesAll = Sees steps before.locked after.locked
 
-  alone_seen : (made : Run) → steps ≡ made → OnlySaw made before.locked after.locked → SeesAll
+  alone_seen : (made : Run) → steps ≡ made → OnlySaw t made before.locked after.locked → SeesAll
   alone_seen made are only = subst (λ (r : Run). Sees r before.locked after.locked) (sym are) only.watched
 
-  locked_seen : (is_explained : Bool) (command : Command) (seen : LockedState) (answer : LineAnswer) → OnlySaw [] before.locked seen.locked
+  locked_seen : (is_explained : Bool) (command : Command) (seen : LockedState) (answer : LineAnswer) → OnlySaw t [] before.locked seen.locked
       → IsServedUnderLock is_explained command answer (transition t seen steps after) → SeesAll
   locked_seen is_explained command seen answer saw is =
       let served = is.answers.served in
@@ -58,8 +56,10 @@ module _ (t : KnownTable) (before : LockedState) (steps : Run) (after : LockedSt
       let b : KnownWatch = is.found.machine.run.watch in
       let d : KnownWatch = is.left.machine.run.watch in
       let e : KnownWatch = after.locked.machine.run.watch in
-      let rest : Watches b (served.steps ++ last) e =
-      watches_both b served.steps d last e served.makes.noted.watched is.unlock.watched in
+      let inner : Watches b served.steps d =
+      subst (λ (x : KnownWatch × KnownWatch). Watches x.0 served.steps x.1) (λ i. (served.taken.watch i, sym served.released.watch i))
+      served.makes.noted.watched in
+      let rest : Watches b (served.steps ++ last) e = watches_both b served.steps d last e inner is.unlock.watched in
       watches_both before.locked.machine.run.watch [] a steps e saw.watched
       (subst (λ (r : Run). Watches a r e) (sym is.steps_are) (watches_both a first b (served.steps ++ last) e is.lock.watched rest))
 
@@ -72,16 +72,12 @@ module _ (t : KnownTable) (before : LockedState) (steps : Run) (after : LockedSt
   answer_seen : (is_explained : Bool) (command : Command) (answer : LineAnswer)
       → AnswersCommand is_explained command (transition t before steps after) answer → SeesAll
   answer_seen is_explained command (answer.Served reply) is = locked_seen is_explained command is.seen (answer.Served reply) is.only_saw is.served
-  answer_seen is_explained command answer.Settled is = locked_seen is_explained command before answer.Settled (saw_none before.locked) is
+  answer_seen is_explained command answer.Settled is = locked_seen is_explained command before answer.Settled (saw_none t before.locked) is
   answer_seen is_explained command (answer.Unlocked said) is = unlocked_seen command said is
 
--- the watch took nothing at the looks by which the answer is written
 command_seen : (t : KnownTable) (before : LockedState) (steps : Run) (after : LockedState) (is_explained : Bool) (command : Command) (text : List ℕ)
     → WritesCommand is_explained command (transition t before steps after) text → Sees steps before.locked after.locked
-command_seen t before steps after is_explained command text is =
-    let looked = answer_looked t is_explained command is.answer text is.left after.locked.machine is.writes.told in
-    subst (λ (w : KnownWatch). Watches before.locked.machine.run.watch steps w) (sym (ap (λ (r : KnownRun). r.watch) looked.run))
-    (answer_seen t before steps is.left is_explained command is.answer is.answered)
+command_seen t before steps after is_explained command text is = answer_seen t before steps after is_explained command is.answer is.answered
 
 -- ---- a line, and all lines
 

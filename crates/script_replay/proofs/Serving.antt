@@ -6,7 +6,6 @@ use Rattle.std.specs.declared.string.String.{String}
 use Rattle.std.specs.String.{string_bytes}
 use Rattle.group_charge.specs.Charges.{Ledger}
 use Rattle.frame_word.specs.Seats.{KnownTable}
-use Rattle.cpu_part.specs.Cpus.{KnownCpu}
 use Rattle.cpu_part.specs.declared.answers.Fast.{Fast as FastAnswer}
 use Rattle.cpu_part.specs.declared.answers.Fast.TheVariants.{FreshFull, ListEmpty, OtherGroup, Drained, NoStock, Got}
 use Rattle.mem_machine.specs.Machines.{KnownMachine}
@@ -26,7 +25,7 @@ use Rattle.step_rules.specs.After.{Run}
 use Rattle.script_replay.specs.declared.answer_value.AnswerValue.{AnswerValue}
 use Rattle.script_replay.specs.declared.answer_value.AnswerValue.TheVariants as value
 use Rattle.script_replay.specs.Answers.{AddsText, AnswersAlone, AnswersLocked, Gains, OnlySaw, AnswersCommand, AnswersUnlocked, IsAnswerText, IsSettledText, IsTriedInVain, NeedsLock}
-use Rattle.script_replay.specs.Answers.{OnlyWatched, ServesAnswer, ServesUnderLock, TakesNoLock, WritesAnswer, explanation_if, is_noted, steps_alone}
+use Rattle.script_replay.specs.Answers.{OnlyWatched, ServesAnswer, ServesUnderLock, TakesNoLock, explanation_if, is_noted, steps_alone}
 use Rattle.script_replay.specs.Commands.{OnlySettles, cmd_of, frame_path, head_named, is_tried, path_removed}
 use Rattle.script_replay.specs.Reasons.{borrower_of, fault_in, refusal_reason_text, reasoned_text}
 use Rattle.script_replay.specs.Terms.{Terms}
@@ -35,31 +34,31 @@ use Rattle.script_replay.proofs.Gaining.{saw_both, watched_gains, watched_saw}
 
 -- ---- served
 
-unlocked_is : (command : Command) (call : Transition LockedState) (said : UnlockedAnswer) → AnswersAlone command call.before.cpu.part call.after.cpu.part said
+unlocked_is : (command : Command) (call : Transition LockedState) (said : UnlockedAnswer) → AnswersAlone command call.before.cpu call.after.cpu said
     → TakesNoLock (steps_alone call.before.cpu.part.number command said) call → AnswersUnlocked command call said
 unlocked_is (Alloc path order) call said is alone = absurd is
 unlocked_is command call said is alone = (is, alone)
 
 -- a step without the lock, which the watch took after it was tried
-pub then_watched : (l mid m : KnownLocked) (cpu number : ℕ) → cpu ≡ number → (told : ℕ → Run) → OnlySaw [] l mid → OnlyWatched (told cpu) mid m
-    → OnlySaw (told number) l m
-then_watched l mid m cpu number is told saw watched =
-    saw_both [] (told number) l mid m saw (watched_saw (told number) mid m (subst (λ (n : ℕ). OnlyWatched (told n) mid m) is watched))
+pub then_watched : (t : KnownTable) (l mid m : KnownLocked) (cpu number : ℕ) → cpu ≡ number → (told : ℕ → Run) → OnlySaw t [] l mid → OnlyWatched (told cpu) mid m
+    → OnlySaw t (told number) l m
+then_watched t l mid m cpu number is told saw watched =
+    saw_both t [] (told number) l mid m saw (watched_saw t (told number) mid m (subst (λ (n : ℕ). OnlyWatched (told n) mid m) is watched))
 
 module _ (on : Terms) (command : Command) (l m : KnownLocked) (c d : CpuInRun) where
   -- without the lock
-  pub unlocked_served : (mid : KnownLocked) (cpu : ℕ) (said : UnlockedAnswer) → cpu ≡ c.part.number → AnswersAlone command c.part d.part said → OnlySaw [] l mid
+  pub unlocked_served : (mid : KnownLocked) (cpu : ℕ) (said : UnlockedAnswer) → cpu ≡ c.part.number → AnswersAlone command c d said → OnlySaw on.frames [] l mid
       → Gains (steps_alone c.part.number command said) (locked_state l c) (locked_state mid d) → OnlyWatched (steps_alone cpu command said) mid m
       → ServesAnswer on command (locked_state l c) (locked_state m d) (answer.Unlocked said)
   unlocked_served mid cpu said is alone saw gains watched = let steps = steps_alone c.part.number command said in record {
     steps = steps;
     answered = unlocked_is command (transition on.frames (locked_state l c) steps (locked_state m d)) said alone
-        (record { locked = then_watched l mid m cpu c.part.number is (λ (n : ℕ). steps_alone n command said) saw watched; steps_are = refl });
+        (record { locked = then_watched on.frames l mid m cpu c.part.number is (λ (n : ℕ). steps_alone n command said) saw watched; steps_are = refl });
     gains = watched_gains steps (steps_alone cpu command said) (locked_state l c) mid m d gains watched;
   }
 
   -- under the lock, after it was tried in vain
-  pub lock_served : (seen : LockedState) (answer : LineAnswer) → IsTriedInVain command (locked_state l c) seen.cpu.part → OnlySaw [] l seen.locked
+  pub lock_served : (seen : LockedState) (answer : LineAnswer) → IsTriedInVain command (locked_state l c) seen.cpu → OnlySaw on.frames [] l seen.locked
       → Gains [] (locked_state l c) seen → (OnlySettles command → seen ≡ locked_state l c)
       → ServesUnderLock on.frames on.is_explained command answer seen (locked_state m d) → ServesAnswer on command (locked_state l c) (locked_state m d) answer
   lock_served seen (answer.Served reply) tried saw gains stays under = record {
@@ -84,15 +83,15 @@ none_got n g NoStock before after none gains = gains
 none_got n g (Got f) before after none gains = absurd (none f refl)
 
 -- a command that isn't one under the lock, and needs the lock, only settles its CPU
-pub only_settles : (command : Command) (c d : KnownCpu) → cmd_of command ≡ None → NeedsLock command c d → OnlySettles command × (d ≡ c)
+pub only_settles : (command : Command) (c d : CpuInRun) → cmd_of command ≡ None → NeedsLock command c d → OnlySettles command
 only_settles (Fast group) c d none is = absurd is
 only_settles (Get frame) c d none is = absurd is
 only_settles (Put frame) c d none is = absurd is
-only_settles Settle c d none is = (tt, is)
-only_settles Blocks c d none is = (tt, is)
-only_settles Show c d none is = (tt, is)
-only_settles Stock c d none is = (tt, is)
-only_settles (Units path) c d none is = (tt, is)
+only_settles Settle c d none is = tt
+only_settles Blocks c d none is = tt
+only_settles Show c d none is = tt
+only_settles Stock c d none is = tt
+only_settles (Units path) c d none is = tt
 only_settles command c d none is = absurd (none-some _ (sym none))
 
 -- such a command isn't tried
@@ -110,7 +109,7 @@ frame_is (Alloc path zero) found is = let same : path ≡ found = cc in ap (λ (
 frame_is command found is = absurd (none-some found is)
 
 -- what was tried of another command depends on nothing behind the lock
-pub vain_is : (command : Command) (l : KnownLocked) (c : CpuInRun) (seen : KnownCpu) → frame_path command ≡ None → NeedsLock command c.part seen
+pub vain_is : (command : Command) (l : KnownLocked) (c seen : CpuInRun) → frame_path command ≡ None → NeedsLock command c seen
     → IsTriedInVain command (locked_state l c) seen
 vain_is (Alloc path zero) l c seen none is = absurd (none-some path (sym none))
 vain_is command l c seen none is = is
@@ -140,28 +139,21 @@ locked_settles t command before after ledger said answers is =
 -- ---- written
 
 -- what is written of a value that isn't Settled
-pub value_text : (is_explained : Bool) (command : Command) (ledger : Ledger) (said : AnswerValue) (left : LockedState) → said ≢ value.Settled
-    → IsAnswerText is_explained command (answer_of ledger said)
+pub value_text : (t : KnownTable) (is_explained : Bool) (command : Command) (ledger : Ledger) (said : AnswerValue) (left : LockedState) → said ≢ value.Settled
+    → IsAnswerText t is_explained command (answer_of ledger said)
     (reasoned_text is_explained (answer_of ledger said) (borrower_of (head_named command) left.locked.machine)
-    ++ explanation_if (is_noted (answer_of ledger said) && is_explained) (path_removed command) left.locked.machine) left left.locked.machine
-value_text is_explained command ledger (value.Served outcome) left other = (refl, refl)
-value_text is_explained command ledger value.Settled left other = absurd (other refl)
-value_text is_explained command ledger (value.Unlocked said) left other = (refl, refl)
+    ++ explanation_if (is_noted (answer_of ledger said) && is_explained) (path_removed command) left.locked.machine) left
+value_text t is_explained command ledger (value.Served outcome) left other = refl
+value_text t is_explained command ledger value.Settled left other = absurd (other refl)
+value_text t is_explained command ledger (value.Unlocked said) left other = refl
 
 -- what a command writes that only settled its CPU, by which command it is
-pub settled_written : {Z T E : Type 0} (is_explained : Bool) (command named : Command) (left after : LockedState) (r : Result T E) (old new : String Z)
-    (text : List ℕ) → command ≡ named → IsSettledText is_explained named text left after.locked.machine → after.locked.sizes ≡ left.locked.sizes
-    → after.cpu ≡ left.cpu → IfOk r (λ _. string_bytes new ≡ string_bytes old ++ text)
-    → AddsText r old new (WritesAnswer is_explained command answer.Settled left after)
-settled_written is_explained command named left after r old new text is told sizes cpu added = record {
-  text = text;
-  so = record {
-    told = subst (λ (x : Command). IsSettledText is_explained x text left after.locked.machine) (sym is) told;
-    sizes = sizes;
-    cpu = cpu;
-  };
-  added = added;
-}
+pub settled_written : {Z T E : Type 0} (t : KnownTable) (is_explained : Bool) (command named : Command) (left : LockedState) (r : Result T E)
+    (old new : String Z) (text : List ℕ) → command ≡ named → IsSettledText t is_explained named text left
+    → IfOk r (λ _. string_bytes new ≡ string_bytes old ++ text)
+    → AddsText r old new (λ said. IsSettledText t is_explained command said left)
+settled_written t is_explained command named left r old new text is told added =
+    record { text = text; so = subst (λ (x : Command). IsSettledText t is_explained x text left) (sym is) told; added = added }
 
 module _ (answer : LineAnswer) (lent : Option ℕ) (removed : List ℕ) (machine : KnownMachine) (before : List ℕ) where
   -- without a reason and an explanation

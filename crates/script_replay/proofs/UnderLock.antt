@@ -55,7 +55,8 @@ module _ (t : KnownTable) (is_explained : Bool) (command : Command) (before foun
   visit_made asked reply served =
       let p = c.part.number in
       let steps = under_lock p served.steps in
-      let all = under_lock_own p served.steps (local_own p served.steps _ _ served.makes.leads) in
+      let own = subst (λ (q : ℕ). AllOf (IsOfBoth q) served.steps) served.taken.holds.who (local_own _ served.steps _ _ served.makes.leads) in
+      let all = under_lock_own p served.steps own in
       let grew : GrewByAll (own_past before.machine.run.past) steps (own_past left.machine.run.past) =
       subst (λ (l : KnownLocked). GrewByAll (own_past l.machine.run.past) steps (own_past left.machine.run.past)) lock.locked served.run.zone_grew in
       subst (λ (l : KnownLocked). Gains steps (locked_state before c) (locked_state l d)) (sym unlock.locked)

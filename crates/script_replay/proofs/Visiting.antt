@@ -1,10 +1,9 @@
 -- What lines were answered by visits. Serves `visit_answers`, `visit_replay`.
-use Rattle.std.proofs.Common.{Result, ◌≡◌, ℕ, zero, ◌+◌, ◌-◌, ◌<◌, true, false, Option, Some, None, List, [], ◌++◌, length, take, get_or, inl, inr, refl, sym, subst, arith}
+use Rattle.std.proofs.Common.{Result, ◌≡◌, ℕ, zero, ◌+◌, ◌-◌, ◌<◌, false, Option, Some, None, List, [], ◌++◌, length, take, get_or, inl, inr, refl, sym, subst, arith}
 use Rattle.std.specs.Prelude.{IfNone, IfSome, slice_set}
 use Rattle.std.specs.declared.string.String.{String}
 use Rattle.std.proofs.lemmas.Option.{none-some, slice_get_read}
-use Rattle.frame_word.specs.Seats.{KnownTable, LentIsBorrowed}
-use Rattle.cpu_part.specs.Cpus.{KnownCpu}
+use Rattle.frame_word.specs.Seats.{KnownTable}
 use Rattle.step_rules.specs.After.{Run}
 use Rattle.mem_system.specs.Cpus.{CpuInRun, between_locks}
 use Rattle.mem_system.specs.declared.command.Cmd.{Cmd}
@@ -19,7 +18,7 @@ use Rattle.script_lines.specs.declared.line.Command.{Command}
 use Rattle.script_lines.specs.declared.line.Command.TheVariants.{Alloc}
 use Rattle.script_lines.specs.declared.line.Line.{Line}
 use Rattle.script_lines.specs.declared.line.Line.TheVariants.{At}
-use Rattle.script_replay.specs.Answers.{AddsText, AnswersAlone, AnswersLocked, MakesAlone, NeedsLock, WritesAnswer, steps_alone, steps_tried}
+use Rattle.script_replay.specs.Answers.{AddsText, AnswersAlone, AnswersLocked, IsAnswerText, MakesAlone, NeedsLock, steps_alone, steps_tried}
 use Rattle.script_replay.specs.Commands.{OnlySettles, cmd_of, frame_path, is_tried}
 use Rattle.script_replay.specs.Visits.{AnswersAloneBySteps, AnswersWithoutVisit, GrewByChanges, NeedsVisit, ServesByVisits, TriesInVain, WritesByVisit}
 use Rattle.script_replay.specs.Visits.{VisitsLine, VisitsAll}
@@ -38,19 +37,19 @@ served_grew t cmd reply l m c d is = all_grew c.past (between_locks c.part.numbe
 
 -- ---- one command
 
-alone_is : (on : KnownSystem) (command : Command) (c d : CpuInRun) (said : UnlockedAnswer) → AnswersAlone command c.part d.part said
+alone_is : (on : KnownSystem) (command : Command) (c d : CpuInRun) (said : UnlockedAnswer) → AnswersAlone command c d said
     → AnswersWithoutVisit on command (steps_alone c.part.number command said) c d said
 alone_is on (Alloc path order) c d said is = absurd is
 alone_is on command c d said is = (is, refl)
 
-vain_is : (on : KnownSystem) (command : Command) (c seen : CpuInRun) → frame_path command ≡ None → NeedsLock command c.part seen.part
+vain_is : (on : KnownSystem) (command : Command) (c seen : CpuInRun) → frame_path command ≡ None → NeedsLock command c seen
     → MakesAlone c.part.number [] c.past seen.past → TriesInVain on command c seen
 vain_is on (Alloc path zero) c seen none is alone = absurd (none-some path (sym none))
 vain_is on command c seen none is alone = (is, alone)
 
 module _ (on : KnownSystem) (command : Command) (c d : CpuInRun) where
   -- what was tried of a command that allocates no single frame gave an answer
-  pub tried_alone : (o : Option UnlockedAnswer) → IfSome o (AnswersAlone command c.part d.part)
+  pub tried_alone : (o : Option UnlockedAnswer) → IfSome o (AnswersAlone command c d)
       → MakesAlone c.part.number (steps_tried c.part.number command o) c.past d.past → IfSome o (AnswersAloneBySteps on command c d)
   tried_alone (Some said) is makes = let steps = steps_alone c.part.number command said in record {
     steps = steps;
@@ -60,7 +59,7 @@ module _ (on : KnownSystem) (command : Command) (c d : CpuInRun) where
   tried_alone None is makes = tt
 
   -- or it gave none
-  pub tried_in_vain : (o : Option UnlockedAnswer) → frame_path command ≡ None → IfNone o (NeedsLock command c.part d.part)
+  pub tried_in_vain : (o : Option UnlockedAnswer) → frame_path command ≡ None → IfNone o (NeedsLock command c d)
       → MakesAlone c.part.number (steps_tried c.part.number command o) c.past d.past → (is_tried command ≡ false → d ≡ c)
       → IfNone o (NeedsVisit on command c d)
   tried_in_vain (Some said) other needs makes stays = tt
@@ -87,29 +86,25 @@ module _ (on : KnownSystem) (command : Command) (c d : CpuInRun) where
         },
       )
 
--- a text that was written from what a visit left, by looks at most
-pub visit_written : (on : KnownSystem) (command : Command) (l m n : KnownLocked) (c d e : CpuInRun) (answer : LineAnswer) (text : List ℕ)
-    → l.sizes ≡ on.sizes → IsSound on.frames on.stocks l → AnswersLocked on.frames command answer (locked_state l c) (locked_state m d) → IsSound on.frames on.stocks m
-    → LentIsBorrowed on.frames m.machine.frame_seat d.part.frame_seat → IsSound on.frames on.stocks n
-    → WritesAnswer false command answer (locked_state m d) (locked_state n e) text → (steps : Run) × WritesByVisit on command steps c e text
-visit_written on command l m n c d e answer text sized before answers left lent after writes =
-    subst (λ (x : CpuInRun). (steps : Run) × WritesByVisit on command steps c x text) (sym writes.cpu) (
-      between_locks c.part.number answers.served.steps,
-      record {
-        answer = answer;
-        visited = record { found = l; left = m; sizes_are = sized; sound_before = before; served = answers; sound_after = left; lent = lent };
-        steps_are = refl;
-        left = n;
-        sound = after;
-        writes = record { told = writes.told; sizes = writes.sizes; cpu = refl };
-      },
-    )
+-- a text that was written from what a visit left
+pub visit_written : (on : KnownSystem) (command : Command) (l m : KnownLocked) (c d : CpuInRun) (answer : LineAnswer) (text : List ℕ)
+    → l.sizes ≡ on.sizes → IsSound on.frames l → AnswersLocked on.frames command answer (locked_state l c) (locked_state m d) → IsSound on.frames m
+    → IsAnswerText on.frames false command answer text (locked_state m d) → (steps : Run) × WritesByVisit on command steps c d text
+visit_written on command l m c d answer text sized before answers left told = (
+  between_locks c.part.number answers.served.steps,
+  record {
+    answer = answer;
+    visited = record { found = l; left = m; sizes_are = sized; sound_before = before; served = answers; sound_after = left };
+    steps_are = refl;
+    told = told;
+  },
+)
 
 -- a command without a `Cmd` that needs a visit only settles its CPU
 pub visit_settles : (on : KnownSystem) (command : Command) (c seen : CpuInRun) → TriesInVain on command c seen → cmd_of command ≡ None
     → OnlySettles command
 visit_settles on (Alloc path order) c seen tried none = absurd (none-some _ (sym none))
-visit_settles on command c seen tried none = (only_settles command c.part seen.part none tried.0).0
+visit_settles on command c seen tried none = only_settles command c seen none tried.0
 
 -- ---- one line
 

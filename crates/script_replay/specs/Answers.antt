@@ -16,8 +16,8 @@ use Rattle.step_rules.specs.State.{times}
 use Rattle.cpu_part.specs.declared.answers.Fast.{Fast as FastAnswer}
 use Rattle.cpu_part.specs.declared.answers.Fast.TheVariants.{Got}
 use Rattle.cpu_part.specs.declared.answers.Dropped.TheVariants as dropped
-use Rattle.cpu_part.specs.Cpus.{KnownCpu, most_pins}
-use Rattle.cpu_part.specs.Calls.{FastAnswers, DropAnswers, PinAnswers, UnpinAnswers}
+use Rattle.cpu_part.specs.Cpus.{most_pins}
+use Rattle.cpu_part.specs.Calls.{FastAnswers, DropAnswers, PinAnswers, StaysSo, UnpinAnswers}
 use Rattle.step_rules.specs.declared.step.Action.TheVariants as step
 use Rattle.step_rules.specs.declared.step.Answer.TheVariants as step_answer
 use Rattle.step_rules.specs.After.{Run}
@@ -26,18 +26,18 @@ use Rattle.machine_texts.specs.Explanation.{explanation_text}
 use Rattle.machine_texts.specs.Blocks.{blocks_text}
 use Rattle.machine_texts.specs.Show.{show_text}
 use Rattle.machine_texts.specs.Stock.{stock_line_text}
-use Rattle.mem_machine.specs.Machines.{KnownMachine, with_run, with_unit_notes, with_watch}
+use Rattle.mem_machine.specs.Machines.{KnownMachine, left_by, with_run, with_unit_notes, with_watch}
 use Rattle.mem_machine.specs.Noted.{KnownRun}
 use Rattle.mem_machine.specs.Steps.{cpu_makes}
-use Rattle.mem_machine.specs.Stocks.{with_look}
 use Rattle.mem_history.specs.Whole.{under_lock}
 use Rattle.mem_history.specs.Leading.{put_answer}
 use Rattle.mem_system.specs.declared.command.Cmd.{Cmd}
 use Rattle.mem_system.specs.declared.command.Cmd.TheVariants as cmd
 use Rattle.mem_system.specs.declared.command.Reply.{Reply}
+use Rattle.mem_system.specs.Cpus.{CpuInRun}
 use Rattle.mem_system.specs.Locked.{KnownLocked}
 use Rattle.mem_system.specs.Shown.{UnitsAt}
-use Rattle.mem_system.specs.Visits.{Transition, transition, LockedState, locked_state, visit_state_of, IsServed}
+use Rattle.mem_system.specs.Visits.{Transition, transition, LockedState, locked_state, IsServed}
 use Rattle.reply_texts.specs.LineAnswer.{LineAnswer}
 use Rattle.reply_texts.specs.LineAnswer as answer
 use Rattle.reply_texts.specs.Answers.{answer_text}
@@ -79,11 +79,12 @@ pub record OnlyWatched (steps : Run) (before after : KnownLocked) : Type 0 where
   pub locked : after ≡ locked_with_watch before after.machine.run.watch
   pub watched : Watches before.machine.run.watch steps after.machine.run.watch
 
--- the watch of the machine takes these steps, and nothing else changes behind the lock except the zone's past, of which
--- this says nothing (`Gains` does)
-pub record OnlySaw (steps : Run) (before after : KnownLocked) : Type 0 where
+-- The watch of the machine takes these steps, and nothing else changes behind the lock except the zone's past. `Gains`
+-- says how the past has grown. Every CPU's own part hidden, it leaves what it left before.
+pub record OnlySaw (table : KnownTable) (steps : Run) (before after : KnownLocked) : Type 0 where
   pub locked : after ≡ locked_with_run before after.machine.run
   pub watched : Watches before.machine.run.watch steps after.machine.run.watch
+  pub left : left_by table after.machine.run.past ≡ left_by table before.machine.run.past
 
 -- ---- the run
 
@@ -96,42 +97,48 @@ Gains steps before after = GainsSteps (own_past before.locked.machine.run.past) 
 
 -- no lock is taken: only the CPU makes these steps, and behind the lock the watch takes them
 pub record TakesNoLock (steps : Run) (call : Transition LockedState) : Type 0 where
-  pub locked : OnlySaw steps call.before.locked call.after.locked
+  pub locked : OnlySaw call.table steps call.before.locked call.after.locked
   pub steps_are : call.steps ≡ steps
 
 -- a fresh frame was listed again without the lock
-pub record ListsAgain (frame : ℕ) (before after : KnownCpu) : Type 0 where
-  pub fresh : 1 ≤ times frame before.fresh
-  pub listed : DropAnswers frame dropped.Listed before after
+pub record ListsAgain (frame : ℕ) (before after : CpuInRun) : Type 0 where
+  pub fresh : 1 ≤ times frame before.part.fresh
+  pub listed : DropAnswers frame dropped.Listed before.last before.part after.last after.part
+
+-- nothing changed of the CPU, except its past
+abbrev pub CpuStays : (before after : CpuInRun) → Type 0
+CpuStays before after = StaysSo before.last before.part after.last after.part
 
 -- the frame isn't fresh at the CPU, and nothing changed
-pub record IsNotFresh (frame : ℕ) (before seen : KnownCpu) : Type 0 where
-  pub none_fresh : times frame before.fresh ≡ 0
-  pub stays : seen ≡ before
+pub record IsNotFresh (frame : ℕ) (before seen : CpuInRun) : Type 0 where
+  pub none_fresh : times frame before.part.fresh ≡ 0
+  pub stays : CpuStays before seen
 
 -- the frame is fresh at the CPU, but its page can't be credited, because the stock was drained
-pub record FindsDrained (frame : ℕ) (before seen : KnownCpu) : Type 0 where
-  pub fresh : 1 ≤ times frame before.fresh
-  pub drained : DropAnswers frame dropped.NeedVisit before seen
+pub record FindsDrained (frame : ℕ) (before seen : CpuInRun) : Type 0 where
+  pub fresh : 1 ≤ times frame before.part.fresh
+  pub drained : DropAnswers frame dropped.NeedVisit before.last before.part seen.last seen.part
 
 -- The frame can't be listed again without the lock: it isn't fresh at the CPU, or the stock was drained. `seen` is the
--- part that this call left.
-abbrev pub CanNotList : (frame : ℕ) (before seen : KnownCpu) → Type 0
+-- CPU after this call.
+abbrev pub CanNotList : (frame : ℕ) (before seen : CpuInRun) → Type 0
 CanNotList frame before seen = IsNotFresh frame before seen ⊎ FindsDrained frame before seen
 
 -- What a command is answered that the CPU carries out without the lock. Fast: what a fast allocation for the group
 -- returned. Get: one more pin on the frame; refused if pins and back frames together are as many as the CPU can have.
 -- Put: one pin less; refused if the CPU has no pin on the frame. Release: a fresh frame is listed again.
-abbrev pub AnswersAlone : Command → (before after : KnownCpu) → UnlockedAnswer → Type 0
-AnswersAlone (Fast group) before after (unlocked.Fast fast) = FastAnswers group fast before after
+abbrev pub AnswersAlone : Command → (before after : CpuInRun) → UnlockedAnswer → Type 0
+AnswersAlone (Fast group) before after (unlocked.Fast fast) =
+    FastAnswers group fast before.last before.part after.last after.part
 AnswersAlone (Get frame) before after (unlocked.Got got) =
-    (length before.back + length before.pins < most_pins) × PinAnswers frame got before after
+    (length before.part.back + length before.part.pins < most_pins) × PinAnswers frame got before.part after.part
+    × (after.last ≡ before.last)
 AnswersAlone (Get frame) before after (unlocked.Refused PinsFull) =
-    (length before.back + length before.pins ≡ most_pins) × (after ≡ before)
+    (length before.part.back + length before.part.pins ≡ most_pins) × CpuStays before after
 AnswersAlone (Put frame) before after (unlocked.Put put) =
-    (1 ≤ times frame before.pins) × UnpinAnswers frame put before after
+    (1 ≤ times frame before.part.pins) × UnpinAnswers frame put before.part after.part × (after.last ≡ before.last)
 AnswersAlone (Put frame) before after (unlocked.Refused NotPinned) =
-    (times frame before.pins ≡ 0) × (after ≡ before)
+    (times frame before.part.pins ≡ 0) × CpuStays before after
 AnswersAlone (Release frame) before after unlocked.Listed = ListsAgain frame before after
 AnswersAlone command before after answer = ⊥
 
@@ -155,13 +162,13 @@ pub record MakesAlone (cpu : ℕ) (steps : Run) (before after : KnownPasts) : Ty
   pub changes : AreChangesOf made steps
   pub own : AllOf (λ one. one.0.seat ≡ cpu) made
 
--- the command isn't answered without the lock, and what was tried left the part `seen`
-abbrev pub NeedsLock : Command → (before seen : KnownCpu) → Type 0
+-- the command isn't answered without the lock, and what was tried left the CPU `seen`
+abbrev pub NeedsLock : Command → (before seen : CpuInRun) → Type 0
 NeedsLock (Fast group) before seen = ⊥
 NeedsLock (Get frame) before seen = ⊥
 NeedsLock (Put frame) before seen = ⊥
 NeedsLock (Release frame) before seen = CanNotList frame before seen
-NeedsLock command before seen = seen ≡ before
+NeedsLock command before seen = CpuStays before seen
 
 -- no group has the path, and nothing changed
 pub record FindsNoGroup (path : List ℕ) (before after : LockedState) : Type 0 where
@@ -170,22 +177,22 @@ pub record FindsNoGroup (path : List ℕ) (before after : LockedState) : Type 0 
   pub same_cpu : after.cpu ≡ before.cpu
 
 -- a group has the path, and the CPU got this frame of its list for the group, without the lock
-pub record GetsFast (path : List ℕ) (before : LockedState) (after : KnownCpu) (frame : ℕ) : Type 0 where
+pub record GetsFast (path : List ℕ) (before : LockedState) (after : CpuInRun) (frame : ℕ) : Type 0 where
   pub group : ℕ
   pub found : number_at before.locked.machine.ledger.groups path ≡ Some group
-  pub got : FastAnswers group (Got frame) before.cpu.part after
+  pub got : FastAnswers group (Got frame) before.cpu.last before.cpu.part after.last after.part
 
 -- a frame was got without the lock, by the step of a Fast for the group
 pub record AllocatesFast (path : List ℕ) (frame : ℕ) (call : Transition LockedState) : Type 0 where
-  pub gets : GetsFast path call.before call.after.cpu.part frame
+  pub gets : GetsFast path call.before call.after.cpu frame
   pub alone : TakesNoLock (steps_alone call.before.cpu.part.number (Fast gets.group) (unlocked.Fast (Got frame))) call
 
--- A group has the path, but a call that takes no lock got no frame for it. `seen` is the part that this call left.
-pub record GetsNoneFast (path : List ℕ) (before : LockedState) (seen : KnownCpu) : Type 0 where
+-- A group has the path, but a call that takes no lock got no frame for it. `seen` is the CPU after this call.
+pub record GetsNoneFast (path : List ℕ) (before : LockedState) (seen : CpuInRun) : Type 0 where
   pub group : ℕ
   pub found : number_at before.locked.machine.ledger.groups path ≡ Some group
   pub fast : FastAnswer
-  pub answers : FastAnswers group fast before.cpu.part seen
+  pub answers : FastAnswers group fast before.cpu.last before.cpu.part seen.last seen.part
   pub none : (frame : ℕ) → fast ≢ Got frame
 
 -- What a command is answered without the lock, by which steps. An Alloc of a single frame is, if no group has the path,
@@ -195,7 +202,7 @@ AnswersUnlocked (Alloc path zero) call (unlocked.Fast (Got frame)) = AllocatesFa
 AnswersUnlocked (Alloc path zero) call (unlocked.Refused NoGroup) =
     FindsNoGroup path.now call.before call.after × (call.steps ≡ [])
 AnswersUnlocked command call answer =
-    AnswersAlone command call.before.cpu.part call.after.cpu.part answer
+    AnswersAlone command call.before.cpu call.after.cpu answer
     × TakesNoLock (steps_alone call.before.cpu.part.number command answer) call
 
 -- ---- under the lock
@@ -239,17 +246,17 @@ pub record ServesUnderLock (table : KnownTable) (is_explained : Bool) (command :
   pub served : IsServedUnderLock is_explained command answer (transition table before steps after)
   pub gains : Gains steps before after
 
--- what was tried for the command without the lock gave no answer, and left the part `seen`
-abbrev pub IsTriedInVain : Command → LockedState → (seen : KnownCpu) → Type 0
+-- what was tried for the command without the lock gave no answer, and left the CPU `seen`
+abbrev pub IsTriedInVain : Command → LockedState → (seen : CpuInRun) → Type 0
 IsTriedInVain (Alloc path zero) before seen = GetsNoneFast path.now before seen
-IsTriedInVain command before seen = NeedsLock command before.cpu.part seen
+IsTriedInVain command before seen = NeedsLock command before.cpu seen
 
 -- the command was tried in vain without the lock, which left `seen`, and then served under it
 pub record RepliesServed (is_explained : Bool) (command : Command) (reply : Reply) (call : Transition LockedState)
     : Type 0 where
   pub seen : LockedState
-  pub tried : IsTriedInVain command call.before seen.cpu.part
-  pub only_saw : OnlySaw [] call.before.locked seen.locked
+  pub tried : IsTriedInVain command call.before seen.cpu
+  pub only_saw : OnlySaw call.table [] call.before.locked seen.locked
   pub served : IsServedUnderLock is_explained command (answer.Served reply)
       (transition call.table seen call.steps call.after)
 
@@ -282,59 +289,40 @@ explanation_if true removed machine =
     explanation_text machine.ledger.groups removed machine.notes.list machine.notes.left_out
 explanation_if false removed machine = []
 
--- Stock: the text is the line about the settled CPU, with its stock as one look found it
-pub record IsStockText (text : List ℕ) (settled : LockedState) (machine : KnownMachine) : Type 0 where
-  pub text_is : text ≡ stock_line_text (visit_state_of settled)
-  pub look : machine ≡ with_look settled.locked.machine
-
--- Units: the text is that of the kept units of the group of this path, with the pins that one look at each unit's word
+-- Units: the text is that of the kept units of the group of this path, with the pins that one load of each unit's word
 -- found; or no group has the path, and that is refused
-abbrev pub IsUnitsTextOf : (is_explained : Bool) (path text : List ℕ) (settled : LockedState) (machine : KnownMachine)
-    → Type 0
-IsUnitsTextOf is_explained path text settled machine =
-    UnitsAt (number_at settled.locked.machine.ledger.groups path)
+abbrev pub IsUnitsText : KnownTable → (is_explained : Bool) → (path text : List ℕ) (machine : KnownMachine) → Type 0
+IsUnitsText table is_explained path text machine =
+    UnitsAt table (number_at machine.ledger.groups path)
     (text ≡ reasoned_text is_explained (answer.Unlocked (unlocked.Refused NoGroup)) None) (λ shown. text ≡ shown)
-    settled.locked.machine machine
+    machine machine
 
--- What a command writes that only settles its CPU, from the settled state and the machine that looks at words left.
-abbrev pub IsSettledText : (is_explained : Bool) → Command → (text : List ℕ) (settled : LockedState)
-    (machine : KnownMachine) → Type 0
-IsSettledText is_explained Settle text settled machine =
-    (text ≡ answer_text answer.Settled) × (machine ≡ settled.locked.machine)
-IsSettledText is_explained Blocks text settled machine =
-    (text ≡ blocks_text machine.blocks) × (machine ≡ settled.locked.machine)
-IsSettledText is_explained Show text settled machine =
-    (text ≡ show_text machine) × (machine ≡ settled.locked.machine)
-IsSettledText is_explained Stock text settled machine = IsStockText text settled machine
-IsSettledText is_explained (Units path) text settled machine =
-    IsUnitsTextOf is_explained path.now text settled machine
-IsSettledText is_explained command text settled machine = ⊥
+-- what a command writes that only settles its CPU, from the settled state
+abbrev pub IsSettledText : KnownTable → (is_explained : Bool) → Command → (text : List ℕ) (settled : LockedState) → Type 0
+IsSettledText table is_explained Settle text settled = text ≡ answer_text answer.Settled
+IsSettledText table is_explained Blocks text settled = text ≡ blocks_text settled.locked.machine.blocks
+IsSettledText table is_explained Show text settled = text ≡ show_text settled.locked.machine
+IsSettledText table is_explained Stock text settled =
+    text ≡ stock_line_text table settled.locked.machine settled.cpu.part
+IsSettledText table is_explained (Units path) text settled =
+    IsUnitsText table is_explained path.now text settled.locked.machine
+IsSettledText table is_explained command text settled = ⊥
 
 -- The text of an answer, from what the command left. If an explanation is asked for, the text continues with why the
 -- command is refused, if it is, and then with the explanation of what it did, if there are notes of the command.
-abbrev pub IsAnswerText : (is_explained : Bool) → Command → LineAnswer → (text : List ℕ) (left : LockedState)
-    (machine : KnownMachine) → Type 0
-IsAnswerText is_explained command answer.Settled text left machine =
-    IsSettledText is_explained command text left machine
-IsAnswerText is_explained command answer text left machine =
-    (text ≡ reasoned_text is_explained answer (borrower_of (head_named command) machine)
-    ++ explanation_if (is_noted answer && is_explained) (path_removed command) machine)
-    × (machine ≡ left.locked.machine)
-
--- the text of an answer is written from what the command left, and only the machine may change, by looks at words
-pub record WritesAnswer (is_explained : Bool) (command : Command) (answer : LineAnswer) (left after : LockedState)
-    (text : List ℕ) : Type 0 where
-  pub told : IsAnswerText is_explained command answer text left after.locked.machine
-  pub sizes : after.locked.sizes ≡ left.locked.sizes
-  pub cpu : after.cpu ≡ left.cpu
+abbrev pub IsAnswerText : KnownTable → (is_explained : Bool) → Command → LineAnswer → (text : List ℕ) (left : LockedState)
+    → Type 0
+IsAnswerText table is_explained command answer.Settled text left = IsSettledText table is_explained command text left
+IsAnswerText table is_explained command answer text left =
+    text ≡ reasoned_text is_explained answer (borrower_of (head_named command) left.locked.machine)
+    ++ explanation_if (is_noted answer && is_explained) (path_removed command) left.locked.machine
 
 -- the answer of a command, as text
 pub record WritesCommand (is_explained : Bool) (command : Command) (call : Transition LockedState) (text : List ℕ)
     : Type 0 where
-  pub left : LockedState
   pub answer : LineAnswer
-  pub answered : AnswersCommand is_explained command (transition call.table call.before call.steps left) answer
-  pub writes : WritesAnswer is_explained command answer left call.after text
+  pub answered : AnswersCommand is_explained command call answer
+  pub told : IsAnswerText call.table is_explained command answer text call.after
 
 -- the answer of a command, as text, by some steps
 pub record ServesCommand (terms : Terms) (command : Command) (before after : LockedState) (text : List ℕ)

@@ -2,18 +2,15 @@
 use Rattle.std.specs.Prelude.{◌≡◌, ℕ, ◌-◌, true, false, List, [], ◌∷◌, ◌++◌, Result, Vec, IfErr, IfOk, OnErr}
 use Rattle.std.specs.Prelude.{get_or, length, take, ⊤}
 use Rattle.frame_word.specs.Seats.{KnownTable}
-use Rattle.stock_word.specs.Stock.{KnownStockTable}
-use Rattle.stock_word.specs.declared.view.Stock.TheVariants.{NoGroup}
-use Rattle.cpu_part.specs.Cpus.{KnownCpu, IsTied}
 use Rattle.step_rules.specs.After.{Run, IsLegalRun}
 use Rattle.step_rules.specs.Promise.{Promise}
 use Rattle.step_watch.specs.Watched.{IsNewWatch, SawRun, Watches, has_legal_steps}
 use Rattle.mem_machine.specs.Interleaving.{zone_of}
 use Rattle.mem_machine.specs.Agreeing.{AgreesWithRun}
 use Rattle.mem_history.specs.Whole.{ShowsAll}
-use Rattle.mem_history.specs.Kept.{AreTied, shown_of}
+use Rattle.mem_history.specs.Kept.{shown_of}
 use Rattle.mem_system.specs.Cpus.{parts_of}
-use Rattle.mem_system.specs.Locked.{IsSound, KnownLocked}
+use Rattle.mem_system.specs.Locked.{IsSound}
 use Rattle.mem_system.specs.Visits.{transition}
 use Rattle.script_lines.specs.declared.line.Line.{Line}
 use Rattle.script_lines.specs.declared.line.Line.TheVariants.{Go}
@@ -42,7 +39,7 @@ past_line past steps after = record { run = past.run ++ steps; now = after }
 -- counts of the earlier run, the ledger now has those of this run.
 pub record HoldsPromise (table : KnownTable) (earlier : Run) (before : SystemState) (run : Run) (now : SystemState)
     : Type 0 where
-  pub promise : Promise (zone_of table) run (shown_of now.locked.machine (parts_of now.cpus))
+  pub promise : Promise (zone_of table) run (shown_of table now.locked.machine (parts_of now.cpus))
   pub tells : AgreesWithRun table earlier before.locked.machine.ledger
       → AgreesWithRun table run now.locked.machine.ledger
 
@@ -86,7 +83,7 @@ AllLinesGoOn = (terms : Terms) (lines : List Line) (past : Past) (after : System
 -- the promise holds after the run, of what the machine and the CPUs show, and the ledger has the peaks and event counts
 -- of the run
 pub record KeepsPromise (table : KnownTable) (run : Run) (now : SystemState) : Type 0 where
-  pub promise : Promise (zone_of table) run (shown_of now.locked.machine (parts_of now.cpus))
+  pub promise : Promise (zone_of table) run (shown_of table now.locked.machine (parts_of now.cpus))
   pub tells : AgreesWithRun table run now.locked.machine.ledger
 
 -- The first line is served by these steps, by which the run so far goes on, and the promise holds after them. The other
@@ -127,12 +124,11 @@ pub record HasLegalHistory (terms : Terms) (lines : List Line) (before after : S
   pub saw : SawRun (zone_of terms.frames) run after.locked.machine.run.watch
   pub history : KeepsHistory terms lines (past [] before) (past run after) text
 
--- the lines are served one after the other; they have a history from each run that shows the state before them, if the
--- parts agree with their seats
+-- the lines are served one after the other; they have a history from each run that shows the state before them
 pub record Replays (terms : Terms) (lines : List Line) (before after : SystemState) (text : List ℕ) : Type 0 where
   pub served : ServesAll terms lines before after text
   pub history : (run : Run) → ShowsAll terms.frames run before.locked.machine (parts_of before.cpus)
-      → AreTied terms.frames terms.stocks (parts_of before.cpus) → HasHistory terms lines (past run before) after text
+      → HasHistory terms lines (past run before) after text
 
 -- The result of a replay. If it succeeds, all lines were served and these are their answers. If memory runs out for the
 -- text of a line, the lines up to that one were served.
@@ -147,7 +143,7 @@ pub record ReplaysLegally (terms : Terms) (lines : List Line) (before after : Sy
     (text : List ℕ) : Type 0 where
   pub served : ServesAll terms lines before after text
   pub history : ShowsAll terms.frames [] before.locked.machine (parts_of before.cpus)
-      → AreTied terms.frames terms.stocks (parts_of before.cpus) → AgreesWithRun terms.frames [] before.locked.machine.ledger
+      → AgreesWithRun terms.frames [] before.locked.machine.ledger
       → IsNewWatch (zone_of terms.frames) before.locked.machine.run.watch
       → HasLegalHistory terms lines before after text
 
@@ -183,21 +179,8 @@ pub record ReplaysCheckedOrStops {Z : Type 0} (terms : Terms) (lines : List Line
   pub stopped : IfErr result (StopsFor terms lines before after)
 
 -- ---- what else is known of a line
--- what always holds behind the lock, and of the part of a CPU that is settled or was served
-pub record HoldsOfPart (table : KnownTable) (stock_table : KnownStockTable) (locked : KnownLocked) (part : KnownCpu)
-    : Type 0 where
-  pub sound : IsSound table stock_table locked
-  pub tied : IsTied table stock_table part
-  pub none_fresh : part.stock_seat.view.last ≡ NoGroup → part.fresh ≡ []
-
--- the invariants hold behind the lock; if each CPU's part before agreed with its seats, so does each part after
-pub record KeepsInvariants (table : KnownTable) (stock_table : KnownStockTable)
-    (before after : SystemState) : Type 0 where
-  pub holds : IsSound table stock_table after.locked
-  pub tied : AreTied table stock_table (parts_of before.cpus) → AreTied table stock_table (parts_of after.cpus)
-
--- what the line names exists, the line is served, and the invariants are kept
+-- what the line names exists, the line is served, and what is left behind the lock is sound
 pub record ServesAndKeeps (terms : Terms) (line : Line) (before after : SystemState) (text : List ℕ) : Type 0 where
   pub there : LineInRange terms.frames.frames (length before.cpus) line
   pub serves : ServesLine terms line before after text
-  pub keeps : KeepsInvariants terms.frames terms.stocks before after
+  pub sound : IsSound terms.frames after.locked

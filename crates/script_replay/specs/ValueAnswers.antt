@@ -2,7 +2,6 @@
 use Rattle.std.specs.Prelude.{ℕ, false, [], ◌∷◌}
 use Rattle.group_charge.specs.Charges.{Ledger}
 use Rattle.frame_word.specs.Seats.{KnownTable}
-use Rattle.stock_word.specs.Stock.{KnownStockTable}
 use Rattle.mem_system.specs.Outcomes.{HasItsGroups, reply_of}
 use Rattle.mem_system.specs.Visits.{locked_state}
 use Rattle.reply_texts.specs.LineAnswer.{LineAnswer}
@@ -30,9 +29,9 @@ NamesItsGroups ledger other = Unit {0}
 
 -- The command of the CPU of this number was served with this answer. A script of the command alone, whatever the number
 -- of its line, is replayed from the state before to the state after, and its answer is the text of this one.
-pub record SaysCommand (table : KnownTable) (stock_table : KnownStockTable) (cpu : ℕ) (command : Command)
+pub record SaysCommand (table : KnownTable) (cpu : ℕ) (command : Command)
     (before after : SystemState) (answer : LineAnswer) : Type 0 where
-  pub says : AtPart cpu (λ part left. ServesAnswer (terms table stock_table false) command
+  pub says : AtPart cpu (λ part left. ServesAnswer (terms table false) command
       (locked_state before.locked part) (locked_state after.locked left) answer) before.cpus after.cpus
-  pub replays : (number : ℕ) → Replays (terms table stock_table false) (At number cpu command ∷ [])
+  pub replays : (number : ℕ) → Replays (terms table false) (At number cpu command ∷ [])
       before after (answer_text answer)

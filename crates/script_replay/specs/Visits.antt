@@ -1,18 +1,17 @@
 -- What lines do by visits, while other CPUs go on. No clause can name what lies behind the lock, so each visit is
 -- described by itself: it found some value there, and the next visit may find another. What is answered under the lock
--- and what is written of it are what they are by value (`AnswersLocked`, `WritesAnswer`). Each relation says by which
+-- and what is written of it are what they are by value (`AnswersLocked`, `IsAnswerText`). Each relation says by which
 -- steps: the CPU's past shows where they are in the run.
 use Rattle.std.specs.Prelude.{◌≡◌, ◌⊎◌, ℕ, zero, false, List, [], None}
 use Rattle.boot_words.specs.Pasts.{KnownPasts, own_past}
 use Rattle.boot_words.specs.Growth.{AreChangesOf, GrewByAll, SeesMore}
-use Rattle.boot_words.specs.declared.view.Past.{Past}
-use Rattle.cpu_part.specs.Cpus.{KnownCpu}
+use Rattle.boot_words.specs.declared.past.Past.{Past}
 use Rattle.cpu_part.specs.declared.answers.Fast.TheVariants.{Got}
 use Rattle.mem_system.specs.Cpus.{CpuInRun, between_locks}
 use Rattle.group_tree.specs.Groups.{number_at}
 use Rattle.group_tree.specs.declared.fault.Fault.TheVariants.{NoGroup}
 use Rattle.mem_system.specs.Boots.{KnownSystem}
-use Rattle.mem_system.specs.Locked.{IsSound, KnownLocked, SeenBehindLock}
+use Rattle.mem_system.specs.Locked.{SeenBehindLock}
 use Rattle.mem_system.specs.Visits.{LockedState, locked_state, IsVisited}
 use Rattle.reply_texts.specs.LineAnswer.{LineAnswer}
 use Rattle.reply_texts.specs.LineAnswer as answer
@@ -25,7 +24,7 @@ use Rattle.step_rules.specs.After.{Run}
 use Rattle.script_lines.specs.declared.line.Line.{Line}
 use Rattle.script_lines.specs.declared.line.Line.TheVariants.{Go, At}
 use Rattle.script_replay.specs.Answers.{AnswersAlone, AnswersLocked, GetsFast, GetsNoneFast, MakesAlone}
-use Rattle.script_replay.specs.Answers.{NeedsLock, WritesAnswer, steps_alone}
+use Rattle.script_replay.specs.Answers.{IsAnswerText, NeedsLock, steps_alone}
 use Rattle.script_replay.specs.Commands.{OnlySettles}
 use Rattle.script_replay.specs.Lines.{AtPart, InOrder}
 
@@ -39,7 +38,7 @@ pub record GrewByChanges (before : KnownPasts) (steps : Run) (after : KnownPasts
   pub changes : AreChangesOf made steps
 
 -- a group has the path, and the CPU got this frame of its list for the group, by the step of a Fast for the group
-pub record GetsFastBySteps (path : List ℕ) (steps : Run) (before : LockedState) (after : KnownCpu) (frame : ℕ)
+pub record GetsFastBySteps (path : List ℕ) (steps : Run) (before : LockedState) (after : CpuInRun) (frame : ℕ)
     : Type 0 where
   pub gets : GetsFast path before after frame
   pub steps_are : steps ≡ steps_alone before.cpu.part.number (Fast gets.group) (unlocked.Fast (Got frame))
@@ -50,13 +49,13 @@ pub record GetsFastBySteps (path : List ℕ) (steps : Run) (before : LockedState
 abbrev pub AnswersWithoutVisit : KnownSystem → Command → (steps : Run) (before after : CpuInRun) → UnlockedAnswer
     → Type 0
 AnswersWithoutVisit tables (Alloc path zero) steps before after (unlocked.Fast (Got frame)) =
-    (met : CpuInRun) × SeenBehindLock tables.frames tables.stocks
-    (λ locked. GetsFastBySteps path.now steps (locked_state locked met) after.part frame) before met
+    (met : CpuInRun) × SeenBehindLock tables.frames
+    (λ locked. GetsFastBySteps path.now steps (locked_state locked met) after frame) before met
 AnswersWithoutVisit tables (Alloc path zero) steps before after (unlocked.Refused NoGroup) =
-    SeenBehindLock tables.frames tables.stocks
+    SeenBehindLock tables.frames
     (λ locked. number_at locked.machine.ledger.groups path.now ≡ None) before after × (steps ≡ [])
 AnswersWithoutVisit tables command steps before after answer =
-    AnswersAlone command before.part after.part answer × (steps ≡ steps_alone before.part.number command answer)
+    AnswersAlone command before after answer × (steps ≡ steps_alone before.part.number command answer)
 
 -- a command was answered without a visit, by some steps, by which the CPU's past has grown
 pub record AnswersAloneBySteps (tables : KnownSystem) (command : Command) (before after : CpuInRun)
@@ -69,15 +68,15 @@ pub record AnswersAloneBySteps (tables : KnownSystem) (command : Command) (befor
 -- frame for it, and left the CPU `seen` by steps that change nothing.
 pub record TriesFrame (tables : KnownSystem) (path : List ℕ) (before seen : CpuInRun) : Type 0 where
   pub met : CpuInRun
-  pub found : SeenBehindLock tables.frames tables.stocks
-      (λ locked. GetsNoneFast path (locked_state locked met) seen.part) before met
+  pub found : SeenBehindLock tables.frames
+      (λ locked. GetsNoneFast path (locked_state locked met) seen) before met
   pub alone : MakesAlone before.part.number [] met.past seen.past
 
 -- what was tried for a command without a visit gave no answer, and left the CPU `seen` by steps that change nothing
 abbrev pub TriesInVain : KnownSystem → Command → (before seen : CpuInRun) → Type 0
 TriesInVain tables (Alloc path zero) before seen = TriesFrame tables path.now before seen
 TriesInVain tables command before seen =
-    NeedsLock command before.part seen.part × MakesAlone before.part.number [] before.past seen.past
+    NeedsLock command before seen × MakesAlone before.part.number [] before.past seen.past
 
 -- the command is served by a visit, after tries that left the CPU `seen`
 pub record NeedsVisit (tables : KnownSystem) (command : Command) (before seen : CpuInRun) : Type 0 where
@@ -86,16 +85,14 @@ pub record NeedsVisit (tables : KnownSystem) (command : Command) (before seen : 
   pub untried : OnlySettles command → seen ≡ before
 
 -- The command was served by a visit, which found the sizes of the boot: the steps are the Lock, those of the visit, and
--- the Unlock. The text of its answer was written from what it left, by looks at words at most, before another visit could begin.
+-- the Unlock. The text of its answer was written from what it left, before another visit could begin.
 pub record WritesByVisit (tables : KnownSystem) (command : Command) (steps : Run) (before after : CpuInRun)
     (text : List ℕ) : Type 0 where
   pub answer : LineAnswer
-  pub visited : IsVisited tables.frames tables.stocks tables.sizes (AnswersLocked tables.frames command answer)
+  pub visited : IsVisited tables.frames tables.sizes (AnswersLocked tables.frames command answer)
       before after
   pub steps_are : steps ≡ between_locks before.part.number visited.served.served.steps
-  pub left : KnownLocked
-  pub sound : IsSound tables.frames tables.stocks left
-  pub writes : WritesAnswer false command answer (locked_state visited.left after) (locked_state left after) text
+  pub told : IsAnswerText tables.frames false command answer text (locked_state visited.left after)
 
 -- the text of a command that was answered without a visit
 pub record SaysAlone (tables : KnownSystem) (command : Command) (steps : Run) (before after : CpuInRun)

@@ -35,7 +35,7 @@ pub fn run_each<N: BootName + Send + Sync, R: Threads + Wait + Sync, G: Gate + S
 ) -> Result<Vec<u8>, AllocError>
     requires count { length cpus.old < 2 ^ 31 }
     requires lines { All (LineInRange N.frames.frames (length cpus.old)) lines.now }
-    ensures { IfOk result (λ text. (told : List Run) × AreAllAnswers (boot_tables N.frames N.stocks system.now.sizes)
+    ensures { IfOk result (λ text. (told : List Run) × AreAllAnswers (boot_tables N.frames system.now.sizes)
         (workers_from 1 cpus.old lines.now is_numbered) cpus.new told text.items) }
 {
     let job = Job {
@@ -58,7 +58,7 @@ fn run_from<N: BootName + Send + Sync, R: Threads + Wait + Sync, G: Gate + Sync>
     requires count { first + length cpus.old ≤ 2 ^ 31 }
     requires lines { All (LineCommandInRange N.frames.frames) job.now.lines.now }
     ensures { IfOk result (λ text. (told : List Run)
-        × AreAllAnswers (boot_tables N.frames N.stocks job.now.visitor.system.now.sizes)
+        × AreAllAnswers (boot_tables N.frames job.now.visitor.system.now.sizes)
         (workers_from first cpus.old job.now.lines.now job.now.is_numbered) cpus.new told text.items) }
 {
     if cpus.len() < 2 {
@@ -84,7 +84,7 @@ fn run_both<N: BootName + Send + Sync, R: Threads + Wait + Sync, G: Gate + Sync>
     requires back { second + length back.old ≤ 2 ^ 31 }
     requires lines { All (LineCommandInRange N.frames.frames) job.now.lines.now }
     ensures { IfOk result (λ text. (told : List Run)
-        × AreAllAnswers (boot_tables N.frames N.stocks job.now.visitor.system.now.sizes)
+        × AreAllAnswers (boot_tables N.frames job.now.visitor.system.now.sizes)
         (workers_from first front.old job.now.lines.now job.now.is_numbered
         ++ workers_from second back.old job.now.lines.now job.now.is_numbered)
         (front.new ++ back.new) told text.items) }
@@ -93,7 +93,7 @@ fn run_both<N: BootName + Send + Sync, R: Threads + Wait + Sync, G: Gate + Sync>
         requires { IsSync R.row × IsSync G.row × IsSync N.row × IsSend N.row × (first + length front.now ≤ 2 ^ 31)
             × All (LineCommandInRange N.frames.frames) job.now.lines.now }
         ensures { IfOk result (λ text. (told : List Run)
-            × AreAllAnswers (boot_tables N.frames N.stocks job.entry.now.visitor.system.now.sizes)
+            × AreAllAnswers (boot_tables N.frames job.entry.now.visitor.system.now.sizes)
             (workers_from first front.entry.now job.entry.now.lines.now job.entry.now.is_numbered) front.exit.now told
             text.items) }
     { run_from(job, first, front) };
@@ -101,7 +101,7 @@ fn run_both<N: BootName + Send + Sync, R: Threads + Wait + Sync, G: Gate + Sync>
         requires { IsSync R.row × IsSync G.row × IsSync N.row × IsSend N.row × (second + length back.now ≤ 2 ^ 31)
             × All (LineCommandInRange N.frames.frames) job.now.lines.now }
         ensures { IfOk result (λ text. (told : List Run)
-            × AreAllAnswers (boot_tables N.frames N.stocks job.entry.now.visitor.system.now.sizes)
+            × AreAllAnswers (boot_tables N.frames job.entry.now.visitor.system.now.sizes)
             (workers_from second back.entry.now job.entry.now.lines.now job.entry.now.is_numbered) back.exit.now told
             text.items) }
     { run_from(job, second, back) };
@@ -121,7 +121,7 @@ fn run_at_most_one<N: BootName, R: Wait, G: Gate>(
     requires short { length cpus.old < 2 }
     requires lines { All (LineCommandInRange N.frames.frames) job.now.lines.now }
     ensures { IfOk result (λ text. (told : List Run)
-        × AreAllAnswers (boot_tables N.frames N.stocks job.now.visitor.system.now.sizes)
+        × AreAllAnswers (boot_tables N.frames job.now.visitor.system.now.sizes)
         (workers_from cpu_number cpus.old job.now.lines.now job.now.is_numbered) cpus.new told text.items) }
 {
     if cpus.is_empty() {
@@ -138,7 +138,7 @@ fn run_one<N: BootName, R: Wait, G: Gate>(
 ) -> Result<Vec<u8>, AllocError>
     requires { All (LineCommandInRange N.frames.frames) job.now.lines.now }
     ensures { IfOk result (λ text. (told : Run) × (own : List ℕ)
-        × ServesOwn (boot_tables N.frames N.stocks job.now.visitor.system.now.sizes)
+        × ServesOwn (boot_tables N.frames job.now.visitor.system.now.sizes)
         (worker cpu_number cpu.old job.now.lines.now job.now.is_numbered) cpu.new told own
         × (text.items ≡ heading cpu_number ++ own)) }
 {

@@ -30,7 +30,7 @@ pub fn run_lines<N: BootName + Send + Sync, R: Threads + Wait + Sync, G: Gate + 
 ) -> Result<Vec<u8>, AllocError>
     requires count { length cpus.old < 2 ^ 31 }
     requires lines { All (LineInRange N.frames.frames (length cpus.old)) lines.now }
-    ensures { IfOk result (λ text. (told : List Run) × RunsLines (boot_tables N.frames N.stocks system.now.sizes)
+    ensures { IfOk result (λ text. (told : List Run) × RunsLines (boot_tables N.frames system.now.sizes)
         lines.now cpus.old cpus.new told text.items) }
 {
     let (early, later) = lines.split_at(before_go(lines));

@@ -4,9 +4,9 @@ ghost use Rattle.std.specs.Prelude.{◌≡◌, ◌∷◌, [], IsTrue, List, None
 ghost use Rattle.std.specs.Borrow.{Bor};
 ghost use Rattle.group_tree.specs.Groups.{has_group, number_at};
 ghost use Rattle.boot_words.specs.Pasts.{own_past};
-ghost use Rattle.frame_word.specs.Seats.{LentIsBorrowed};
 ghost use Rattle.step_rules.specs.declared.step.Action.TheVariants.{Lock, Unlock};
 ghost use Rattle.step_rules.specs.declared.step.Answer.TheVariants.{Done};
+ghost use Rattle.mem_machine.specs.Showing.{stock_left};
 ghost use Rattle.mem_machine.specs.Steps.{cpu_makes};
 ghost use Rattle.mem_system.specs.Visits.{locked_state};
 ghost use Rattle.script_lines.specs.declared.line.Command.TheVariants.{Alloc};
@@ -74,7 +74,7 @@ pub(crate) fn serve_locked<N: BootName>(
     ensures answers { AnswersLocked N.frames command.now (answer_of locked.new.machine.ledger result)
         (locked_state locked.old cpu.old) (locked_state locked.new cpu.new) }
     ensures groups { NamesItsGroups locked.new.machine.ledger result }
-    ensures lent { LentIsBorrowed N.frames locked.new.machine.frame_seat cpu.new.part.frame_seat }
+    ensures last { cpu.new.last ≡ stock_left N.frames locked.new.machine cpu.new.part.number }
 {
     match cmd_of(command) {
         Some(cmd) => AnswerValue::Served(serve_outcome(locked, tables, cpu, &cmd)),
@@ -99,6 +99,7 @@ pub(crate) fn serve_under_lock<N: BootName>(
     ensures served { ServesUnderLock N.frames is_explained command.now (answer_of locked.new.machine.ledger result)
         (locked_state locked.old cpu.old) (locked_state locked.new cpu.new) }
     ensures groups { NamesItsGroups locked.new.machine.ledger result }
+    ensures last { cpu.new.last ≡ stock_left N.frames locked.new.machine cpu.new.part.number }
 {
     let cpu_number = cpu.number();
     begin_command(locked, cpu_number, is_explained);
@@ -121,6 +122,7 @@ pub(crate) fn serve_frame_under_lock<N: BootName>(
         → ServesUnderLock N.frames is_explained (Alloc path 0) (answer_of locked.new.machine.ledger result)
         (locked_state locked.old cpu.old) (locked_state locked.new cpu.new) }
     ensures groups { NamesItsGroups locked.new.machine.ledger result }
+    ensures last { cpu.new.last ≡ stock_left N.frames locked.new.machine cpu.new.part.number }
 {
     let cpu_number = cpu.number();
     begin_command(locked, cpu_number, is_explained);

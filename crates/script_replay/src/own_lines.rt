@@ -33,7 +33,7 @@ pub(crate) fn serve_own<N: BootName, R: Wait, G: Gate>(
 ) -> Result<String, AllocError>
     requires { All (LineCommandInRange N.frames.frames) job.now.lines.now }
     ensures { IfOk result (λ text. (told : Run)
-        × ServesOwn (boot_tables N.frames N.stocks job.now.visitor.system.now.sizes)
+        × ServesOwn (boot_tables N.frames job.now.visitor.system.now.sizes)
         (worker cpu_number cpu.old job.now.lines.now job.now.is_numbered) cpu.new told (string_bytes text)) }
 {
     let mut text = String::new(job.alloc);
@@ -53,7 +53,7 @@ fn serve_own_line<N: BootName, R: Wait, G: Gate>(
 ) -> Result<(), AllocError>
     requires { LineCommandInRange N.frames.frames line.now }
     ensures { AddsText result text.old text.new
-        (ServesOwnBySteps (boot_tables N.frames N.stocks job.now.visitor.system.now.sizes) job.now.is_numbered
+        (ServesOwnBySteps (boot_tables N.frames job.now.visitor.system.now.sizes) job.now.is_numbered
         cpu_number line.now cpu.old cpu.new) }
 {
     match line {

@@ -6,7 +6,7 @@ ghost use Rattle.mem_system.specs.Visits.{locked_state};
 ghost use Rattle.step_watch.specs.Watched.{has_legal_steps};
 ghost use Rattle.script_replay.specs.declared.owned_replay.Stopped.TheVariants.{NoMemory};
 ghost use Rattle.script_replay.specs.Answers.{AddsText, ServesCommand};
-ghost use Rattle.script_replay.specs.History.{HoldsOfPart, ReplaysCheckedOrStops, ReplaysOrStops, ServesAndKeeps};
+ghost use Rattle.script_replay.specs.History.{ReplaysCheckedOrStops, ReplaysOrStops, ServesAndKeeps};
 ghost use Rattle.script_replay.specs.Lines.{number_in_script, system_state};
 ghost use Rattle.script_replay.specs.Ranges.{CommandInRange, LineInRange};
 ghost use Rattle.script_replay.specs.Terms.{form_terms, numbered_terms, terms};
@@ -31,7 +31,7 @@ pub fn replay<N: BootName>(
     form: Form,
 ) -> Result<Vec<u8>, AllocError>
     requires there { All (LineInRange N.frames.frames (length cpus.old)) lines.now }
-    ensures outcome { ReplaysOrStops (form_terms N.frames N.stocks form) lines.now
+    ensures outcome { ReplaysOrStops (form_terms N.frames form) lines.now
         (system_state locked.old cpus.old) (system_state locked.new cpus.new) result }
 {
     let mut answers = String::new(alloc);
@@ -70,7 +70,7 @@ pub fn replay_checked<N: BootName>(
 ) -> Result<Vec<u8>, Stopped>
     requires there { All (LineInRange N.frames.frames (length cpus.old)) lines.now }
     requires legal { has_legal_steps locked.old.machine.run.watch ≡ true }
-    ensures outcome { ReplaysCheckedOrStops (form_terms N.frames N.stocks form) lines.now
+    ensures outcome { ReplaysCheckedOrStops (form_terms N.frames form) lines.now
         (system_state locked.old cpus.old) (system_state locked.new cpus.new) result }
 {
     let mut answers = String::new(alloc);
@@ -106,7 +106,7 @@ fn serve_in_form<N: BootName>(
 ) -> Result<(), AllocError>
     requires there { LineInRange N.frames.frames (length cpus.old) line.now }
     ensures served { AddsText result answers.old answers.new
-        (ServesAndKeeps (form_terms N.frames N.stocks form) line.now
+        (ServesAndKeeps (form_terms N.frames form) line.now
         (system_state locked.old cpus.old) (system_state locked.new cpus.new)) }
 {
     if form.is_numbered {
@@ -136,7 +136,7 @@ fn serve_numbered<N: BootName>(
 ) -> Result<(), AllocError>
     requires there { LineInRange N.frames.frames (length cpus.old) line.now }
     ensures served { AddsText result answers.old answers.new
-        (ServesAndKeeps (numbered_terms N.frames N.stocks is_explained true) line.now
+        (ServesAndKeeps (numbered_terms N.frames is_explained true) line.now
         (system_state locked.old cpus.old) (system_state locked.new cpus.new)) }
 {
     let mut plain = String::new(alloc);
@@ -157,7 +157,7 @@ pub fn serve_line<N: BootName>(
 ) -> Result<(), AllocError>
     requires there { LineInRange N.frames.frames (length cpus.old) line.now }
     ensures served { AddsText result answers.old answers.new
-        (ServesAndKeeps (terms N.frames N.stocks is_explained) line.now
+        (ServesAndKeeps (terms N.frames is_explained) line.now
         (system_state locked.old cpus.old) (system_state locked.new cpus.new)) }
 {
     match line {
@@ -190,28 +190,19 @@ fn serve_at_cpu<N: BootName>(
 ) -> Result<(), AllocError>
     requires in_range { CommandInRange N.frames.frames command.now }
     ensures answered { AddsText result answers.old answers.new
-        (ServesCommand (terms N.frames N.stocks is_explained) command.now
+        (ServesCommand (terms N.frames is_explained) command.now
         (locked_state locked.old cpu.old) (locked_state locked.new cpu.new)) }
-    ensures held { HoldsOfPart N.frames N.stocks locked.new cpu.new.part }
+    ensures sound { IsSound N.frames locked.new }
 {
     let value = serve_command(locked, tables, cpu, command, is_explained);
     let written = write_answer(locked, tables, cpu, command, &value, is_explained, answers);
-    prove_held(locked, cpu);
+    prove_sound(locked);
     written
 }
 
 // Shows what always holds behind the lock. It does nothing.
 pub(crate) fn prove_sound<N: BootName>(locked: &Locked<N>)
-    ensures { IsSound N.frames N.stocks locked.now }
+    ensures { IsSound N.frames locked.now }
 {
-    locked.prove_quiet();
-}
-
-// Shows what always holds behind the lock, and of a CPU's part. It does nothing.
-pub(crate) fn prove_held<N: BootName>(locked: &Locked<N>, cpu: &Cpu<N>)
-    ensures { HoldsOfPart N.frames N.stocks locked.now cpu.now.part }
-{
-    let _number = cpu.number();
-    let _last = cpu.last_stock();
     locked.prove_quiet();
 }

@@ -3,8 +3,10 @@
 ghost use Rattle.std.specs.Prelude.{◌≡◌, IsTrue, List, None, Some, ℕ};
 ghost use Rattle.std.specs.Borrow.{Bor};
 ghost use Rattle.group_tree.specs.Groups.{has_group, number_at};
+ghost use Rattle.mem_machine.specs.Showing.{stock_left};
 ghost use Rattle.mem_system.specs.Visits.{locked_state};
 ghost use Rattle.script_lines.specs.declared.line.Command.TheVariants.{Alloc};
+ghost use Rattle.script_replay.specs.declared.answer_value.AnswerValue.TheVariants.{Settled};
 ghost use Rattle.script_replay.specs.Answers.{ServesAnswer};
 ghost use Rattle.script_replay.specs.Commands.{frame_path};
 ghost use Rattle.script_replay.specs.Ranges.{CommandInRange};
@@ -32,10 +34,11 @@ pub(crate) fn serve_command<N: BootName>(
     is_explained: bool,
 ) -> AnswerValue
     requires in_range { CommandInRange N.frames.frames command.now }
-    ensures answer { ServesAnswer (terms N.frames N.stocks is_explained) command.now
+    ensures answer { ServesAnswer (terms N.frames is_explained) command.now
         (locked_state locked.old cpu.old) (locked_state locked.new cpu.new)
         (answer_of locked.new.machine.ledger result) }
     ensures groups { NamesItsGroups locked.new.machine.ledger result }
+    ensures last { result ≡ Settled → cpu.new.last ≡ stock_left N.frames locked.new.machine cpu.new.part.number }
 {
     match frame_path(command) {
         Some(path) => serve_frame(locked, tables, cpu, path, is_explained),
@@ -54,10 +57,11 @@ fn serve_other<N: BootName>(
 ) -> AnswerValue
     requires in_range { CommandInRange N.frames.frames command.now }
     requires other { frame_path command.now ≡ None }
-    ensures answer { ServesAnswer (terms N.frames N.stocks is_explained) command.now
+    ensures answer { ServesAnswer (terms N.frames is_explained) command.now
         (locked_state locked.old cpu.old) (locked_state locked.new cpu.new)
         (answer_of locked.new.machine.ledger result) }
     ensures groups { NamesItsGroups locked.new.machine.ledger result }
+    ensures last { result ≡ Settled → cpu.new.last ≡ stock_left N.frames locked.new.machine cpu.new.part.number }
 {
     let cpu_number = cpu.number();
     if let Some(said) = try_in_order(locked, tables, cpu, command) {
@@ -75,10 +79,11 @@ fn serve_frame<N: BootName>(
     path: &[u8],
     is_explained: bool,
 ) -> AnswerValue
-    ensures answer { ServesAnswer (terms N.frames N.stocks is_explained) (Alloc path.entry 0)
+    ensures answer { ServesAnswer (terms N.frames is_explained) (Alloc path.entry 0)
         (locked_state locked.old cpu.old) (locked_state locked.new cpu.new)
         (answer_of locked.new.machine.ledger result) }
     ensures groups { NamesItsGroups locked.new.machine.ledger result }
+    ensures last { result ≡ Settled → cpu.new.last ≡ stock_left N.frames locked.new.machine cpu.new.part.number }
 {
     let Some(group) = locked.find(path) else {
         return AnswerValue::Unlocked(UnlockedAnswer::Refused(Fault::NoGroup));
@@ -96,10 +101,11 @@ pub(crate) fn serve_frame_of<N: BootName>(
 ) -> AnswerValue
     requires there { IsTrue (has_group locked.old.machine.ledger.groups group) }
     ensures answer { (path : Bor (List ℕ)) → number_at locked.old.machine.ledger.groups path.now ≡ Some group
-        → ServesAnswer (terms N.frames N.stocks is_explained) (Alloc path 0)
+        → ServesAnswer (terms N.frames is_explained) (Alloc path 0)
         (locked_state locked.old cpu.old) (locked_state locked.new cpu.new)
         (answer_of locked.new.machine.ledger result) }
     ensures groups { NamesItsGroups locked.new.machine.ledger result }
+    ensures last { result ≡ Settled → cpu.new.last ≡ stock_left N.frames locked.new.machine cpu.new.part.number }
 {
     let cpu_number = cpu.number();
     match alloc_in_order(locked, tables, cpu, group) {

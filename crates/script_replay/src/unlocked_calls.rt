@@ -34,9 +34,9 @@ pub(crate) fn try_in_order<N: BootName>(
     command: &Command<'_>,
 ) -> Option<UnlockedAnswer>
     requires in_range { CommandInRange N.frames.frames command.now }
-    ensures answered { IfSome result (AnswersAlone command.now cpu.old.part cpu.new.part) }
-    ensures needs_lock { IfNone result (NeedsLock command.now cpu.old.part cpu.new.part) }
-    ensures only_saw { OnlySaw [] locked.old locked.new }
+    ensures answered { IfSome result (AnswersAlone command.now cpu.old cpu.new) }
+    ensures needs_lock { IfNone result (NeedsLock command.now cpu.old cpu.new) }
+    ensures only_saw { OnlySaw N.frames [] locked.old locked.new }
     ensures gains { Gains (steps_tried cpu.old.part.number command.now result)
         (locked_state locked.old cpu.old) (locked_state locked.new cpu.new) }
     ensures stays { is_tried command.now ≡ false → locked_state locked.new cpu.new ≡ locked_state locked.old cpu.old }
@@ -59,8 +59,8 @@ pub(crate) fn alloc_in_order<N: BootName>(
     cpu: &mut Cpu<N>,
     group: GroupId,
 ) -> Fast
-    ensures answer { FastAnswers group result cpu.old.part cpu.new.part }
-    ensures only_saw { OnlySaw [] locked.old locked.new }
+    ensures answer { FastAnswers group result cpu.old.last cpu.old.part cpu.new.last cpu.new.part }
+    ensures only_saw { OnlySaw N.frames [] locked.old locked.new }
     ensures gains { Gains (steps_alone cpu.old.part.number (command.Fast group) (unlocked.Fast result))
         (locked_state locked.old cpu.old) (locked_state locked.new cpu.new) }
 {
@@ -80,8 +80,8 @@ pub(crate) fn try_unlocked<N: BootName>(
     command: &Command<'_>,
 ) -> Option<UnlockedAnswer>
     requires in_range { CommandInRange N.frames.frames command.now }
-    ensures answered { IfSome result (AnswersAlone command.now cpu.old.part cpu.new.part) }
-    ensures needs_lock { IfNone result (NeedsLock command.now cpu.old.part cpu.new.part) }
+    ensures answered { IfSome result (AnswersAlone command.now cpu.old cpu.new) }
+    ensures needs_lock { IfNone result (NeedsLock command.now cpu.old cpu.new) }
     ensures run { MakesAlone cpu.old.part.number (steps_tried cpu.old.part.number command.now result)
         cpu.old.past cpu.new.past }
     ensures stays { is_tried command.now ≡ false → cpu.new ≡ cpu.old }
@@ -105,7 +105,7 @@ pub(crate) fn try_unlocked<N: BootName>(
 #[inline(always)]
 fn pin<N: BootName>(tables: &Tables<N>, cpu: &mut Cpu<N>, frame_number: u32) -> UnlockedAnswer
     requires in_zone { frame_number < N.frames.frames }
-    ensures answer { AnswersAlone (command.Get frame_number) cpu.old.part cpu.new.part result }
+    ensures answer { AnswersAlone (command.Get frame_number) cpu.old cpu.new result }
     ensures run { MakesAlone cpu.old.part.number (steps_alone cpu.old.part.number (command.Get frame_number) result)
         cpu.old.past cpu.new.past }
 {
@@ -120,7 +120,7 @@ fn pin<N: BootName>(tables: &Tables<N>, cpu: &mut Cpu<N>, frame_number: u32) -> 
 #[inline(always)]
 fn unpin<N: BootName>(tables: &Tables<N>, cpu: &mut Cpu<N>, frame_number: u32) -> UnlockedAnswer
     requires in_zone { frame_number < N.frames.frames }
-    ensures answer { AnswersAlone (command.Put frame_number) cpu.old.part cpu.new.part result }
+    ensures answer { AnswersAlone (command.Put frame_number) cpu.old cpu.new result }
     ensures run { MakesAlone cpu.old.part.number (steps_alone cpu.old.part.number (command.Put frame_number) result)
         cpu.old.past cpu.new.past }
 {
@@ -134,8 +134,8 @@ fn unpin<N: BootName>(tables: &Tables<N>, cpu: &mut Cpu<N>, frame_number: u32) -
 // Lists the frame again, if it is fresh at the CPU and its page can be credited. Returns whether it did.
 fn try_relist<N: BootName>(tables: &Tables<N>, cpu: &mut Cpu<N>, frame_number: u32) -> bool
     requires in_zone { frame_number < N.frames.frames }
-    ensures listed { MatchBool result (ListsAgain frame_number cpu.old.part cpu.new.part)
-        (CanNotList frame_number cpu.old.part cpu.new.part) }
+    ensures listed { MatchBool result (ListsAgain frame_number cpu.old cpu.new)
+        (CanNotList frame_number cpu.old cpu.new) }
     ensures run { MakesAlone cpu.old.part.number
         (if result then steps_alone cpu.old.part.number (command.Release frame_number) unlocked.Listed else [])
         cpu.old.past cpu.new.past }

@@ -1,20 +1,16 @@
 //! Serving one command for the CPU of a number, by value of what lies behind the lock, with its answer as a value.
 
-ghost use Rattle.std.specs.Prelude.{◌≡◌, ◌≤◌, IsTrue, List, Some, false, length, ℕ};
+ghost use Rattle.std.specs.Prelude.{◌≡◌, ◌≤◌, IsTrue, List, Some, length, ℕ};
 ghost use Rattle.std.specs.Borrow.{Bor};
 ghost use Rattle.group_tree.specs.Groups.{has_group, number_at};
-ghost use Rattle.mem_system.specs.Visits.{locked_state};
 ghost use Rattle.script_lines.specs.declared.line.Command.TheVariants.{Alloc};
-ghost use Rattle.script_replay.specs.Answers.{ServesAnswer};
 ghost use Rattle.script_replay.specs.Commands.{HasValueAnswer};
-ghost use Rattle.script_replay.specs.History.{HoldsOfPart};
 ghost use Rattle.script_replay.specs.Lines.{system_state};
-ghost use Rattle.script_replay.specs.Ranges.{CommandInRange, CpuCommandInRange};
-ghost use Rattle.script_replay.specs.Terms.{terms};
+ghost use Rattle.script_replay.specs.Ranges.{CpuCommandInRange};
 ghost use Rattle.script_replay.specs.ValueAnswers.{NamesItsGroups, SaysCommand, answer_of};
 
 use crate::answer_value::AnswerValue;
-use crate::owned_replay::prove_held;
+use crate::owned_replay::prove_sound;
 use crate::server::{serve_command, serve_frame_of};
 use cpu_part::{BootName, Tables};
 use group_tree::group::GroupId;
@@ -36,13 +32,15 @@ pub fn serve_value<N: BootName>(
 ) -> AnswerValue
     requires there { CpuCommandInRange N.frames.frames (length cpus.old) cpu command.now }
     requires has_value { HasValueAnswer command.now }
-    ensures answer { SaysCommand N.frames N.stocks cpu command.now
+    ensures answer { SaysCommand N.frames cpu command.now
         (system_state locked.old cpus.old) (system_state locked.new cpus.new)
         (answer_of locked.new.machine.ledger result) }
     ensures groups { NamesItsGroups locked.new.machine.ledger result }
 {
     let at = (cpu - 1) as usize;
-    serve_value_at_cpu(locked, tables, &mut cpus[at], command)
+    let value = serve_command(locked, tables, &mut cpus[at], command, false);
+    prove_sound(locked);
+    value
 }
 
 /// Takes a single frame for an existing group, at the CPU of this number, as `serve_value` serves an Alloc of order 0
@@ -59,52 +57,13 @@ pub fn alloc_value<N: BootName>(
     requires high { cpu ≤ length cpus.old }
     requires there { IsTrue (has_group locked.old.machine.ledger.groups group) }
     ensures answer { (path : Bor (List ℕ)) → number_at locked.old.machine.ledger.groups path.now ≡ Some group
-        → SaysCommand N.frames N.stocks cpu (Alloc path 0)
+        → SaysCommand N.frames cpu (Alloc path 0)
         (system_state locked.old cpus.old) (system_state locked.new cpus.new)
         (answer_of locked.new.machine.ledger result) }
     ensures groups { NamesItsGroups locked.new.machine.ledger result }
 {
     let at = (cpu - 1) as usize;
-    alloc_value_at_cpu(locked, tables, &mut cpus[at], group)
-}
-
-// Takes a single frame for an existing group at this part.
-#[inline(always)]
-fn alloc_value_at_cpu<N: BootName>(
-    locked: &mut Locked<N>,
-    tables: &Tables<N>,
-    cpu: &mut Cpu<N>,
-    group: GroupId,
-) -> AnswerValue
-    requires there { IsTrue (has_group locked.old.machine.ledger.groups group) }
-    ensures answer { (path : Bor (List ℕ)) → number_at locked.old.machine.ledger.groups path.now ≡ Some group
-        → ServesAnswer (terms N.frames N.stocks false) (Alloc path 0)
-        (locked_state locked.old cpu.old) (locked_state locked.new cpu.new)
-        (answer_of locked.new.machine.ledger result) }
-    ensures groups { NamesItsGroups locked.new.machine.ledger result }
-    ensures held { HoldsOfPart N.frames N.stocks locked.new cpu.new.part }
-{
-    let value = serve_frame_of(locked, tables, cpu, group, false);
-    prove_held(locked, cpu);
-    value
-}
-
-// Serves a command at this part.
-#[inline(always)]
-fn serve_value_at_cpu<N: BootName>(
-    locked: &mut Locked<N>,
-    tables: &Tables<N>,
-    cpu: &mut Cpu<N>,
-    command: &Command<'_>,
-) -> AnswerValue
-    requires in_range { CommandInRange N.frames.frames command.now }
-    ensures answer { ServesAnswer (terms N.frames N.stocks false) command.now
-        (locked_state locked.old cpu.old) (locked_state locked.new cpu.new)
-        (answer_of locked.new.machine.ledger result) }
-    ensures groups { NamesItsGroups locked.new.machine.ledger result }
-    ensures held { HoldsOfPart N.frames N.stocks locked.new cpu.new.part }
-{
-    let value = serve_command(locked, tables, cpu, command, false);
-    prove_held(locked, cpu);
+    let value = serve_frame_of(locked, tables, &mut cpus[at], group, false);
+    prove_sound(locked);
     value
 }

@@ -47,7 +47,7 @@ pub fn visit_line<N: BootName, R: Wait, G: Gate>(
 ) -> Result<(), AllocError>
     requires in_range { CommandInRange N.frames.frames command.now }
     ensures answered { AddsText result text.old text.new
-        (ServesByVisits (boot_tables N.frames N.stocks visitor.now.system.now.sizes) command.now cpu.old cpu.new) }
+        (ServesByVisits (boot_tables N.frames visitor.now.system.now.sizes) command.now cpu.old cpu.new) }
 {
     let cpu_number = cpu.number();
     visitor.gate.before(cpu_number, line);
@@ -68,7 +68,7 @@ pub fn visit_numbered_line<N: BootName, R: Wait, G: Gate>(
 ) -> Result<(), AllocError>
     requires in_range { CommandInRange N.frames.frames command.now }
     ensures answered { AddsText result text.old text.new (SaysNumbered true line
-        (ServesByVisits (boot_tables N.frames N.stocks visitor.now.system.now.sizes) command.now cpu.old cpu.new)) }
+        (ServesByVisits (boot_tables N.frames visitor.now.system.now.sizes) command.now cpu.old cpu.new)) }
 {
     let mut plain = String::new(alloc);
     visit_line(visitor, cpu, line, command, &mut plain)?;
@@ -84,7 +84,7 @@ pub(crate) fn visit_text<N: BootName, R: Wait, G: Gate>(
 ) -> Result<(), AllocError>
     requires in_range { CommandInRange N.frames.frames command.now }
     ensures answered { AddsText result text.old text.new
-        (ServesByVisits (boot_tables N.frames N.stocks visitor.now.system.now.sizes) command.now cpu.old cpu.new) }
+        (ServesByVisits (boot_tables N.frames visitor.now.system.now.sizes) command.now cpu.old cpu.new) }
 {
     match answer_alone(visitor, cpu, command) {
         Some(said) => write_unlocked(&said, text),
@@ -100,8 +100,8 @@ fn answer_alone<N: BootName, R: Wait, G: Gate>(
     command: &Command<'_>,
 ) -> Option<UnlockedAnswer>
     requires in_range { CommandInRange N.frames.frames command.now }
-    ensures answers { IfSome result (AnswersAloneBySteps (boot_tables N.frames N.stocks visitor.now.system.now.sizes) command.now cpu.old cpu.new) }
-    ensures needs_visit { IfNone result (NeedsVisit (boot_tables N.frames N.stocks visitor.now.system.now.sizes) command.now cpu.old cpu.new) }
+    ensures answers { IfSome result (AnswersAloneBySteps (boot_tables N.frames visitor.now.system.now.sizes) command.now cpu.old cpu.new) }
+    ensures needs_visit { IfNone result (NeedsVisit (boot_tables N.frames visitor.now.system.now.sizes) command.now cpu.old cpu.new) }
 {
     match frame_path(command) {
         Some(path) => take_listed(visitor, cpu, path),
@@ -116,9 +116,9 @@ fn take_listed<N: BootName, R: Wait, G: Gate>(
     path: &[u8],
 ) -> Option<UnlockedAnswer>
     ensures answers { IfSome result
-        (AnswersAloneBySteps (boot_tables N.frames N.stocks visitor.now.system.now.sizes) (Alloc path.entry 0) cpu.old cpu.new) }
+        (AnswersAloneBySteps (boot_tables N.frames visitor.now.system.now.sizes) (Alloc path.entry 0) cpu.old cpu.new) }
     ensures needs_visit { IfNone result
-        (NeedsVisit (boot_tables N.frames N.stocks visitor.now.system.now.sizes) (Alloc path.entry 0) cpu.old cpu.new) }
+        (NeedsVisit (boot_tables N.frames visitor.now.system.now.sizes) (Alloc path.entry 0) cpu.old cpu.new) }
 {
     let Some(group) = visitor.system.find(visitor.rt, cpu, path) else {
         return Some(UnlockedAnswer::Refused(Fault::NoGroup));
@@ -139,7 +139,7 @@ fn write_by_visit<N: BootName, R: Wait, G: Gate>(
     requires in_range { CommandInRange N.frames.frames command.now }
     requires settles { cmd_of command.now ≡ None → OnlySettles command.now }
     ensures answered { AddsText result text.old text.new (λ told. (steps : Run)
-        × WritesByVisit (boot_tables N.frames N.stocks visitor.now.system.now.sizes) command.now steps cpu.old cpu.new told) }
+        × WritesByVisit (boot_tables N.frames visitor.now.system.now.sizes) command.now steps cpu.old cpu.new told) }
 {
     let mut guard = visitor.system.lock(visitor.rt);
     visitor.gate.inside(cpu.number());
@@ -148,7 +148,5 @@ fn write_by_visit<N: BootName, R: Wait, G: Gate>(
     prove_sound(locked);
     let value = serve_locked(locked, tables, cpu, command);
     prove_sound(locked);
-    let written = write_answer(locked, tables, cpu, command, &value, false, text);
-    prove_sound(locked);
-    written
+    write_answer(locked, tables, cpu, command, &value, false, text)
 }

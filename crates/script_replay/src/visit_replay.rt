@@ -26,9 +26,9 @@ pub fn replay_by_visits<N: BootName, R: Wait>(
 ) -> Result<Vec<u8>, AllocError>
     requires there { All (LineInRange N.frames.frames (length cpus.old)) lines.now }
     ensures answers { IfOk result (λ answers.
-        VisitsAll (boot_tables N.frames N.stocks system.now.sizes) lines.now cpus.old cpus.new answers.items) }
+        VisitsAll (boot_tables N.frames system.now.sizes) lines.now cpus.old cpus.new answers.items) }
     ensures stopped { OnErr result
-        (StopsAt (VisitsAll (boot_tables N.frames N.stocks system.now.sizes)) lines.now cpus.old cpus.new) }
+        (StopsAt (VisitsAll (boot_tables N.frames system.now.sizes)) lines.now cpus.old cpus.new) }
 {
     let mut answers = String::new(alloc);
     for line in lines {
@@ -47,7 +47,7 @@ fn serve_by_visit<N: BootName, R: Wait>(
 ) -> Result<(), AllocError>
     requires there { LineInRange N.frames.frames (length cpus.old) line.now }
     ensures served { AddsText result answers.old answers.new
-        (VisitsLine (boot_tables N.frames N.stocks system.now.sizes) line.now cpus.old cpus.new) }
+        (VisitsLine (boot_tables N.frames system.now.sizes) line.now cpus.old cpus.new) }
 {
     match line {
         Line::Go => Ok(()),

@@ -2,13 +2,11 @@
 
 ghost use Rattle.std.specs.Prelude.{◌≡◌, ◌++◌, ◌&&◌, IfOk};
 ghost use Rattle.std.specs.String.{string_bytes};
-ghost use Rattle.mem_system.specs.Cpus.{CpuInRun};
+ghost use Rattle.mem_machine.specs.Showing.{stock_left};
 ghost use Rattle.mem_system.specs.Visits.{locked_state};
 ghost use Rattle.reply_texts.specs.Answers.{answer_text};
-ghost use Rattle.reply_texts.specs.LineAnswer as answer;
-ghost use Rattle.script_lines.specs.declared.line.Command.TheVariants.{Units};
 ghost use Rattle.script_replay.specs.declared.answer_value.AnswerValue.TheVariants.{Settled};
-ghost use Rattle.script_replay.specs.Answers.{AddsText, WritesAnswer, explanation_if, is_noted};
+ghost use Rattle.script_replay.specs.Answers.{AddsText, IsAnswerText, IsSettledText, IsUnitsText, explanation_if, is_noted};
 ghost use Rattle.script_replay.specs.Commands.{OnlySettles, head_named, path_removed};
 ghost use Rattle.script_replay.specs.Ranges.{CommandInRange};
 ghost use Rattle.script_replay.specs.Reasons.{borrower_of, reasoned_text};
@@ -31,7 +29,7 @@ use std::alloc::AllocError;
 pub(crate) fn write_answer<N: BootName>(
     locked: &mut Locked<N>,
     tables: &Tables<N>,
-    cpu: &mut Cpu<N>,
+    cpu: &Cpu<N>,
     command: &Command<'_>,
     value: &AnswerValue,
     is_explained: bool,
@@ -40,9 +38,10 @@ pub(crate) fn write_answer<N: BootName>(
     requires in_range { CommandInRange N.frames.frames command.now }
     requires groups { NamesItsGroups locked.old.machine.ledger value.now }
     requires settles { value.now ≡ Settled → OnlySettles command.now }
-    ensures written { AddsText result text.old text.new
-        (WritesAnswer is_explained command.now (answer_of locked.old.machine.ledger value.now)
-        (locked_state locked.old cpu.old) (locked_state locked.new cpu.new)) }
+    requires last { value.now ≡ Settled → cpu.now.last ≡ stock_left N.frames locked.old.machine cpu.now.part.number }
+    ensures told { AddsText result text.old text.new (λ told. IsAnswerText N.frames is_explained command.now
+        (answer_of locked.old.machine.ledger value.now) told (locked_state locked.old cpu.now)) }
+    ensures stays { locked.new ≡ locked.old }
 {
     match value {
         AnswerValue::Settled => write_settled_cpu(locked, tables, cpu, command, is_explained, text),
@@ -54,19 +53,21 @@ pub(crate) fn write_answer<N: BootName>(
 fn write_settled_cpu<N: BootName>(
     locked: &mut Locked<N>,
     tables: &Tables<N>,
-    cpu: &mut Cpu<N>,
+    cpu: &Cpu<N>,
     command: &Command<'_>,
     is_explained: bool,
     text: &mut String,
 ) -> Result<(), AllocError>
     requires settles { OnlySettles command.now }
-    ensures written { AddsText result text.old text.new (WritesAnswer is_explained command.now answer.Settled
-        (locked_state locked.old cpu.old) (locked_state locked.new cpu.new)) }
+    requires last { cpu.now.last ≡ stock_left N.frames locked.old.machine cpu.now.part.number }
+    ensures told { AddsText result text.old text.new (λ told.
+        IsSettledText N.frames is_explained command.now told (locked_state locked.old cpu.now)) }
+    ensures stays { locked.new ≡ locked.old }
 {
     match *command {
         Command::Blocks => write_blocks(locked.machine(), text),
         Command::Show => write_show(locked.machine(), text),
-        Command::Stock => write_own_stock(locked, tables, cpu, text),
+        Command::Stock => write_own_stock(locked, cpu, text),
         Command::Units { path } => write_units_or_refusal(locked, tables, path, is_explained, text),
         _ => write_settled(text),
     }
@@ -80,9 +81,9 @@ fn write_units_or_refusal<N: BootName>(
     is_explained: bool,
     text: &mut String,
 ) -> Result<(), AllocError>
-    ensures written { (part : CpuInRun) → AddsText result text.old text.new
-        (WritesAnswer is_explained (Units path.entry) answer.Settled
-        (locked_state locked.old part) (locked_state locked.new part)) }
+    ensures told { AddsText result text.old text.new (λ told.
+        IsUnitsText N.frames is_explained path.now told locked.old.machine) }
+    ensures stays { locked.new ≡ locked.old }
 {
     let is_there = write_units_at(locked, tables, path, text)?;
     if is_there {

@@ -1,10 +1,2 @@
-pub mod Alike
-pub mod Only
 pub mod Stocks
-pub mod CallerLemmas
-pub mod Keeps
-pub mod Steps
-pub mod Told
 pub mod Deals
-pub mod Opens
-pub mod Closes

@@ -1,4 +1,2 @@
 pub mod Stock
 pub mod StockRule
-pub mod Kinds
-pub mod Calls

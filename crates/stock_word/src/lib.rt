@@ -1,5 +1,5 @@
-//! Pages prepaid for a CPU: the rule of its stock word and its report word, and what each kind of step makes of them.
-//! The words themselves are in the one table of `boot_words`.
+//! Pages prepaid for a CPU: the rule of its stock word and its report word. The words themselves are in the one table of
+//! `boot_words`.
 //!
 //! Each CPU has the row of its number, of sixteen words: word 0 is its stock word, word 1 its report word. The others
 //! keep a distance, so that no two CPUs write to one cache line. No CPU has row 0.

@@ -91,6 +91,4 @@ pub struct StockView {
     pub last: Stock,
     /// The zone's account of each CPU, by its number. Entry 0 is unused.
     pub accounts: LinkedList<StockAccount>,
-    /// Atomic steps that the seat made. A step of two joined seats counts at the CPU's, a look at the zone's.
-    pub steps: u64,
 }

@@ -40,8 +40,8 @@ fn run_system<N: BootName, R: Wait>(
     boot: Boot,
     text: &mut String,
 ) -> Result<SystemEnd>
-    requires { (boot.frames ≡ N.frames) × (boot.stocks ≡ N.stocks) }
-    ensures { IfOk result (HasEnded N.frames N.stocks) }
+    requires { boot.frames ≡ N.frames }
+    ensures { IfOk result (HasEnded N.frames) }
 {
     let (system, mut cpus) = boot.start::<N>(alloc)?;
     let done = run_demo(rt, &system, &mut cpus, text);

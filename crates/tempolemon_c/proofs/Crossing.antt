@@ -3,7 +3,6 @@ use Rattle.std.proofs.Common.{◌∙◌, ℕ, Some, None, ap}
 use Rattle.std.proofs.lemmas.Bool.{false≢true}
 use Rattle.std.specs.Prelude.{IsSome, IsSomeAnd, Option}
 use Rattle.frame_word.specs.Seats.{KnownTable}
-use Rattle.stock_word.specs.Stock.{KnownStockTable}
 use Rattle.control_files.specs.declared.file.File.{File}
 use Rattle.tempolemon_c.specs.HandleCalls.{GroupHasFiles}
 use Rattle.tempolemon_c.specs.Known.{KnownLive}
@@ -12,25 +11,24 @@ use Rattle.tempolemon_c.specs.Calls.{HasFileBehind}
 use Rattle.tempolemon_c.specs.Handles.{OnBoot, boot_of}
 
 -- what was done to the boot that the pointer leads to was done to the boot behind the handle
-pub crossed : (does : KnownTable → KnownStockTable → (from to : KnownLive) → Type 0) (f : KnownTable) (s : KnownStockTable) (o : Option KnownLive)
-    (g : KnownTable) (t : KnownStockTable) (p : Option KnownLive) → OnRaw (does f s) f s o g t p → OnBoot does (boot_of f s o) (boot_of g t p)
-crossed does f s o g t p on = record {
+pub crossed : (does : KnownTable → (from to : KnownLive) → Type 0) (f : KnownTable) (o : Option KnownLive) (g : KnownTable) (p : Option KnownLive)
+    → OnRaw (does f) f o g p → OnBoot does (boot_of f o) (boot_of g p)
+crossed does f o g p on = record {
   frames = f;
-  stocks = s;
   from = on.on_live.from;
   to = on.on_live.to;
-  was = ap (boot_of f s) on.on_live.was;
-  is = ap (λ (h : KnownTable). boot_of h t p) on.frames_are ∙ (ap (λ (u : KnownStockTable). boot_of f u p) on.stocks_are ∙ ap (boot_of f s) on.on_live.is);
+  was = ap (boot_of f) on.on_live.was;
+  is = ap (λ (h : KnownTable). boot_of h p) on.frames_are ∙ ap (boot_of f) on.on_live.is;
   done = on.on_live.done;
 }
 
 -- there is a boot behind the handle only if the pointer leads to one
-pub some_behind : (f : KnownTable) (s : KnownStockTable) (o : Option KnownLive) → IsSome (boot_of f s o) → IsSome o
-some_behind f s None some = absurd (false≢true some)
-some_behind f s (Some live) some = some
+pub some_behind : (f : KnownTable) (o : Option KnownLive) → IsSome (boot_of f o) → IsSome o
+some_behind f None some = absurd (false≢true some)
+some_behind f (Some live) some = some
 
 -- the boot that the pointer leads to has the group
-pub file_behind : (group : ℕ) (file : File) (f : KnownTable) (s : KnownStockTable) (o : Option KnownLive)
-    → IsSomeAnd (boot_of f s o) (HasFileBehind group file) → IsSomeAnd o (GroupHasFiles group file)
-file_behind group file f s None has = absurd has
-file_behind group file f s (Some live) has = has
+pub file_behind : (group : ℕ) (file : File) (f : KnownTable) (o : Option KnownLive)
+    → IsSomeAnd (boot_of f o) (HasFileBehind group file) → IsSomeAnd o (GroupHasFiles group file)
+file_behind group file f None has = absurd has
+file_behind group file f (Some live) has = has

@@ -2,7 +2,6 @@
 use Rattle.std.proofs.Common.{◌≡◌, ℕ, Some, List, refl, subst}
 use Rattle.std.specs.Borrow.{Bor}
 use Rattle.frame_word.specs.Seats.{KnownTable}
-use Rattle.stock_word.specs.Stock.{KnownStockTable}
 use Rattle.group_tree.specs.declared.group.Group.{Group}
 use Rattle.group_tree.specs.Groups.{AreGroups, number_at, path_of}
 use Rattle.group_tree.proofs.GroupLemmas.{group_at-contains, number_at-there, path_of-is}
@@ -23,7 +22,7 @@ found_by_path groups n path are is =
     let by_its_number = number_at-there groups at.0 are.paths_distinct there.0 in
     subst (λ (p : List ℕ). number_at groups p ≡ Some n) at.2 (subst (λ (m : ℕ). number_at groups at.0.path ≡ Some m) there.1 by_its_number)
 
-module _ (frames : KnownTable) (stock_table : KnownStockTable) (cpu group : ℕ) (from to : KnownLive) (value : AnswerValue) where
+module _ (frames : KnownTable) (cpu group : ℕ) (from to : KnownLive) (value : AnswerValue) where
   abbrev groups : List Group
   groups = from.state.locked.machine.ledger.groups
 
@@ -32,8 +31,8 @@ module _ (frames : KnownTable) (stock_table : KnownStockTable) (cpu group : ℕ)
 
   pub frame_taken : (path : Bor (List ℕ)) → IsCpu from.sizes.cpus cpu → AreCharges from.state.locked.machine.ledger → path_of groups group ≡ Some path.now
       → ((named : Bor (List ℕ)) → number_at groups named.now ≡ Some group
-      → SaysCommand frames stock_table cpu (cmd.Alloc named 0) from.state to.state (answer_of after value))
-      → NamesItsGroups after value → SameButState from to → CallsLive frames stock_table cpu (call.Alloc group 0) from to (returned.Served value)
+      → SaysCommand frames cpu (cmd.Alloc named 0) from.state to.state (answer_of after value))
+      → NamesItsGroups after value → SameButState from to → CallsLive frames cpu (call.Alloc group 0) from to (returned.Served value)
   frame_taken path exists legal is says there rest = record {
     command = cmd.Alloc path 0;
     means = (is, refl);

@@ -3,7 +3,6 @@ use Rattle.std.proofs.Common.{◌≡◌, ◌∙◌, ℕ, zero, suc, Some, List, 
 use Rattle.std.specs.Prelude.{◌⊎◌, Option, false, take}
 use Rattle.std.proofs.lemmas.Bool.{cases_lt}
 use Rattle.frame_word.specs.Seats.{KnownTable}
-use Rattle.stock_word.specs.Stock.{KnownStockTable}
 use Rattle.zone_blocks.specs.declared.config.Config.{Config}
 use Rattle.step_rules.specs.After.{Run}
 use Rattle.boot_words.specs.Seats.{zone_of_boot}
@@ -56,12 +55,12 @@ same_boot a b e = cc
 stays_so : (boot : LiveBoot) (after : Option LiveBoot) → after ≡ Some boot → GoesOn boot [] after
 stays_so boot after is = record { next = boot; is = is; frames = refl; goes_on = goes_on_none boot.live.state }
 
-module _ {does : KnownTable → KnownStockTable → KnownLive → KnownLive → Type 0} (before after : Option LiveBoot) (on : OnBoot does before after) where
+module _ {does : KnownTable → KnownLive → KnownLive → Type 0} (before after : Option LiveBoot) (on : OnBoot does before after) where
   -- what was done went on by these steps
   by_steps : (boot : LiveBoot) (steps : Run) → before ≡ Some boot → RunGoesOn steps on.from.state on.to.state → GoesOn boot steps after
   by_steps boot steps was goes =
-      let same = same_boot (live_boot on.frames on.stocks on.from) boot (sym on.was ∙ was) in record {
-        next = live_boot on.frames on.stocks on.to;
+      let same = same_boot (live_boot on.frames on.from) boot (sym on.was ∙ was) in record {
+        next = live_boot on.frames on.to;
         is = on.is;
         frames = ap (λ (b : LiveBoot). b.frames) same;
         goes_on = subst (λ (b : LiveBoot). RunGoesOn steps b.live.state on.to.state) same goes;
@@ -70,8 +69,8 @@ module _ {does : KnownTable → KnownStockTable → KnownLive → KnownLive → 
   -- it changed nothing of the state
   without_steps : (boot : LiveBoot) (steps : Run) → GoesOn boot steps before → on.to.state ≡ on.from.state → GoesOn boot steps after
   without_steps boot steps so_far still =
-      let same = same_boot (live_boot on.frames on.stocks on.from) so_far.next (sym on.was ∙ so_far.is) in record {
-        next = live_boot on.frames on.stocks on.to;
+      let same = same_boot (live_boot on.frames on.from) so_far.next (sym on.was ∙ so_far.is) in record {
+        next = live_boot on.frames on.to;
         is = on.is;
         frames = ap (λ (b : LiveBoot). b.frames) same ∙ so_far.frames;
         goes_on = subst (RunGoesOn steps boot.live.state) (sym (still ∙ ap (λ (b : LiveBoot). b.live.state) same)) so_far.goes_on;
@@ -82,23 +81,23 @@ call_goes_on : (before after : Option LiveBoot) (call : CallOnHandle before afte
 call_goes_on before after (Nothing stays) boot was = stays_so boot after (stays ∙ was)
 call_goes_on before after (Typed cpu asked answer does) boot was =
     by_steps before after does boot (steps_of_call before after (Typed cpu asked answer does)) was
-    (served_go_on (terms does.frames does.stocks false) (At 0 cpu does.done.command ∷ []) does.from.state does.to.state (answer_text answer)
+    (served_go_on (terms does.frames false) (At 0 cpu does.done.command ∷ []) does.from.state does.to.state (answer_text answer)
     (does.done.serves.says.replays 0).served)
 call_goes_on before after (Answered text is_explained answers does) boot was =
     by_steps before after does boot (steps_of_call before after (Answered text is_explained answers does)) was
-    (served_go_on (terms does.frames does.stocks is_explained) does.done.replays.lines does.from.state does.to.state answers does.done.replays.replays.served)
+    (served_go_on (terms does.frames is_explained) does.done.replays.lines does.from.state does.to.state answers does.done.replays.replays.served)
 call_goes_on before after (Stored text is_explained answers does) boot was =
     let on = does.lines in
     let steps = steps_of_call before after (Stored text is_explained answers does) in
     without_steps does.between after does.stores boot steps
     (by_steps before does.between on boot steps was
-    (served_go_on (terms on.frames on.stocks is_explained) on.done.replays.lines on.from.state on.to.state answers on.done.replays.replays.served))
+    (served_go_on (terms on.frames is_explained) on.done.replays.lines on.from.state on.to.state answers on.done.replays.replays.served))
     (ap (λ (l : KnownLive). l.state) does.stores.done)
 call_goes_on before after (Refused text number does) boot was =
     without_steps before after does boot [] (stays_so boot before was) (ap (λ (l : KnownLive). l.state) does.done.stays)
 call_goes_on before after (RanOut text is_explained does) boot was =
     by_steps before after does boot (steps_of_call before after (RanOut text is_explained does)) was
-    (stop_goes_on (terms does.frames does.stocks is_explained) does.from.sizes text does.from.state does.to.state does.done.served)
+    (stop_goes_on (terms does.frames is_explained) does.from.sizes text does.from.state does.to.state does.done.served)
 call_goes_on before after (Fetched answer does) boot was =
     without_steps before after does boot [] (stays_so boot before was) (ap (λ (l : KnownLive). l.state) does.done.after_is)
 
@@ -126,7 +125,7 @@ lives_are_legal_runs sizes count report life =
     let g = calls_go_on count life.booted life.last life.calls booted life.boots.is in
     let same = same_boot g.next ended (sym g.is ∙ life.ends.was) in
     let has : HasRun steps ended.live.state = subst (λ (b : LiveBoot). HasRun steps b.live.state) same (g.goes_on [] life.boots.first.so_far) in
-    let last = whole_run ended.frames ended.stocks steps ended.live.state (ended_of report) has life.ends.ends in
+    let last = whole_run ended.frames steps ended.live.state (ended_of report) has life.ends.ends in
     subst (λ (t : KnownTable). IsRunOf (zone_of_boot t) (last_words life.ends.ends.closes) whole × AlwaysKeepsPromise (zone_of_boot t) whole)
     (ap (λ (b : LiveBoot). b.frames) (sym same) ∙ g.frames) (last.leads, last.promise)
 

@@ -28,7 +28,7 @@ module _ (cpu : ℕ) (asked : Call) (buffer : List ℕ) where
   -- nothing is done, and there is a boot
   still : (is_missing : KnownLive → Type 0) (before after : Option LiveBoot) → RefusesBehind is_missing before after → after ≡ before
   still is_missing before after refuses =
-      refuses.is ∙ (ap (λ (live : KnownLive). Some (live_boot refuses.frames refuses.stocks live)) refuses.done.stays ∙ sym refuses.was)
+      refuses.is ∙ (ap (λ (live : KnownLive). Some (live_boot refuses.frames live)) refuses.done.stays ∙ sym refuses.was)
 
   there : (is_missing : KnownLive → Type 0) (before after : Option LiveBoot) → RefusesBehind is_missing before after → before ≡ None → ⊥
   there is_missing before after refuses none = none-some _ (sym none ∙ refuses.was)

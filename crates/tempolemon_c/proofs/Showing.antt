@@ -36,10 +36,10 @@ plain_result (Some boot) value status out buffer status_is out_is no_text = let 
 }
 
 module _ (group : ℕ) (file : File) (shown : FileText) (before after : Option LiveBoot)
-    (on : OnBoot (λ frames stocks from to. ShowsFile group file from to shown) before after) where
+    (on : OnBoot (λ frames from to. ShowsFile group file from to shown) before after) where
   -- nothing is done
   pub stays : after ≡ before
-  stays = on.is ∙ (ap (λ (live : KnownLive). Some (live_boot on.frames on.stocks live)) on.done.stays ∙ sym on.was)
+  stays = on.is ∙ (ap (λ (live : KnownLive). Some (live_boot on.frames live)) on.done.stays ∙ sym on.was)
 
   -- the result of what a file shows is that of the reply to a read of it
   pub tells : (status : ℕ) (out : TypedResult) (old new : List ℕ) → ReturnsAnswer (answer.Served (file_reply shown)) status out old new
@@ -49,7 +49,7 @@ module _ (group : ℕ) (file : File) (shown : FileText) (before after : Option L
       (sym on.was) (subst (λ (r : Reply). ReturnsAnswer (answer.Served r) status out old new) on.done.reply_is out_so)
 
 module _ (cpu : ℕ) (asked : Call) (value : AnswerValue) (before mid : Option LiveBoot)
-    (on : OnBoot (λ frames stocks from to. CallsLive frames stocks cpu asked from to (call.Served value)) before mid) where
+    (on : OnBoot (λ frames from to. CallsLive frames cpu asked from to (call.Served value)) before mid) where
   -- the groups that the value names are there
   pub groups_there : IsSomeAnd mid (HasGroupsBehind value)
   groups_there = subst (λ (b : Option LiveBoot). IsSomeAnd b (HasGroupsBehind value)) (sym on.is) on.done.tells.is_answer.0
@@ -69,7 +69,6 @@ module _ (cpu : ℕ) (asked : Call) (value : AnswerValue) (before mid : Option L
           answer = answer;
           answers = record {
             frames = on.frames;
-            stocks = on.stocks;
             from = on.from;
             to = on.to;
             was = on.was;

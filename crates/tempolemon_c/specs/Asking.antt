@@ -17,4 +17,4 @@ IsBetween (End alloc) = ⊥
 -- the request was served with this answer
 abbrev pub AsksBehind : Request → (before after : Option LiveBoot) → RequestAnswer → Type 0
 AsksBehind request before after answer =
-    OnBoot (λ frames stocks from to. ServesRequest frames stocks (Some from) request (Some to) answer) before after
+    OnBoot (λ frames from to. ServesRequest frames (Some from) request (Some to) answer) before after

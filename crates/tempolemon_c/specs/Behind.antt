@@ -5,4 +5,4 @@ use Rattle.tempolemon_c.specs.Handles.{LiveBoot, boot_of}
 
 -- the boot behind a handle, if there is one
 abbrev pub behind : Handle → Option LiveBoot
-behind handle = boot_of handle.raw.frames handle.raw.stocks handle.raw.live
+behind handle = boot_of handle.raw.frames handle.raw.live

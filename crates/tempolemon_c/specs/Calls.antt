@@ -2,7 +2,6 @@
 use Rattle.std.specs.Prelude.{◌≡◌, ◌≢◌, ◌⊎◌, ◌↔◌, ℕ, ◌%◌, ◌^◌, ◌<◌, ◌≤◌, List, [], Option, None, length}
 use Rattle.std.specs.Borrow.{Bor}
 use Rattle.frame_word.specs.Seats.{KnownTable}
-use Rattle.stock_word.specs.Stock.{KnownStockTable}
 use Rattle.mem_system.specs.declared.command.Reply.{Reply}
 use Rattle.mem_system.specs.declared.command.Reply.TheVariants as reply
 use Rattle.mem_system.specs.declared.outcome.Outcome.{Outcome}
@@ -30,17 +29,17 @@ use Rattle.tempolemon_c.specs.Kinds.{result_of, status_of}
 use Rattle.tempolemon_c.specs.Statuses.{IsNotServedStatus, most_refusal}
 
 -- the call was served as the command of a script that it means, with this answer
-pub record AnswersCall (frames : KnownTable) (stock_table : KnownStockTable) (cpu : ℕ) (asked : Call)
+pub record AnswersCall (frames : KnownTable) (cpu : ℕ) (asked : Call)
     (from to : KnownLive)
     (answer : LineAnswer) : Type 0 where
   pub command : Command
   pub means : Means from.state.locked.machine.ledger.groups asked command
-  pub serves : ServesLiveCommand frames stock_table cpu command from to answer
+  pub serves : ServesLiveCommand frames cpu command from to answer
 
 -- the same of the boot behind a handle
 abbrev pub AnswersBehind : (cpu : ℕ) → Call → (before after : Option LiveBoot) → LineAnswer → Type 0
 AnswersBehind cpu asked before after answer =
-    OnBoot (λ frames stock_table from to. AnswersCall frames stock_table cpu asked from to answer) before after
+    OnBoot (λ frames from to. AnswersCall frames cpu asked from to answer) before after
 
 -- the outcome isn't a text
 abbrev pub IsPlainOutcome : Outcome → Type 0
@@ -93,7 +92,7 @@ pub record ServesBehind (cpu : ℕ) (asked : Call) (before after : Option LiveBo
 -- the call names what the boot doesn't have, and nothing is done
 abbrev pub RefusesBehind : (is_missing : KnownLive → Type 0) → (before after : Option LiveBoot) → Type 0
 RefusesBehind is_missing before after =
-    OnBoot (λ frames stock_table from to. RefusesCall (is_missing from) from to) before after
+    OnBoot (λ frames from to. RefusesCall (is_missing from) from to) before after
 
 -- What a call with a buffer does, by its status. Up to the greatest number of a refusal it was served; above, nothing
 -- was done. The CPU is looked for before a frame or a group

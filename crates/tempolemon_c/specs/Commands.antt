@@ -1,7 +1,6 @@
 -- What a live boot does when it is given a script.
 use Rattle.std.specs.Prelude.{◌≡◌, ◌⊎◌, ℕ, Bool, List, []}
 use Rattle.frame_word.specs.Seats.{KnownTable}
-use Rattle.stock_word.specs.Stock.{KnownStockTable}
 use Rattle.zone_blocks.specs.declared.config.Config.{Config}
 use Rattle.script_lines.specs.declared.line.Line.{Line}
 use Rattle.script_lines.specs.declared.fault.ScriptFault.{ScriptFault}
@@ -47,9 +46,9 @@ pub record TakesUnreadAnswer (before after : KnownLive) (text : List ℕ) : Type
   pub after_is : after ≡ with_unread_answer before []
 
 -- the text is a script, and its lines are replayed
-pub record AnswersScript (frames : KnownTable) (stock_table : KnownStockTable) (text : List ℕ) (is_explained : Bool)
+pub record AnswersScript (frames : KnownTable) (text : List ℕ) (is_explained : Bool)
     (answers : List ℕ) (from to : KnownLive) : Type 0 where
-  pub replays : ReplaysText (terms frames stock_table is_explained) from.sizes text from.state to.state answers
+  pub replays : ReplaysText (terms frames is_explained) from.sizes text from.state to.state answers
   pub rest : SameButState from to
 
 -- the first bad line of the text is this, and nothing is done
@@ -58,14 +57,14 @@ pub record RefusesScript (text : List ℕ) (number : ℕ) (from to : KnownLive) 
   pub stays : to ≡ from
 
 -- memory ran out before the first line, or for the answer of a line that was served
-pub record RunsOut (frames : KnownTable) (stock_table : KnownStockTable) (text : List ℕ) (is_explained : Bool)
+pub record RunsOut (frames : KnownTable) (text : List ℕ) (is_explained : Bool)
     (from to : KnownLive) : Type 0 where
   pub served : (to.state ≡ from.state)
-      ⊎ StopsText (terms frames stock_table is_explained) from.sizes text from.state to.state
+      ⊎ StopsText (terms frames is_explained) from.sizes text from.state to.state
   pub rest : SameButState from to
 
 -- why a script has no answers, and what was done
-abbrev pub FailsScript : (frames : KnownTable) (stock_table : KnownStockTable) (text : List ℕ) (is_explained : Bool)
+abbrev pub FailsScript : (frames : KnownTable) (text : List ℕ) (is_explained : Bool)
     (from to : KnownLive) → ScriptFault → Type 0
-FailsScript frames stock_table text is_explained from to (BadLine number) = RefusesScript text number from to
-FailsScript frames stock_table text is_explained from to NoMemory = RunsOut frames stock_table text is_explained from to
+FailsScript frames text is_explained from to (BadLine number) = RefusesScript text number from to
+FailsScript frames text is_explained from to NoMemory = RunsOut frames text is_explained from to

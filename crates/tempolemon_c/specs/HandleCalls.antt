@@ -1,7 +1,6 @@
 -- What a call means, and what it does to a live boot.
 use Rattle.std.specs.Prelude.{◌≡◌, ◌⊎◌, ℕ, ◌≤◌, List, Some, false}
 use Rattle.frame_word.specs.Seats.{KnownTable}
-use Rattle.stock_word.specs.Stock.{KnownStockTable}
 use Rattle.group_tree.specs.Bounds.{most_groups}
 use Rattle.group_tree.specs.declared.group.Group.{Group}
 use Rattle.group_tree.specs.Groups.{has_group, path_of}
@@ -66,26 +65,26 @@ IsReturnedAnswer ledger answer (returned.Served value) = NamesItsGroups ledger v
 IsReturnedAnswer ledger answer other = ⊥
 
 -- the CPU and what the command names exist, it was served with this answer, and nothing else changed
-pub record ServesLiveCommand (frames : KnownTable) (stock_table : KnownStockTable) (cpu : ℕ) (command : Command)
+pub record ServesLiveCommand (frames : KnownTable) (cpu : ℕ) (command : Command)
     (from to : KnownLive) (answer : LineAnswer) : Type 0 where
   pub there : CpuCommandInRange from.sizes.frames from.sizes.cpus cpu command
-  pub says : SaysCommand frames stock_table cpu command from.state to.state answer
+  pub says : SaysCommand frames cpu command from.state to.state answer
   pub rest : SameButState from to
 
 -- the command was served, and this is returned of its answer
-pub record ReturnsCommandAnswer (frames : KnownTable) (stock_table : KnownStockTable) (cpu : ℕ) (command : Command)
+pub record ReturnsCommandAnswer (frames : KnownTable) (cpu : ℕ) (command : Command)
     (from to : KnownLive) (returned : CallAnswer) : Type 0 where
   pub answer : LineAnswer
-  pub serves : ServesLiveCommand frames stock_table cpu command from to answer
+  pub serves : ServesLiveCommand frames cpu command from to answer
   pub is_answer : IsReturnedAnswer to.state.locked.machine.ledger answer returned
 
 -- the call was served as the command of a script that it means, and this is returned of the answer
-pub record ServesCall (frames : KnownTable) (stock_table : KnownStockTable) (cpu : ℕ) (asked : Call)
+pub record ServesCall (frames : KnownTable) (cpu : ℕ) (asked : Call)
     (from to : KnownLive)
     (returned : CallAnswer) : Type 0 where
   pub command : Command
   pub means : Means from.state.locked.machine.ledger.groups asked command
-  pub tells : ReturnsCommandAnswer frames stock_table cpu command from to returned
+  pub tells : ReturnsCommandAnswer frames cpu command from to returned
 
 -- the call names what isn't there, and nothing is done
 pub record RefusesCall (is_missing : Type 0) (from to : KnownLive) : Type 0 where
@@ -94,13 +93,13 @@ pub record RefusesCall (is_missing : Type 0) (from to : KnownLive) : Type 0 wher
 
 -- What a call of a CPU does, and what it returns. The CPU is looked for first: a missing frame or group is named only of
 -- a CPU that exists
-abbrev pub CallsLive : KnownTable → KnownStockTable → (cpu : ℕ) → Call → (from to : KnownLive) → CallAnswer → Type 0
-CallsLive frames stock_table cpu asked from to (returned.Served value) =
-    ServesCall frames stock_table cpu asked from to (returned.Served value)
-CallsLive frames stock_table cpu asked from to returned.NoCpu = RefusesCall (¬ IsCpu from.sizes.cpus cpu) from to
-CallsLive frames stock_table cpu asked from to returned.NoFrame =
+abbrev pub CallsLive : KnownTable → (cpu : ℕ) → Call → (from to : KnownLive) → CallAnswer → Type 0
+CallsLive frames cpu asked from to (returned.Served value) =
+    ServesCall frames cpu asked from to (returned.Served value)
+CallsLive frames cpu asked from to returned.NoCpu = RefusesCall (¬ IsCpu from.sizes.cpus cpu) from to
+CallsLive frames cpu asked from to returned.NoFrame =
     RefusesCall (IsCpu from.sizes.cpus cpu × NamesMissingFrame from.sizes.frames asked) from to
-CallsLive frames stock_table cpu asked from to returned.NoGroup =
+CallsLive frames cpu asked from to returned.NoGroup =
     RefusesCall (IsCpu from.sizes.cpus cpu × NamesMissingGroup from.state.locked.machine.ledger.groups asked) from to
 
 -- the group exists, and isn't the root, which has no files

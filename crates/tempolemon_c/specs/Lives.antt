@@ -55,17 +55,17 @@ steps_before_stop terms sizes text before after (inr stop) =
 abbrev pub steps_of_call : (before after : Option LiveBoot) → CallOnHandle before after → Run
 steps_of_call before after (Nothing stays) = []
 steps_of_call before after (Typed cpu asked answer does) =
-    steps_of_served (terms does.frames does.stocks false) (At 0 cpu does.done.command ∷ []) does.from.state
+    steps_of_served (terms does.frames false) (At 0 cpu does.done.command ∷ []) does.from.state
     does.to.state (answer_text answer) (does.done.serves.says.replays 0).served
 steps_of_call before after (Answered text is_explained answers does) =
-    steps_of_served (terms does.frames does.stocks is_explained) does.done.replays.lines does.from.state
+    steps_of_served (terms does.frames is_explained) does.done.replays.lines does.from.state
     does.to.state answers does.done.replays.replays.served
 steps_of_call before after (Stored text is_explained answers does) =
-    steps_of_served (terms does.lines.frames does.lines.stocks is_explained) does.lines.done.replays.lines
+    steps_of_served (terms does.lines.frames is_explained) does.lines.done.replays.lines
     does.lines.from.state does.lines.to.state answers does.lines.done.replays.replays.served
 steps_of_call before after (Refused text number does) = []
 steps_of_call before after (RanOut text is_explained does) =
-    steps_before_stop (terms does.frames does.stocks is_explained) does.from.sizes text does.from.state does.to.state
+    steps_before_stop (terms does.frames is_explained) does.from.sizes text does.from.state does.to.state
     does.done.served
 steps_of_call before after (Fetched answer does) = []
 

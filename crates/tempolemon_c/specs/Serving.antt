@@ -1,7 +1,6 @@
 -- What each request does to a live boot.
 use Rattle.std.specs.Prelude.{◌≡◌, [], Option, None, Some}
 use Rattle.frame_word.specs.Seats.{KnownTable}
-use Rattle.stock_word.specs.Stock.{KnownStockTable}
 use Rattle.zone_blocks.specs.declared.config.Config.{Config}
 use Rattle.load_run.specs.Answers.{IsNewBootState}
 use Rattle.load_run.specs.Ending.{EndsHeld}
@@ -13,21 +12,13 @@ use Rattle.tempolemon_c.specs.declared.requests.Request.TheVariants.{Start, Line
 use Rattle.tempolemon_c.specs.declared.requests.RequestAnswer.{RequestAnswer}
 use Rattle.tempolemon_c.specs.declared.requests.RequestAnswer.TheVariants as returned
 
--- the frames' table after a request: a start brings its own, else it stays
+-- the table after a request: a start brings its own, else it stays
 abbrev pub frames_after_request : KnownTable → Request → KnownTable
 frames_after_request frames (Start alloc boot sizes) = boot.frames
 frames_after_request frames (Lines alloc text is_explained) = frames
 frames_after_request frames (StoreUnread text) = frames
 frames_after_request frames (TakeUnread alloc) = frames
 frames_after_request frames (End alloc) = frames
-
--- the stocks' table after a request
-abbrev pub stocks_after_request : KnownStockTable → Request → KnownStockTable
-stocks_after_request stock_table (Start alloc boot sizes) = boot.stocks
-stocks_after_request stock_table (Lines alloc text is_explained) = stock_table
-stocks_after_request stock_table (StoreUnread text) = stock_table
-stocks_after_request stock_table (TakeUnread alloc) = stock_table
-stocks_after_request stock_table (End alloc) = stock_table
 
 -- what may be asked: a start if there is no boot, and the boot has the sizes that are named; all else if there is one
 abbrev pub IsFit : Option KnownLive → Request → Type 0
@@ -50,57 +41,49 @@ pub record OnLive (does : (from to : KnownLive) → Type 0) (before after : Opti
   pub is : after ≡ Some to
   pub done : does from to
 
--- there is a boot before and after, `does` leads from one to the other, and the tables stay
-pub record OnRaw (does : (from to : KnownLive) → Type 0) (old_frames : KnownTable) (old_stock_table : KnownStockTable)
-    (before : Option KnownLive) (frames : KnownTable) (stock_table : KnownStockTable) (after : Option KnownLive) :
-    Type 0 where
+-- there is a boot before and after, `does` leads from one to the other, and the table stays
+pub record OnRaw (does : (from to : KnownLive) → Type 0) (old_frames : KnownTable)
+    (before : Option KnownLive) (frames : KnownTable) (after : Option KnownLive) : Type 0 where
   pub frames_are : frames ≡ old_frames
-  pub stocks_are : stock_table ≡ old_stock_table
   pub on_live : OnLive does before after
 
 -- a boot of these sizes stands as at first, and no answer is unread
-pub record StartsBoot (frames : KnownTable) (stock_table : KnownStockTable) (sizes : Config)
-    (after : Option KnownLive) : Type 0 where
+pub record StartsBoot (frames : KnownTable) (sizes : Config) (after : Option KnownLive) : Type 0 where
   pub live : KnownLive
   pub is : after ≡ Some live
-  pub first : IsNewBootState sizes frames stock_table live.state
+  pub first : IsNewBootState sizes frames live.state
   pub sizes_are : live.sizes ≡ sizes
   pub none_unread : live.unread_answer ≡ []
 
 -- the boot ended, with this report
-pub record EndsLive (frames : KnownTable) (stock_table : KnownStockTable) (before after : Option KnownLive)
-    (ended : BootEnd) : Type 0 where
+pub record EndsLive (frames : KnownTable) (before after : Option KnownLive) (ended : BootEnd) : Type 0 where
   pub from : KnownLive
   pub was : before ≡ Some from
   pub is : after ≡ None
-  pub ends : EndsHeld frames stock_table from.state ended
+  pub ends : EndsHeld frames from.state ended
 
--- What a request does under the name of these tables, and what is answered
-abbrev pub ServesRequest : KnownTable → KnownStockTable
-    → (before : Option KnownLive) (request : Request) (after : Option KnownLive)
+-- What a request does under the name of this table, and what is answered
+abbrev pub ServesRequest : KnownTable → (before : Option KnownLive) (request : Request) (after : Option KnownLive)
     (answer : RequestAnswer) → Type 0
-ServesRequest frames stock_table before (Start alloc boot sizes) after returned.Done =
-    StartsBoot frames stock_table sizes after
-ServesRequest frames stock_table before (Start alloc boot sizes) after returned.NoMemory = after ≡ None
-ServesRequest frames stock_table before (Lines alloc text is_explained) after (returned.Text answers) =
-    OnLive (AnswersScript frames stock_table text.items is_explained answers.items) before after
-ServesRequest frames stock_table before (Lines alloc text is_explained) after (returned.BadLine number) =
+ServesRequest frames before (Start alloc boot sizes) after returned.Done =
+    StartsBoot frames sizes after
+ServesRequest frames before (Start alloc boot sizes) after returned.NoMemory = after ≡ None
+ServesRequest frames before (Lines alloc text is_explained) after (returned.Text answers) =
+    OnLive (AnswersScript frames text.items is_explained answers.items) before after
+ServesRequest frames before (Lines alloc text is_explained) after (returned.BadLine number) =
     OnLive (RefusesScript text.items number) before after
-ServesRequest frames stock_table before (Lines alloc text is_explained) after returned.NoMemory =
-    OnLive (RunsOut frames stock_table text.items is_explained) before after
-ServesRequest frames stock_table before (StoreUnread text) after returned.Done =
+ServesRequest frames before (Lines alloc text is_explained) after returned.NoMemory =
+    OnLive (RunsOut frames text.items is_explained) before after
+ServesRequest frames before (StoreUnread text) after returned.Done =
     OnLive (λ from to. to ≡ with_unread_answer from text.items) before after
-ServesRequest frames stock_table before (TakeUnread alloc) after (returned.Text text) =
+ServesRequest frames before (TakeUnread alloc) after (returned.Text text) =
     OnLive (λ from to. TakesUnreadAnswer from to text.items) before after
-ServesRequest frames stock_table before (End alloc) after (returned.Ended ended) =
-    EndsLive frames stock_table before after ended
-ServesRequest frames stock_table before request after answer = ⊥
+ServesRequest frames before (End alloc) after (returned.Ended ended) =
+    EndsLive frames before after ended
+ServesRequest frames before request after answer = ⊥
 
--- what a request does, with the tables before and after it
-pub record ServesRaw (old_frames : KnownTable) (old_stock_table : KnownStockTable) (before : Option KnownLive)
-    (request : Request)
-    (frames : KnownTable) (stock_table : KnownStockTable) (after : Option KnownLive) (answer : RequestAnswer)
-    : Type 0 where
+-- what a request does, with the table before and after it
+pub record ServesRaw (old_frames : KnownTable) (before : Option KnownLive) (request : Request)
+    (frames : KnownTable) (after : Option KnownLive) (answer : RequestAnswer) : Type 0 where
   pub frames_are : frames ≡ frames_after_request old_frames request
-  pub stocks_are : stock_table ≡ stocks_after_request old_stock_table request
-  pub serves : ServesRequest frames stock_table before request after answer
+  pub serves : ServesRequest frames before request after answer

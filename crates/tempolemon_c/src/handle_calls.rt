@@ -61,7 +61,7 @@ impl Handle {
     pub(crate) fn call(&mut self, alloc: Global, cpu: u32, call: &Call<'_>) -> CallAnswer
         requires live { IsSome (behind self.old) }
         requires asked { IsTypedCall call.now }
-        ensures { OnBoot (λ frames stocks from to. CallsLive frames stocks cpu call.now from to result)
+        ensures { OnBoot (λ frames from to. CallsLive frames cpu call.now from to result)
             (behind self.old) (behind self.new) }
     {
         let raw = std::mem::replace(&mut self.raw, RawBoot::none(alloc));
@@ -74,7 +74,7 @@ impl Handle {
     #[tactic(auto, using(crate::proofs::Crossing::crossed, crate::proofs::Crossing::file_behind))]
     pub(crate) fn show(&mut self, alloc: Global, group: GroupId, file: File) -> FileText
         requires there { IsSomeAnd (behind self.old) (HasFileBehind group file) }
-        ensures { OnBoot (λ frames stocks from to. ShowsFile group file from to result)
+        ensures { OnBoot (λ frames from to. ShowsFile group file from to result)
             (behind self.old) (behind self.new) }
     {
         let raw = std::mem::replace(&mut self.raw, RawBoot::none(alloc));

@@ -1,8 +1,8 @@
 //! The controller for hosts in C, and in languages that call C. `include/tempolemon.h` declares each call.
 //!
-//! A boot lives behind a handle. Its parts carry the name of its tables (`BootName`), and a struct that crosses to C
-//! can't have such a name. So `RawBoot` is a pointer to the parts in a box, and remembers which tables they are of. Each
-//! of `serve_raw`, `call_raw` and `show_raw` picks a name that has those tables, and calls plain code over the box. Proved
+//! A boot lives behind a handle. Its parts carry the name of its table (`BootName`), and a struct that crosses to C
+//! can't have such a name. So `RawBoot` is a pointer to the parts in a box, and remembers which table they are of. Each
+//! of `serve_raw`, `call_raw` and `show_raw` picks a name that has that table, and calls plain code over the box. Proved
 //! by hand are only the moves between that pointer, a pointer under a name (`LivePointer`), and the box.
 //!
 //! A call gets memory through pointers that the host promises to be good: never null, to as many bytes as it says, and

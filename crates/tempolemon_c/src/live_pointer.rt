@@ -2,9 +2,8 @@
 
 ghost use Rattle.std.specs.Prelude.{◌≡◌, IsSome, None, Option, Some};
 ghost use Rattle.frame_word.specs.Seats.{KnownTable};
-ghost use Rattle.stock_word.specs.Stock.{KnownStockTable};
 ghost use Rattle.tempolemon_c.specs.Known.{KnownLive};
-ghost use Rattle.tempolemon_c.specs.Owned.{frames_coded, known_coded, live_owns, stocks_coded};
+ghost use Rattle.tempolemon_c.specs.Owned.{frames_coded, known_coded, live_owns};
 
 use crate::live::Live;
 use cpu_part::BootName;
@@ -12,26 +11,25 @@ use host_memory::box_parts::BoxParts;
 use std::alloc::Global;
 use std::marker::Model;
 
-/// A pointer to the parts of a boot, or to nothing, and the tables that the parts are of. It has the fields of
-/// `RawBoot`. Its type doesn't fix the tables, so a call may pick the name that has them. If it is dropped, what it
+/// A pointer to the parts of a boot, or to nothing, and the table that the parts are of. It has the fields of
+/// `RawBoot`. Its type doesn't fix the table, so a call may pick the name that has it. If it is dropped, what it
 /// points to stays in memory.
 #[derive(Drop)]
 pub struct LivePointer<B> {
     pub(crate) ptr: *mut B,
     pub(crate) alloc: Global,
     pub ghost frames: { KnownTable } by { frames_coded },
-    pub ghost stocks: { KnownStockTable } by { stocks_coded },
     pub ghost live: { Option KnownLive } by { known_coded },
 }
 
 impl<B> Model for LivePointer<B> {
-    ghost also_owns = { λ h. live_owns B.row h.frames h.stocks h.alloc h.ptr h.live };
+    ghost also_owns = { λ h. live_owns B.row h.frames h.alloc h.ptr h.live };
 }
 
 impl<N: BootName> LivePointer<N> {
     /// A pointer to nothing.
     pub fn none(alloc: Global) -> LivePointer<N>
-        ensures { (result.frames ≡ N.frames) × (result.stocks ≡ N.stocks) × (result.live ≡ None) }
+        ensures { (result.frames ≡ N.frames) × (result.live ≡ None) }
     {
         LivePointer {
             ptr: std::ptr::null_mut(),
@@ -41,7 +39,7 @@ impl<N: BootName> LivePointer<N> {
 
     /// A pointer to what is in this box.
     pub fn of(parts: BoxParts<Live<N>, Global>) -> LivePointer<N>
-        ensures { (result.frames ≡ N.frames) × (result.stocks ≡ N.stocks) × (result.live ≡ Some parts.value) }
+        ensures { (result.frames ≡ N.frames) × (result.live ≡ Some parts.value) }
     {
         let BoxParts { ptr, alloc } = parts;
         LivePointer {
@@ -52,7 +50,7 @@ impl<N: BootName> LivePointer<N> {
 
     /// The box with what it points to.
     pub fn into_box_parts(self) -> BoxParts<Live<N>, Global>
-        requires { IsSome self.live × (self.frames ≡ N.frames) × (self.stocks ≡ N.stocks) }
+        requires { IsSome self.live × (self.frames ≡ N.frames) }
         ensures { Some result.value ≡ self.live }
     {
         let LivePointer { ptr, alloc } = self;

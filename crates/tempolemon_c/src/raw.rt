@@ -2,10 +2,9 @@
 
 ghost use Rattle.std.specs.Prelude.{◌≡◌, IsSome, IsSomeAnd, None, Option};
 ghost use Rattle.frame_word.specs.Seats.{KnownTable};
-ghost use Rattle.stock_word.specs.Stock.{KnownStockTable};
 ghost use Rattle.tempolemon_c.specs.HandleCalls.{CallsLive, GroupHasFiles, IsTypedCall, ShowsFile};
 ghost use Rattle.tempolemon_c.specs.Known.{KnownLive};
-ghost use Rattle.tempolemon_c.specs.Owned.{brand, frames_coded, known_coded, live_owns, stocks_coded};
+ghost use Rattle.tempolemon_c.specs.Owned.{brand, frames_coded, known_coded, live_owns};
 ghost use Rattle.tempolemon_c.specs.Serving.{IsFit, OnRaw, ServesRaw};
 
 use crate::calls::{Call, CallAnswer, FileText};
@@ -17,7 +16,7 @@ use group_tree::group::GroupId;
 use std::alloc::Global;
 use std::marker::{Brand, Model};
 
-/// A pointer to the parts of a boot, or to nothing, and the tables that the parts are of. If it is dropped, what it
+/// A pointer to the parts of a boot, or to nothing, and the table that the parts are of. If it is dropped, what it
 /// points to stays in memory. It may go to another thread.
 #[repr(C)]
 #[derive(Drop)]
@@ -25,12 +24,11 @@ pub struct RawBoot {
     ptr: *mut u8,
     alloc: Global,
     pub ghost frames: { KnownTable } by { frames_coded },
-    pub ghost stocks: { KnownStockTable } by { stocks_coded },
     pub ghost live: { Option KnownLive } by { known_coded },
 }
 
 impl Model for RawBoot {
-    ghost also_owns = { λ r. live_owns brand r.frames r.stocks r.alloc r.ptr r.live };
+    ghost also_owns = { λ r. live_owns brand r.frames r.alloc r.ptr r.live };
 }
 
 unsafe impl Send for RawBoot {}
@@ -45,7 +43,7 @@ impl RawBoot {
 
     /// The same pointer, without a name.
     pub fn of(pointer: LivePointer<Brand>) -> RawBoot
-        ensures { (result.frames ≡ pointer.frames) × (result.stocks ≡ pointer.stocks) × (result.live ≡ pointer.live) }
+        ensures { (result.frames ≡ pointer.frames) × (result.live ≡ pointer.live) }
     {
         let LivePointer { ptr, alloc } = pointer;
         RawBoot {
@@ -56,7 +54,7 @@ impl RawBoot {
 
     /// The same pointer, under a name.
     pub fn into_pointer(self) -> LivePointer<Brand>
-        ensures { (result.frames ≡ self.frames) × (result.stocks ≡ self.stocks) × (result.live ≡ self.live) }
+        ensures { (result.frames ≡ self.frames) × (result.live ≡ self.live) }
     {
         let RawBoot { ptr, alloc } = self;
         LivePointer {
@@ -66,17 +64,17 @@ impl RawBoot {
     }
 }
 
-/// Serves a request, as `serve` does, under a name that it picks for the tables.
+/// Serves a request, as `serve` does, under a name that it picks for the table.
 pub fn serve_raw(raw: RawBoot, request: Request) -> (RawBoot, RequestAnswer)
     requires fit { IsFit raw.live request }
-    ensures serves { ServesRaw raw.frames raw.stocks raw.live request
-        result.0.frames result.0.stocks result.0.live result.1 }
+    ensures serves { ServesRaw raw.frames raw.live request
+        result.0.frames result.0.live result.1 }
 {
     let (pointer, answer) = serve::<Brand>(raw.into_pointer(), request);
     (RawBoot::of(pointer), answer)
 }
 
-/// Serves a call of the CPU of this number, as `serve_call` does, under the name that it picks for the tables. Only a
+/// Serves a call of the CPU of this number, as `serve_call` does, under the name that it picks for the table. Only a
 /// pointer to the call crosses, and no memory is taken.
 ///
 /// It is inlined, so that a caller that names the call has its steps alone: see `serve_value`.
@@ -84,18 +82,18 @@ pub fn serve_raw(raw: RawBoot, request: Request) -> (RawBoot, RequestAnswer)
 pub fn call_raw(raw: RawBoot, cpu: u32, call: &Call<'_>) -> (RawBoot, CallAnswer)
     requires some { IsSome raw.live }
     requires asked { IsTypedCall call.now }
-    ensures serves { OnRaw (λ from to. CallsLive raw.frames raw.stocks cpu call.now from to result.1)
-        raw.frames raw.stocks raw.live result.0.frames result.0.stocks result.0.live }
+    ensures serves { OnRaw (λ from to. CallsLive raw.frames cpu call.now from to result.1)
+        raw.frames raw.live result.0.frames result.0.live }
 {
     let (pointer, answer) = serve_call::<Brand>(raw.into_pointer(), cpu, call);
     (RawBoot::of(pointer), answer)
 }
 
-/// Returns what a file of a group shows, as `show_file` does, under the name that it picks for the tables.
+/// Returns what a file of a group shows, as `show_file` does, under the name that it picks for the table.
 pub fn show_raw(raw: RawBoot, group: GroupId, file: File) -> (RawBoot, FileText)
     requires there { IsSomeAnd raw.live (GroupHasFiles group file) }
     ensures shows { OnRaw (λ from to. ShowsFile group file from to result.1)
-        raw.frames raw.stocks raw.live result.0.frames result.0.stocks result.0.live }
+        raw.frames raw.live result.0.frames result.0.live }
 {
     let (pointer, shown) = show_file::<Brand>(raw.into_pointer(), group, file);
     (RawBoot::of(pointer), shown)

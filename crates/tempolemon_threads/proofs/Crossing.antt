@@ -9,7 +9,6 @@ use Rattle.mem_system.specs.Cpus.{CpuInRun}
 use Rattle.mem_system.specs.Ending.{HasEnded}
 use Rattle.mem_system.specs.declared.ending.SystemEnd.{SystemEnd}
 use Rattle.frame_word.specs.Seats.{KnownTable}
-use Rattle.stock_word.specs.Stock.{KnownStockTable}
 use Rattle.zone_threads.specs.Homes.{EndsParked, HasCpu, HasNoCpu, IfNotEntered, KnownBehind, KnownHome}
 use Rattle.zone_threads.specs.declared.home.NotEntered.{NotEntered}
 use Rattle.zone_threads.specs.declared.home.NotEntered.TheVariants as not_entered
@@ -23,35 +22,34 @@ use Rattle.tempolemon_threads.specs.Handling.{EndsAs}
 use Rattle.tempolemon_threads.specs.Zones.{IsCpuHandle, OnPart, led, led_of}
 
 -- what was done to the home that the pointer leads to was done behind the handle
-pub crossed : (does : KnownTable → KnownStockTable → (from to : KnownHome) → Type 0) (f : KnownTable) (s : KnownStockTable) (o : Option KnownHome)
-    (g : KnownTable) (t : KnownStockTable) (p : Option KnownHome) → OnRawHome (does f s) f s o g t p → OnPart does (led_of f s o) (led_of g t p)
-crossed does f s o g t p on = record {
+pub crossed : (does : KnownTable → (from to : KnownHome) → Type 0) (f : KnownTable) (o : Option KnownHome) (g : KnownTable) (p : Option KnownHome)
+    → OnRawHome (does f) f o g p → OnPart does (led_of f o) (led_of g p)
+crossed does f o g p on = record {
   frames = f;
-  stocks = s;
   from = on.on_home.from;
   to = on.on_home.to;
-  was = ap (led_of f s) on.on_home.was;
-  is = ap (λ (h : KnownTable). led_of h t p) on.frames_are ∙ (ap (λ (u : KnownStockTable). led_of f u p) on.stocks_are ∙ ap (led_of f s) on.on_home.is);
+  was = ap (led_of f) on.on_home.was;
+  is = ap (λ (h : KnownTable). led_of h p) on.frames_are ∙ ap (led_of f) on.on_home.is;
   done = on.on_home.done;
 }
 
 -- a CPU's handle leads to a home with a CPU, if to anything
-pub cpu_behind : (f : KnownTable) (s : KnownStockTable) (is_live : Bool) (o : Option KnownHome) → IsCpuHandle is_live o → IsSome (led_of f s o)
+pub cpu_behind : (f : KnownTable) (is_live : Bool) (o : Option KnownHome) → IsCpuHandle is_live o → IsSome (led_of f o)
     → IsSomeAnd o HasCpu
-cpu_behind f s is_live None is some = absurd (false≢true some)
-cpu_behind f s is_live (Some home) is some = is.cpu home refl
+cpu_behind f is_live None is some = absurd (false≢true some)
+cpu_behind f is_live (Some home) is some = is.cpu home refl
 
 -- a return by a CPU's handle doesn't find that there is no CPU
-pub no_cpu_left : (f : KnownTable) (s : KnownStockTable) (a : Global) (is_live : Bool) (o before after : Option KnownHome) (said : RequestAnswer)
-    (reason : NotLeft) → IsCpuHandle is_live o → before ≡ o → ServesHomeRequest f s before (Leave a) after said → said ≡ answer.NotLeft reason
+pub no_cpu_left : (f : KnownTable) (a : Global) (is_live : Bool) (o before after : Option KnownHome) (said : RequestAnswer)
+    (reason : NotLeft) → IsCpuHandle is_live o → before ≡ o → ServesHomeRequest f before (Leave a) after said → said ≡ answer.NotLeft reason
     → reason ≡ not_left.NoCpu → ⊥
-no_cpu_left f s a is_live o before after said reason is same serves one two =
-    let drops : DropsHome before after = subst (λ (x : RequestAnswer). ServesHomeRequest f s before (Leave a) after x) (one ∙ ap answer.NotLeft two) serves in
+no_cpu_left f a is_live o before after said reason is same serves one two =
+    let drops : DropsHome before after = subst (λ (x : RequestAnswer). ServesHomeRequest f before (Leave a) after x) (one ∙ ap answer.NotLeft two) serves in
     false≢true (subst (λ (x : Option CpuInRun). IsSome x) drops.none (is.cpu drops.from (sym same ∙ drops.was)))
 
 -- a zone that ended with the CPUs that were parked ended
-pub has_ended : (f : KnownTable) (s : KnownStockTable) (loan : KnownLoan (Box KnownBehind)) (ended : SystemEnd) → EndsParked f s loan ended → HasEnded f s ended
-has_ended f s loan ended parked =
+pub has_ended : (f : KnownTable) (loan : KnownLoan (Box KnownBehind)) (ended : SystemEnd) → EndsParked f loan ended → HasEnded f ended
+has_ended f loan ended parked =
     (parked.found.value.parked, record { locked = parked.found.value.locked; sound = parked.ends.sound; so = parked.ends })
 
 -- a refused entry leaves the home as it was
@@ -62,52 +60,52 @@ home_stays cpus number from to not_entered.HasCpu is = is.1
 home_stays cpus number from to not_entered.Busy is = is.stays
 
 -- a home without a CPU is gone after a return
-home_gone : (f : KnownTable) (s : KnownStockTable) (a : Global) (before after : Option KnownHome) (said : RequestAnswer) → IsSomeAnd before HasNoCpu
-    → ServesHomeRequest f s before (Leave a) after said → after ≡ None
-home_gone f s a before after (answer.Left shown) none serves = serves.is
-home_gone f s a before after (answer.NotLeft not_left.NoCpu) none serves = serves.is
-home_gone f s a None after (answer.NotLeft not_left.Busy) none serves = absurd none
-home_gone f s a (Some home) after (answer.NotLeft not_left.Busy) none serves =
+home_gone : (f : KnownTable) (a : Global) (before after : Option KnownHome) (said : RequestAnswer) → IsSomeAnd before HasNoCpu
+    → ServesHomeRequest f before (Leave a) after said → after ≡ None
+home_gone f a before after (answer.Left shown) none serves = serves.is
+home_gone f a before after (answer.NotLeft not_left.NoCpu) none serves = serves.is
+home_gone f a None after (answer.NotLeft not_left.Busy) none serves = absurd none
+home_gone f a (Some home) after (answer.NotLeft not_left.Busy) none serves =
     absurd (false≢true (subst (λ (x : Option CpuInRun). IsSome x) none serves.0))
-home_gone f s a before after answer.Started none serves = absurd serves
-home_gone f s a before after answer.NoMemory none serves = absurd serves
-home_gone f s a before after answer.Entered none serves = absurd serves
-home_gone f s a before after (answer.NotEntered reason) none serves = absurd serves
-home_gone f s a before after (answer.Text text) none serves = absurd serves
-home_gone f s a before after answer.Busy none serves = absurd serves
-home_gone f s a before after answer.Out none serves = absurd serves
-home_gone f s a before after (answer.Ended ended) none serves = absurd serves
-home_gone f s a before after answer.Lost none serves = absurd serves
+home_gone f a before after answer.Started none serves = absurd serves
+home_gone f a before after answer.NoMemory none serves = absurd serves
+home_gone f a before after answer.Entered none serves = absurd serves
+home_gone f a before after (answer.NotEntered reason) none serves = absurd serves
+home_gone f a before after (answer.Text text) none serves = absurd serves
+home_gone f a before after answer.Busy none serves = absurd serves
+home_gone f a before after answer.Out none serves = absurd serves
+home_gone f a before after (answer.Ended ended) none serves = absurd serves
+home_gone f a before after answer.Lost none serves = absurd serves
 
 -- a home that was refused a CPU is gone after a return
-pub refused_gone : (f g : KnownTable) (s t : KnownStockTable) (a : Global) (number : ℕ) (home between after : Option KnownHome)
-    (said left : RequestAnswer) (reason : NotEntered) → IsSomeAnd home HasNoCpu → ServesHomeRequest f s home (Enter number) between said
-    → said ≡ answer.NotEntered reason → ServesHomeRequest g t between (Leave a) after left → after ≡ None
-refused_gone f g s t a number home between after said left reason none enters is leaves =
+pub refused_gone : (f g : KnownTable) (a : Global) (number : ℕ) (home between after : Option KnownHome)
+    (said left : RequestAnswer) (reason : NotEntered) → IsSomeAnd home HasNoCpu → ServesHomeRequest f home (Enter number) between said
+    → said ≡ answer.NotEntered reason → ServesHomeRequest g between (Leave a) after left → after ≡ None
+refused_gone f g a number home between after said left reason none enters is leaves =
     let on : OnHome (λ (from to : KnownHome). IfNotEntered f.cpus number from reason to) home between =
-    subst (λ (x : RequestAnswer). ServesHomeRequest f s home (Enter number) between x) is enters in
+    subst (λ (x : RequestAnswer). ServesHomeRequest f home (Enter number) between x) is enters in
     let was : HasNoCpu on.from = subst (λ (o : Option KnownHome). IsSomeAnd o HasNoCpu) on.was none in
     let now : HasNoCpu on.to = subst HasNoCpu (sym (home_stays f.cpus number on.from on.to reason on.done)) was in
-    home_gone g t a between after left (subst (λ (o : Option KnownHome). IsSomeAnd o HasNoCpu) (sym on.is) now) leaves
+    home_gone g a between after left (subst (λ (o : Option KnownHome). IsSomeAnd o HasNoCpu) (sym on.is) now) leaves
 
 -- an end by the pointer behind a zone's handle is one by the handle
-pub ends_led : (f : KnownTable) (s : KnownStockTable) (a : Global) (before : Option KnownHome) (g : KnownTable) (t : KnownStockTable) (after : Option KnownHome)
-    (said : RequestAnswer) → IsSome (led_of f s before) → ServesRawHome f s before (End a) g t after said → EndsAs said (led_of f s before) (led_of g t after)
-ends_led f s a before g t after answer.Out some is =
-    ap (λ (h : KnownTable). led_of h t after) is.frames_are ∙ (ap (λ (u : KnownStockTable). led_of f u after) is.stocks_are ∙ ap (led_of f s) is.serves)
-ends_led f s a None g t after (answer.Ended ended) some is = absurd (false≢true some)
-ends_led f s a (Some home) g t after (answer.Ended ended) some is = record {
-  zone = led f s home;
+pub ends_led : (f : KnownTable) (a : Global) (before : Option KnownHome) (g : KnownTable) (after : Option KnownHome)
+    (said : RequestAnswer) → IsSome (led_of f before) → ServesRawHome f before (End a) g after said → EndsAs said (led_of f before) (led_of g after)
+ends_led f a before g after answer.Out some is =
+    ap (λ (h : KnownTable). led_of h after) is.frames_are ∙ ap (led_of f) is.serves
+ends_led f a None g after (answer.Ended ended) some is = absurd (false≢true some)
+ends_led f a (Some home) g after (answer.Ended ended) some is = record {
+  zone = led f home;
   was = refl;
-  done = subst (λ (h : KnownTable). HasEnded h s ended) is.frames_are (subst (λ (u : KnownStockTable). HasEnded g u ended) is.stocks_are is.serves.0);
-  is = ap (led_of g t) is.serves.1;
+  done = subst (λ (h : KnownTable). HasEnded h ended) is.frames_are is.serves.0;
+  is = ap (led_of g) is.serves.1;
 }
-ends_led f s a before g t after answer.NoMemory some is = ap (led_of g t) is.serves
-ends_led f s a before g t after answer.Lost some is = ap (led_of g t) is.serves
-ends_led f s a before g t after answer.Started some is = absurd is.serves
-ends_led f s a before g t after answer.Entered some is = absurd is.serves
-ends_led f s a before g t after (answer.NotEntered reason) some is = absurd is.serves
-ends_led f s a before g t after (answer.Left shown) some is = absurd is.serves
-ends_led f s a before g t after (answer.NotLeft reason) some is = absurd is.serves
-ends_led f s a before g t after (answer.Text text) some is = absurd is.serves
-ends_led f s a before g t after answer.Busy some is = absurd is.serves
+ends_led f a before g after answer.NoMemory some is = ap (led_of g) is.serves
+ends_led f a before g after answer.Lost some is = ap (led_of g) is.serves
+ends_led f a before g after answer.Started some is = absurd is.serves
+ends_led f a before g after answer.Entered some is = absurd is.serves
+ends_led f a before g after (answer.NotEntered reason) some is = absurd is.serves
+ends_led f a before g after (answer.Left shown) some is = absurd is.serves
+ends_led f a before g after (answer.NotLeft reason) some is = absurd is.serves
+ends_led f a before g after (answer.Text text) some is = absurd is.serves
+ends_led f a before g after answer.Busy some is = absurd is.serves

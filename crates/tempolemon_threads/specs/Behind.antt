@@ -6,8 +6,8 @@ use Rattle.tempolemon_threads.specs.declared.handles.Zone.{Zone}
 
 -- the zone behind its handle, if there is one
 abbrev pub zone_behind : Zone → Option Led
-zone_behind zone = led_of zone.raw.frames zone.raw.stocks zone.raw.home
+zone_behind zone = led_of zone.raw.frames zone.raw.home
 
 -- the CPU behind its handle, if there is one, with its zone
 abbrev pub part_behind : CpuPart → Option Led
-part_behind part = led_of part.raw.frames part.raw.stocks part.raw.home
+part_behind part = led_of part.raw.frames part.raw.home

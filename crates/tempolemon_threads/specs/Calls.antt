@@ -38,7 +38,7 @@ pub record IsNotLive (before after : Option Led) (status : ℕ) (out : TypedResu
 -- and result go with it
 pub record AnswersPart (asked : Call) (before after : Option Led) (status : ℕ) (out : TypedResult) : Type 0 where
   pub answer : CallAnswer
-  pub calls : OnPart (λ frames stocks from to. Calls frames stocks asked from to answer) before after
+  pub calls : OnPart (λ frames from to. Calls frames asked from to answer) before after
   pub status_is : status ≡ call_status_of answer
   pub out_is : out ≡ call_result_of answer
 
@@ -86,7 +86,7 @@ pub record ReadsPart (path file : List ℕ) (before after : Option Led) (status 
   pub path_is : asked.path.now ≡ path
   pub file_is : asked.file.now ≡ file
   pub answer : ReadAnswer
-  pub reads : OnPart (λ frames stocks from to. AnswersRead frames stocks asked from to answer) before after
+  pub reads : OnPart (λ frames from to. AnswersRead frames asked from to answer) before after
   pub status_is : status ≡ read_status answer
   pub out_is : out ≡ read_result answer
   pub buffer : PutsRead answer old new
@@ -125,7 +125,7 @@ GivesText text.NoMemory status old new written = (status ≡ no_memory) × (new 
 pub record ShowsPart (asked : TextCall) (before after : Option Led) (status : ℕ) (old new : List ℕ) (written : ℕ)
     : Type 0 where
   pub answer : TextAnswer
-  pub shows : OnPart (λ frames stocks. ReadsText frames stocks asked answer) before after
+  pub shows : OnPart (λ frames. ReadsText frames asked answer) before after
   pub gives : GivesText answer status old new written
 
 -- the handle leads nowhere; or it leads to a zone, and another thread has the lock

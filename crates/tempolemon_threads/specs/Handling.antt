@@ -1,7 +1,6 @@
 -- What is done with what a handle leads to.
 use Rattle.std.specs.Prelude.{◌≡◌, ℕ, Option, None, Some, IsSome}
 use Rattle.frame_word.specs.Seats.{KnownTable}
-use Rattle.stock_word.specs.Stock.{KnownStockTable}
 use Rattle.mem_system.specs.Ending.{HasEnded}
 use Rattle.zone_threads.specs.Homes.{HasNoCpu, IsCpu, KnownHome}
 use Rattle.zone_threads.specs.declared.home.NotEntered.{NotEntered}
@@ -13,38 +12,37 @@ use Rattle.tempolemon_threads.specs.declared.requests.RequestAnswer.TheVariants 
 use Rattle.tempolemon_threads.specs.Zones.{Led, led}
 
 -- a second pointer leads to the same zone, without a CPU
-pub record ForksTo (zone : Option Led) (frames : KnownTable) (stocks : KnownStockTable) (home : Option KnownHome)
+pub record ForksTo (zone : Option Led) (frames : KnownTable) (home : Option KnownHome)
     : Type 0 where
   pub first : KnownHome
   pub second : KnownHome
-  pub zone_is : zone ≡ Some (led frames stocks first)
+  pub zone_is : zone ≡ Some (led frames first)
   pub home_is : home ≡ Some second
   pub no_cpu : HasNoCpu second
   pub sizes : second.sizes ≡ first.sizes
 
 -- Done: the second handle leads to the same zone and has no CPU. NoMemory: there is no second handle.
-abbrev pub ForksAs : Forked → (zone : Option Led) → (frames : KnownTable) → (stocks : KnownStockTable)
-    → (second : Option KnownHome) → Type 0
-ForksAs forked.Done zone frames stocks second = ForksTo zone frames stocks second
-ForksAs forked.NoMemory _ frames stocks second = second ≡ None
+abbrev pub ForksAs : Forked → (zone : Option Led) → (frames : KnownTable) → (second : Option KnownHome) → Type 0
+ForksAs forked.Done zone frames second = ForksTo zone frames second
+ForksAs forked.NoMemory _ frames second = second ≡ None
 
--- what is so, if an entry by a pointer to these tables took no CPU
+-- what is so, if an entry by a pointer to this table took no CPU
 abbrev pub EntersNone : (number : ℕ) → NotEntered → KnownTable → (after : Option Led) → Type 0
 EntersNone number not_entered.NoCpu frames after = (¬ IsCpu frames.cpus number) × (after ≡ None)
 EntersNone number not_entered.HasCpu frames after = ⊥
 EntersNone number other frames after = IsCpu frames.cpus number × (after ≡ None)
 
 -- the zone ended
-pub record EndsLed (before after : Option Led) (ends : KnownTable → KnownStockTable → Type 0) : Type 0 where
+pub record EndsLed (before after : Option Led) (ends : KnownTable → Type 0) : Type 0 where
   pub zone : Led
   pub was : before ≡ Some zone
-  pub done : ends zone.frames zone.stocks
+  pub done : ends zone.frames
   pub is : after ≡ None
 
 -- what an end does
 abbrev pub EndsAs : RequestAnswer → (before after : Option Led) → Type 0
 EndsAs returned.Out before after = after ≡ before
-EndsAs (returned.Ended ended) before after = EndsLed before after (λ frames stocks. HasEnded frames stocks ended)
+EndsAs (returned.Ended ended) before after = EndsLed before after (λ frames. HasEnded frames ended)
 EndsAs returned.NoMemory before after = after ≡ None
 EndsAs returned.Lost before after = after ≡ None
 EndsAs other before after = ⊥

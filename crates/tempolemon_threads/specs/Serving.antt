@@ -1,7 +1,6 @@
 -- What each request does to what a handle leads to.
 use Rattle.std.specs.Prelude.{◌≡◌, Option, None, Some, IsSomeAnd}
 use Rattle.frame_word.specs.Seats.{KnownTable}
-use Rattle.stock_word.specs.Stock.{KnownStockTable}
 use Rattle.zone_blocks.specs.declared.config.Config.{Config}
 use Rattle.mem_system.specs.Ending.{HasEnded}
 use Rattle.zone_threads.specs.Homes.{HasCpu, HasNoCpu, IfNotEntered, KnownHome, TakesCpu}
@@ -14,21 +13,13 @@ use Rattle.tempolemon_threads.specs.declared.requests.RequestAnswer.TheVariants 
 use Rattle.tempolemon_threads.specs.declared.requests.Forked.{Forked}
 use Rattle.tempolemon_threads.specs.declared.requests.Forked.TheVariants as forked
 
--- the frames' table after a request: a start brings its own, else it stays
+-- the table after a request: a start brings its own, else it stays
 abbrev pub home_frames_after : KnownTable → Request → KnownTable
 home_frames_after frames (Start alloc boot) = boot.frames
 home_frames_after frames (Enter number) = frames
 home_frames_after frames (Leave alloc) = frames
 home_frames_after frames (Text alloc asked) = frames
 home_frames_after frames (End alloc) = frames
-
--- the stocks' table after a request
-abbrev pub home_stocks_after : KnownStockTable → Request → KnownStockTable
-home_stocks_after stock_table (Start alloc boot) = boot.stocks
-home_stocks_after stock_table (Enter number) = stock_table
-home_stocks_after stock_table (Leave alloc) = stock_table
-home_stocks_after stock_table (Text alloc asked) = stock_table
-home_stocks_after stock_table (End alloc) = stock_table
 
 -- what may be asked: a start if there is no home, a text of a CPU, an end without one, and all else if there is a home
 abbrev pub IsFitForHome : Option KnownHome → Request → Type 0
@@ -51,13 +42,10 @@ pub record OnHome (does : (from to : KnownHome) → Type 0) (before after : Opti
   pub is : after ≡ Some to
   pub done : does from to
 
--- the same, and the tables stay
+-- the same, and the table stays
 pub record OnRawHome (does : (from to : KnownHome) → Type 0) (old_frames : KnownTable)
-    (old_stock_table : KnownStockTable)
-    (before : Option KnownHome) (frames : KnownTable) (stock_table : KnownStockTable) (after : Option KnownHome) :
-    Type 0 where
+    (before : Option KnownHome) (frames : KnownTable) (after : Option KnownHome) : Type 0 where
   pub frames_are : frames ≡ old_frames
-  pub stocks_are : stock_table ≡ old_stock_table
   pub on_home : OnHome does before after
 
 -- there is a home now, of a boot of these sizes, without a CPU
@@ -81,38 +69,36 @@ pub record DropsHome (before after : Option KnownHome) : Type 0 where
   pub none : HasNoCpu from
   pub is : after ≡ None
 
--- what a request does under the name of these tables, by its answer
-abbrev pub ServesHomeRequest : KnownTable → KnownStockTable → (before : Option KnownHome) (request : Request)
+-- what a request does under the name of this table, by its answer
+abbrev pub ServesHomeRequest : KnownTable → (before : Option KnownHome) (request : Request)
     (after : Option KnownHome) (answer : RequestAnswer) → Type 0
-ServesHomeRequest frames stock_table before (Start alloc boot) after returned.Started = StartsHome boot.sizes after
-ServesHomeRequest frames stock_table before (Start alloc boot) after returned.NoMemory = after ≡ None
-ServesHomeRequest frames stock_table before (Enter number) after returned.Entered =
+ServesHomeRequest frames before (Start alloc boot) after returned.Started = StartsHome boot.sizes after
+ServesHomeRequest frames before (Start alloc boot) after returned.NoMemory = after ≡ None
+ServesHomeRequest frames before (Enter number) after returned.Entered =
     OnHome (TakesCpu number) before after
-ServesHomeRequest frames stock_table before (Enter number) after (returned.NotEntered reason) =
+ServesHomeRequest frames before (Enter number) after (returned.NotEntered reason) =
     OnHome (λ from to. IfNotEntered frames.cpus number from reason to) before after
-ServesHomeRequest frames stock_table before (Leave alloc) after (returned.Left shown) =
+ServesHomeRequest frames before (Leave alloc) after (returned.Left shown) =
     LeavesHome before after
-ServesHomeRequest frames stock_table before (Leave alloc) after (returned.NotLeft not_left.NoCpu) =
+ServesHomeRequest frames before (Leave alloc) after (returned.NotLeft not_left.NoCpu) =
     DropsHome before after
-ServesHomeRequest frames stock_table before (Leave alloc) after (returned.NotLeft not_left.Busy) =
+ServesHomeRequest frames before (Leave alloc) after (returned.NotLeft not_left.Busy) =
     IsSomeAnd before HasCpu × (after ≡ before)
-ServesHomeRequest frames stock_table before (Text alloc asked) after (returned.Text text) =
-    OnHome (ReadsText frames stock_table asked text) before after
-ServesHomeRequest frames stock_table before (Text alloc asked) after returned.Busy = after ≡ before
-ServesHomeRequest frames stock_table before (End alloc) after returned.Out = after ≡ before
-ServesHomeRequest frames stock_table before (End alloc) after (returned.Ended ended) =
-    HasEnded frames stock_table ended × (after ≡ None)
-ServesHomeRequest frames stock_table before (End alloc) after returned.NoMemory = after ≡ None
-ServesHomeRequest frames stock_table before (End alloc) after returned.Lost = after ≡ None
-ServesHomeRequest frames stock_table before request after answer = ⊥
+ServesHomeRequest frames before (Text alloc asked) after (returned.Text text) =
+    OnHome (ReadsText frames asked text) before after
+ServesHomeRequest frames before (Text alloc asked) after returned.Busy = after ≡ before
+ServesHomeRequest frames before (End alloc) after returned.Out = after ≡ before
+ServesHomeRequest frames before (End alloc) after (returned.Ended ended) =
+    HasEnded frames ended × (after ≡ None)
+ServesHomeRequest frames before (End alloc) after returned.NoMemory = after ≡ None
+ServesHomeRequest frames before (End alloc) after returned.Lost = after ≡ None
+ServesHomeRequest frames before request after answer = ⊥
 
--- what a request does, with the tables before and after it
-pub record ServesRawHome (old_frames : KnownTable) (old_stock_table : KnownStockTable) (before : Option KnownHome)
-    (request : Request) (frames : KnownTable) (stock_table : KnownStockTable) (after : Option KnownHome)
-    (answer : RequestAnswer) : Type 0 where
+-- what a request does, with the table before and after it
+pub record ServesRawHome (old_frames : KnownTable) (before : Option KnownHome) (request : Request)
+    (frames : KnownTable) (after : Option KnownHome) (answer : RequestAnswer) : Type 0 where
   pub frames_are : frames ≡ home_frames_after old_frames request
-  pub stocks_are : stock_table ≡ home_stocks_after old_stock_table request
-  pub serves : ServesHomeRequest frames stock_table before request after answer
+  pub serves : ServesHomeRequest frames before request after answer
 
 -- the home is of the same sizes as the first, without a CPU
 pub record IsSecond (first : Option KnownHome) (home : KnownHome) : Type 0 where
@@ -132,12 +118,9 @@ pub record Forks (before first second : Option KnownHome) (answer : Forked) : Ty
   pub first_stays : first ≡ before
   pub second_is : IsForked before second answer
 
--- the same, and both are of the tables
-pub record ForksRaw (old_frames : KnownTable) (old_stock_table : KnownStockTable) (before : Option KnownHome)
-    (frames : KnownTable) (stock_table : KnownStockTable) (first : Option KnownHome) (second_frames : KnownTable)
-    (second_stock_table : KnownStockTable) (second : Option KnownHome) (answer : Forked) : Type 0 where
+-- the same, and both are of the table
+pub record ForksRaw (old_frames : KnownTable) (before : Option KnownHome) (frames : KnownTable)
+    (first : Option KnownHome) (second_frames : KnownTable) (second : Option KnownHome) (answer : Forked) : Type 0 where
   pub frames_are : frames ≡ old_frames
-  pub stocks_are : stock_table ≡ old_stock_table
   pub second_frames_are : second_frames ≡ old_frames
-  pub second_stocks_are : second_stock_table ≡ old_stock_table
   pub forks : Forks before first second answer

@@ -1,7 +1,6 @@
 -- What contracts see of a host's handles.
 use Rattle.std.specs.Prelude.{◌≡◌, ◌↔◌, ℕ, Bool, Option, None, Some, IsSome, IsTrue}
 use Rattle.frame_word.specs.Seats.{KnownTable}
-use Rattle.stock_word.specs.Stock.{KnownStockTable}
 use Rattle.zone_blocks.specs.declared.config.Config.{Config}
 use Rattle.mem_system.specs.Boots.{IsSizedAs}
 use Rattle.mem_system.specs.Ending.{HasEnded}
@@ -24,20 +23,19 @@ zone_end_of report = record {
   };
 }
 
--- what a handle leads to: a zone, by its tables, and a CPU of it, if the handle is a CPU's
+-- what a handle leads to: a zone, by its table, and a CPU of it, if the handle is a CPU's
 pub record Led : Type 0 where
   pub frames : KnownTable
-  pub stocks : KnownStockTable
   pub home : KnownHome
 
 -- the same, of these parts
-abbrev pub led : KnownTable → KnownStockTable → KnownHome → Led
-led frames stocks home = record { frames = frames; stocks = stocks; home = home }
+abbrev pub led : KnownTable → KnownHome → Led
+led frames home = record { frames = frames; home = home }
 
--- what a handle leads to, if anything; tables without a home don't matter
-abbrev pub led_of : KnownTable → KnownStockTable → Option KnownHome → Option Led
-led_of frames stocks None = None
-led_of frames stocks (Some home) = Some (led frames stocks home)
+-- what a handle leads to, if anything; a table without a home doesn't matter
+abbrev pub led_of : KnownTable → Option KnownHome → Option Led
+led_of frames None = None
+led_of frames (Some home) = Some (led frames home)
 
 -- a zone's handle says whether it leads to a zone, and has no CPU
 pub record IsZoneHandle (is_live : Bool) (home : Option KnownHome) : Type 0 where
@@ -49,30 +47,28 @@ pub record IsCpuHandle (is_live : Bool) (home : Option KnownHome) : Type 0 where
   pub live : IsTrue is_live ↔ IsSome home
   pub cpu : (at : KnownHome) → home ≡ Some at → HasCpu at
 
--- the handle leads to a zone before and after a call, of the same tables, and under them `does` leads from one home to the
+-- the handle leads to a zone before and after a call, of the same table, and under it `does` leads from one home to the
 -- other
-pub record OnPart (does : KnownTable → KnownStockTable → (from to : KnownHome) → Type 0) (before after : Option Led)
+pub record OnPart (does : KnownTable → (from to : KnownHome) → Type 0) (before after : Option Led)
     : Type 0 where
   pub frames : KnownTable
-  pub stocks : KnownStockTable
   pub from : KnownHome
   pub to : KnownHome
-  pub was : before ≡ Some (led frames stocks from)
-  pub is : after ≡ Some (led frames stocks to)
-  pub done : does frames stocks from to
+  pub was : before ≡ Some (led frames from)
+  pub is : after ≡ Some (led frames to)
+  pub done : does frames from to
 
 -- the handle leads to a zone of these sizes
 pub record BootsZone (sizes : Config) (after : Option Led) : Type 0 where
   pub zone : Led
   pub is : after ≡ Some zone
-  pub sized : IsSizedAs sizes zone.frames zone.stocks
+  pub sized : IsSizedAs sizes zone.frames
   pub sizes_are : zone.home.sizes ≡ sizes
 
--- the handle leads to this CPU of the zone of these tables and of these sizes, just as the CPU was parked
-pub record CpuIn (number : ℕ) (frames : KnownTable) (stocks : KnownStockTable) (sizes : Config) (part : Option Led)
-    : Type 0 where
+-- the handle leads to this CPU of the zone of this table and of these sizes, just as the CPU was parked
+pub record CpuIn (number : ℕ) (frames : KnownTable) (sizes : Config) (part : Option Led) : Type 0 where
   pub home : KnownHome
-  pub part_is : part ≡ Some (led frames stocks home)
+  pub part_is : part ≡ Some (led frames home)
   pub sizes_are : home.sizes ≡ sizes
   pub taken : HasCpuAsParked number home
 
@@ -80,7 +76,7 @@ pub record CpuIn (number : ℕ) (frames : KnownTable) (stocks : KnownStockTable)
 pub record TakesPart (number : ℕ) (zone part : Option Led) : Type 0 where
   pub zone_led : Led
   pub zone_is : zone ≡ Some zone_led
-  pub cpu_in : CpuIn number zone_led.frames zone_led.stocks zone_led.home.sizes part
+  pub cpu_in : CpuIn number zone_led.frames zone_led.home.sizes part
 
 -- the zone that the handle leads to has no CPU of this number
 pub record HasNoSuchCpu (number : ℕ) (zone : Option Led) : Type 0 where
@@ -105,5 +101,5 @@ pub record ReturnsPart (before after : Option Led) : Type 0 where
 pub record EndsWith (report : Report) (before after : Option Led) : Type 0 where
   pub zone : Led
   pub was : before ≡ Some zone
-  pub ends : HasEnded zone.frames zone.stocks (zone_end_of report)
+  pub ends : HasEnded zone.frames (zone_end_of report)
   pub is : after ≡ None

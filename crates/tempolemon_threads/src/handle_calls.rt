@@ -29,7 +29,7 @@ impl Zone {
     /// Starts this boot. Returns false if memory ran out: nothing is left then.
     pub(crate) fn start(&mut self, alloc: Global, boot: Boot) -> bool
         requires none { zone_behind self.old ≡ None }
-        requires sized { IsSizedAs boot.sizes boot.frames boot.stocks }
+        requires sized { IsSizedAs boot.sizes boot.frames }
         ensures { MatchBool result (BootsZone boot.sizes (zone_behind self.new)) (zone_behind self.new ≡ None) }
     {
         let raw = self.raw.take(alloc);
@@ -44,7 +44,7 @@ impl Zone {
         requires live { IsSome (zone_behind self.old) }
         ensures stays { zone_behind self.new ≡ zone_behind self.old }
         ensures forked { ForksAs result.1 (zone_behind self.old)
-            result.0.frames result.0.stocks result.0.home }
+            result.0.frames result.0.home }
     {
         let raw = self.raw.take(alloc);
         let (raw, other, forked) = fork_raw(raw, alloc);
@@ -84,7 +84,7 @@ impl CpuPart {
         requires no_cpu { IsSomeAnd raw.home HasNoCpu }
         requires none { part_behind self.old ≡ None }
         ensures { MatchResult result
-            (λ _. TakesPart number (led_of raw.frames raw.stocks raw.home) (part_behind self.new))
+            (λ _. TakesPart number (led_of raw.frames raw.home) (part_behind self.new))
             (λ reason. EntersNone number reason raw.frames (part_behind self.new)) }
     {
         let (raw, answer) = serve_raw(raw, Request::Enter { number });
@@ -132,7 +132,7 @@ impl CpuPart {
     #[tactic(auto, using(crate::proofs::Crossing::crossed, crate::proofs::Crossing::cpu_behind))]
     pub(crate) fn call(&mut self, alloc: Global, call: &Call<'_>) -> CallAnswer
         requires live { IsSome (part_behind self.old) }
-        ensures { OnPart (λ frames stocks from to. Calls frames stocks call.now from to result)
+        ensures { OnPart (λ frames from to. Calls frames call.now from to result)
             (part_behind self.old) (part_behind self.new) }
     {
         let raw = self.raw.take(alloc);
@@ -145,7 +145,7 @@ impl CpuPart {
     #[tactic(auto, using(crate::proofs::Crossing::crossed, crate::proofs::Crossing::cpu_behind))]
     pub(crate) fn read(&mut self, alloc: Global, asked: &ReadCall<'_>) -> ReadAnswer
         requires live { IsSome (part_behind self.old) }
-        ensures { OnPart (λ frames stocks from to. AnswersRead frames stocks asked.now from to result)
+        ensures { OnPart (λ frames from to. AnswersRead frames asked.now from to result)
             (part_behind self.old) (part_behind self.new) }
     {
         let raw = self.raw.take(alloc);
@@ -158,7 +158,7 @@ impl CpuPart {
     pub(crate) fn text(&mut self, alloc: Global, asked: TextCall) -> Option<TextAnswer>
         requires live { IsSome (part_behind self.old) }
         ensures shown { IfSome result (λ answer.
-            OnPart (λ frames stocks. ReadsText frames stocks asked answer) (part_behind self.old)
+            OnPart (λ frames. ReadsText frames asked answer) (part_behind self.old)
             (part_behind self.new)) }
         ensures busy { IfNone result (part_behind self.new ≡ part_behind self.old) }
     {

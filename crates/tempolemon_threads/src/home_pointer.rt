@@ -2,9 +2,8 @@
 
 ghost use Rattle.std.specs.Prelude.{◌≡◌, IsSome, None, Option, Some};
 ghost use Rattle.frame_word.specs.Seats.{KnownTable};
-ghost use Rattle.stock_word.specs.Stock.{KnownStockTable};
 ghost use Rattle.zone_threads.specs.Homes.{KnownHome};
-ghost use Rattle.tempolemon_threads.specs.Owned.{frames_coded, home_owns, home_coded, stocks_coded};
+ghost use Rattle.tempolemon_threads.specs.Owned.{frames_coded, home_owns, home_coded};
 
 use cpu_part::BootName;
 use host_memory::box_parts::BoxParts;
@@ -13,24 +12,23 @@ use std::marker::Model;
 use std::mem::ManuallyDrop;
 use zone_threads::home::Home;
 
-/// A pointer to a home, or to nothing, and the tables that the home is of. It has the fields of `RawHome`. Its type
-/// doesn't fix the tables, so a call may pick the name that has them. It can't be dropped.
+/// A pointer to a home, or to nothing, and the table that the home is of. It has the fields of `RawHome`. Its type
+/// doesn't fix the table, so a call may pick the name that has it. It can't be dropped.
 pub struct HomePointer<B> {
     pub(crate) ptr: *mut B,
     pub(crate) alloc: Global,
     pub ghost frames: { KnownTable } by { frames_coded },
-    pub ghost stocks: { KnownStockTable } by { stocks_coded },
     pub ghost home: { Option KnownHome } by { home_coded },
 }
 
 impl<B> Model for HomePointer<B> {
-    ghost also_owns = { λ h. home_owns B.row h.frames h.stocks h.alloc h.ptr h.home };
+    ghost also_owns = { λ h. home_owns B.row h.frames h.alloc h.ptr h.home };
 }
 
 impl<N: BootName> HomePointer<N> {
     /// A pointer to nothing.
     pub fn none(alloc: Global) -> HomePointer<N>
-        ensures { (result.frames ≡ N.frames) × (result.stocks ≡ N.stocks) × (result.home ≡ None) }
+        ensures { (result.frames ≡ N.frames) × (result.home ≡ None) }
     {
         HomePointer {
             ptr: std::ptr::null_mut(),
@@ -47,7 +45,7 @@ impl<N: BootName> HomePointer<N> {
 
     /// A pointer to what is in this box.
     pub fn of(parts: BoxParts<Home<N>, Global>) -> HomePointer<N>
-        ensures { (result.frames ≡ N.frames) × (result.stocks ≡ N.stocks) × (result.home ≡ Some parts.value) }
+        ensures { (result.frames ≡ N.frames) × (result.home ≡ Some parts.value) }
     {
         let BoxParts { ptr, alloc } = parts;
         HomePointer {
@@ -58,7 +56,7 @@ impl<N: BootName> HomePointer<N> {
 
     /// The box with what it points to.
     pub fn into_box_parts(self) -> BoxParts<Home<N>, Global>
-        requires { IsSome self.home × (self.frames ≡ N.frames) × (self.stocks ≡ N.stocks) }
+        requires { IsSome self.home × (self.frames ≡ N.frames) }
         ensures { Some result.value ≡ self.home }
     {
         let HomePointer { ptr, alloc } = self;

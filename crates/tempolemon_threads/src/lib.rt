@@ -5,9 +5,9 @@
 //! no two of them to the same bytes. A handle is used by one call at a time. Everything else is tested, and each refusal
 //! has a status of its own. No call waits.
 //!
-//! A handle has a home of `zone_threads`, which carries the name of its boot's tables (`BootName`). A struct that crosses
-//! to C can't have such a name. So `RawHome` is a pointer to a home in a box, and remembers which tables it is of. Each
-//! of `serve_raw`, `call_raw`, `read_raw` and `fork_raw` picks a name that has those tables, and calls plain code. Proved
+//! A handle has a home of `zone_threads`, which carries the name of its boot's table (`BootName`). A struct that crosses
+//! to C can't have such a name. So `RawHome` is a pointer to a home in a box, and remembers which table it is of. Each
+//! of `serve_raw`, `call_raw`, `read_raw` and `fork_raw` picks a name that has that table, and calls plain code. Proved
 //! by hand are only the moves between that pointer, a pointer under a name (`HomePointer`), and the box.
 #![tactic(auto)]
 

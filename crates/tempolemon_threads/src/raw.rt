@@ -2,10 +2,9 @@
 
 ghost use Rattle.std.specs.Prelude.{◌≡◌, IsSome, IsSomeAnd, None, Option};
 ghost use Rattle.frame_word.specs.Seats.{KnownTable};
-ghost use Rattle.stock_word.specs.Stock.{KnownStockTable};
 ghost use Rattle.zone_threads.specs.Calling.{AnswersRead, Calls};
 ghost use Rattle.zone_threads.specs.Homes.{HasCpu, KnownHome};
-ghost use Rattle.tempolemon_threads.specs.Owned.{brand, frames_coded, home_owns, home_coded, stocks_coded};
+ghost use Rattle.tempolemon_threads.specs.Owned.{brand, frames_coded, home_owns, home_coded};
 ghost use Rattle.tempolemon_threads.specs.Serving.{ForksRaw, IsFitForHome, OnRawHome, ServesRawHome};
 
 use crate::home_pointer::HomePointer;
@@ -16,19 +15,18 @@ use std::marker::{Brand, Model};
 use std::mem::ManuallyDrop;
 use zone_threads::calls::{Call, CallAnswer, ReadAnswer, ReadCall};
 
-/// A pointer to a home, or to nothing, and the tables that the home is of. It can't be dropped, so no home is left in
+/// A pointer to a home, or to nothing, and the table that the home is of. It can't be dropped, so no home is left in
 /// memory. It may go to another thread.
 #[repr(C)]
 pub struct RawHome {
     ptr: *mut u8,
     alloc: Global,
     pub ghost frames: { KnownTable } by { frames_coded },
-    pub ghost stocks: { KnownStockTable } by { stocks_coded },
     pub ghost home: { Option KnownHome } by { home_coded },
 }
 
 impl Model for RawHome {
-    ghost also_owns = { λ r. home_owns brand r.frames r.stocks r.alloc r.ptr r.home };
+    ghost also_owns = { λ r. home_owns brand r.frames r.alloc r.ptr r.home };
 }
 
 unsafe impl Send for RawHome {}
@@ -68,7 +66,7 @@ impl RawHome {
 
     /// The same pointer, without a name.
     pub fn of(pointer: HomePointer<Brand>) -> RawHome
-        ensures { (result.frames ≡ pointer.frames) × (result.stocks ≡ pointer.stocks) × (result.home ≡ pointer.home) }
+        ensures { (result.frames ≡ pointer.frames) × (result.home ≡ pointer.home) }
     {
         let HomePointer { ptr, alloc } = pointer;
         RawHome {
@@ -79,7 +77,7 @@ impl RawHome {
 
     /// The same pointer, under a name.
     pub fn into_pointer(self) -> HomePointer<Brand>
-        ensures { (result.frames ≡ self.frames) × (result.stocks ≡ self.stocks) × (result.home ≡ self.home) }
+        ensures { (result.frames ≡ self.frames) × (result.home ≡ self.home) }
     {
         let RawHome { ptr, alloc } = self;
         HomePointer {
@@ -89,11 +87,11 @@ impl RawHome {
     }
 }
 
-/// Serves a request, as `serve` does, under a name that it picks for the tables.
+/// Serves a request, as `serve` does, under a name that it picks for the table.
 pub fn serve_raw(raw: RawHome, request: Request) -> (RawHome, RequestAnswer)
     requires fit { IsFitForHome raw.home request }
-    ensures serves { ServesRawHome raw.frames raw.stocks raw.home request
-        result.0.frames result.0.stocks result.0.home result.1 }
+    ensures serves { ServesRawHome raw.frames raw.home request
+        result.0.frames result.0.home result.1 }
 {
     let (pointer, answer) = serve::<Brand>(raw.into_pointer(), request);
     (RawHome::of(pointer), answer)
@@ -104,8 +102,8 @@ pub fn serve_raw(raw: RawHome, request: Request) -> (RawHome, RequestAnswer)
 #[inline(always)]
 pub fn call_raw(raw: RawHome, call: &Call<'_>) -> (RawHome, CallAnswer)
     requires cpu { IsSomeAnd raw.home HasCpu }
-    ensures serves { OnRawHome (λ from to. Calls raw.frames raw.stocks call.now from to result.1)
-        raw.frames raw.stocks raw.home result.0.frames result.0.stocks result.0.home }
+    ensures serves { OnRawHome (λ from to. Calls raw.frames call.now from to result.1)
+        raw.frames raw.home result.0.frames result.0.home }
 {
     let (pointer, answer) = serve_call::<Brand>(raw.into_pointer(), call);
     (RawHome::of(pointer), answer)
@@ -114,8 +112,8 @@ pub fn call_raw(raw: RawHome, call: &Call<'_>) -> (RawHome, CallAnswer)
 /// Serves a read of a file for the home's CPU, as `serve_read` does, under the name that it picks.
 pub fn read_raw(raw: RawHome, asked: &ReadCall<'_>) -> (RawHome, ReadAnswer)
     requires cpu { IsSomeAnd raw.home HasCpu }
-    ensures serves { OnRawHome (λ from to. AnswersRead raw.frames raw.stocks asked.now from to result.1)
-        raw.frames raw.stocks raw.home result.0.frames result.0.stocks result.0.home }
+    ensures serves { OnRawHome (λ from to. AnswersRead raw.frames asked.now from to result.1)
+        raw.frames raw.home result.0.frames result.0.home }
 {
     let (pointer, answer) = serve_read::<Brand>(raw.into_pointer(), asked);
     (RawHome::of(pointer), answer)
@@ -124,8 +122,8 @@ pub fn read_raw(raw: RawHome, asked: &ReadCall<'_>) -> (RawHome, ReadAnswer)
 /// A second pointer, to another home of the same zone, as `fork` returns it.
 pub fn fork_raw(raw: RawHome, heap: Global) -> (RawHome, RawHome, Forked)
     requires some { IsSome raw.home }
-    ensures forks { ForksRaw raw.frames raw.stocks raw.home result.0.frames result.0.stocks result.0.home
-        result.1.frames result.1.stocks result.1.home result.2 }
+    ensures forks { ForksRaw raw.frames raw.home result.0.frames result.0.home
+        result.1.frames result.1.home result.2 }
 {
     let (first, second, forked) = fork::<Brand>(raw.into_pointer(), heap);
     (RawHome::of(first), RawHome::of(second), forked)

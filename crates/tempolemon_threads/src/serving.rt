@@ -1,10 +1,10 @@
-//! Serving requests and calls under the name of a zone's tables.
+//! Serving requests and calls under the name of a zone's table.
 
 ghost use Rattle.std.specs.Prelude.{◌≡◌, IsSome, IsSomeAnd, None};
 ghost use Rattle.zone_threads.specs.Calling.{Calls, AnswersRead};
 ghost use Rattle.zone_threads.specs.Homes.{HasCpu, HasNoCpu};
 ghost use Rattle.tempolemon_threads.specs.Serving.{Forks, IsFitForHome, OnHome, ServesHomeRequest};
-ghost use Rattle.tempolemon_threads.specs.Serving.{home_frames_after, home_stocks_after};
+ghost use Rattle.tempolemon_threads.specs.Serving.{home_frames_after};
 ghost use Rattle.tempolemon_threads.specs.declared.requests.Request.TheVariants.{End, Enter, Leave, Start, Text};
 
 use crate::home_pointer::HomePointer;
@@ -24,9 +24,8 @@ pub fn serve<N: BootName>(
 ) -> (HomePointer<N>, RequestAnswer)
     requires fit { IsFitForHome pointer.home request }
     requires frames { home_frames_after pointer.frames request ≡ N.frames }
-    requires stocks { home_stocks_after pointer.stocks request ≡ N.stocks }
-    ensures named { (result.0.frames ≡ N.frames) × (result.0.stocks ≡ N.stocks) }
-    ensures serves { ServesHomeRequest N.frames N.stocks pointer.home request result.0.home result.1 }
+    ensures named { result.0.frames ≡ N.frames }
+    ensures serves { ServesHomeRequest N.frames pointer.home request result.0.home result.1 }
 {
     match request {
         Request::Start { alloc, boot } => start(pointer, alloc, boot),
@@ -44,9 +43,9 @@ pub fn serve_call<N: BootName>(
     call: &Call<'_>,
 ) -> (HomePointer<N>, CallAnswer)
     requires cpu { IsSomeAnd pointer.home HasCpu }
-    requires named { (pointer.frames ≡ N.frames) × (pointer.stocks ≡ N.stocks) }
-    ensures named { (result.0.frames ≡ N.frames) × (result.0.stocks ≡ N.stocks) }
-    ensures serves { OnHome (λ from to. Calls N.frames N.stocks call.now from to result.1)
+    requires named { pointer.frames ≡ N.frames }
+    ensures named { result.0.frames ≡ N.frames }
+    ensures serves { OnHome (λ from to. Calls N.frames call.now from to result.1)
         pointer.home result.0.home }
 {
     let mut home = pointer.into_box_parts().into_box();
@@ -60,9 +59,9 @@ pub fn serve_read<N: BootName>(
     asked: &ReadCall<'_>,
 ) -> (HomePointer<N>, ReadAnswer)
     requires cpu { IsSomeAnd pointer.home HasCpu }
-    requires named { (pointer.frames ≡ N.frames) × (pointer.stocks ≡ N.stocks) }
-    ensures named { (result.0.frames ≡ N.frames) × (result.0.stocks ≡ N.stocks) }
-    ensures serves { OnHome (λ from to. AnswersRead N.frames N.stocks asked.now from to result.1)
+    requires named { pointer.frames ≡ N.frames }
+    ensures named { result.0.frames ≡ N.frames }
+    ensures serves { OnHome (λ from to. AnswersRead N.frames asked.now from to result.1)
         pointer.home result.0.home }
 {
     let mut home = pointer.into_box_parts().into_box();
@@ -76,9 +75,9 @@ pub fn fork<N: BootName>(
     alloc: Global,
 ) -> (HomePointer<N>, HomePointer<N>, Forked)
     requires some { IsSome pointer.home }
-    requires named { (pointer.frames ≡ N.frames) × (pointer.stocks ≡ N.stocks) }
-    ensures named { (result.0.frames ≡ N.frames) × (result.0.stocks ≡ N.stocks) }
-    ensures second { (result.1.frames ≡ N.frames) × (result.1.stocks ≡ N.stocks) }
+    requires named { pointer.frames ≡ N.frames }
+    ensures named { result.0.frames ≡ N.frames }
+    ensures second { result.1.frames ≡ N.frames }
     ensures forks { Forks pointer.home result.0.home result.1.home result.2 }
 {
     let home = pointer.into_box_parts().into_box();
@@ -100,9 +99,8 @@ fn start<N: BootName>(
 ) -> (HomePointer<N>, RequestAnswer)
     requires none { pointer.home ≡ None }
     requires frames { boot.frames ≡ N.frames }
-    requires stocks { boot.stocks ≡ N.stocks }
-    ensures named { (result.0.frames ≡ N.frames) × (result.0.stocks ≡ N.stocks) }
-    ensures serves { ServesHomeRequest N.frames N.stocks pointer.home (Start alloc boot) result.0.home result.1 }
+    ensures named { result.0.frames ≡ N.frames }
+    ensures serves { ServesHomeRequest N.frames pointer.home (Start alloc boot) result.0.home result.1 }
 {
     pointer.forget();
     let Ok(home) = Home::<N>::start(alloc, boot) else {
@@ -116,9 +114,9 @@ fn start<N: BootName>(
 
 fn enter<N: BootName>(pointer: HomePointer<N>, number: u32) -> (HomePointer<N>, RequestAnswer)
     requires some { IsSome pointer.home }
-    requires named { (pointer.frames ≡ N.frames) × (pointer.stocks ≡ N.stocks) }
-    ensures named { (result.0.frames ≡ N.frames) × (result.0.stocks ≡ N.stocks) }
-    ensures serves { ServesHomeRequest N.frames N.stocks pointer.home (Enter number) result.0.home result.1 }
+    requires named { pointer.frames ≡ N.frames }
+    ensures named { result.0.frames ≡ N.frames }
+    ensures serves { ServesHomeRequest N.frames pointer.home (Enter number) result.0.home result.1 }
 {
     let mut home = pointer.into_box_parts().into_box();
     match home.enter(number) {
@@ -132,9 +130,9 @@ fn enter<N: BootName>(pointer: HomePointer<N>, number: u32) -> (HomePointer<N>, 
 
 fn leave<N: BootName>(pointer: HomePointer<N>, alloc: Global) -> (HomePointer<N>, RequestAnswer)
     requires some { IsSome pointer.home }
-    requires named { (pointer.frames ≡ N.frames) × (pointer.stocks ≡ N.stocks) }
-    ensures named { (result.0.frames ≡ N.frames) × (result.0.stocks ≡ N.stocks) }
-    ensures serves { ServesHomeRequest N.frames N.stocks pointer.home (Leave alloc) result.0.home result.1 }
+    requires named { pointer.frames ≡ N.frames }
+    ensures named { result.0.frames ≡ N.frames }
+    ensures serves { ServesHomeRequest N.frames pointer.home (Leave alloc) result.0.home result.1 }
 {
     let mut home = pointer.into_box_parts().into_box();
     let left = home.leave();
@@ -157,9 +155,9 @@ fn text<N: BootName>(
     asked: TextCall,
 ) -> (HomePointer<N>, RequestAnswer)
     requires cpu { IsSomeAnd pointer.home HasCpu }
-    requires named { (pointer.frames ≡ N.frames) × (pointer.stocks ≡ N.stocks) }
-    ensures named { (result.0.frames ≡ N.frames) × (result.0.stocks ≡ N.stocks) }
-    ensures serves { ServesHomeRequest N.frames N.stocks pointer.home (Text alloc asked) result.0.home result.1 }
+    requires named { pointer.frames ≡ N.frames }
+    ensures named { result.0.frames ≡ N.frames }
+    ensures serves { ServesHomeRequest N.frames pointer.home (Text alloc asked) result.0.home result.1 }
 {
     let mut home = pointer.into_box_parts().into_box();
     let text = home.text(alloc, asked);
@@ -173,9 +171,9 @@ fn text<N: BootName>(
 #[tactic(auto, using(crate::proofs::Crossing::has_ended))]
 fn end<N: BootName>(pointer: HomePointer<N>, alloc: Global) -> (HomePointer<N>, RequestAnswer)
     requires some { IsSomeAnd pointer.home HasNoCpu }
-    requires named { (pointer.frames ≡ N.frames) × (pointer.stocks ≡ N.stocks) }
-    ensures named { (result.0.frames ≡ N.frames) × (result.0.stocks ≡ N.stocks) }
-    ensures serves { ServesHomeRequest N.frames N.stocks pointer.home (End alloc) result.0.home result.1 }
+    requires named { pointer.frames ≡ N.frames }
+    ensures named { result.0.frames ≡ N.frames }
+    ensures serves { ServesHomeRequest N.frames pointer.home (End alloc) result.0.home result.1 }
 {
     let home = Box::into_inner(pointer.into_box_parts().into_box());
     match home.into_zone() {

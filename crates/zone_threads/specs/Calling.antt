@@ -4,7 +4,6 @@ use Rattle.std.specs.Borrow.{Bor}
 use Rattle.frame_word.specs.Seats.{KnownTable}
 use Rattle.frame_word.specs.declared.answers.Get.{Get}
 use Rattle.frame_word.specs.declared.answers.Put.{Put}
-use Rattle.stock_word.specs.Stock.{KnownStockTable}
 use Rattle.zone_blocks.specs.declared.config.Config.{Config}
 use Rattle.group_tree.specs.Bounds.{most_groups}
 use Rattle.group_tree.specs.Groups.{has_group, path_of}
@@ -61,41 +60,41 @@ GetsNoFrame other = Unit {0}
 
 -- a fast allocation for the group gave this answer, and the CPU's past grew by its steps
 pub record AllocsFast (group : ℕ) (fast : Fast) (from to : CpuInRun) : Type 0 where
-  pub answers : FastAnswers group fast from.part to.part
-  pub run : GrewByAll (own_past from.past)
-      (steps_of_fast from.part.number group fast from.part.stock_seat.view.last)
-      (own_past to.past)
+  pub answers : FastAnswers group fast from.last from.part to.last to.part
+  pub run : GrewByAll (own_past from.past) (steps_of_fast from.part.number group fast from.last) (own_past to.past)
 
 -- a drop of a fresh frame gave this answer, and the CPU's past grew by its steps
 pub record DropsFast (frame : ℕ) (dropped : Dropped) (from to : CpuInRun) : Type 0 where
-  pub answers : DropAnswers frame dropped from.part to.part
-  pub run : GrewByAll (own_past from.past)
-      (steps_of_drop from.part.number frame dropped from.part.stock_seat.view.last)
-      (own_past to.past)
+  pub answers : DropAnswers frame dropped from.last from.part to.last to.part
+  pub run : GrewByAll (own_past from.past) (steps_of_drop from.part.number frame dropped from.last) (own_past to.past)
 
 -- the CPU asked for a pin of the frame with this answer, and its past grew by this step
 pub record Pins (frame : ℕ) (got : Get) (from to : CpuInRun) : Type 0 where
   pub answers : PinAnswers frame got from.part to.part
+  pub last : to.last ≡ from.last
   pub run : GrewByAll (own_past from.past) (steps_of_get from.part.number frame (Ok got)) (own_past to.past)
 
 -- the CPU put a pin of the frame with this answer, and its past grew by this step
 pub record Unpins (frame : ℕ) (put : Put) (from to : CpuInRun) : Type 0 where
   pub answers : UnpinAnswers frame put from.part to.part
+  pub last : to.last ≡ from.last
   pub run : GrewByAll (own_past from.past) (steps_of_put from.part.number frame put) (own_past to.past)
 
--- The CPU had as many pins and back frames as it can have. It made no step, and its part stays.
+-- The CPU had as many pins and back frames as it can have. It made no step, and its part stays, with what it saw of its
+-- stock.
 pub record RefusesPin (from to : CpuInRun) : Type 0 where
   pub full : length from.part.back + length from.part.pins ≡ most_pins
   pub part : to.part ≡ from.part
+  pub last : to.last ≡ from.last
   pub past : own_past to.past ≡ own_past from.past
 
--- a fast allocation for the group got no frame; of the CPU's part, at most what it knows of its stock has changed
+-- a fast allocation for the group got no frame; the CPU's part stays, and at most what it saw of its stock has changed
 pub record MissesFast (group : ℕ) (from to : CpuInRun) : Type 0 where
   pub fast : Fast
   pub missed : GetsNoFrame fast
   pub allocs : AllocsFast group fast from to
 
--- the frame isn't a fresh one of the CPU, or its stock was drained, and at most what its part knows of that has changed
+-- the frame isn't a fresh one of the CPU, or its stock was drained, and at most what the CPU saw of that has changed
 abbrev pub MissesDrop : (frame : ℕ) → (from to : CpuInRun) → Type 0
 MissesDrop frame from to = ((times frame from.part.fresh ≡ 0) × (to ≡ from)) ⊎ DropsFast frame NeedVisit from to
 
@@ -110,9 +109,9 @@ abbrev pub IsMissingIn : List Group → ℕ → Type 0
 IsMissingIn groups number = (most_groups ≤ number) ⊎ (has_group groups number ≡ false)
 
 -- behind the lock, no group had this number: the CPU has seen the run that led to this
-abbrev pub NoGroupBehindLock : KnownTable → KnownStockTable → ℕ → (from to : CpuInRun) → Type 0
-NoGroupBehindLock frames stock_table group from to =
-    SeenBehindLock frames stock_table (λ found. IsMissingIn found.machine.ledger.groups group) from to
+abbrev pub NoGroupBehindLock : KnownTable → ℕ → (from to : CpuInRun) → Type 0
+NoGroupBehindLock frames group from to =
+    SeenBehindLock frames (λ found. IsMissingIn found.machine.ledger.groups group) from to
 
 -- What a get does to the CPU, by its answer. Whether the zone has the frame is looked at first.
 abbrev pub CallsGet : KnownTable → (frame : ℕ) → CallAnswer → (from to : CpuInRun) → Type 0
@@ -130,67 +129,67 @@ CallsPut frames frame (answer.Refused fault) from to =
 CallsPut frames frame returned from to = ⊥
 
 -- what is so, if nothing was allocated under the lock for this reason
-abbrev pub IfMissing : KnownTable → KnownStockTable → (group : ℕ) → Missed → (from to : KnownHome) → Type 0
-IfMissing frames stock_table group missed.NoGroup from to = OnCpu (NoGroupBehindLock frames stock_table group) from to
-IfMissing frames stock_table group missed.Busy from to = to ≡ from
+abbrev pub IfMissing : KnownTable → (group : ℕ) → Missed → (from to : KnownHome) → Type 0
+IfMissing frames group missed.NoGroup from to = OnCpu (NoGroupBehindLock frames group) from to
+IfMissing frames group missed.Busy from to = to ≡ from
 
 -- a frame was asked for a number that no group has
-abbrev pub MissesGroup : KnownTable → KnownStockTable → (group : ℕ) → (from to : KnownHome) → Type 0
-MissesGroup frames stock_table group from to =
+abbrev pub MissesGroup : KnownTable → (group : ℕ) → (from to : KnownHome) → Type 0
+MissesGroup frames group from to =
     ((most_groups ≤ group) × (to ≡ from))
-    ⊎ OnCpu (Then (MissesFast group) (NoGroupBehindLock frames stock_table group)) from to
+    ⊎ OnCpu (Then (MissesFast group) (NoGroupBehindLock frames group)) from to
 
 -- What each call does, by its answer. The CPU's past of the run grows by the steps of a fast call, then by those of a
 -- visit (`IsServed.run`), and by no others of its own. Each visit finds the sizes of the zone's boot. Whether the zone has
 -- the frame is looked at first: before the lock is tried, and before the CPU's pins.
-abbrev pub Calls : KnownTable → KnownStockTable → Call → (from to : KnownHome) → CallAnswer → Type 0
-Calls frames stock_table (call.Visit cmd) from to answer.Busy = IsOfZone frames cmd × (to ≡ from)
-Calls frames stock_table (call.Visit cmd) from to answer.NoFrame = (¬ IsOfZone frames cmd) × (to ≡ from)
-Calls frames stock_table (call.Visit cmd) from to (answer.Served outcome) =
-    OnCpu (IsVisited frames stock_table from.sizes (ServesOutcome frames cmd outcome)) from to
-Calls frames stock_table (call.AllocFrame group) from to answer.Busy =
+abbrev pub Calls : KnownTable → Call → (from to : KnownHome) → CallAnswer → Type 0
+Calls frames (call.Visit cmd) from to answer.Busy = IsOfZone frames cmd × (to ≡ from)
+Calls frames (call.Visit cmd) from to answer.NoFrame = (¬ IsOfZone frames cmd) × (to ≡ from)
+Calls frames (call.Visit cmd) from to (answer.Served outcome) =
+    OnCpu (IsVisited frames from.sizes (ServesOutcome frames cmd outcome)) from to
+Calls frames (call.AllocFrame group) from to answer.Busy =
     (group < most_groups) × OnCpu (MissesFast group) from to
-Calls frames stock_table (call.AllocFrame group) from to answer.NoGroup = MissesGroup frames stock_table group from to
-Calls frames stock_table (call.AllocFrame group) from to (answer.Taken frame) =
+Calls frames (call.AllocFrame group) from to answer.NoGroup = MissesGroup frames group from to
+Calls frames (call.AllocFrame group) from to (answer.Taken frame) =
     OnCpu (AllocsFast group (Got frame)) from to
-Calls frames stock_table (call.AllocFrame group) from to (answer.Served outcome) =
-    OnCpu (Then (MissesFast group) (IsVisited frames stock_table from.sizes (ServesFrameOutcome frames group outcome)))
+Calls frames (call.AllocFrame group) from to (answer.Served outcome) =
+    OnCpu (Then (MissesFast group) (IsVisited frames from.sizes (ServesFrameOutcome frames group outcome)))
     from to
-Calls frames stock_table (call.AllocBlock group order) from to answer.Busy = to ≡ from
-Calls frames stock_table (call.AllocBlock group order) from to answer.NoGroup =
-    OnCpu (NoGroupBehindLock frames stock_table group) from to
-Calls frames stock_table (call.AllocBlock group order) from to (answer.Served outcome) =
-    OnCpu (IsVisited frames stock_table from.sizes (ServesBlock frames group order outcome)) from to
-Calls frames stock_table (call.AllocDirty group order) from to answer.Busy = to ≡ from
-Calls frames stock_table (call.AllocDirty group order) from to answer.NoGroup =
-    OnCpu (NoGroupBehindLock frames stock_table group) from to
-Calls frames stock_table (call.AllocDirty group order) from to (answer.Served outcome) =
-    OnCpu (IsVisited frames stock_table from.sizes (ServesDirtyUnit frames group order outcome)) from to
-Calls frames stock_table (call.Release frame) from to answer.Busy =
+Calls frames (call.AllocBlock group order) from to answer.Busy = to ≡ from
+Calls frames (call.AllocBlock group order) from to answer.NoGroup =
+    OnCpu (NoGroupBehindLock frames group) from to
+Calls frames (call.AllocBlock group order) from to (answer.Served outcome) =
+    OnCpu (IsVisited frames from.sizes (ServesBlock frames group order outcome)) from to
+Calls frames (call.AllocDirty group order) from to answer.Busy = to ≡ from
+Calls frames (call.AllocDirty group order) from to answer.NoGroup =
+    OnCpu (NoGroupBehindLock frames group) from to
+Calls frames (call.AllocDirty group order) from to (answer.Served outcome) =
+    OnCpu (IsVisited frames from.sizes (ServesDirtyUnit frames group order outcome)) from to
+Calls frames (call.Release frame) from to answer.Busy =
     (frame < frames.frames) × OnCpu (MissesDrop frame) from to
-Calls frames stock_table (call.Release frame) from to answer.NoFrame = (frames.frames ≤ frame) × (to ≡ from)
-Calls frames stock_table (call.Release frame) from to answer.Listed = OnCpu (DropsFast frame Listed) from to
-Calls frames stock_table (call.Release frame) from to (answer.Served outcome) =
+Calls frames (call.Release frame) from to answer.NoFrame = (frames.frames ≤ frame) × (to ≡ from)
+Calls frames (call.Release frame) from to answer.Listed = OnCpu (DropsFast frame Listed) from to
+Calls frames (call.Release frame) from to (answer.Served outcome) =
     OnCpu (Then (MissesDrop frame)
-    (IsVisited frames stock_table from.sizes (ServesOutcome frames (cmd.Release frame) outcome))) from to
-Calls frames stock_table (call.Get frame) from to returned = OnCpu (CallsGet frames frame returned) from to
-Calls frames stock_table (call.Put frame) from to returned = OnCpu (CallsPut frames frame returned) from to
-Calls frames stock_table call.Settle from to answer.Busy = to ≡ from
-Calls frames stock_table call.Settle from to answer.Settled =
-    OnCpu (IsVisited frames stock_table from.sizes (SettlesCaller frames)) from to
-Calls frames stock_table asked from to returned = ⊥
+    (IsVisited frames from.sizes (ServesOutcome frames (cmd.Release frame) outcome))) from to
+Calls frames (call.Get frame) from to returned = OnCpu (CallsGet frames frame returned) from to
+Calls frames (call.Put frame) from to returned = OnCpu (CallsPut frames frame returned) from to
+Calls frames call.Settle from to answer.Busy = to ≡ from
+Calls frames call.Settle from to answer.Settled =
+    OnCpu (IsVisited frames from.sizes (SettlesCaller frames)) from to
+Calls frames asked from to returned = ⊥
 
 -- what a read of a file does under the lock, by its answer
-abbrev pub IsReadUnderLock : KnownTable → KnownStockTable → (sizes : Config) → ReadCall → (from to : CpuInRun)
+abbrev pub IsReadUnderLock : KnownTable → (sizes : Config) → ReadCall → (from to : CpuInRun)
     → ReadAnswer → Type 0
-IsReadUnderLock frames stock_table sizes asked from to read.Busy = ⊥
-IsReadUnderLock frames stock_table sizes asked from to (read.Text text) =
-    IsVisited frames stock_table sizes (IsServed frames (cmd.Read asked.path asked.file) (reply.Text text)) from to
-IsReadUnderLock frames stock_table sizes asked from to (read.Refused fault) =
-    IsVisited frames stock_table sizes (IsServed frames (cmd.Read asked.path asked.file) (reply.Refused fault)) from to
+IsReadUnderLock frames sizes asked from to read.Busy = ⊥
+IsReadUnderLock frames sizes asked from to (read.Text text) =
+    IsVisited frames sizes (IsServed frames (cmd.Read asked.path asked.file) (reply.Text text)) from to
+IsReadUnderLock frames sizes asked from to (read.Refused fault) =
+    IsVisited frames sizes (IsServed frames (cmd.Read asked.path asked.file) (reply.Refused fault)) from to
 
 -- what a read of a file does, by its answer
-abbrev pub AnswersRead : KnownTable → KnownStockTable → ReadCall → (from to : KnownHome) → ReadAnswer → Type 0
-AnswersRead frames stock_table asked from to read.Busy = to ≡ from
-AnswersRead frames stock_table asked from to answer =
-    OnCpu (λ cpu left. IsReadUnderLock frames stock_table from.sizes asked cpu left answer) from to
+abbrev pub AnswersRead : KnownTable → ReadCall → (from to : KnownHome) → ReadAnswer → Type 0
+AnswersRead frames asked from to read.Busy = to ≡ from
+AnswersRead frames asked from to answer =
+    OnCpu (λ cpu left. IsReadUnderLock frames from.sizes asked cpu left answer) from to

@@ -4,7 +4,6 @@ use Rattle.std.specs.Global.{Box}
 use Rattle.std.specs.List.{HoldsAt, swap_remove}
 use Rattle.host_memory.specs.Cells.{KnownChange, KnownLoan}
 use Rattle.frame_word.specs.Seats.{KnownTable}
-use Rattle.stock_word.specs.Stock.{KnownStockTable}
 use Rattle.zone_blocks.specs.declared.config.Config.{Config}
 use Rattle.mem_system.specs.Cpus.{CpuInRun}
 use Rattle.mem_system.specs.Ending.{PutsAndEnds}
@@ -126,8 +125,8 @@ IfNotLeft before not_left.Busy after = HasCpu before × (after ≡ before)
 
 -- A zone ended with what was taken out from behind its lock for it, the parts of the CPUs as they were parked: `held`
 -- counts their pins.
-pub record EndsParked (frames : KnownTable) (stock_table : KnownStockTable) (loan : KnownLoan (Box KnownBehind))
+pub record EndsParked (frames : KnownTable) (loan : KnownLoan (Box KnownBehind))
     (ended : SystemEnd) : Type 0 where
   pub found : Box KnownBehind
   pub found_is : loan.found ≡ Some found
-  pub ends : PutsAndEnds frames stock_table found.value.locked found.value.parked ended
+  pub ends : PutsAndEnds frames found.value.locked found.value.parked ended

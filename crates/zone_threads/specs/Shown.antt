@@ -1,15 +1,13 @@
 -- The texts that a settled CPU gets of the zone.
 use Rattle.std.specs.Prelude.{◌≡◌, ℕ, List, None}
 use Rattle.frame_word.specs.Seats.{KnownTable}
-use Rattle.stock_word.specs.Stock.{KnownStockTable}
 use Rattle.group_tree.specs.Groups.{number_at}
 use Rattle.machine_texts.specs.Blocks.{blocks_text}
 use Rattle.machine_texts.specs.Show.{show_text}
 use Rattle.machine_texts.specs.Stock.{stock_line_text}
 use Rattle.mem_machine.specs.Machines.{KnownMachine}
-use Rattle.mem_machine.specs.Stocks.{with_look}
 use Rattle.mem_system.specs.Shown.{ReadsAfterSettling, UnitsAt}
-use Rattle.mem_system.specs.Visits.{LockedState, visit_state_of}
+use Rattle.mem_system.specs.Visits.{LockedState}
 use Rattle.zone_threads.specs.Homes.{KnownHome, OnCpu}
 use Rattle.zone_threads.specs.declared.texts.TextAnswer.{TextAnswer}
 use Rattle.zone_threads.specs.declared.texts.TextAnswer.TheVariants as answer
@@ -23,27 +21,27 @@ pub record ShowsExactly (shown text : List ℕ) (before after : KnownMachine) : 
 
 -- What is said of a text of the units of the group of this path, of the settled state and of the machine that the looks
 -- at words left.
-abbrev pub SaysUnits : (path : List ℕ) → TextAnswer → LockedState → KnownMachine → Type 0
-SaysUnits path (answer.Text text) settled machine =
-    UnitsAt (number_at settled.locked.machine.ledger.groups path) ⊥ (λ shown. text.items ≡ shown)
+abbrev pub SaysUnits : KnownTable → (path : List ℕ) → TextAnswer → LockedState → KnownMachine → Type 0
+SaysUnits table path (answer.Text text) settled machine =
+    UnitsAt table (number_at settled.locked.machine.ledger.groups path) ⊥ (λ shown. text.items ≡ shown)
     settled.locked.machine machine
-SaysUnits path answer.NoGroup settled machine =
+SaysUnits table path answer.NoGroup settled machine =
     (number_at settled.locked.machine.ledger.groups path ≡ None) × (machine ≡ settled.locked.machine)
-SaysUnits path answer.NoMemory settled machine = Unit {0}
+SaysUnits table path answer.NoMemory settled machine = Unit {0}
 
 -- The same of each text. If memory ran out, the CPU is settled all the same.
-abbrev pub SaysText : TextCall → TextAnswer → LockedState → KnownMachine → Type 0
-SaysText call.Show (answer.Text text) settled machine =
+abbrev pub SaysText : KnownTable → TextCall → TextAnswer → LockedState → KnownMachine → Type 0
+SaysText table call.Show (answer.Text text) settled machine =
     ShowsExactly (show_text machine) text.items settled.locked.machine machine
-SaysText call.Blocks (answer.Text text) settled machine =
+SaysText table call.Blocks (answer.Text text) settled machine =
     ShowsExactly (blocks_text machine.blocks) text.items settled.locked.machine machine
-SaysText call.Stock (answer.Text text) settled machine =
-    ShowsExactly (stock_line_text (visit_state_of settled)) text.items (with_look settled.locked.machine) machine
-SaysText (call.Units path) answer settled machine = SaysUnits path.items answer settled machine
-SaysText asked answer.NoMemory settled machine = Unit {0}
-SaysText asked other settled machine = ⊥
+SaysText table call.Stock (answer.Text text) settled machine =
+    ShowsExactly (stock_line_text table settled.locked.machine settled.cpu.part) text.items settled.locked.machine machine
+SaysText table (call.Units path) answer settled machine = SaysUnits table path.items answer settled machine
+SaysText table asked answer.NoMemory settled machine = Unit {0}
+SaysText table asked other settled machine = ⊥
 
 -- what is done for a text
-abbrev pub ReadsText : KnownTable → KnownStockTable → TextCall → TextAnswer → (from to : KnownHome) → Type 0
-ReadsText frames stock_table asked answer from to =
-    OnCpu (ReadsAfterSettling frames stock_table (SaysText asked answer)) from to
+abbrev pub ReadsText : KnownTable → TextCall → TextAnswer → (from to : KnownHome) → Type 0
+ReadsText frames asked answer from to =
+    OnCpu (ReadsAfterSettling frames (SaysText frames asked answer)) from to

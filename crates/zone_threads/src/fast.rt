@@ -19,7 +19,7 @@ impl<N: BootName> Home<N> {
     #[inline(always)]
     pub fn alloc_frame(&mut self, group: u32) -> CallAnswer
         requires some { IsSome self.old.cpu }
-        ensures { Calls N.frames N.stocks (call.AllocFrame group) self.old self.new result }
+        ensures { Calls N.frames (call.AllocFrame group) self.old self.new result }
     {
         if group >= 64 {
             return CallAnswer::NoGroup;
@@ -42,7 +42,7 @@ impl<N: BootName> Home<N> {
     #[inline(always)]
     pub fn release(&mut self, number: u32) -> CallAnswer
         requires some { IsSome self.old.cpu }
-        ensures { Calls N.frames N.stocks (call.Release number) self.old self.new result }
+        ensures { Calls N.frames (call.Release number) self.old self.new result }
     {
         let zone = &*self.zone;
         let Some(cpu) = &mut self.cpu else {
@@ -64,7 +64,7 @@ impl<N: BootName> Home<N> {
     #[inline(always)]
     pub fn get(&mut self, number: u32) -> CallAnswer
         requires some { IsSome self.old.cpu }
-        ensures { Calls N.frames N.stocks (call.Get number) self.old self.new result }
+        ensures { Calls N.frames (call.Get number) self.old self.new result }
     {
         let Some(cpu) = &mut self.cpu else {
             unreachable!()
@@ -76,7 +76,7 @@ impl<N: BootName> Home<N> {
     #[inline(always)]
     pub fn put(&mut self, number: u32) -> CallAnswer
         requires some { IsSome self.old.cpu }
-        ensures { Calls N.frames N.stocks (call.Put number) self.old self.new result }
+        ensures { Calls N.frames (call.Put number) self.old self.new result }
     {
         let Some(cpu) = &mut self.cpu else {
             unreachable!()

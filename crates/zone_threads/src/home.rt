@@ -59,7 +59,6 @@ impl<N: BootName> Home<N> {
     /// is left then.
     pub fn start(alloc: Global, boot: Boot) -> Result<Home<N>, AllocError>
         requires frames { boot.frames ≡ N.frames }
-        requires stocks { boot.stocks ≡ N.stocks }
         ensures no_cpu { IfOk result HasNoCpu }
         ensures sizes { IfOk result (λ home. home.sizes ≡ boot.sizes) }
     {

@@ -32,7 +32,7 @@ impl<N: BootName> Behind<N> {
     #[inline(always)]
     pub fn serve(&mut self, tables: &Tables<N>, cpu: &mut Cpu<N>, cmd: &Cmd<'_>) -> Outcome
         requires { IsOfZone N.frames cmd.now }
-        ensures { IsVisited N.frames N.stocks self.old.locked.sizes (ServesOutcome N.frames cmd.now result)
+        ensures { IsVisited N.frames self.old.locked.sizes (ServesOutcome N.frames cmd.now result)
             cpu.old cpu.new }
     {
         self.locked.prove_quiet();
@@ -50,9 +50,9 @@ impl<N: BootName> Behind<N> {
         group: u32,
     ) -> Option<Outcome>
         ensures served { IfSome result (λ outcome.
-            IsVisited N.frames N.stocks self.old.locked.sizes (ServesFrameOutcome N.frames group outcome)
+            IsVisited N.frames self.old.locked.sizes (ServesFrameOutcome N.frames group outcome)
             cpu.old cpu.new) }
-        ensures none { IfNone result (NoGroupBehindLock N.frames N.stocks group cpu.old cpu.new) }
+        ensures none { IfNone result (NoGroupBehindLock N.frames group cpu.old cpu.new) }
     {
         self.locked.prove_quiet();
         let Some(group) = find_group(self.locked.charges(), group) else {
@@ -74,9 +74,9 @@ impl<N: BootName> Behind<N> {
         order: u32,
     ) -> Option<Outcome>
         ensures served { IfSome result (λ outcome.
-            IsVisited N.frames N.stocks self.old.locked.sizes (ServesBlock N.frames group order outcome)
+            IsVisited N.frames self.old.locked.sizes (ServesBlock N.frames group order outcome)
             cpu.old cpu.new) }
-        ensures none { IfNone result (NoGroupBehindLock N.frames N.stocks group cpu.old cpu.new) }
+        ensures none { IfNone result (NoGroupBehindLock N.frames group cpu.old cpu.new) }
     {
         self.locked.prove_quiet();
         let Some(group) = find_group(self.locked.charges(), group) else {
@@ -100,9 +100,9 @@ impl<N: BootName> Behind<N> {
         order: u32,
     ) -> Option<Outcome>
         ensures served { IfSome result (λ outcome.
-            IsVisited N.frames N.stocks self.old.locked.sizes (ServesDirtyUnit N.frames group order outcome)
+            IsVisited N.frames self.old.locked.sizes (ServesDirtyUnit N.frames group order outcome)
             cpu.old cpu.new) }
-        ensures none { IfNone result (NoGroupBehindLock N.frames N.stocks group cpu.old cpu.new) }
+        ensures none { IfNone result (NoGroupBehindLock N.frames group cpu.old cpu.new) }
     {
         self.locked.prove_quiet();
         let Some(group) = find_group(self.locked.charges(), group) else {
@@ -119,7 +119,7 @@ impl<N: BootName> Behind<N> {
     /// Settles a CPU.
     #[inline(always)]
     pub fn settle(&mut self, tables: &Tables<N>, cpu: &mut Cpu<N>)
-        ensures { IsVisited N.frames N.stocks self.old.locked.sizes (SettlesCaller N.frames) cpu.old cpu.new }
+        ensures { IsVisited N.frames self.old.locked.sizes (SettlesCaller N.frames) cpu.old cpu.new }
     {
         self.locked.prove_quiet();
         settle(&mut self.locked, tables, cpu);
@@ -128,7 +128,7 @@ impl<N: BootName> Behind<N> {
 
     /// Reads a file of a group, with its text.
     pub fn read(&mut self, tables: &Tables<N>, cpu: &mut Cpu<N>, asked: &ReadCall<'_>) -> ReadAnswer
-        ensures { IsReadUnderLock N.frames N.stocks self.old.locked.sizes asked.now cpu.old cpu.new result }
+        ensures { IsReadUnderLock N.frames self.old.locked.sizes asked.now cpu.old cpu.new result }
     {
         let ReadCall { path, file } = *asked;
         self.locked.prove_quiet();

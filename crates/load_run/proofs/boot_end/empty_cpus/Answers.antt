@@ -20,13 +20,12 @@ unreachable-requires g c =
 
 pub returns-in-Ok : goal.returns-in-Ok
 returns-in-Ok g c = record {
-  leaves = leaves_free g.N.BootName.frames g.N.BootName.stocks (system_state c.args.locked c.args.cpus.items) c.in-Ok.emptied c.in-Ok.ensures.visits;
+  leaves = leaves_free g.N.BootName.frames (system_state c.args.locked c.args.cpus.items) c.in-Ok.emptied c.in-Ok.ensures.visits;
 }
 
 pub returns-in-Ok-make_last_visits : goal.returns-in-Ok-make_last_visits
 returns-in-Ok-make_last_visits g c =
     let t = g.N.BootName.frames in
-    let w = g.N.BootName.stocks in
     let same = c.in-Err.ensures in
     let put = c.put_all_pins.ensures in
     let now = c.put_all_pins.new in
@@ -39,7 +38,7 @@ returns-in-Ok-make_last_visits g c =
     let sizes = put.sizes ∙ ap (λ (l : KnownLocked). l.sizes) same.locked in
     let some = same.some_pin in
     record {
-      leaves = leaves_nothing t w (system_state c.args.locked c.args.cpus.items) c.in-Err.pinned.pins c.in-Ok-make_last_visits.emptied now.locked now.cpus
+      leaves = leaves_nothing t (system_state c.args.locked c.args.cpus.items) c.in-Err.pinned.pins c.in-Ok-make_last_visits.emptied now.locked now.cpus
           same.pins puts sizes (λ none. absurd (omega (arith, some, none)))
-          (subst (λ (l : List CpuInRun). MakesLastVisits t w now.locked l c.in-Ok-make_last_visits.emptied) back c.in-Ok-make_last_visits.ensures.visits);
+          (subst (λ (l : List CpuInRun). MakesLastVisits t now.locked l c.in-Ok-make_last_visits.emptied) back c.in-Ok-make_last_visits.ensures.visits);
     }

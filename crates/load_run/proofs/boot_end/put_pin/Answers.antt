@@ -19,3 +19,4 @@ returns-clause-puts g c =
     c.number-cpu_number.ensures.in_run c.meet.ensures.locked c.meet.ensures.part c.meet.ensures.meets c.put.ensures.answer c.put.ensures.run
     c.meet-2.ensures.locked c.meet-2.ensures.part c.meet-2.ensures.meets (record { locked = took.locked; watched = took.watched })
     (λ i. cpu_makes (c.number-cpu_number.ensures.number i) (step.Put (c.number-frame.ensures i)) (said i) ∷ [])
+    (c.meet-2.ensures.last ∙ c.put.ensures.last ∙ c.meet.ensures.last)

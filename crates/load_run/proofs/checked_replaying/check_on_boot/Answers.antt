@@ -9,7 +9,7 @@ use Rattle.script_replay.specs.Lines.{HasRun, SystemState, system_state}
 use Rattle.script_replay.specs.Terms.{form_terms}
 use Rattle.load_run.specs.Answers.{checked_text}
 use Rattle.load_run.specs.Ending.{EndsChecked, boot_end_text}
-use Rattle.load_run.proofs.Starting.{boot_agrees, boot_shown, given_back, lent_parts, lent_so_far, lines_there, parts_tied}
+use Rattle.load_run.proofs.Starting.{boot_agrees, boot_shown, given_back, lent_parts, lent_so_far, lines_there}
 use Rattle.load_run.proofs.Stopped.{new_watched, stop_told}
 use Rattle.load_run.proofs.Watched.{saw_more}
 use Rattle.load_run.proofs.Whole.{kept_goes_on, whole_run}
@@ -19,7 +19,7 @@ pub replay_checked-answers-requires-clause-there : goal.replay_checked-answers-r
 replay_checked-answers-requires-clause-there g c =
     let booted = c.in_ok-locked.ensures in
     let long = ap length c.deref_mut.ensures.value ∙ booted.count in
-    lines_there c.args.boot.sizes _ _ _ c.args.lines.now booted.sized long c.requires.lines
+    lines_there c.args.boot.sizes _ _ c.args.lines.now booted.sized long c.requires.lines
 
 pub replay_checked-answers-requires-clause-legal : goal.replay_checked-answers-requires-clause-legal
 replay_checked-answers-requires-clause-legal g c =
@@ -33,40 +33,38 @@ end_checked_boot-requires g c =
 pub returns-in_err-answers : goal.returns-in_err-answers
 returns-in_err-answers g c =
     let booted = c.in_ok-locked.ensures in
-    let new = new_watched c.args.boot.sizes c.args.sizes g.N.BootName.frames g.N.BootName.stocks _ c.deref_mut.result.now _ _ booted.sized c.requires.sizes
+    let new = new_watched c.args.boot.sizes c.args.sizes g.N.BootName.frames _ c.deref_mut.result.now _ _ booted.sized c.requires.sizes
     booted.machine booted.sizes (lent_parts _ _ c.deref_mut.ensures.value booted.cpus) (lent_so_far _ _ _ c.deref_mut.ensures.value booted.so_far)
     c.in_ok-watch.ensures c.set_watch.ensures in
     let p = err_from_is_err_and c.from_residual-in_err-answers.result c.from_residual-in_err-answers.ensures.1 in
     rw (p.1, p.2) (record {
       answers = tt;
-      fault = stop_told c.args.boot.sizes c.args.form _ _ c.args.lines.now _ _ _ new
+      fault = stop_told c.args.boot.sizes c.args.form _ c.args.lines.now _ _ _ new
           (IfErr-at_err _ c.in_err-answers.was c.replay_checked-answers.ensures.outcome.stopped);
     })
 
 pub returns-then-not-seen : goal.returns-then-not-seen
 returns-then-not-seen g c =
     let t = g.N.BootName.frames in
-    let w = g.N.BootName.stocks in
     let booted = c.in_ok-locked.ensures in
     let left = c.replay_checked-answers.new in
-    let new = new_watched c.args.boot.sizes c.args.sizes t w _ c.deref_mut.result.now _ _ booted.sized c.requires.sizes
+    let new = new_watched c.args.boot.sizes c.args.sizes t _ c.deref_mut.result.now _ _ booted.sized c.requires.sizes
     booted.machine booted.sizes (lent_parts _ _ c.deref_mut.ensures.value booted.cpus) (lent_so_far _ _ _ c.deref_mut.ensures.value booted.so_far)
     c.in_ok-watch.ensures c.set_watch.ensures in
     let told = c.end_checked_boot.result in
-    let ends = subst (λ (cpus : List CpuInRun). EndsChecked t w (system_state left.locked cpus) told.0 told.1)
+    let ends = subst (λ (cpus : List CpuInRun). EndsChecked t (system_state left.locked cpus) told.0 told.1)
     (given_back _ _ _ _ c.deref_mut.ensures.value c.deref_mut.ensures.len c.replay_checked-answers.auto.cpus) c.end_checked_boot.ensures.ends in
     let replays = IfOk-at_ok _ c.in_ok-answers.was c.replay_checked-answers.ensures.outcome.replayed in
     record {
       answers = tt;
       fault = record {
         frames = t;
-        stocks = w;
         start = system_state c.set_watch.new.self c.deref_mut.result.now;
         end = system_state left.locked left.cpus;
         answers = c.in_ok-answers.answers.items;
         ended = told.0;
         new = new;
-        history = replays.history (boot_shown _ _ _ _ new.first) (parts_tied _ _ _ _ new.first) (boot_agrees _ _ _ _ new.first) new.watched;
+        history = replays.history (boot_shown _ _ _ new.first) (boot_agrees _ _ _ new.first) new.watched;
         ends = ends.ends;
         not_legal = sym ends.is_legal ∙ c.if-not-seen.true;
       };
@@ -75,30 +73,28 @@ returns-then-not-seen g c =
 pub returns : goal.returns
 returns g c =
     let t = g.N.BootName.frames in
-    let w = g.N.BootName.stocks in
     let booted = c.in_ok-locked.ensures in
     let left = c.replay_checked-answers.new in
-    let new = new_watched c.args.boot.sizes c.args.sizes t w _ c.deref_mut.result.now _ _ booted.sized c.requires.sizes
+    let new = new_watched c.args.boot.sizes c.args.sizes t _ c.deref_mut.result.now _ _ booted.sized c.requires.sizes
     booted.machine booted.sizes (lent_parts _ _ c.deref_mut.ensures.value booted.cpus) (lent_so_far _ _ _ c.deref_mut.ensures.value booted.so_far)
     c.in_ok-watch.ensures c.set_watch.ensures in
     let told = c.end_checked_boot.result in
-    let ends = subst (λ (cpus : List CpuInRun). EndsChecked t w (system_state left.locked cpus) told.0 told.1)
+    let ends = subst (λ (cpus : List CpuInRun). EndsChecked t (system_state left.locked cpus) told.0 told.1)
     (given_back _ _ _ _ c.deref_mut.ensures.value c.deref_mut.ensures.len c.replay_checked-answers.auto.cpus) c.end_checked_boot.ensures.ends in
     let replays = IfOk-at_ok _ c.in_ok-answers.was c.replay_checked-answers.ensures.outcome.replayed in
-    let tells = replays.history (boot_shown _ _ _ _ new.first) (parts_tied _ _ _ _ new.first) (boot_agrees _ _ _ _ new.first) new.watched in
+    let tells = replays.history (boot_shown _ _ _ new.first) (boot_agrees _ _ _ new.first) new.watched in
     let held = ends.ends in
     let on : has_legal_steps held.emptied.machine.run.watch ≡ true = sym ends.is_legal ∙ c.if-not-seen.false in
     let saw = saw_more (zone_of t) tells.run left.locked.machine.run.watch held.leaves.steps held.emptied.machine.run.watch tells.saw held.leaves.watched on in
     let start : SystemState = system_state c.set_watch.new.self c.deref_mut.result.now in
     let end : SystemState = system_state left.locked left.cpus in
-    let has : HasRun tells.run end = kept_goes_on (form_terms t w c.args.form) c.args.lines.now (past [] start) (past tells.run end) _ tells.history new.first.so_far in
+    let has : HasRun tells.run end = kept_goes_on (form_terms t c.args.form) c.args.lines.now (past [] start) (past tells.run end) _ tells.history new.first.so_far in
     let shown = c.in_ok-told.told.items in
     record {
       answers = record {
         shown = shown;
         replay = record {
           frames = t;
-          stocks = w;
           start = start;
           end = end;
           run = tells.run;
@@ -107,11 +103,11 @@ returns g c =
           first = new.first;
           served = replays.served;
           history = tells.history;
-          agrees = boot_agrees _ _ _ _ new.first;
+          agrees = boot_agrees _ _ _ new.first;
           ends = record { ended = told.0; ends = held; text_is = refl };
           whole = tells.run ++ held.leaves.steps;
           whole_is = refl;
-          is_whole = whole_run t w tells.run end told.0 has held;
+          is_whole = whole_run t tells.run end told.0 has held;
           text_is = c.in_ok-told.ensures.told;
         };
         text_is = c.in_ok-with_steps.ensures.told ∙ ap (λ (n : ℕ). shown ++ checked_text n) (ends.steps ∙ saw.count);

@@ -9,7 +9,7 @@ use Rattle.script_replay.specs.Terms.{form_terms}
 use Rattle.script_replay.proofs.Seeing.{all_lines_go_on, legal_histories_keep_it}
 use Rattle.load_run.specs.Ending.{EndsHeld, boot_end_text}
 use Rattle.std.proofs.lemmas.Result.{IfOk-at_ok, IfOk-weaker}
-use Rattle.load_run.proofs.Starting.{boot_agrees, boot_shown, given_back, lent_parts, lent_so_far, lines_there, new_state, parts_tied}
+use Rattle.load_run.proofs.Starting.{boot_agrees, boot_shown, given_back, lent_parts, lent_so_far, lines_there, new_state}
 use Rattle.load_run.proofs.Whole.{whole_run}
 use Rattle.load_run.proofs.replaying.replay_on_boot.Goals as goal
 
@@ -17,7 +17,7 @@ pub replay-answers-requires : goal.replay-answers-requires
 replay-answers-requires g c =
     let booted = c.in_ok-locked.ensures in
     let long = ap length c.deref_mut.ensures.value ∙ booted.count in
-    record { there = lines_there c.args.boot.sizes _ _ _ c.args.lines.now booted.sized long c.requires.lines }
+    record { there = lines_there c.args.boot.sizes _ _ c.args.lines.now booted.sized long c.requires.lines }
 
 pub end_boot-ended-requires : goal.end_boot-ended-requires
 end_boot-ended-requires g c =
@@ -27,29 +27,27 @@ end_boot-ended-requires g c =
 pub returns : goal.returns
 returns g c =
     let t = g.N.BootName.frames in
-    let w = g.N.BootName.stocks in
     let booted = c.in_ok-locked.ensures in
     let left = c.replay-answers.new in
     let start : SystemState = system_state c.in_ok-locked.locked c.deref_mut.result.now in
-    let new = new_state _ _ t w _ c.deref_mut.result.now refl booted.sized booted.machine booted.sizes
+    let new = new_state _ _ t _ c.deref_mut.result.now refl booted.sized booted.machine booted.sizes
     (lent_parts _ _ c.deref_mut.ensures.value booted.cpus) (lent_so_far _ _ _ c.deref_mut.ensures.value booted.so_far) in
     let replays = IfOk-at_ok _ c.in_ok-answers.was c.replay-answers.ensures.outcome.replayed in
     let end : SystemState = system_state left.locked left.cpus in
     let answers = c.in_ok-answers.field-0.items in
-    let on = form_terms t w c.args.form in
+    let on = form_terms t c.args.form in
     let lines = c.args.lines.now in
-    let history = replays.history [] (boot_shown _ _ _ _ new) (parts_tied _ _ _ _ new) in
+    let history = replays.history [] (boot_shown _ _ _ new) in
     let run : Run = steps_of on lines (past [] start) end answers history in
     let has : HasRun run end = all_lines_go_on on lines (past [] start) end answers history [] new.so_far in
     let told = c.end_boot-ended.result in
-    let ends = subst (λ (cpus : List CpuInRun). EndsHeld t w (system_state left.locked cpus) told)
+    let ends = subst (λ (cpus : List CpuInRun). EndsHeld t (system_state left.locked cpus) told)
     (given_back _ _ _ _ c.deref_mut.ensures.value c.deref_mut.ensures.len c.replay-answers.auto.cpus) c.end_boot-ended.ensures.ends in
-    let all = whole_run t w run end told has ends in
+    let all = whole_run t run end told has ends in
     let legal = legal_front (zone_of t) run ends.leaves.steps all.leads.legal in
     record {
       answers = IfOk-weaker c.with_end.result _ _ (λ text is. record {
         frames = t;
-        stocks = w;
         start = start;
         end = end;
         run = run;
@@ -57,8 +55,8 @@ returns g c =
         ending = boot_end_text c.args.is_audited told;
         first = new;
         served = replays.served;
-        history = legal_histories_keep_it on lines (past [] start) end answers history legal (boot_agrees _ _ _ _ new);
-        agrees = boot_agrees _ _ _ _ new;
+        history = legal_histories_keep_it on lines (past [] start) end answers history legal (boot_agrees _ _ _ new);
+        agrees = boot_agrees _ _ _ new;
         ends = record { ended = told; ends = ends; text_is = refl };
         whole = run ++ ends.leaves.steps;
         whole_is = refl;

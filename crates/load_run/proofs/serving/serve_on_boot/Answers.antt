@@ -11,9 +11,9 @@ pub returns-in_ok-ended-in-Ok-clause-served : goal.returns-in_ok-ended-in-Ok-cla
 returns-in_ok-ended-in-Ok-clause-served g c =
     let made = c.new-server.ensures in
     let boot = c.in_ok-locked.ensures in
-    let new = new_state _ _ _ _ c.in_ok-locked.locked c.in_ok-locked.cpus.items c.requires.sizes boot.sized boot.machine boot.sizes boot.cpus boot.so_far in
+    let new = new_state _ _ _ c.in_ok-locked.locked c.in_ok-locked.cpus.items c.requires.sizes boot.sized boot.machine boot.sizes boot.cpus boot.so_far in
     let gives = c.end_session-ended.ensures.ended in
-    let ends = session_ends c.args.options.now c.args.form _ _ c.new-server.result _ new made.sizes made.form made.state _ _ _ _ _ gives.answer
+    let ends = session_ends c.args.options.now c.args.form _ c.new-server.result _ new made.sizes made.form made.state _ _ _ _ _ gives.answer
     c.in-Ok.ensures.served c.into_parts-locked.ensures.state gives.so in
     let same : c.deref.result.now ≡ gives.answer = c.deref.ensures.value ∙ IfOk-at_ok _ c.in_ok-ended-in-Ok.was gives.given in
     let middle = g.O.Write.contents c.serve_buffered-served.new.output in
@@ -25,9 +25,9 @@ pub returns-in_ok-ended-in-Ok-clause-left : goal.returns-in_ok-ended-in-Ok-claus
 returns-in_ok-ended-in-Ok-clause-left g c =
     let made = c.new-server.ensures in
     let boot = c.in_ok-locked.ensures in
-    let new = new_state _ _ _ _ c.in_ok-locked.locked c.in_ok-locked.cpus.items c.requires.sizes boot.sized boot.machine boot.sizes boot.cpus boot.so_far in
+    let new = new_state _ _ _ c.in_ok-locked.locked c.in_ok-locked.cpus.items c.requires.sizes boot.sized boot.machine boot.sizes boot.cpus boot.so_far in
     let gives = c.end_session-ended.ensures.ended in
-    let ends = session_ends c.args.options.now c.args.form _ _ c.new-server.result _ new made.sizes made.form made.state _ _ _ _ _ gives.answer
+    let ends = session_ends c.args.options.now c.args.form _ c.new-server.result _ new made.sizes made.form made.state _ _ _ _ _ gives.answer
     c.in-Ok.ensures.served c.into_parts-locked.ensures.state gives.so in
     let same : c.deref.result.now ≡ gives.answer = c.deref.ensures.value ∙ IfOk-at_ok _ c.in_ok-ended-in-Ok.was gives.given in
     ending_begun c.args.options.now c.args.form _ _ _ _ gives.answer c.write_answers.result c.requires.valid ends c.write_answers.ensures.fault
@@ -37,9 +37,9 @@ pub returns-in_err-ended-in-Ok-clause-left : goal.returns-in_err-ended-in-Ok-cla
 returns-in_err-ended-in-Ok-clause-left g c =
     let made = c.new-server.ensures in
     let boot = c.in_ok-locked.ensures in
-    let new = new_state _ _ _ _ c.in_ok-locked.locked c.in_ok-locked.cpus.items c.requires.sizes boot.sized boot.machine boot.sizes boot.cpus boot.so_far in
+    let new = new_state _ _ _ c.in_ok-locked.locked c.in_ok-locked.cpus.items c.requires.sizes boot.sized boot.machine boot.sizes boot.cpus boot.so_far in
     let gives = c.end_session-ended.ensures.ended in
-    let ends = session_ends c.args.options.now c.args.form _ _ c.new-server.result _ new made.sizes made.form made.state _ _ _ _ _ gives.answer
+    let ends = session_ends c.args.options.now c.args.form _ c.new-server.result _ new made.sizes made.form made.state _ _ _ _ _ gives.answer
     c.in-Ok.ensures.served c.into_parts-locked.ensures.state gives.so in
     let p = err_from_is_err_and c.from_residual-in_err-ended-in-Ok.result c.from_residual-in_err-ended-in-Ok.ensures.1 in
     rw (p.1, p.2) (ending_missed c.args.options.now c.args.form _ _ _ gives.answer _ c.requires.valid ends)
@@ -48,6 +48,6 @@ pub returns-in-Err-clause-left : goal.returns-in-Err-clause-left
 returns-in-Err-clause-left g c =
     let made = c.new-server.ensures in
     let boot = c.in_ok-locked.ensures in
-    let new = new_state _ _ _ _ c.in_ok-locked.locked c.in_ok-locked.cpus.items c.requires.sizes boot.sized boot.machine boot.sizes boot.cpus boot.so_far in
-    session_fails c.args.options.now c.args.form _ _ c.new-server.result _ new made.sizes made.form made.state _ _ _ _ c.in-Err.fault c.fault_of.result
+    let new = new_state _ _ _ c.in_ok-locked.locked c.in_ok-locked.cpus.items c.requires.sizes boot.sized boot.machine boot.sizes boot.cpus boot.so_far in
+    session_fails c.args.options.now c.args.form _ c.new-server.result _ new made.sizes made.form made.state _ _ _ _ c.in-Err.fault c.fault_of.result
     c.requires.valid c.in-Err.ensures.failed c.fault_of.ensures

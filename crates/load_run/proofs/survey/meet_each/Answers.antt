@@ -12,7 +12,7 @@ loop-cpu-preserved g c =
     let inside : c.loop-cpu.cpu-index < length c.loop-cpu.cpus = search rules in
     let met = c.meet.ensures in (
       so_far_more (MeetsZone g.N.BootName.frames) _ _ _ _ _ _ c.cpu-item.result _ c.loop-cpu.invariant.0 inside
-          (record { machine = ap (λ (l : KnownLocked). l.machine) met.locked; part = met.part; meets = met.meets }),
+          (record { machine = ap (λ (l : KnownLocked). l.machine) met.locked; part = met.part; last = met.last; meets = met.meets }),
       ap (λ (l : KnownLocked). l.sizes) met.locked ∙ c.loop-cpu.invariant.1,
     )
 

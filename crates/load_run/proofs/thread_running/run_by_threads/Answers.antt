@@ -23,7 +23,7 @@ pub replay-first-requires : goal.replay-first-requires
 replay-first-requires g c =
     let booted = c.in_ok-locked.ensures in
     let long = ap length c.deref_mut.ensures.value ∙ booted.count in
-    record { there = early_there c.args.boot.sizes _ _ c.before_go.result _ c.args.lines.now _ booted.sized long c.split_at.ensures.front c.requires.lines }
+    record { there = early_there c.args.boot.sizes _ c.before_go.result _ c.args.lines.now _ booted.sized long c.split_at.ensures.front c.requires.lines }
 
 pub survey-requires : goal.survey-requires
 survey-requires g c =
@@ -48,7 +48,7 @@ serve_later-told-requires-clause-lines g c κs within =
     let booted = c.in_ok-locked.ensures in
     let long = ap length (c.deref_mut-3.ensures.value ∙ looked) ∙ c.survey.auto.cpus ∙ ap length (c.deref_mut-2.ensures.value ∙ back) ∙ c.replay-first.auto.cpus
     ∙ ap length c.deref_mut.ensures.value ∙ booted.count in
-    later_there c.args.boot.sizes _ _ c.before_go.result _ c.args.lines.now _ booted.sized long c.split_at.ensures.back c.requires.lines
+    later_there c.args.boot.sizes _ c.before_go.result _ c.args.lines.now _ booted.sized long c.split_at.ensures.back c.requires.lines
 
 pub survey-requires-2 : goal.survey-requires-2
 survey-requires-2 g c =
@@ -75,7 +75,6 @@ end_boot-ended-requires g c =
 pub returns : goal.returns
 returns g c =
     let t = g.N.BootName.frames in
-    let w = g.N.BootName.stocks in
     let sizes = c.args.boot.sizes in
     let lines = c.args.lines.now in
     let is_numbered = c.args.is_numbered in
@@ -96,25 +95,25 @@ returns g c =
     let early = c.in_ok-answers.answers.items in
     let later = c.in_ok-told.field-0.items in
     let ended = c.end_boot-ended.result in
-    let new = new_state _ _ t w _ c.deref_mut.result.now refl booted.sized booted.machine booted.sizes (lent_parts _ _ shown booted.cpus)
+    let new = new_state _ _ t _ c.deref_mut.result.now refl booted.sized booted.machine booted.sizes (lent_parts _ _ shown booted.cpus)
     (lent_so_far _ _ _ shown booted.so_far) in
-    let replays : Replays (numbered_terms t w false is_numbered) c.split_at.result.0.now start replayed early =
-    IfOk-at_ok (λ v. Replays (numbered_terms t w false is_numbered) c.split_at.result.0.now start replayed v.items) c.in_ok-answers.was
+    let replays : Replays (numbered_terms t false is_numbered) c.split_at.result.0.now start replayed early =
+    IfOk-at_ok (λ v. Replays (numbered_terms t false is_numbered) c.split_at.result.0.now start replayed v.items) c.in_ok-answers.was
     c.replay-first.ensures.outcome.replayed in
     let sees = subst (λ (cpus : List CpuInRun). SeesAllPasts t (system_state c.replay-first.new.locked cpus) at_go) met c.survey.ensures.sees in
     let all = IfOk-at_ok _ c.in_ok-told.was c.serve_later-told.ensures.told in
     let kept = c.of-system.ensures.sizes ∙ ap (λ (l : KnownLocked). l.sizes) c.set_sizes.ensures ∙ c.sizes-sizes.ensures.are ∙ booted.sizes in
-    let tells : AreAllAnswers (boot_tables t w sizes) (workers_from 1 at_go.cpus c.split_at.result.1.now is_numbered) end.cpus all.0 later =
-    subst (λ (x : List CpuInRun × Config). AreAllAnswers (boot_tables t w x.1) (workers_from 1 x.0 c.split_at.result.1.now is_numbered) end.cpus all.0 later)
+    let tells : AreAllAnswers (boot_tables t sizes) (workers_from 1 at_go.cpus c.split_at.result.1.now is_numbered) end.cpus all.0 later =
+    subst (λ (x : List CpuInRun × Config). AreAllAnswers (boot_tables t x.1) (workers_from 1 x.0 c.split_at.result.1.now is_numbered) end.cpus all.0 later)
     (λ i. (lent i, kept i)) all.1 in
     let long = c.serve_later-told.auto.cpus ∙ ap length lent ∙ c.survey.auto.cpus ∙ ap length met ∙ c.replay-first.auto.cpus ∙ ap length shown ∙ booted.count in
     let sees_end = subst (λ (cpus : List CpuInRun). SeesAllPasts t (system_state c.into_parts-locked.result.0 cpus) at_end) left c.survey-2.ensures.sees in
-    let ends = subst (λ (cpus : List CpuInRun). EndsHeld t w (system_state c.survey-2.new.locked cpus) ended) again c.end_boot-ended.ensures.ends in
+    let ends = subst (λ (cpus : List CpuInRun). EndsHeld t (system_state c.survey-2.new.locked cpus) ended) again c.end_boot-ended.ensures.ends in
     let joined : c.extend_from_slice.new.self.items ≡ early ++ later =
     c.in_ok-extend_from_slice.ensures.items ∙ ap (λ (l : List ℕ). early ++ l) c.deref.ensures.value in
     record {
       answers = IfOk-weaker c.with_end.result _ _ (λ text is.
-          are_answers sizes is_numbered c.args.is_audited t w lines c.split_at.result.0.now c.split_at.result.1.now start replayed at_go end at_end early later text.items
+          are_answers sizes is_numbered c.args.is_audited t lines c.split_at.result.0.now c.split_at.result.1.now start replayed at_go end at_end early later text.items
           all.0 ended new (c.split_at.ensures.front ∙ ap (λ (n : ℕ). take n lines) c.before_go.ensures)
           (c.split_at.ensures.back ∙ ap (λ (n : ℕ). drop n lines) c.before_go.ensures) replays sees tells
           (record { quiet = c.into_parts-locked.ensures.quiet; count = long }) sees_end ends

@@ -2,7 +2,6 @@ use Rattle.std.proofs.Common.{◌≡◌, ◌^◌, false, [], inl, refl, sym, ◌
 use Rattle.mem_machine.specs.Machines.{is_killed}
 use Rattle.mem_alloc.proofs.Taking.{decides_drained}
 use Rattle.mem_machine.proofs.Followed.{makes_none}
-use Rattle.mem_machine.specs.Local.{visit_state}
 use Rattle.mem_alloc.proofs.blocks.alloc_block.Goals as goal
 
 pub charge_block-requires-clause-may_charge : goal.charge_block-requires-clause-may_charge
@@ -25,5 +24,5 @@ pub returns-then-is_killed-clause-allocates : goal.returns-then-is_killed-clause
 returns-then-is_killed-clause-allocates g c = record {
   steps = [];
   does = inl (record { is = sym c.is_killed.ensures ∙ c.if-is_killed.true; does = record { machine = refl; cpu = refl; steps_are = refl } });
-  makes = makes_none g.N.BootName.frames c.args.cpu.now.number (visit_state c.args.machine.now c.args.cpu.now);
+  makes = makes_none g.N.BootName.frames c.args.machine.now;
 }

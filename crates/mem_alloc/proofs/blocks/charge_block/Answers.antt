@@ -1,16 +1,16 @@
-use Rattle.std.proofs.Common.{◌≡◌, ℕ, ◌^◌, true, refl, sym, ap, ◌∙◌, subst, rules}
+use Rattle.std.proofs.Common.{◌≡◌, ℕ, ◌^◌, true, refl, sym, ◌∙◌, subst, rules}
 use Rattle.std.specs.Prelude.{Err, IfErr}
 use Rattle.group_tree.specs.Groups.{has_group}
 use Rattle.group_tree.proofs.CallerLemmas.{in_subtree-above}
 use Rattle.cpu_part.specs.Cpus.{KnownCpu}
 use Rattle.mem_machine.specs.Machines.{KnownMachine}
-use Rattle.mem_machine.specs.Local.{MakesForAny, Visits, visit_state}
+use Rattle.mem_machine.specs.Local.{Makes, Visits, visit_state}
 use Rattle.mem_machine.specs.Transitions.{BySteps}
 use Rattle.mem_alloc.specs.Room.{HasMadeRoom, IsRoomAnswer, RelievesLimit, has_room_at}
 use Rattle.mem_alloc.proofs.Lowering.{Lowers, lowers_both, usages_fall, run_lowers}
 use Rattle.mem_alloc.proofs.Killing.{relieving_lowers}
 use Rattle.mem_alloc.proofs.Making.{answer_is, so_far_more, so_far_none, so_far_over}
-use Rattle.mem_alloc.proofs.Taking.{is_refused, by_refusal, is_none, by_none, so_far_takes, so_far_no_block, room_still, none_opened, over_charges, over_not_none}
+use Rattle.mem_alloc.proofs.Taking.{is_refused, by_refusal, is_none, by_none, so_far_takes, so_far_no_block, room_still, over_charges, over_not_none}
 use Rattle.mem_alloc.proofs.blocks.charge_block.Goals as goal
 
 pub returns-in-Ok-clause-charges : goal.returns-in-Ok-clause-charges
@@ -23,13 +23,7 @@ returns-in-Err-NoBlock-clause-charges g c =
     so_far_no_block g.N.BootName.frames c.args.group c.args.order c.args.cpu.now c.args.machine.now c.tries.machine c.tries.invariant.0 c.tries.cpu
     c.tries.invariant.1 c.take_block.new.self c.take_block.new.cpu
     (is_none _ _ c.args.group c.args.order c.in-Err-NoBlock.field-0 c.in-Err-NoBlock.field-0-is c.in-Err-NoBlock.ensures.refuses) c.in-Err-NoBlock.ensures.cpu
-    (by_none c.tries.cpu.number c.args.group c.args.order _ _ c.in-Err-NoBlock.field-0 c.in-Err-NoBlock.field-0-is c.in-Err-NoBlock.ensures.steps)
-
-pub returns-in-Err-NoBlock-clause-opened : goal.returns-in-Err-NoBlock-clause-opened
-returns-in-Err-NoBlock-clause-opened g c =
-    let none = is_none _ _ c.args.group c.args.order c.in-Err-NoBlock.field-0 c.in-Err-NoBlock.field-0-is c.in-Err-NoBlock.ensures.refuses in
-    none_opened g.N.BootName.frames c.args.group c.args.order c.args.cpu.now c.args.machine.now c.tries.machine c.tries.invariant.0 c.tries.cpu
-    c.tries.invariant.1 c.take_block.new.self c.take_block.new.cpu none
+    (by_none c.args.group c.args.order _ _ c.in-Err-NoBlock.field-0 c.in-Err-NoBlock.field-0-is c.in-Err-NoBlock.ensures.steps)
 
 pub returns-in-Err-NoBlock-clause-room : goal.returns-in-Err-NoBlock-clause-room
 returns-in-Err-NoBlock-clause-room g c _ =
@@ -41,8 +35,8 @@ pub take_block-requires-clause-visit : goal.take_block-requires-clause-visit
 take_block-requires-clause-visit g c =
     subst (λ (k : KnownCpu). Visits g.N.BootName.frames (visit_state c.tries.machine k)) (sym c.tries.invariant.1) (c.tries.invariant.0.visit c.requires.visit)
 
-pub make_room-requires-clause-shown : goal.make_room-requires-clause-shown
-make_room-requires-clause-shown g c = record { cpu = c.take_block.new.cpu; is = c.in-Err-Over.ensures.visit.shown }
+pub make_room-requires-clause-held : goal.make_room-requires-clause-held
+make_room-requires-clause-held g c = c.in-Err-Over.ensures.visit.held
 
 pub make_room-requires-clause-there : goal.make_room-requires-clause-there
 make_room-requires-clause-there g c =
@@ -65,10 +59,10 @@ tries-smaller g c =
 pub tries-preserved : goal.tries-preserved
 tries-preserved g c =
     let t = g.N.BootName.frames in
-    let relieves = subst (λ (n : ℕ). BySteps MakesForAny g.N.BootName.frames (RelievesLimit c.args.group c.in-Err-Over.over.group n)
+    let relieves = subst (λ (n : ℕ). BySteps Makes g.N.BootName.frames (RelievesLimit c.args.group c.in-Err-Over.over.group n)
     c.take_block.new.self c.make_room.new.machine) c.frames-pages.ensures.frames c.make_room.ensures.relieves in
     let r = is_refused _ _ c.args.group c.args.order c.in-Err-Over.field-0 c.in-Err-Over.over c.in-Err-Over.field-0-is c.in-Err-Over.ensures.refuses in
-    let run = by_refusal c.tries.cpu.number c.args.group c.args.order _ _ c.in-Err-Over.field-0 c.in-Err-Over.over c.in-Err-Over.field-0-is
+    let run = by_refusal c.args.group c.args.order _ _ c.in-Err-Over.field-0 c.in-Err-Over.over c.in-Err-Over.field-0-is
     c.in-Err-Over.ensures.steps in (
       so_far_more t c.args.group (2 ^ c.args.order) c.args.cpu.now c.args.machine.now c.tries.machine c.tries.invariant.0 c.take_block.new.self c.tries.machine
           c.make_room.new.machine c.tries.cpu c.take_block.new.cpu c.in-Err-Over.over.group r.1 c.tries.invariant.1
@@ -82,10 +76,10 @@ tries-preserved g c =
 pub returns-in_err-make_room-in-Err-Over-clause-charges : goal.returns-in_err-make_room-in-Err-Over-clause-charges
 returns-in_err-make_room-in-Err-Over-clause-charges g c =
     let t = g.N.BootName.frames in
-    let relieves = subst (λ (n : ℕ). BySteps MakesForAny g.N.BootName.frames (RelievesLimit c.args.group c.in-Err-Over.over.group n)
+    let relieves = subst (λ (n : ℕ). BySteps Makes g.N.BootName.frames (RelievesLimit c.args.group c.in-Err-Over.over.group n)
     c.take_block.new.self c.make_room.new.machine) c.frames-pages.ensures.frames c.make_room.ensures.relieves in
     let r = is_refused _ _ c.args.group c.args.order c.in-Err-Over.field-0 c.in-Err-Over.over c.in-Err-Over.field-0-is c.in-Err-Over.ensures.refuses in
-    let run = by_refusal c.tries.cpu.number c.args.group c.args.order _ _ c.in-Err-Over.field-0 c.in-Err-Over.over c.in-Err-Over.field-0-is
+    let run = by_refusal c.args.group c.args.order _ _ c.in-Err-Over.field-0 c.in-Err-Over.over c.in-Err-Over.field-0-is
     c.in-Err-Over.ensures.steps in
     let x = c.in_err-make_room-in-Err-Over.field-0.0 in
     let is : IfErr c.from_residual.result (λ e. e ≡ x) = search rules in
@@ -100,13 +94,6 @@ returns-in_err-make_room-in-Err-Over-clause-charges g c =
 pub returns-in_err-make_room-in-Err-Over-clause-visit : goal.returns-in_err-make_room-in-Err-Over-clause-visit
 returns-in_err-make_room-in-Err-Over-clause-visit g c =
     c.make_room.ensures.visit c.take_block.new.cpu c.in-Err-Over.ensures.visit
-
-pub returns-in_err-make_room-in-Err-Over-clause-opened : goal.returns-in_err-make_room-in-Err-Over-clause-opened
-returns-in_err-make_room-in-Err-Over-clause-opened g c =
-    let t = g.N.BootName.frames in
-    let r = is_refused _ _ c.args.group c.args.order c.in-Err-Over.field-0 c.in-Err-Over.over c.in-Err-Over.field-0-is c.in-Err-Over.ensures.refuses in
-    let lowers = relieving_lowers t c.args.group c.in-Err-Over.over.group c.frames-pages.result c.take_block.new.self c.make_room.new.machine c.make_room.ensures.relieves in
-    lowers.opened ∙ ap (λ (y : KnownMachine). y.frame_seat.view.opened) r.1 ∙ c.tries.invariant.0.lowers.opened
 
 pub returns-in_err-make_room-in-Err-Over-clause-room : goal.returns-in_err-make_room-in-Err-Over-clause-room
 returns-in_err-make_room-in-Err-Over-clause-room g c none =

@@ -17,7 +17,7 @@ loop-round-init g c =
 
 pub reclaim_anywhere-freed-requires : goal.reclaim_anywhere-freed-requires
 reclaim_anywhere-freed-requires g c =
-    record { shown = record { cpu = c.loop-round.cpu; is = (c.loop-round.invariant.visit c.requires.visit).shown } }
+    record { held = (c.loop-round.invariant.visit c.requires.visit).held }
 
 pub take_block-requires-clause-visit : goal.take_block-requires-clause-visit
 take_block-requires-clause-visit g c =
@@ -47,7 +47,7 @@ returns-in-Err-NoBlock-clause-takes g c =
     c.reclaim_anywhere-freed.ensures.reclaims in
     let missed = subst (λ (w : ℕ). freed < w → MissedAll 0 c.loop-round.machine x) wants c.reclaim_anywhere-freed.ensures.missed in
     let none = is_none _ _ c.args.group c.args.order c.in-Err-NoBlock.field-0 c.in-Err-NoBlock.field-0-is c.in-Err-NoBlock.ensures.refuses in
-    let vain = by_none _ c.args.group c.args.order _ _ c.in-Err-NoBlock.field-0 c.in-Err-NoBlock.field-0-is c.in-Err-NoBlock.ensures.steps in
+    let vain = by_none c.args.group c.args.order _ _ c.in-Err-NoBlock.field-0 c.in-Err-NoBlock.field-0-is c.in-Err-NoBlock.ensures.steps in
     rounds_end t (2 ^ c.args.order) (FindsNoBlock c.args.group c.args.order) (TakesFreeBlock c.args.group c.args.order) c.args.machine.now
     c.args.cpu.now c.loop-round.round c.loop-round.machine c.loop-round.cpu c.loop-round.invariant c.loop-round-test.true freed x reclaims
     missed c.reclaim_anywhere-freed.ensures.keeps c.take_block.new.self c.take_block.new.cpu (unplaced_steps c.args.group c.args.order) vain
@@ -63,7 +63,7 @@ loop-round-preserved g c =
     c.reclaim_anywhere-freed.ensures.reclaims in
     let missed = subst (λ (w : ℕ). freed < w → MissedAll 0 c.loop-round.machine x) wants c.reclaim_anywhere-freed.ensures.missed in
     let none = is_none _ _ c.args.group c.args.order c.in-Err-NoBlock.field-0 c.in-Err-NoBlock.field-0-is c.in-Err-NoBlock.ensures.refuses in
-    let vain = by_none _ c.args.group c.args.order _ _ c.in-Err-NoBlock.field-0 c.in-Err-NoBlock.field-0-is c.in-Err-NoBlock.ensures.steps in
+    let vain = by_none c.args.group c.args.order _ _ c.in-Err-NoBlock.field-0 c.in-Err-NoBlock.field-0-is c.in-Err-NoBlock.ensures.steps in
     let does : FindsNoBlock c.args.group c.args.order (transition t (visit_state x c.loop-round.cpu) (unplaced_steps c.args.group c.args.order)
     (visit_state c.take_block.new.self c.take_block.new.cpu)) = record { none = none; cpu = c.in-Err-NoBlock.ensures.cpu; steps_are = refl } in
     rounds_more t (2 ^ c.args.order) (FindsNoBlock c.args.group c.args.order) (TakesFreeBlock c.args.group c.args.order) c.args.machine.now

@@ -10,7 +10,7 @@ use Rattle.mem_machine.specs.Local.{visit_state}
 use Rattle.mem_alloc.specs.Blocks.{MakesTakeRounds, MayHaveBlock}
 use Rattle.mem_alloc.proofs.Rounding.{noted_visit, zone_noted}
 use Rattle.mem_alloc.proofs.Taking.{is_refused, is_none, by_none, back_part, never_over, noted_room}
-use Rattle.mem_alloc.proofs.Taking.{none_leaves, takes_after, reclaims_after, reclaims_open, list_shrinks}
+use Rattle.mem_alloc.proofs.Taking.{none_leaves, takes_after, reclaims_after, list_shrinks}
 use Rattle.mem_alloc.proofs.blocks.take_after_drain.Goals as goal
 
 pub take_block-requires-clause-charges : goal.take_block-requires-clause-charges
@@ -45,7 +45,6 @@ returns-in-Ok g c = record {
       let part = back_part _ _ _ _ _ c.drain_list.ensures.takes in
       record {
         visit = c.take_block.ensures.visit;
-        opened = ap (λ (z : KnownMachine). z.frame_seat.view.opened) c.in-Ok.ensures.takes.machine ∙ part.opened;
         number = ap (λ (e : KnownCpu). e.number) c.take_block.ensures.cpu ∙ part.number;
         back = ap (λ (e : KnownCpu). e.back) c.take_block.ensures.cpu ∙ part.back;
       };
@@ -81,7 +80,7 @@ returns-in-Err-NoBlock g c =
     c.take_block.new.self c.note.new.self c.take_block.new.cpu (visit_state c.reclaim_until_taken.new.machine c.reclaim_until_taken.new.cpu)
     (c.note.ensures ∙ ap (λ k. with_note c.take_block.new.self (Zone k)) c.exponent.ensures.exponent) c.reclaim_until_taken.ensures.takes in
     let none = is_none _ _ c.args.group c.args.order c.in-Err-NoBlock.field-0 c.in-Err-NoBlock.field-0-is c.in-Err-NoBlock.ensures.refuses in
-    let vain = by_none _ c.args.group c.args.order _ _ c.in-Err-NoBlock.field-0 c.in-Err-NoBlock.field-0-is c.in-Err-NoBlock.ensures.steps in
+    let vain = by_none c.args.group c.args.order _ _ c.in-Err-NoBlock.field-0 c.in-Err-NoBlock.field-0-is c.in-Err-NoBlock.ensures.steps in
     let part = back_part _ _ _ _ _ c.drain_list.ensures.takes in
     let cpu = c.reclaim_until_taken.ensures.cpu ∙ c.in-Err-NoBlock.ensures.cpu in
     record {
@@ -91,9 +90,6 @@ returns-in-Err-NoBlock g c =
           c.reclaim_until_taken.result rounds;
       stays = record {
         visit = c.reclaim_until_taken.ensures.visit;
-        opened = reclaims_open g.N.BootName.frames c.args.group c.args.order _ _ _ _ _ _ c.drain_list.result c.list_len-listed.result
-            c.list_len-listed.ensures.count c.drain_list.ensures.at_most c.drain_list.ensures.takes c.drain_list.ensures.fewer_only_at_the_end
-            cpu c.drain_list.ensures.steps _ _ none c.in-Err-NoBlock.ensures.cpu vain c.reclaim_until_taken.result rounds;
         number = ap (λ (e : KnownCpu). e.number) cpu ∙ part.number;
         back = ap (λ (e : KnownCpu). e.back) cpu ∙ part.back;
       };

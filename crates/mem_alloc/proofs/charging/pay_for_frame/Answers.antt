@@ -1,10 +1,19 @@
-use Rattle.std.proofs.Common.{sym, refl, ap, ◌∙◌}
+use Rattle.std.proofs.Common.{ℕ, sym, ap, ◌∙◌, subst}
 use Rattle.std.proofs.lemmas.Bool.{false≢true}
 use Rattle.group_tree.specs.Groups.{has_group}
-use Rattle.mem_machine.specs.Machines.{KnownMachine, is_killed}
-use Rattle.mem_machine.proofs.Prepaying.{emptied_alive, emptied_drained, emptied_has}
-use Rattle.mem_alloc.proofs.Filling.{charged_page, looked_page, looked_visit, pays_anew, pays_none}
+use Rattle.boot_words.specs.Pasts.{IsHeld}
+use Rattle.mem_machine.specs.Machines.{IsCpuOf, KnownMachine, is_killed}
+use Rattle.mem_machine.specs.Local.{Visits, visit_state}
+use Rattle.mem_machine.specs.Paying.{HoldsPage}
+use Rattle.mem_machine.specs.Stocks.{IsDrained}
+use Rattle.mem_machine.proofs.DrainingAll.{drained_now, drained_trees}
+use Rattle.mem_machine.proofs.Moved.{number_range}
+use Rattle.mem_alloc.proofs.Filling.{charged_page, pays_anew, pays_none}
 use Rattle.mem_alloc.proofs.charging.pay_for_frame.Goals as goal
+
+pub holds_page-requires : goal.holds_page-requires
+holds_page-requires g c =
+    record { holds = record { held = c.requires.visit.held; who = c.requires.visit.who; own = c.requires.visit.own } }
 
 pub returns-then-holds_page : goal.returns-then-holds_page
 returns-then-holds_page g c =
@@ -12,42 +21,49 @@ returns-then-holds_page g c =
     let looked = c.holds_page.ensures in
     let page = looked.holds.0 c.if-holds_page.true in
     record {
-      pays = pays_none t _ _ _ _ looked.machine looked.cpu c.args.sizes c.args.group page;
-      visit = looked_visit t _ _ _ _ looked.machine looked.cpu c.requires.visit;
-      page = looked_page t _ _ _ _ looked.machine looked.cpu c.args.group page;
+      pays = pays_none t c.args.machine.now c.holds_page.new.machine c.args.cpu.now looked.machine c.args.sizes c.args.group page;
+      visit = subst (λ (m : KnownMachine). Visits t (visit_state m c.args.cpu.now)) (sym looked.machine) c.requires.visit;
+      page = subst (λ (m : KnownMachine). HoldsPage t (visit_state m c.args.cpu.now) c.args.group) (sym looked.machine) page;
     }
 
-pub drain_stock-requires-clause-shown : goal.drain_stock-requires-clause-shown
-drain_stock-requires-clause-shown g c =
-    let seen = looked_visit g.N.BootName.frames _ _ _ _ c.holds_page.ensures.machine c.holds_page.ensures.cpu c.requires.visit in
-    record { cpu = c.holds_page.new.cpu; is = seen.shown }
+-- the CPU that holds the lock is one of the boot
+pub drain_stock-requires-clause-cpu : goal.drain_stock-requires-clause-cpu
+drain_stock-requires-clause-cpu g c =
+    let t = g.N.BootName.frames in
+    subst (IsCpuOf t) (sym c.number-cpu_number.ensures.number) (number_range t c.args.machine.now c.args.cpu.now c.requires.visit)
+
+pub drain_stock-requires-clause-held : goal.drain_stock-requires-clause-held
+drain_stock-requires-clause-held g c =
+    subst (λ (m : KnownMachine). IsHeld g.N.BootName.frames m.run.past) (sym c.holds_page.ensures.machine) c.requires.visit.held
 
 pub fill_drained_stock-requires-clause-visit : goal.fill_drained_stock-requires-clause-visit
 fill_drained_stock-requires-clause-visit g c =
-    let t = g.N.BootName.frames in
-    c.drain_stock.ensures.visit c.holds_page.new.cpu (looked_visit t _ _ _ _ c.holds_page.ensures.machine c.holds_page.ensures.cpu c.requires.visit)
+    c.drain_stock.ensures.visit c.args.cpu.now
+    (subst (λ (m : KnownMachine). Visits g.N.BootName.frames (visit_state m c.args.cpu.now)) (sym c.holds_page.ensures.machine) c.requires.visit)
 
 pub fill_drained_stock-requires-clause-there : goal.fill_drained_stock-requires-clause-there
 fill_drained_stock-requires-clause-there g c =
-    emptied_has _ _ _ _ _ c.number-cpu_number.ensures.number c.drain_stock.ensures.drains c.args.group
-    (ap (λ (x : KnownMachine). has_group x.ledger.groups c.args.group) c.holds_page.ensures.machine ∙ c.requires.there)
+    ap (λ x. has_group x c.args.group) (drained_trees g.N.BootName.frames _ _ _ _ c.drain_stock.ensures.drains)
+    ∙ ap (λ (x : KnownMachine). has_group x.ledger.groups c.args.group) c.holds_page.ensures.machine ∙ c.requires.there
 
 pub fill_drained_stock-requires-clause-alive : goal.fill_drained_stock-requires-clause-alive
 fill_drained_stock-requires-clause-alive g c =
-    emptied_alive _ _ _ _ _ c.number-cpu_number.ensures.number c.drain_stock.ensures.drains c.args.group
-    (ap (λ (x : KnownMachine). is_killed x.killed c.args.group) c.holds_page.ensures.machine ∙ c.requires.alive)
+    ap (λ (x : KnownMachine). is_killed x.killed c.args.group) (c.drain_stock.ensures.drains.machine)
+    ∙ ap (λ (x : KnownMachine). is_killed x.killed c.args.group) c.holds_page.ensures.machine ∙ c.requires.alive
 
 pub fill_drained_stock-requires-clause-drained : goal.fill_drained_stock-requires-clause-drained
-fill_drained_stock-requires-clause-drained g c = emptied_drained _ _ _ _ _ c.number-cpu_number.ensures.number c.drain_stock.ensures.drains
+fill_drained_stock-requires-clause-drained g c =
+    subst (λ (p : ℕ). IsDrained g.N.BootName.frames c.drain_stock.new.self p) c.number-cpu_number.ensures.number
+    (drained_now g.N.BootName.frames c.number-cpu_number.result c.drain_stock.result _ _ c.drain_stock.ensures.drains)
 
 pub returns-clause-pays : goal.returns-clause-pays
 returns-clause-pays g c =
-    pays_anew g.N.BootName.frames c.drain_stock.result c.number-cpu_number.result _ _ _ _ _ c.holds_page.ensures.machine
-    c.holds_page.ensures.cpu c.number-cpu_number.ensures.number c.drain_stock.ensures.drains c.drain_stock.ensures.steps c.args.sizes c.args.group _ _ _ refl
+    pays_anew g.N.BootName.frames c.drain_stock.result c.number-cpu_number.result c.args.machine.now _ _ c.args.cpu.now c.holds_page.ensures.machine
+    c.number-cpu_number.ensures.number c.drain_stock.ensures.drains c.drain_stock.ensures.steps c.args.sizes c.args.group _ _
     (λ page. false≢true (sym c.if-holds_page.false ∙ c.holds_page.ensures.holds.1 page)) c.fill_drained_stock.result c.fill_drained_stock.ensures.charges
 
 pub returns-clause-page : goal.returns-clause-page
 returns-clause-page g c =
     let b = c.fill_drained_stock.ensures.charges in
-    charged_page g.N.BootName.frames c.args.sizes c.args.group c.fill_drained_stock.result _ _ _ _ b.steps c.requires.sizes b.does
-    (ap (λ e. e.fresh) c.holds_page.ensures.cpu ∙ c.requires.none_fresh)
+    charged_page g.N.BootName.frames c.args.sizes c.args.group c.fill_drained_stock.result _ _ _ _ b.steps c.requires.sizes
+    c.fill_drained_stock.ensures.visit b.does c.requires.none_fresh

@@ -1,13 +1,12 @@
 use Rattle.std.proofs.Common.{◌≡◌, ℕ, ◌∷◌, ◌++◌, [], length, false, inl, refl, sym, ap, ◌∙◌, subst, arith, rules}
 use Rattle.std.specs.Prelude.{Err, IfErr, Ok, Result}
 use Rattle.std.proofs.lemmas.Result.{err_from_is_err_and}
-use Rattle.mem_machine.specs.Machines.{KnownMachine, is_killed}
+use Rattle.mem_machine.specs.Machines.{is_killed}
 use Rattle.cpu_part.specs.Cpus.{KnownCpu}
 use Rattle.mem_alloc.specs.declared.faults.AllocFault.{AllocFault}
 use Rattle.mem_alloc.proofs.Making.{refused_with, if_ok_none}
 use Rattle.mem_alloc.proofs.Filling.{keeps_both, pays_keep, no_frame_keeps, filled_part, not_paid, not_found, gets_frame}
 use Rattle.mem_machine.proofs.Followed.{makes_none}
-use Rattle.mem_machine.specs.Local.{visit_state}
 use Rattle.mem_alloc.proofs.frames.alloc_frame.Goals as goal
 
 pub returns-in_err-pay_for_frame : goal.returns-in_err-pay_for_frame
@@ -23,7 +22,7 @@ returns-in_err-pay_for_frame g c =
     let fresh = k.fresh ∙ c.requires.settled.0 in
     record {
       allocates = not_paid t c.args.sizes c.args.group c.args.machine.now c.args.cpu.now alive r x _ _ not is refused;
-      stays = record { visit = c.in_err-pay_for_frame.ensures.visit; opened = k.opened; number = k.number; back = k.back };
+      stays = record { visit = c.in_err-pay_for_frame.ensures.visit; number = k.number; back = k.back };
       fresh = refused_with r x _ _ not is (λ e same. fresh);
       at_most_high = λ low. let a = ap length k.list in let b = ap length k.fresh in omega (arith, a, b, low);
       frame = if_ok_none r _ not;
@@ -42,11 +41,11 @@ returns-in_err-fill_list g c =
     let none = c.in_err-fill_list.ensures.fills in
     let first = pays_keep t c.args.sizes c.args.group (Ok tt) _ _ _ _ paid.steps paid.does in
     let then = no_frame_keeps g.N.BootName.frames c.args.sizes x _ _ _ _ none.steps none.does in
-    let k = keeps_both _ _ _ _ _ _ first then in
+    let k = keeps_both _ _ _ first then in
     let fresh = k.fresh ∙ c.requires.settled.0 in
     record {
-      allocates = not_found t c.args.sizes c.args.group c.args.machine.now c.args.cpu.now alive _ _ first.number paid r x _ _ not is none;
-      stays = record { visit = c.in_err-fill_list.ensures.visit; opened = k.opened; number = k.number; back = k.back };
+      allocates = not_found t c.args.sizes c.args.group c.args.machine.now c.args.cpu.now alive _ _ paid r x _ _ not is none;
+      stays = record { visit = c.in_err-fill_list.ensures.visit; number = k.number; back = k.back };
       fresh = refused_with r x _ _ not is (λ e same. fresh);
       at_most_high = λ low. let a = ap length k.list in let b = ap length k.fresh in omega (arith, a, b, low);
       frame = if_ok_none r _ not;
@@ -72,11 +71,10 @@ returns g c =
     let none = next.fresh ∙ first.fresh ∙ c.requires.settled.0 in
     let fresh = ap (λ (e : KnownCpu). e.fresh) cpu ∙ ap (λ l. l ++ c.take_front.result ∷ []) none in
     record {
-      allocates = gets_frame t c.args.sizes c.args.group c.args.machine.now c.args.cpu.now alive _ _ first.number paid c.take_front.result _ _ _ _ next.number
+      allocates = gets_frame t c.args.sizes c.args.group c.args.machine.now c.args.cpu.now alive _ _ paid c.take_front.result _ _ _ _ (next.number ∙ first.number)
           fills takes c.take_front.ensures.steps;
       stays = record {
         visit = c.take_front.ensures.visit;
-        opened = ap (λ (y : KnownMachine). y.frame_seat.view.opened) takes.machine ∙ next.opened ∙ first.opened;
         number = ap (λ (e : KnownCpu). e.number) cpu ∙ next.number ∙ first.number;
         back = ap (λ (e : KnownCpu). e.back) cpu ∙ next.back ∙ first.back;
       };
@@ -96,5 +94,5 @@ pub returns-then-is_killed-clause-allocates : goal.returns-then-is_killed-clause
 returns-then-is_killed-clause-allocates g c = record {
   steps = [];
   does = inl (record { is = sym c.is_killed.ensures ∙ c.if-is_killed.true; does = record { machine = refl; cpu = refl; steps_are = refl } });
-  makes = makes_none g.N.BootName.frames c.args.cpu.now.number (visit_state c.args.machine.now c.args.cpu.now);
+  makes = makes_none g.N.BootName.frames c.args.machine.now;
 }

@@ -1,9 +1,10 @@
-use Rattle.std.proofs.Common.{[], length, inl, inr, ap, refl, ◌∙◌, arith, length-append, rules}
+use Rattle.std.proofs.Common.{[], length, inl, inr, ap, refl, sym, ◌∙◌, subst, arith, length-append, rules}
 use Rattle.std.proofs.lemmas.List.{nil_from_length}
-use Rattle.mem_machine.specs.Local.{visit_state}
+use Rattle.mem_machine.specs.Machines.{IsCpuOf}
 use Rattle.mem_machine.specs.Steps.{refill_steps}
 use Rattle.mem_machine.proofs.Followed.{makes_none}
-use Rattle.mem_alloc.proofs.Filling.{lent_part, lent_page, lent_none, lent_batch, no_frame, reclaims_for, reclaimed_page, reclaimed_front}
+use Rattle.mem_machine.proofs.Moved.{number_range}
+use Rattle.mem_alloc.proofs.Filling.{lent_part, lent_stock, lent_none, lent_batch, no_frame, reclaims_for, reclaimed_front}
 use Rattle.mem_alloc.proofs.frames.fill_list.Goals as goal
 
 pub returns-then-refill-gt0-clause-fills : goal.returns-then-refill-gt0-clause-fills
@@ -21,7 +22,9 @@ returns-then-refill-gt0-clause-fills g c =
     }
 
 pub returns-then-refill-gt0-clause-page : goal.returns-then-refill-gt0-clause-page
-returns-then-refill-gt0-clause-page g c = lent_page _ c.args.group _ _ _ _ c.refill.ensures.refills.lends c.requires.page
+returns-then-refill-gt0-clause-page g c =
+    let done = c.refill.ensures.refills in
+    (c.requires.page.0, lent_stock g.N.BootName.frames done.frames _ _ _ _ c.requires.visit.held done.steps done.lends ∙ c.requires.page.1)
 
 pub returns-then-refill-gt0-clause-front : goal.returns-then-refill-gt0-clause-front
 returns-then-refill-gt0-clause-front g c =
@@ -47,8 +50,11 @@ returns-then-refill_in_rounds g c =
         makes = reclaims.makes;
       };
       visit = search rules;
-      page = reclaimed_page t c.args.sizes c.args.machine.now c.refill_in_rounds.new.machine c.args.cpu.now c.refill_in_rounds.new.cpu
-          reclaims.steps reclaims.does c.args.group c.requires.page;
+      page = (
+        c.requires.page.0,
+        c.if-refill_in_rounds.ensures.stock ∙ lent_stock t done.refills.frames _ _ _ _ c.requires.visit.held done.refills.steps done.refills.lends
+            ∙ c.requires.page.1,
+      );
       front = reclaimed_front t c.args.sizes c.args.machine.now c.refill_in_rounds.new.machine c.args.cpu.now c.refill_in_rounds.new.cpu
           reclaims.steps reclaims.does;
     }
@@ -73,5 +79,16 @@ returns-then-list_len-gt0-clause-fills g c =
         is = omega (arith, many, c.list_len.ensures.count);
         does = record { machine = refl; cpu = refl; steps_are = refl };
       });
-      makes = makes_none g.N.BootName.frames c.args.cpu.now.number (visit_state c.args.machine.now c.args.cpu.now);
+      makes = makes_none g.N.BootName.frames c.args.machine.now;
     }
+
+pub refill_in_rounds-requires-clause-none_fresh : goal.refill_in_rounds-requires-clause-none_fresh
+refill_in_rounds-requires-clause-none_fresh g c =
+    (lent_part _ _ _ _ _ c.refill.ensures.refills.lends).fresh ∙ c.requires.none_fresh
+
+-- the CPU that holds the lock is one of the boot
+pub drain_stock-requires-clause-cpu : goal.drain_stock-requires-clause-cpu
+drain_stock-requires-clause-cpu g c =
+    let t = g.N.BootName.frames in
+    subst (IsCpuOf t) (sym c.number-cpu_number.ensures.number)
+    (number_range t c.refill_in_rounds.new.machine c.refill_in_rounds.new.cpu c.if-refill_in_rounds.ensures.visit)

@@ -1,8 +1,9 @@
-use Rattle.std.proofs.Common.{sym, subst}
+use Rattle.std.proofs.Common.{sym, ap, ◌∙◌, subst}
 use Rattle.group_charge.specs.declared.note.Note.TheVariants.{Zone}
 use Rattle.mem_machine.specs.Machines.{KnownMachine}
 use Rattle.mem_machine.specs.Local.{Visits}
 use Rattle.mem_machine.specs.Local.{visit_state}
+use Rattle.mem_machine.specs.Showing.{stock_now}
 use Rattle.mem_alloc.specs.Frames.{MakesRefillRounds}
 use Rattle.mem_alloc.proofs.Rounding.{noted_visit, zone_noted}
 use Rattle.mem_alloc.proofs.frames.refill_in_rounds.Goals as goal
@@ -16,3 +17,8 @@ pub returns-clause-refills : goal.returns-clause-refills
 returns-clause-refills g c =
     zone_noted g.N.BootName.frames 0 (MakesRefillRounds c.args.batch c.make_refill_rounds.result) c.args.machine.now c.note.new.self c.args.cpu.now
     (visit_state c.make_refill_rounds.new.machine c.make_refill_rounds.new.cpu) c.note.ensures c.make_refill_rounds.ensures.refills
+
+pub returns-clause-stock : goal.returns-clause-stock
+returns-clause-stock g c =
+    c.make_refill_rounds.ensures.stock
+    ∙ ap (λ (m : KnownMachine). stock_now g.N.BootName.frames (visit_state m c.args.cpu.now)) c.note.ensures

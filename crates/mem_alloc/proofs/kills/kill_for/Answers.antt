@@ -8,9 +8,9 @@ use Rattle.mem_reclaim.specs.Killing.{IsKilledBy, KillsVictim, victim_of, with_a
 use Rattle.mem_reclaim.specs.Sets.{kill_set}
 use Rattle.mem_reclaim.specs.Victim.{IsVictim}
 use Rattle.mem_alloc.specs.Kills.{KillsForRoom, has_room_at}
-use Rattle.mem_machine.specs.Local.{MakesForAny}
+use Rattle.mem_machine.specs.Local.{Makes}
 use Rattle.mem_machine.specs.Transitions.{BySteps}
-use Rattle.mem_alloc.proofs.Killing.{enough_room, fewer_alive, kills_end, so_far_killed, so_far_nobody, so_far_shown, so_far_there}
+use Rattle.mem_alloc.proofs.Killing.{enough_room, fewer_alive, kills_end, so_far_killed, so_far_nobody, so_far_held, so_far_there}
 use Rattle.mem_alloc.proofs.kills.kill_for.Goals as goal
 
 pub kills-init : goal.kills-init
@@ -35,9 +35,9 @@ kill-requires-clause-there g c =
     so_far_there c.args.requester g.N.BootName.frames c.args.limited c.args.pages c.args.machine.now c.kills.machine
     c.kills.invariant c.requires.there
 
-pub kill-requires-clause-shown : goal.kill-requires-clause-shown
-kill-requires-clause-shown g c =
-    so_far_shown c.args.requester g.N.BootName.frames c.args.limited c.args.pages c.args.machine.now c.kills.machine c.kills.invariant c.requires.shown
+pub kill-requires-clause-held : goal.kill-requires-clause-held
+kill-requires-clause-held g c =
+    so_far_held c.args.requester g.N.BootName.frames c.args.limited c.args.pages c.args.machine.now c.kills.machine c.kills.invariant c.requires.held
 
 pub returns-then-not-needs_room-clause-visit : goal.returns-then-not-needs_room-clause-visit
 returns-then-not-needs_room-clause-visit g c = c.kills.invariant.visit
@@ -53,7 +53,7 @@ returns-in_default-clause-kills g c =
     let none = subst (λ (o : Option Killed). IsVictim c.kills.machine c.args.limited (victim_of o)) c.in_default.is c.kill.ensures.victim in
     let same : c.kill.new.machine ≡ c.kills.machine =
     subst (λ (o : Option Killed). KillsVictim t c.args.limited o c.kills.machine c.kill.new.machine) c.in_default.is c.kill.ensures.kills in
-    subst (λ (y : KnownMachine). BySteps MakesForAny t (KillsForRoom c.args.requester c.args.limited c.args.pages) c.args.machine.now y) (sym same)
+    subst (λ (y : KnownMachine). BySteps Makes t (KillsForRoom c.args.requester c.args.limited c.args.pages) c.args.machine.now y) (sym same)
     (kills_end c.args.requester t c.args.limited c.args.pages c.args.machine.now c.kills.machine over c.kills.invariant (λ needs_room. none))
 
 pub kills-smaller : goal.kills-smaller
@@ -68,7 +68,7 @@ kills-smaller g c =
     let kills : IsKilledBy t c.args.limited killed x n = subst (λ (o : Option Killed). KillsVictim t c.args.limited o x n) c.in-Some.is c.kill.ensures.kills in
     let marked : n.killed ≡ with_all_killed x.killed (kill_set x killed) =
     subst (λ (o : Option Killed). IfSome o (λ k. n.killed ≡ with_all_killed x.killed (kill_set x k))) c.in-Some.is c.kill.ensures.marked in
-    fewer_alive t g.N.BootName.stocks x n c.args.limited killed c.prove_consistent.ensures charges most kills.killed_root_is marked
+    fewer_alive t x n c.args.limited killed c.prove_consistent.ensures charges most kills.killed_root_is marked
 
 pub kills-preserved : goal.kills-preserved
 kills-preserved g c =
@@ -82,7 +82,7 @@ kills-preserved g c =
     let kills : IsKilledBy t c.args.limited killed x n = subst (λ (o : Option Killed). KillsVictim t c.args.limited o x n) c.in-Some.is c.kill.ensures.kills in
     let marked : n.killed ≡ with_all_killed x.killed (kill_set x killed) =
     subst (λ (o : Option Killed). IfSome o (λ k. n.killed ≡ with_all_killed x.killed (kill_set x k))) c.in-Some.is c.kill.ensures.marked in
-    so_far_killed c.args.requester t g.N.BootName.stocks c.args.limited c.args.pages killed c.args.machine.now
+    so_far_killed c.args.requester t c.args.limited c.args.pages killed c.args.machine.now
     x n c.kills.invariant (c.needs_room.ensures.0 c.if-not-needs_room.false) c.prove_consistent.ensures charges most kills
     marked c.kill.ensures.stocks c.kill.ensures.keeps
 

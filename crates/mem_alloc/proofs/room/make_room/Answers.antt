@@ -7,36 +7,36 @@ use Rattle.mem_alloc.specs.Kills.{has_room_at}
 use Rattle.mem_alloc.proofs.Lowering.{Lowers, lowers_both, note_lowers, all_lower, lowered_there}
 use Rattle.mem_alloc.proofs.Killing.{few_lower}
 use Rattle.mem_machine.specs.Steps.{drain_stocks_steps, note_max_steps}
-use Rattle.mem_reclaim.proofs.Shown.{shown_after}
-use Rattle.mem_alloc.proofs.Making.{clears_by, limit_shown, limit_visits, relieves_by}
+use Rattle.mem_reclaim.proofs.Grown.{held_after}
+use Rattle.mem_alloc.proofs.Making.{clears_by, limit_held, limit_visits, relieves_by}
 use Rattle.mem_alloc.proofs.room.make_room.Goals as goal
 
-pub note_max-requires-clause-shown : goal.note_max-requires-clause-shown
-note_max-requires-clause-shown g c =
-    limit_shown g.N.BootName.frames c.args.limited c.args.pages c.args.machine.now c.note_limit.new.machine c.note_limit.ensures c.requires.shown
+pub note_max-requires-clause-held : goal.note_max-requires-clause-held
+note_max-requires-clause-held g c =
+    limit_held g.N.BootName.frames c.args.limited c.args.pages c.args.machine.now c.note_limit.new.machine c.note_limit.ensures c.requires.held
 
-pub drain_stocks-requires-clause-shown : goal.drain_stocks-requires-clause-shown
-drain_stocks-requires-clause-shown g c =
-    shown_after g.N.BootName.frames c.note_limit.new.machine (note_max_steps c.args.limited) c.note_max.new.self c.note_max.ensures.steps
-    (limit_shown g.N.BootName.frames c.args.limited c.args.pages c.args.machine.now c.note_limit.new.machine c.note_limit.ensures c.requires.shown)
+pub drain_stocks-requires-clause-held : goal.drain_stocks-requires-clause-held
+drain_stocks-requires-clause-held g c =
+    held_after g.N.BootName.frames c.note_limit.new.machine (note_max_steps c.args.limited) c.note_max.new.self c.note_max.ensures.steps
+    (limit_held g.N.BootName.frames c.args.limited c.args.pages c.args.machine.now c.note_limit.new.machine c.note_limit.ensures c.requires.held)
 
-pub reclaim_for-requires-clause-shown : goal.reclaim_for-requires-clause-shown
-reclaim_for-requires-clause-shown g c =
+pub reclaim_for-requires-clause-held : goal.reclaim_for-requires-clause-held
+reclaim_for-requires-clause-held g c =
     let t = g.N.BootName.frames in
     let drains = c.drain_stocks.ensures.drains in
-    shown_after t c.note_max.new.self (drain_stocks_steps drains.drains) c.drain_stocks.new.self drains.steps
-    (shown_after t c.note_limit.new.machine (note_max_steps c.args.limited) c.note_max.new.self c.note_max.ensures.steps
-    (limit_shown t c.args.limited c.args.pages c.args.machine.now c.note_limit.new.machine c.note_limit.ensures c.requires.shown))
+    held_after t c.note_max.new.self (drain_stocks_steps drains.drains) c.drain_stocks.new.self drains.steps
+    (held_after t c.note_limit.new.machine (note_max_steps c.args.limited) c.note_max.new.self c.note_max.ensures.steps
+    (limit_held t c.args.limited c.args.pages c.args.machine.now c.note_limit.new.machine c.note_limit.ensures c.requires.held))
 
-pub kill_for_few_pages-requires-clause-shown : goal.kill_for_few_pages-requires-clause-shown
-kill_for_few_pages-requires-clause-shown g c =
+pub kill_for_few_pages-requires-clause-held : goal.kill_for_few_pages-requires-clause-held
+kill_for_few_pages-requires-clause-held g c =
     let t = g.N.BootName.frames in
     let drains = c.drain_stocks.ensures.drains in
     let reclaims = c.reclaim_for.ensures.reclaims in
-    shown_after t c.drain_stocks.new.self reclaims.steps c.reclaim_for.new.machine reclaims.makes
-    (shown_after t c.note_max.new.self (drain_stocks_steps drains.drains) c.drain_stocks.new.self drains.steps
-    (shown_after t c.note_limit.new.machine (note_max_steps c.args.limited) c.note_max.new.self c.note_max.ensures.steps
-    (limit_shown t c.args.limited c.args.pages c.args.machine.now c.note_limit.new.machine c.note_limit.ensures c.requires.shown)))
+    held_after t c.drain_stocks.new.self reclaims.steps c.reclaim_for.new.machine reclaims.makes
+    (held_after t c.note_max.new.self (drain_stocks_steps drains.drains) c.drain_stocks.new.self drains.steps
+    (held_after t c.note_limit.new.machine (note_max_steps c.args.limited) c.note_max.new.self c.note_max.ensures.steps
+    (limit_held t c.args.limited c.args.pages c.args.machine.now c.note_limit.new.machine c.note_limit.ensures c.requires.held)))
 
 pub reclaim_for-requires-clause-there : goal.reclaim_for-requires-clause-there
 reclaim_for-requires-clause-there g c =

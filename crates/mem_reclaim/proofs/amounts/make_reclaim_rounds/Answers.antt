@@ -2,7 +2,7 @@ use Rattle.std.proofs.Common.{◌≡◌, ◌≢◌, ℕ, ◌-◌, ◌^◌, ◌<�
 use Rattle.group_charge.specs.Charges.{current_of}
 use Rattle.mem_reclaim.specs.Rounds.{pages_missing}
 use Rattle.mem_reclaim.proofs.Rounding.{rounds_none, rounds_enough, rounds_more, rounds_end, rounds_done}
-use Rattle.mem_reclaim.proofs.Shown.{shown_after}
+use Rattle.mem_reclaim.proofs.Grown.{held_after}
 use Rattle.mem_reclaim.proofs.amounts.make_reclaim_rounds.Goals as goal
 
 pub loop-round-init : goal.loop-round-init
@@ -20,10 +20,10 @@ returns-then-asked-freed-clause-rounds g c =
     c.loop-round.freed c.loop-round.machine c.loop-round.invariant c.loop-round-test.true none in
     record { steps = h.rounds.steps; does = h.rounds.does; moves = h.rounds.moves }
 
-pub reclaim_round-pages-requires-clause-shown : goal.reclaim_round-pages-requires-clause-shown
-reclaim_round-pages-requires-clause-shown g c =
+pub reclaim_round-pages-requires-clause-held : goal.reclaim_round-pages-requires-clause-held
+reclaim_round-pages-requires-clause-held g c =
     let so = c.loop-round.invariant in
-    shown_after g.N.BootName.frames c.args.machine.now so.steps c.loop-round.machine so.moves.runs c.requires.shown
+    held_after g.N.BootName.frames c.args.machine.now so.steps c.loop-round.machine so.moves.runs c.requires.held
 
 pub returns-then-pages-eq0 : goal.returns-then-pages-eq0
 returns-then-pages-eq0 g c =

@@ -1,9 +1,9 @@
 use Rattle.mem_reclaim.proofs.Rounding.{amount_noted}
-use Rattle.mem_reclaim.proofs.Shown.{shown_noted}
+use Rattle.mem_reclaim.proofs.Grown.{held_noted}
 use Rattle.mem_reclaim.proofs.amounts.reclaim_amount.Goals as goal
 
-pub make_reclaim_rounds-requires-clause-shown : goal.make_reclaim_rounds-requires-clause-shown
-make_reclaim_rounds-requires-clause-shown g c = shown_noted g.N.BootName.frames c.args.machine.now c.note.new.self _ c.note.ensures c.requires.shown
+pub make_reclaim_rounds-requires-clause-held : goal.make_reclaim_rounds-requires-clause-held
+make_reclaim_rounds-requires-clause-held g c = held_noted g.N.BootName.frames c.args.machine.now c.note.new.self _ c.note.ensures c.requires.held
 
 pub returns : goal.returns
 returns g c =

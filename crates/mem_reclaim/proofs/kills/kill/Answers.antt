@@ -8,7 +8,7 @@ use Rattle.mem_reclaim.specs.Killing.{KillsSubtree}
 use Rattle.mem_reclaim.proofs.Choosing.{chosen_there}
 use Rattle.mem_reclaim.proofs.KilledRoots.{on_path_there}
 use Rattle.mem_reclaim.proofs.KillSets.{KilledSo, OneKilled, alone_killed, head_killed}
-use Rattle.mem_reclaim.proofs.Shown.{shown_noted}
+use Rattle.mem_reclaim.proofs.Grown.{held_noted}
 use Rattle.mem_reclaim.proofs.kills.kill.Goals as goal
 
 pub kill_subtree-requires-clause-killed_root : goal.kill_subtree-requires-clause-killed_root
@@ -22,13 +22,13 @@ kill_noted-requires-clause-there g c =
     ap (λ (x : KnownMachine). has_group x.ledger.groups c.in_ok-victim.victim) c.note_victim.ensures.machine
     ∙ chosen_there c.args.machine.now c.args.group c.in_ok-victim.victim (c.in_ok-victim.ensures {u = tt}).chosen
 
-pub kill_subtree-requires-clause-shown : goal.kill_subtree-requires-clause-shown
-kill_subtree-requires-clause-shown g c =
-    shown_noted g.N.BootName.frames c.args.machine.now c.note_victim.new.machine _ c.note_victim.ensures.machine c.requires.shown
+pub kill_subtree-requires-clause-held : goal.kill_subtree-requires-clause-held
+kill_subtree-requires-clause-held g c =
+    held_noted g.N.BootName.frames c.args.machine.now c.note_victim.new.machine _ c.note_victim.ensures.machine c.requires.held
 
-pub kill_noted-requires-clause-shown : goal.kill_noted-requires-clause-shown
-kill_noted-requires-clause-shown g c =
-    shown_noted g.N.BootName.frames c.args.machine.now c.note_victim.new.machine _ c.note_victim.ensures.machine c.requires.shown
+pub kill_noted-requires-clause-held : goal.kill_noted-requires-clause-held
+kill_noted-requires-clause-held g c =
+    held_noted g.N.BootName.frames c.args.machine.now c.note_victim.new.machine _ c.note_victim.ensures.machine c.requires.held
 
 pub returns-in-Some : goal.returns-in-Some
 returns-in-Some g c =

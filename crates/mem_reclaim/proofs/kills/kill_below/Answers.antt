@@ -3,7 +3,7 @@ use Rattle.mem_machine.specs.Machines.{KnownMachine}
 use Rattle.mem_reclaim.specs.Victim.{may_be_killed}
 use Rattle.mem_reclaim.proofs.Choosing.{chosen_there}
 use Rattle.mem_reclaim.proofs.KillSets.{KilledSoFar, OneKilled, below_all, below_first, below_more, below_same}
-use Rattle.mem_reclaim.proofs.Shown.{shown_after}
+use Rattle.mem_reclaim.proofs.Grown.{held_after}
 use Rattle.mem_reclaim.proofs.kills.kill_below.Goals as goal
 use Rattle.mem_reclaim.proofs.kills.kill_below.Goals.{then-may_be_killed, else-may_be_killed}
 
@@ -14,10 +14,10 @@ pub kill_noted-requires-clause-there : goal.kill_noted-requires-clause-there
 kill_noted-requires-clause-there g c =
     chosen_there c.loop-number.machine c.args.killed_root c.in-Some.turn (sym c.may_be_killed.ensures ∙ c.if-may_be_killed.true)
 
-pub kill_noted-requires-clause-shown : goal.kill_noted-requires-clause-shown
-kill_noted-requires-clause-shown g c =
+pub kill_noted-requires-clause-held : goal.kill_noted-requires-clause-held
+kill_noted-requires-clause-held g c =
     let kills = c.loop-number.invariant.so.kills in
-    shown_after g.N.BootName.frames c.args.machine.now kills.steps c.loop-number.machine kills.runs c.requires.shown
+    held_after g.N.BootName.frames c.args.machine.now kills.steps c.loop-number.machine kills.runs c.requires.held
 
 pub loop-number-preserved : goal.loop-number-preserved
 loop-number-preserved g c =

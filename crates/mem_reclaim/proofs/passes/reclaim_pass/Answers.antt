@@ -1,7 +1,7 @@
 use Rattle.std.proofs.Common.{rules}
 use Rattle.group_tree.proofs.CallerLemmas.{in_subtree-below}
 use Rattle.mem_reclaim.proofs.Passing.{pass_none, pass_more, pass_enough, pass_done, turn_inside}
-use Rattle.mem_reclaim.proofs.Shown.{shown_after}
+use Rattle.mem_reclaim.proofs.Grown.{held_after}
 use Rattle.mem_reclaim.proofs.passes.reclaim_pass.Goals as goal
 
 pub loop-number-init : goal.loop-number-init
@@ -16,10 +16,10 @@ reclaim_group-freed-requires-clause-there g c =
     in_subtree-below c.loop-number.machine.ledger.groups c.args.group c.in-Some-of.turn
     (turn_inside _ _ _ _ _ _ _ _ c.loop-number.invariant c.in-Some-of.turn c.in-Some.number c.in-Some-of.ensures.1 found.0 found.1)
 
-pub reclaim_group-freed-requires-clause-shown : goal.reclaim_group-freed-requires-clause-shown
-reclaim_group-freed-requires-clause-shown g c =
+pub reclaim_group-freed-requires-clause-held : goal.reclaim_group-freed-requires-clause-held
+reclaim_group-freed-requires-clause-held g c =
     let so = c.loop-number.invariant.so_far in
-    shown_after g.N.BootName.frames c.args.machine.now so.steps c.loop-number.machine so.moves.runs c.requires.shown
+    held_after g.N.BootName.frames c.args.machine.now so.steps c.loop-number.machine so.moves.runs c.requires.held
 
 pub loop-number-preserved : goal.loop-number-preserved
 loop-number-preserved g c =
@@ -29,7 +29,7 @@ loop-number-preserved g c =
 
 pub returns : goal.returns
 returns g c =
-    let all = pass_done _ _ _ _ _ _ _ _ c.loop-number.invariant g.N.BootName.stocks c.prove_consistent.ensures c.in_default.ensures.first in
+    let all = pass_done _ _ _ _ _ _ _ _ c.loop-number.invariant c.prove_consistent.ensures c.in_default.ensures.first in
     record { passes = all.passes; keeps = search rules; usage = search rules; few = search rules; leaves = search rules; missed = all.missed }
 
 pub returns-then-want-freed-clause-few : goal.returns-then-want-freed-clause-few

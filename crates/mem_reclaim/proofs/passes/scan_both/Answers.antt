@@ -7,7 +7,7 @@ use Rattle.mem_reclaim.specs.Units.{ScansList}
 use Rattle.mem_reclaim.proofs.Wanting.{first_enough, both_done}
 use Rattle.mem_reclaim.proofs.Keeping.{keeps_both, only_both}
 use Rattle.mem_reclaim.proofs.Passing.{usage_both, both_missed}
-use Rattle.mem_reclaim.proofs.Shown.{shown_after}
+use Rattle.mem_reclaim.proofs.Grown.{held_after}
 use Rattle.mem_reclaim.proofs.passes.scan_both.Goals as goal
 
 pub returns-then-want-inactive-clause-passes : goal.returns-then-want-inactive-clause-passes
@@ -15,10 +15,10 @@ returns-then-want-inactive-clause-passes g c =
     first_enough g.N.BootName.frames (ScansList false c.args.group) Inactive Active c.args.want c.args.machine.now c.requires.wanted c.scan-inactive.result
     c.scan-inactive.new.machine c.scan-inactive.ensures.scans c.if-want-inactive.true
 
-pub scan-active-requires-clause-shown : goal.scan-active-requires-clause-shown
-scan-active-requires-clause-shown g c =
+pub scan-active-requires-clause-held : goal.scan-active-requires-clause-held
+scan-active-requires-clause-held g c =
     let first = c.scan-inactive.ensures.scans in
-    shown_after g.N.BootName.frames c.args.machine.now first.steps c.scan-inactive.new.machine first.moves.runs c.requires.shown
+    held_after g.N.BootName.frames c.args.machine.now first.steps c.scan-inactive.new.machine first.moves.runs c.requires.held
 
 pub returns-clause-passes : goal.returns-clause-passes
 returns-clause-passes g c =

@@ -7,7 +7,7 @@ use Rattle.mem_reclaim.proofs.Wanting.{first_enough, both_done}
 use Rattle.mem_reclaim.proofs.Keeping.{keeps_both}
 use Rattle.mem_reclaim.proofs.Moving.{moves_rest}
 use Rattle.mem_reclaim.proofs.Passing.{missed_then}
-use Rattle.mem_reclaim.proofs.Shown.{shown_after}
+use Rattle.mem_reclaim.proofs.Grown.{held_after}
 use Rattle.mem_reclaim.proofs.reclaiming.reclaim.Goals as goal
 
 pub returns-then-want-first-clause-reclaims : goal.returns-then-want-first-clause-reclaims
@@ -24,10 +24,10 @@ reclaim_pass-requires-clause-subtree g c =
     subst (λ (groups : List Group). IsSubtree groups c.args.group c.subtree-groups.result)
     (c.tree.ensures.tree ∙ ap (λ (l : Ledger). l.groups) c.charges.ensures ∙ sym c.reclaim_pass-first.ensures.keeps.groups) c.subtree-groups.ensures
 
-pub reclaim_pass-requires-clause-shown : goal.reclaim_pass-requires-clause-shown
-reclaim_pass-requires-clause-shown g c =
+pub reclaim_pass-requires-clause-held : goal.reclaim_pass-requires-clause-held
+reclaim_pass-requires-clause-held g c =
     let first = c.reclaim_pass-first.ensures.passes in
-    shown_after g.N.BootName.frames c.args.machine.now first.steps c.reclaim_pass-first.new.machine first.moves.runs c.requires.shown
+    held_after g.N.BootName.frames c.args.machine.now first.steps c.reclaim_pass-first.new.machine first.moves.runs c.requires.held
 
 pub returns-clause-reclaims : goal.returns-clause-reclaims
 returns-clause-reclaims g c =

@@ -3,7 +3,7 @@ use Rattle.group_tree.specs.Groups.{has_group}
 use Rattle.group_charge.specs.Charges.{Ledger, current_of}
 use Rattle.mem_reclaim.specs.Rounds.{pages_missing}
 use Rattle.mem_reclaim.proofs.Rounding.{rounds_none, rounds_enough, rounds_more, rounds_end, rounds_done}
-use Rattle.mem_reclaim.proofs.Shown.{shown_after}
+use Rattle.mem_reclaim.proofs.Grown.{held_after}
 use Rattle.mem_reclaim.proofs.rounds.reclaim_to_limit.Goals as goal
 
 pub loop-round-init : goal.loop-round-init
@@ -25,7 +25,7 @@ pub reclaim_round-pages-requires : goal.reclaim_round-pages-requires
 reclaim_round-pages-requires g c =
     let so = c.loop-round.invariant in record {
       there = ap (λ l. has_group l c.args.group) so.keeps.groups ∙ c.requires.there;
-      shown = shown_after g.N.BootName.frames c.args.machine.now so.steps c.loop-round.machine so.moves.runs c.requires.shown;
+      held = held_after g.N.BootName.frames c.args.machine.now so.steps c.loop-round.machine so.moves.runs c.requires.held;
     }
 
 pub overflow_add-freed : goal.overflow_add-freed

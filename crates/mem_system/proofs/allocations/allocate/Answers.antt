@@ -4,7 +4,7 @@ use Rattle.mem_system.specs.Allocations.{Allocates, FreshOf, outcome_of}
 use Rattle.mem_system.specs.Outcomes.{reply_of}
 use Rattle.mem_system.proofs.Found.{found_there}
 use Rattle.mem_system.proofs.Allocating.{allocated, has_groups}
-use Rattle.mem_machine.specs.Local.{visit_state, Makes}
+use Rattle.mem_machine.specs.Local.{VisitMakes, visit_state}
 use Rattle.mem_system.specs.Commands.{BySteps, transition}
 use Rattle.mem_system.proofs.allocations.allocate.Goals as goal
 
@@ -23,7 +23,7 @@ returns-clause-allocates g c =
     let within : c.in-Some-of.order ≤ 10 = search rules in
     let same : c.in-Some-of.order ≡ c.args.order = search rules in
     let told = c.allocate_as-answer.ensures.allocates in
-    rw c.outcome_of.ensures (subst (λ (k : ℕ). BySteps Makes t (Allocates c.args.sizes c.args.path.now k (reply_of after.machine.ledger (outcome_of answer))) before after) same (record {
+    rw c.outcome_of.ensures (subst (λ (k : ℕ). BySteps VisitMakes t (Allocates c.args.sizes c.args.path.now k (reply_of after.machine.ledger (outcome_of answer))) before after) same (record {
       steps = told.steps;
       does = allocated c.args.sizes c.args.path.now c.in-Some-of.order c.in-Some.group (transition t before told.steps after) found within answer told.does
           c.allocate_as-answer.ensures.there;

@@ -21,7 +21,6 @@ empty_all-requires-clause-settled g c =
 pub returns-clause-visits : goal.returns-clause-visits
 returns-clause-visits g c =
     let t = g.N.BootName.frames in
-    let w = g.N.BootName.stocks in
     let first = c.deref_mut.ensures.value in
     let second = c.deref_mut-2.ensures.value in
     let size = sym c.deref_mut.ensures.len ∙ ap length first in
@@ -41,33 +40,24 @@ returns-clause-visits g c =
     let emptied : List CpuInRun → KnownEmptiedBoot = λ (l : List CpuInRun). record {
       machine = c.empty_all.new.machine;
       cpus = l;
-      drops =
-          c.count_drops-drops.result;
+      drops = c.count_drops-drops.result;
     } in
-    subst (λ (z : KnownLocked × List CpuInRun). MakesLastVisits t w z.0 c.args.cpus.items (emptied z.1)) (λ i. (c.locked.view_is i, sym last i))
-    (all_visits t w (record { machine = c.locked.inside.machine; sizes = c.locked.inside.sizes }) c.args.cpus.items c.settle_all.new.machine c.settle_all.new.cpus
+    subst (λ (z : KnownLocked × List CpuInRun). MakesLastVisits t z.0 c.args.cpus.items (emptied z.1)) (λ i. (c.locked.view_is i, sym last i))
+    (all_visits t (record { machine = c.locked.inside.machine; sizes = c.locked.inside.sizes }) c.args.cpus.items c.settle_all.new.machine c.settle_all.new.cpus
     (emptied c.empty_all.new.cpus) c.locked.invariant.quiet none dropped rests empties)
 
 pub invariant_of-result : goal.invariant_of-result
 invariant_of-result g c =
     let t = g.N.BootName.frames in
-    let w = g.N.BootName.stocks in
     let first = c.deref_mut.ensures.value in
     let second = c.deref_mut-2.ensures.value in
     let size = sym c.deref_mut.ensures.len ∙ ap length first in
     let long = turn_long (VisitsUnderLock t SettlesInVisit) _ _ _ _ c.settle_all.ensures.settles ∙ ap length first in
     let same = written_back c.args.cpus.len c.settle_all.new.cpus c.args.cpus.items long size in
     let longer = turn_long (VisitsUnderLock t Empties) _ _ _ _ c.empty_all.ensures.empties ∙ ap length second in
-    let last = written_back c.args.cpus.len c.empty_all.new.cpus _ longer (size ∙ sym (ap length same ∙ long)) in
-    let sized = c.locked.invariant.quiet.sized in (
-      subst (λ (l : List CpuInRun). NothingIsLeft t w (record { machine = c.empty_all.new.machine; cpus = l; drops = c.count_drops-drops.result })) (sym last)
-          (record {
-            shut = c.empty_all.ensures.shut;
-            rests = c.empty_all.ensures.rests;
-            all_emptied = c.empty_all.ensures.emptied;
-            count = longer ∙ ap length same ∙ long ∙ c.requires;
-            stock_count = sized.stock_cpus ∙ sym sized.cpus;
-          }),
-      subst (λ (k : ℕ). IsEmptyWithRoom k (length c.locked.inside.seats.items) (vec_capacity c.locked.inside.seats)) (sym sized.cpus)
+    let last = written_back c.args.cpus.len c.empty_all.new.cpus _ longer (size ∙ sym (ap length same ∙ long)) in (
+      subst (λ (l : List CpuInRun). NothingIsLeft t (record { machine = c.empty_all.new.machine; cpus = l; drops = c.count_drops-drops.result })) (sym last)
+          (record { rests = c.empty_all.ensures.rests; all_emptied = c.empty_all.ensures.emptied; count = longer ∙ ap length same ∙ long ∙ c.requires }),
+      subst (λ (k : ℕ). IsEmptyWithRoom k (length c.locked.inside.seats.items) (vec_capacity c.locked.inside.seats)) (sym c.locked.invariant.quiet.sized.cpus)
           c.locked.invariant.seats,
     )

@@ -1,6 +1,8 @@
 use Rattle.std.proofs.Common.{◌≡◌, ◌+◌, ◌-◌, ◌≤◌}
 use Rattle.std.specs.Vec.{vec_len, vec_capacity}
-use Rattle.boot_words.specs.Opening.{opening_seats}
+use Rattle.boot_words.specs.Cpus.{IsAwayCpu}
+use Rattle.boot_words.specs.Opening.{cpus_at_first}
+use Rattle.boot_words.specs.Rule.{AllOf}
 use Rattle.mem_system.specs.Boots.{first_cpus, first_pasts}
 use Rattle.mem_system.specs.Cpus.{parts_of, pasts_of}
 use Rattle.mem_system.proofs.boots.make_cpus.Given as goal
@@ -10,7 +12,8 @@ abbrev pub invariant-loop-dealt : goal.invariant-loop-dealt
 invariant-loop-dealt g l = record {
   room : l.cpus ≤ vec_capacity l.made;
   size : vec_len l.made ≡ l._dealt;
-  seats : l.seats.items ≡ opening_seats g.N.BootName.frames.table (l._dealt + 1) (l.cpus - l._dealt);
-  parts : parts_of l.made.items ≡ first_cpus g.N.BootName.frames g.N.BootName.stocks 1 l._dealt;
+  seats : l.seats.items ≡ cpus_at_first g.N.BootName.frames.table (l._dealt + 1) (l.cpus - l._dealt);
+  away : AllOf (IsAwayCpu g.N.BootName.frames) l.seats.items;
+  parts : parts_of l.made.items ≡ first_cpus 1 l._dealt;
   pasts : pasts_of l.made.items ≡ first_pasts 1 l._dealt;
 }

@@ -1,14 +1,14 @@
 -- Serves the contract of `execute`: what each command did, in the words of the command that it is.
-use Rattle.std.proofs.Common.{◌≡◌, ◌∙◌, [], ap, arith, length, refl, subst, sym}
+use Rattle.std.proofs.Common.{◌≡◌, ◌∙◌, [], ap, arith, length, refl, subst}
 use Rattle.zone_blocks.specs.declared.config.Config.{Config}
 use Rattle.group_charge.specs.Charges.{Ledger}
 use Rattle.cpu_part.specs.Cpus.{KnownCpu}
-use Rattle.mem_machine.specs.Local.{visit_state}
 use Rattle.mem_machine.proofs.Followed.{makes_none}
 use Rattle.mem_system.specs.Commands.{ListAndFreshStayWithin, NamesFrameBelow}
 use Rattle.mem_system.specs.Files.{Reads}
 use Rattle.mem_system.specs.Outcomes.{HasItsGroups, reply_of}
-use Rattle.mem_system.proofs.Keeping.{visit_keeps}
+use Rattle.mem_machine.proofs.Made.{visit_same}
+use Rattle.mem_system.proofs.Keeping.{keeps_visit}
 use Rattle.mem_system.proofs.command.execute.Goals as goal
 
 -- a CPU without fresh frames has at most `high` frames, if its list has
@@ -16,10 +16,13 @@ none_fresh : (sizes : Config) (cpu : KnownCpu) → cpu.fresh ≡ [] → ListAndF
 none_fresh sizes cpu none = λ within. let no_more = ap length none in omega (arith, no_more, within)
 
 pub make_group-requires : goal.make_group-requires
-make_group-requires g c = record { shown = record { cpu = c.args.cpu.now; is = c.requires.visit.visit.shown } }
+make_group-requires g c = record { held = c.requires.visit.visit.held }
 
 pub write_file-requires : goal.write_file-requires
-write_file-requires g c = record { shown = record { cpu = c.args.cpu.now; is = c.requires.visit.visit.shown } }
+write_file-requires g c = record { held = c.requires.visit.visit.held }
+
+pub remove_group-requires : goal.remove_group-requires
+remove_group-requires g c = record { held = c.requires.visit.visit.held }
 
 pub report_place-requires : goal.report_place-requires
 report_place-requires g c = subst (NamesFrameBelow g.N.BootName.frames.frames) c.in-Owner.is c.requires.zone
@@ -35,9 +38,9 @@ returns-in-Mkdir g c =
     let told = c.make_group.ensures in
     let does = told.made in
     rw c.in-Mkdir.is (record {
-      executed = record { steps = does.steps; does = record { does = does.does; cpu = refl }; makes = does.makes c.args.cpu.now };
+      executed = record { steps = does.steps; does = record { does = does.does; cpu = refl }; makes = does.makes };
       groups = told.groups;
-      stays = visit_keeps g.N.BootName.frames c.args.machine.now c.make_group.new.machine c.args.cpu.now told.seat does.steps does.makes c.requires.visit.visit;
+      stays = keeps_visit g.N.BootName.frames c.args.machine.now c.make_group.new.machine c.args.cpu.now (told.visit c.args.cpu.now c.requires.visit.visit);
       fresh = c.requires.visit.settled.0;
       at_most_high = none_fresh c.args.sizes c.args.cpu.now c.requires.visit.settled.0;
     })
@@ -47,9 +50,10 @@ returns-in-Touch g c =
     let told = c.touch_frame.ensures in
     let does = told.touched in
     rw c.in-Touch.is (record {
-      executed = record { steps = does.steps; does = record { does = does.does; cpu = refl }; makes = does.makes c.args.cpu.now };
+      executed = record { steps = does.steps; does = record { does = does.does; cpu = refl }; makes = does.makes };
       groups = told.groups;
-      stays = visit_keeps g.N.BootName.frames c.args.machine.now c.touch_frame.new.machine c.args.cpu.now does.does.seat does.steps does.makes c.requires.visit.visit;
+      stays = keeps_visit g.N.BootName.frames c.args.machine.now c.touch_frame.new.machine c.args.cpu.now
+          (visit_same g.N.BootName.frames c.args.machine.now c.touch_frame.new.machine c.args.cpu.now does.does.run c.requires.visit.visit);
       fresh = c.requires.visit.settled.0;
       at_most_high = none_fresh c.args.sizes c.args.cpu.now c.requires.visit.settled.0;
     })
@@ -59,9 +63,10 @@ returns-in-Dirty g c =
     let told = c.note_dirt.ensures in
     let does = told.noted in
     rw c.in-Dirty.is (record {
-      executed = record { steps = does.steps; does = record { does = does.does; cpu = refl }; makes = does.makes c.args.cpu.now };
+      executed = record { steps = does.steps; does = record { does = does.does; cpu = refl }; makes = does.makes };
       groups = told.groups;
-      stays = visit_keeps g.N.BootName.frames c.args.machine.now c.note_dirt.new.machine c.args.cpu.now does.does.seat does.steps does.makes c.requires.visit.visit;
+      stays = keeps_visit g.N.BootName.frames c.args.machine.now c.note_dirt.new.machine c.args.cpu.now
+          (visit_same g.N.BootName.frames c.args.machine.now c.note_dirt.new.machine c.args.cpu.now does.does.run c.requires.visit.visit);
       fresh = c.requires.visit.settled.0;
       at_most_high = none_fresh c.args.sizes c.args.cpu.now c.requires.visit.settled.0;
     })
@@ -71,9 +76,10 @@ returns-in-Clean g c =
     let told = c.note_dirt-in-Clean.ensures in
     let does = told.noted in
     rw c.in-Clean.is (record {
-      executed = record { steps = does.steps; does = record { does = does.does; cpu = refl }; makes = does.makes c.args.cpu.now };
+      executed = record { steps = does.steps; does = record { does = does.does; cpu = refl }; makes = does.makes };
       groups = told.groups;
-      stays = visit_keeps g.N.BootName.frames c.args.machine.now c.note_dirt-in-Clean.new.machine c.args.cpu.now does.does.seat does.steps does.makes c.requires.visit.visit;
+      stays = keeps_visit g.N.BootName.frames c.args.machine.now c.note_dirt-in-Clean.new.machine c.args.cpu.now
+          (visit_same g.N.BootName.frames c.args.machine.now c.note_dirt-in-Clean.new.machine c.args.cpu.now does.does.run c.requires.visit.visit);
       fresh = c.requires.visit.settled.0;
       at_most_high = none_fresh c.args.sizes c.args.cpu.now c.requires.visit.settled.0;
     })
@@ -83,9 +89,9 @@ returns-in-Write g c =
     let told = c.write_file.ensures in
     let does = told.written in
     rw c.in-Write.is (record {
-      executed = record { steps = does.steps; does = record { does = does.does; cpu = refl }; makes = does.makes c.args.cpu.now };
+      executed = record { steps = does.steps; does = record { does = does.does; cpu = refl }; makes = does.makes };
       groups = told.groups;
-      stays = told.stays c.args.cpu.now c.requires.visit.visit;
+      stays = keeps_visit g.N.BootName.frames c.args.machine.now c.write_file.new.machine c.args.cpu.now (told.visit c.args.cpu.now c.requires.visit.visit);
       fresh = c.requires.visit.settled.0;
       at_most_high = none_fresh c.args.sizes c.args.cpu.now c.requires.visit.settled.0;
     })
@@ -95,11 +101,11 @@ returns-in-Rmdir g c =
     let told = c.remove_group.ensures in
     let does = told.removed in
     rw c.in-Rmdir.is (record {
-      executed = record { steps = does.steps; does = record { does = does.does; cpu = told.cpu }; makes = does.makes };
+      executed = record { steps = does.steps; does = record { does = does.does; cpu = refl }; makes = does.makes };
       groups = told.groups;
-      stays = told.stays;
-      fresh = ap (λ (y : KnownCpu). y.fresh) told.cpu ∙ c.requires.visit.settled.0;
-      at_most_high = subst (ListAndFreshStayWithin c.args.sizes c.args.cpu.now) (sym told.cpu) (none_fresh c.args.sizes c.args.cpu.now c.requires.visit.settled.0);
+      stays = keeps_visit g.N.BootName.frames c.args.machine.now c.remove_group.new.machine c.args.cpu.now (told.visit c.args.cpu.now c.requires.visit.visit);
+      fresh = c.requires.visit.settled.0;
+      at_most_high = none_fresh c.args.sizes c.args.cpu.now c.requires.visit.settled.0;
     })
 
 pub returns-in-Release : goal.returns-in-Release
@@ -135,10 +141,10 @@ returns-in-Read g c =
       executed = record {
         steps = [];
         does = (read, record { machine = refl; cpu = refl; steps_are = refl });
-        makes = makes_none g.N.BootName.frames c.args.cpu.now.number (visit_state c.args.machine.now c.args.cpu.now);
+        makes = makes_none g.N.BootName.frames c.args.machine.now;
       };
       groups = subst (λ (l : Ledger). HasItsGroups l c.read_file.result) c.charges.ensures c.read_file.ensures.groups;
-      stays = record { visit = c.requires.visit.visit; opened = refl; number = refl; back = refl };
+      stays = keeps_visit g.N.BootName.frames c.args.machine.now c.args.machine.now c.args.cpu.now c.requires.visit.visit;
       fresh = c.requires.visit.settled.0;
       at_most_high = none_fresh c.args.sizes c.args.cpu.now c.requires.visit.settled.0;
     })
@@ -149,10 +155,10 @@ returns-in-Owner g c =
       executed = record {
         steps = [];
         does = (c.report_place.ensures.place, record { machine = refl; cpu = refl; steps_are = refl });
-        makes = makes_none g.N.BootName.frames c.args.cpu.now.number (visit_state c.args.machine.now c.args.cpu.now);
+        makes = makes_none g.N.BootName.frames c.args.machine.now;
       };
       groups = c.report_place.ensures.groups;
-      stays = record { visit = c.requires.visit.visit; opened = refl; number = refl; back = refl };
+      stays = keeps_visit g.N.BootName.frames c.args.machine.now c.args.machine.now c.args.cpu.now c.requires.visit.visit;
       fresh = c.requires.visit.settled.0;
       at_most_high = none_fresh c.args.sizes c.args.cpu.now c.requires.visit.settled.0;
     })
@@ -163,10 +169,10 @@ returns-in-Settle g c =
       executed = record {
         steps = [];
         does = (refl, record { machine = refl; cpu = refl; steps_are = refl });
-        makes = makes_none g.N.BootName.frames c.args.cpu.now.number (visit_state c.args.machine.now c.args.cpu.now);
+        makes = makes_none g.N.BootName.frames c.args.machine.now;
       };
       groups = tt;
-      stays = record { visit = c.requires.visit.visit; opened = refl; number = refl; back = refl };
+      stays = keeps_visit g.N.BootName.frames c.args.machine.now c.args.machine.now c.args.cpu.now c.requires.visit.visit;
       fresh = c.requires.visit.settled.0;
       at_most_high = none_fresh c.args.sizes c.args.cpu.now c.requires.visit.settled.0;
     })

@@ -1,4 +1,4 @@
-use Rattle.std.proofs.Common.{subst, sym}
+use Rattle.std.proofs.Common.{subst}
 use Rattle.mem_system.specs.declared.command.Cmd.TheVariants.{Dirty}
 use Rattle.mem_system.specs.declared.command.Reply.{Reply}
 use Rattle.mem_system.specs.Visits.{IsServed, LockedState, locked_state}
@@ -9,9 +9,8 @@ pub serve_outcome-done-requires : goal.serve_outcome-done-requires
 serve_outcome-done-requires g c =
     let start : LockedState = locked_state c.args.locked.now c.args.cpu.now in
     let now : LockedState = locked_state c.serve_outcome-outcome.new.locked c.serve_outcome-outcome.new.cpu in
-    let served = c.in-Frame.ensures.served in
-    given_inside g.N.BootName.frames g.N.BootName.stocks c.args.path c.args.order c.in-Frame.frame start now served.steps served.serves
-    c.in-Frame.ensures.settled.0 c.number-tied.ensures.tied c.prove_quiet.ensures.consistent
+    given_inside g.N.BootName.frames c.args.path c.in-Frame.frame start now c.args.order c.in-Frame.ensures.served
+    c.in-Frame.ensures.settled.0 c.prove_quiet.ensures.consistent
 
 pub returns-clause-served : goal.returns-clause-served
 returns-clause-served g c =
@@ -26,5 +25,5 @@ returns-clause-served g c =
       between = now;
       allocates = served;
       notes = subst (λ (r : Reply). IsServed t (Dirty c.in-Frame.frame) r now end)
-          (dirty_done t c.args.path c.args.order c.in-Frame.frame start now served.steps served.serves settled.0 settled.1 _ end noted.steps noted.serves) noted;
+          (dirty_done t c.args.path c.in-Frame.frame start now c.args.order served settled.0 settled.1 _ end noted) noted;
     }

@@ -22,6 +22,6 @@ returns g c =
     let long = c.put_all_pins.auto.cpus ∙ ap length first in
     let same = written_back c.args.cpus.len c.put_all_pins.new.cpus c.args.cpus.items long (sym c.deref_mut.ensures.len ∙ ap length first) in
     let held = c.count_pins-held.ensures ∙ ap (λ (l : List CpuInRun). pins_of_all (parts_of l)) c.deref.ensures.value in
-    puts_and_ends _ _ _ _ _ _ (record { quiet = quiet.quiet; consistent = quiet.consistent; charges = quiet.charges }) held
+    puts_and_ends _ _ _ _ _ (record { quiet = quiet.quiet; consistent = quiet.consistent; charges = quiet.charges }) held
     (subst (EachPuts c.args.cpus.items) (sym same) (subst (λ (l : List CpuInRun). EachPuts l c.put_all_pins.new.cpus) first c.put_all_pins.ensures.puts))
     c.in-Ok.ensures.ends

@@ -1,5 +1,4 @@
 use Rattle.std.proofs.Common.{◌≤◌, arith}
-use Rattle.mem_system.proofs.Keeping.{visits_keep}
 use Rattle.mem_system.proofs.Writing.{reclaims_all, reclaims_less}
 use Rattle.mem_system.proofs.files.reclaim_asked.Goals as goal
 
@@ -17,8 +16,8 @@ returns-else-reclaim_amount-asked-clause-written g c =
     reclaims_all g.N.BootName.frames value c.args.group c.args.asked c.reclaim_amount.result c.args.machine.now
     c.reclaim_amount.new.machine reads did.rounds did.missed did.usage did.keeps enough
 
-pub returns-then-reclaim_amount-asked-clause-stays : goal.returns-then-reclaim_amount-asked-clause-stays
-returns-then-reclaim_amount-asked-clause-stays g c = visits_keep g.N.BootName.frames _ _ c.reclaim_amount.ensures.keeps
+pub returns-then-reclaim_amount-asked-clause-visit : goal.returns-then-reclaim_amount-asked-clause-visit
+returns-then-reclaim_amount-asked-clause-visit g c = c.reclaim_amount.ensures.keeps.visit
 
-pub returns-else-reclaim_amount-asked-clause-stays : goal.returns-else-reclaim_amount-asked-clause-stays
-returns-else-reclaim_amount-asked-clause-stays g c = visits_keep g.N.BootName.frames _ _ c.reclaim_amount.ensures.keeps
+pub returns-else-reclaim_amount-asked-clause-visit : goal.returns-else-reclaim_amount-asked-clause-visit
+returns-else-reclaim_amount-asked-clause-visit g c = c.reclaim_amount.ensures.keeps.visit

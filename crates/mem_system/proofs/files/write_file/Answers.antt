@@ -2,11 +2,9 @@ use Rattle.std.proofs.Common.{subst}
 use Rattle.group_tree.specs.declared.fault.Fault.TheVariants.{ReadOnly}
 use Rattle.control_files.specs.declared.file.File.{File}
 use Rattle.control_files.specs.declared.file.File.TheVariants.{Max, OomGroup, Reclaim}
-use Rattle.cpu_part.specs.Cpus.{KnownCpu}
 use Rattle.group_charge.specs.Charges.{Ledger}
 use Rattle.mem_system.specs.Files.{HasNoFile, IsFileOf}
 use Rattle.mem_system.proofs.Found.{found_there}
-use Rattle.mem_system.proofs.Keeping.{visit_same}
 use Rattle.mem_system.proofs.Writing.{read_only, refused_at, written_at}
 use Rattle.mem_system.proofs.Refusing.{none_written}
 use Rattle.mem_system.proofs.files.write_file.Goals as goal
@@ -37,7 +35,7 @@ returns-in_default g c =
       written = refused_at g.N.BootName.frames c.args.path.now c.args.name.now c.args.value.now c.in-Ok.found.0 c.in-Ok.found.1
           ReadOnly c.args.machine.now is (read_only c.in-Ok.found.1 c.in_default.not-Max c.in_default.not-OomGroup c.in_default.not-Reclaim);
       groups = tt;
-      stays = λ (y : KnownCpu) v. visit_same g.N.BootName.frames c.args.machine.now y v;
+      visit = λ y v. v;
     }
 
 pub returns-in-Err-clause-written : goal.returns-in-Err-clause-written

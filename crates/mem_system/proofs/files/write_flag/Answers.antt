@@ -1,9 +1,6 @@
 use Rattle.std.proofs.Common.{ap, refl, Err}
 use Rattle.control_files.specs.declared.file.File.TheVariants.{OomGroup}
-use Rattle.cpu_part.specs.Cpus.{KnownCpu}
-use Rattle.mem_machine.specs.Machines.{KnownMachine}
 use Rattle.mem_machine.specs.Steps.{set_oom_group_steps}
-use Rattle.mem_system.proofs.Keeping.{visit_keeps}
 use Rattle.mem_system.proofs.Writing.{refused_by, refused_flag}
 use Rattle.mem_system.proofs.files.write_flag.Goals as goal
 
@@ -18,12 +15,6 @@ returns-in-Ok-clause-written g c =
       };
       makes = set.steps;
     }
-
-pub returns-in-Ok-clause-stays : goal.returns-in-Ok-clause-stays
-returns-in-Ok-clause-stays g c =
-    λ (y : KnownCpu) v.
-    visit_keeps g.N.BootName.frames c.args.machine.now c.set_oom_group.new.self y
-    (ap (λ (k : KnownMachine). k.frame_seat) c.set_oom_group.ensures.machine) _ c.set_oom_group.ensures.steps v
 
 pub returns-in-Err-clause-written : goal.returns-in-Err-clause-written
 returns-in-Err-clause-written g c =

@@ -1,8 +1,9 @@
 use Rattle.std.proofs.Common.{◌<◌, ◌≤◌, length, arith, rules, subst, sym}
+use Rattle.std.proofs.lemmas.List.Elements.{All-map, All-weaker}
 use Rattle.std.specs.Prelude.{take}
 use Rattle.mem_system.specs.Cpus.{CpuInRun}
 use Rattle.mem_system.specs.Ends.{Empties, VisitsUnderLock, IsSettledUnpinned, IsEmptied}
-use Rattle.mem_system.proofs.InTurns.{so_far_more, so_far_end, same_at, all_still, all_more, all_parts, all_taken, emptied_still, parts_all}
+use Rattle.mem_system.proofs.InTurns.{so_far_more, so_far_end, same_at, all_more, all_taken, emptied_still, parts_all}
 use Rattle.mem_system.proofs.last_visits.empty_all.Goals as goal
 
 pub empty_under_lock-requires-clause-settled : goal.empty_under_lock-requires-clause-settled
@@ -17,13 +18,11 @@ pub loop-cpu-preserved : goal.loop-cpu-preserved
 loop-cpu-preserved g c =
     let inside : c.loop-cpu.cpu-index < length c.loop-cpu.cpus = search rules in
     let done = c.empty_under_lock.ensures in
-    let t = g.N.BootName.frames in
-    let w = g.N.BootName.stocks in (
+    let t = g.N.BootName.frames in (
       so_far_more (VisitsUnderLock t Empties) _ _ _ _ _ _ c.cpu-item.result _ c.loop-cpu.invariant.0 inside done.empties,
-      all_more (λ cpu. IsEmptied t w c.empty_under_lock.new.machine cpu.part) c.loop-cpu.cpus c.loop-cpu.cpu-index c.empty_under_lock.new.cpu inside
-          (all_still (λ cpu. IsEmptied t w c.loop-cpu.machine cpu.part) (λ cpu. IsEmptied t w c.empty_under_lock.new.machine cpu.part) (take c.loop-cpu.cpu-index c.loop-cpu.cpus)
-          (λ cpu. emptied_still t w c.loop-cpu.machine c.empty_under_lock.new.machine done.others cpu.part) c.loop-cpu.invariant.1) done.emptied,
-      done.shut,
+      all_more (λ cpu. IsEmptied t c.empty_under_lock.new.machine cpu.part) c.loop-cpu.cpus c.loop-cpu.cpu-index c.empty_under_lock.new.cpu inside
+          (All-weaker (λ cpu. IsEmptied t c.loop-cpu.machine cpu.part) (λ cpu. IsEmptied t c.empty_under_lock.new.machine cpu.part)
+          (λ cpu. emptied_still t c.loop-cpu.machine c.empty_under_lock.new.machine done.others cpu.part) (take c.loop-cpu.cpu-index c.loop-cpu.cpus) c.loop-cpu.invariant.1) done.emptied,
       done.rests,
     )
 
@@ -35,6 +34,6 @@ returns-clause-empties g c =
 pub returns-clause-emptied : goal.returns-clause-emptied
 returns-clause-emptied g c =
     let past : length c.loop-cpu.cpus ≤ c.loop-cpu.cpu-index = search rules in
-    all_parts (IsEmptied g.N.BootName.frames g.N.BootName.stocks c.loop-cpu.machine) c.loop-cpu.cpus
-    (all_taken (λ cpu. IsEmptied g.N.BootName.frames g.N.BootName.stocks c.loop-cpu.machine cpu.part) c.loop-cpu.cpus c.loop-cpu.cpu-index past
+    All-map (IsEmptied g.N.BootName.frames c.loop-cpu.machine) (λ (cpu : CpuInRun). cpu.part) c.loop-cpu.cpus
+    (all_taken (λ cpu. IsEmptied g.N.BootName.frames c.loop-cpu.machine cpu.part) c.loop-cpu.cpus c.loop-cpu.cpu-index past
     c.loop-cpu.invariant.1)

@@ -1,75 +1,76 @@
 -- Serves the contract of `empty_cpu`: the list is returned whole, and then the stock is drained.
-use Rattle.std.proofs.Common.{ℕ, ap, sym, ◌∙◌, subst}
-use Rattle.cpu_part.specs.Cpus.{KnownCpu, IsTied}
-use Rattle.stock_word.specs.Stock.{account_of}
-use Rattle.mem_machine.specs.Machines.{KnownMachine, with_run}
-use Rattle.mem_system.specs.Visits.{with_visit_of}
+use Rattle.std.proofs.Common.{sym, ◌∙◌, subst}
+use Rattle.std.specs.Prelude.{ℕ, take}
+use Rattle.mem_machine.specs.Stocks.{Drains, stock_group}
+use Rattle.mem_machine.specs.Local.{Makes}
+use Rattle.mem_machine.specs.Machines.{IsCpuOf}
+use Rattle.mem_machine.specs.Steps.{drain_steps}
+use Rattle.mem_machine.proofs.Moved.{number_range}
 use Rattle.mem_system.proofs.Listing.{cut_off}
-use Rattle.mem_system.proofs.Visiting.{all_shut}
-use Rattle.mem_system.proofs.Turns.{whole_list, taken_alone, emptied_alone, emptied_drained, emptied}
+use Rattle.mem_system.proofs.Turns.{EmptyParts, whole_list, taken_alone, emptied_alone, emptied_drained, emptied}
 use Rattle.mem_system.proofs.last_visits.empty_cpu.Goals as goal
 
-pub open-requires-clause-shut : goal.open-requires-clause-shut
-open-requires-clause-shut g c = c.requires.shut c.args.cpu.now.number
+pub drain_stock-requires-clause-cpu : goal.drain_stock-requires-clause-cpu
+drain_stock-requires-clause-cpu g c =
+    let t = g.N.BootName.frames in
+    subst (IsCpuOf t) (sym c.number.ensures.number) (number_range t c.drain_list.new.self c.drain_list.new.cpu c.drain_list.ensures.visit)
 
-pub open-requires-clause-shown : goal.open-requires-clause-shown
-open-requires-clause-shown g c = c.requires.shown
-
-pub drain_list-requires : goal.drain_list-requires
-drain_list-requires g c = c.open.ensures.visits
-
-pub drain_stock-requires-clause-shown : goal.drain_stock-requires-clause-shown
-drain_stock-requires-clause-shown g c = record { cpu = c.drain_list.new.cpu; is = c.drain_list.ensures.visit.shown }
+pub drain_stock-requires-clause-held : goal.drain_stock-requires-clause-held
+drain_stock-requires-clause-held g c = c.drain_list.ensures.visit.held
 
 pub shut-requires : goal.shut-requires
 shut-requires g c = c.drain_stock.ensures.visit c.drain_list.new.cpu c.drain_list.ensures.visit
 
-pub prove_none_lent-requires : goal.prove_none_lent-requires
-prove_none_lent-requires g c = record {
-  lent = c.shut.ensures.lent;
-  none_listed =
-      let done = c.drain_list.ensures in
-      let whole = whole_list _ _ c.open.new.cpu.list c.drain_list.new.cpu.list done.listed c.list_len-listed.ensures.count done.fewer_only_at_the_end
-      (cut_off _ _ _ _ _ done.takes).split in
-      ap (λ (y : KnownCpu). y.list) c.shut.ensures.cpu ∙ whole.none_left;
-  none_fresh = ap (λ (y : KnownCpu). y.fresh) c.shut.ensures.cpu ∙ (cut_off _ _ _ _ _ c.drain_list.ensures.takes).fresh
-      ∙ ap (λ (y : KnownCpu). y.fresh) c.open.ensures.cpu ∙ c.requires.settled.none_fresh;
-}
+pub prove_none_lent-requires-clause-none_listed : goal.prove_none_lent-requires-clause-none_listed
+prove_none_lent-requires-clause-none_listed g c =
+    let done = c.drain_list.ensures in
+    (whole_list _ _ c.args.cpu.now.list c.drain_list.new.cpu.list done.listed c.list_len-listed.ensures.count done.fewer_only_at_the_end
+    (cut_off _ _ _ _ _ done.takes).split).none_left
+
+pub prove_none_lent-requires-clause-none_fresh : goal.prove_none_lent-requires-clause-none_fresh
+prove_none_lent-requires-clause-none_fresh g c = (cut_off _ _ _ _ _ c.drain_list.ensures.takes).fresh ∙ c.requires.settled.none_fresh
 
 pub returns : goal.returns
 returns g c =
+    let t = g.N.BootName.frames in
+    let m = c.args.machine.now in
+    let n = c.shut.new.self in
+    let first = c.args.cpu.now in
+    let d = c.drain_list.new.cpu in
+    let entered = c.open.new.self in
+    let x = c.drain_list.new.self in
+    let y = c.drain_stock.new.self in
     let done = c.drain_list.ensures in
+    let k = c.drain_list.result in
+    let pages = c.drain_stock.result in
     let cut = cut_off _ _ _ _ _ done.takes in
-    let whole = whole_list _ _ c.open.new.cpu.list c.drain_list.new.cpu.list done.listed c.list_len-listed.ensures.count done.fewer_only_at_the_end cut.split in
-    let numbered = cut.number ∙ ap (λ (y : KnownCpu). y.number) c.open.ensures.cpu in
+    let whole = whole_list _ _ first.list d.list done.listed c.list_len-listed.ensures.count done.fewer_only_at_the_end cut.split in
+    let named = c.number.ensures.number in
+    let parts : EmptyParts t m n first d entered x y (take k first.list) pages = record {
+      held = c.requires.holds.held;
+      opened = c.open.ensures.machine;
+      first = c.open.ensures.steps;
+      takes = done.takes;
+      gives = done.steps;
+      drains = subst (λ (q : ℕ). Drains t q pages x y) named c.drain_stock.ensures.drains;
+      drips = subst (λ (q : ℕ). Makes t x (drain_steps q (stock_group t x q) pages) y) named c.drain_stock.ensures.steps;
+      shut = c.shut.ensures.machine;
+      last = c.shut.ensures.steps;
+      same = cut.number;
+    } in
     record {
-      empties = emptied g.N.BootName.frames c.args.machine.now c.shut.new.self c.args.cpu.now c.shut.new.cpu c.open.new.self c.drain_list.new.self c.drain_stock.new.self
-          c.open.new.cpu c.drain_list.new.cpu _ _ c.drain_stock.result c.open.ensures.machine c.open.ensures.cpu cut.number c.number.ensures.number
-          c.shut.ensures.machine c.shut.ensures.cpu whole.all_taken c.open.ensures.steps done.takes done.steps c.drain_stock.ensures.drains
-          c.drain_stock.ensures.steps c.shut.ensures.steps;
-      shut =
-          let x = c.drain_stock.new.self in
-          let opened = ap (λ (k : KnownMachine). k.frame_seat.view.opened) c.drain_stock.ensures.drains.machine ∙ cut.opened
-          ∙ ap (λ (k : KnownMachine). k.frame_seat.view.opened) c.open.ensures.machine in
-          all_shut c.args.machine.now x c.shut.new.self c.args.cpu.now.number c.shut.new.self.run c.requires.shut opened
-          (c.shut.ensures.machine ∙ ap (λ (q : ℕ). with_run (with_visit_of x q 0) c.shut.new.self.run) numbered);
-      shown = c.shut.ensures.shown;
-      emptied =
-          let t = g.N.BootName.frames in
-          let w = g.N.BootName.stocks in
-          let same = c.shut.ensures.cpu in
-          let was = c.open.ensures.cpu in record {
-            tied = subst (λ (y : KnownCpu). IsTied t w y) (sym same) c.number.ensures.tied;
-            idle = (
-              ap (λ (y : KnownCpu). y.list) same ∙ whole.none_left,
-              ap (λ (y : KnownCpu). y.fresh) same ∙ cut.fresh ∙ ap (λ (y : KnownCpu). y.fresh) was ∙ c.requires.settled.none_fresh,
-              ap (λ (y : KnownCpu). y.back) same ∙ cut.back ∙ ap (λ (y : KnownCpu). y.back) was ∙ c.requires.settled.none_back,
-              ap (λ (y : KnownCpu). y.pins) same ∙ (taken_alone _ _ _ _ _ done.takes).pins ∙ ap (λ (y : KnownCpu). y.pins) was ∙ c.requires.settled.no_pin,
-            );
-            none_lent = c.prove_none_lent.ensures;
-            drained = ap (λ (q : ℕ). (account_of c.shut.new.self.stock_seat.view q).filled) (ap (λ (y : KnownCpu). y.number) same ∙ sym c.number.ensures.number)
-                ∙ emptied_drained _ _ _ _ _ _ c.drain_stock.ensures.drains c.shut.ensures.machine;
-          };
-      others = emptied_alone c.args.machine.now _ _ _ _ _ _ _ _ _ _ c.open.ensures.machine c.drain_list.ensures.takes c.drain_stock.ensures.drains
-          (c.shut.ensures.machine ∙ ap (λ (q : ℕ). with_run (with_visit_of c.drain_stock.new.self q 0) c.shut.new.self.run) numbered);
+      empties = emptied t m n first d entered x y (take k first.list) pages parts whole.all_taken;
+      shut = c.shut.ensures.shut;
+      holds = c.shut.ensures.holds;
+      emptied = record {
+        idle = (
+          whole.none_left,
+          cut.fresh ∙ c.requires.settled.none_fresh,
+          cut.back ∙ c.requires.settled.none_back,
+          (taken_alone _ _ _ _ _ done.takes).pins ∙ c.requires.settled.no_pin,
+        );
+        none_lent = c.prove_none_lent.ensures;
+        drained = emptied_drained t m n first d entered x y (take k first.list) pages parts;
+      };
+      others = emptied_alone t m n first d entered x y (take k first.list) pages parts;
     }

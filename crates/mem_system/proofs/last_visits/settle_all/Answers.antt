@@ -1,6 +1,8 @@
 use Rattle.std.proofs.Common.{◌<◌, ◌≤◌, length, rules}
+use Rattle.std.proofs.lemmas.List.Elements.{All-map}
+use Rattle.mem_system.specs.Cpus.{CpuInRun}
 use Rattle.mem_system.specs.Ends.{SettlesInVisit, VisitsUnderLock, IsSettledUnpinned}
-use Rattle.mem_system.proofs.InTurns.{so_far_more, so_far_end, no_pin_at, all_more, all_parts, all_taken}
+use Rattle.mem_system.proofs.InTurns.{so_far_more, so_far_end, no_pin_at, all_more, all_taken}
 use Rattle.mem_system.proofs.last_visits.settle_all.Goals as goal
 
 pub settle_under_lock-requires-clause-no_pin : goal.settle_under_lock-requires-clause-no_pin
@@ -15,7 +17,6 @@ loop-cpu-preserved g c =
     let done = c.settle_under_lock.ensures in (
       so_far_more (VisitsUnderLock g.N.BootName.frames SettlesInVisit) _ _ _ _ _ _ c.cpu-item.result _ c.loop-cpu.invariant.0 inside done.settles,
       all_more (λ cpu. IsSettledUnpinned cpu.part) c.loop-cpu.cpus c.loop-cpu.cpu-index c.settle_under_lock.new.cpu inside c.loop-cpu.invariant.1 done.settled,
-      done.shut,
       done.rests,
     )
 
@@ -27,4 +28,4 @@ returns-clause-settles g c =
 pub returns-clause-settled : goal.returns-clause-settled
 returns-clause-settled g c =
     let past : length c.loop-cpu.cpus ≤ c.loop-cpu.cpu-index = search rules in
-    all_parts IsSettledUnpinned c.loop-cpu.cpus (all_taken (λ cpu. IsSettledUnpinned cpu.part) c.loop-cpu.cpus c.loop-cpu.cpu-index past c.loop-cpu.invariant.1)
+    All-map IsSettledUnpinned (λ (cpu : CpuInRun). cpu.part) c.loop-cpu.cpus (all_taken (λ cpu. IsSettledUnpinned cpu.part) c.loop-cpu.cpus c.loop-cpu.cpu-index past c.loop-cpu.invariant.1)

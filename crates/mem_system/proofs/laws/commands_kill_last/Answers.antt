@@ -4,5 +4,5 @@ use Rattle.mem_system.proofs.laws.commands_kill_last.Goals as goal
 
 pub returns : goal.returns
 returns c cmd reply call served before rest made g is kills =
-    kills_come_last (MayAskFor cmd served.settled.machine.ledger.groups) call.table served.settled.machine served.settled.cpu served.inner before rest made
-    g served.no_rash is kills
+    kills_come_last (MayAskFor cmd served.settled.machine.ledger.groups) call.table served.settled.machine served.inner before rest made g
+    served.no_rash is kills

@@ -1,5 +1,4 @@
 use Rattle.std.proofs.Common.{rules, ℕ, ◌<◌, ◌≤◌, [], length, take, ap, refl, arith}
-use Rattle.mem_machine.specs.Local.{visit_state}
 use Rattle.mem_machine.specs.Steps.{drain_list_steps}
 use Rattle.mem_machine.proofs.Followed.{makes_none}
 use Rattle.mem_system.proofs.Listing.{cut_off, whole_batch, left_over}
@@ -37,7 +36,7 @@ returns-else-list_len-sizes-clause-cuts g c =
     let below : length c.args.cpu.now.list < c.args.sizes.high = omega (arith, c.list_len.ensures.count) in record {
       steps = [];
       does = record { cut = []; at_high = λ stands. absurd (omega (arith, stands, below)); below_high = λ _. refl; takes = record { machine = refl; cpu = refl }; steps_are = refl };
-      makes = makes_none g.N.BootName.frames c.args.cpu.now.number (visit_state c.args.machine.now c.args.cpu.now);
+      makes = makes_none g.N.BootName.frames c.args.machine.now;
     }
 
 pub returns-else-list_len-sizes-clause-below_high : goal.returns-else-list_len-sizes-clause-below_high

@@ -1,8 +1,7 @@
 use Rattle.std.proofs.Common.{◌≡◌, ℕ, [], ◌∷◌, ◌++◌, length, ap, refl, ◌∙◌, subst, arith}
 use Rattle.std.proofs.lemmas.List.{length-append}
 use Rattle.cpu_part.specs.Cpus.{KnownCpu}
-use Rattle.mem_machine.specs.Machines.{KnownMachine}
-use Rattle.mem_machine.specs.Local.{visit_state, MakesAs}
+use Rattle.mem_machine.specs.Local.{Makes, visit_state}
 use Rattle.mem_machine.specs.Steps.{lend_steps}
 use Rattle.mem_system.proofs.Listing.{cut_off}
 use Rattle.mem_system.proofs.releases.list_frame.Goals as goal
@@ -21,22 +20,22 @@ lend-requires-clause-room g c =
 pub returns-clause-lists : goal.returns-clause-lists
 returns-clause-lists g c =
     let t = g.N.BootName.frames in
-    let before = c.args.cpu.now in
     let cuts = c.cut_list.ensures.cuts in
-    let p = before.number in
+    let p = c.args.cpu.now.number in
+    let m = c.args.machine.now in
+    let x = c.cut_list.new.machine in
+    let n = c.lend.new.self in
     let same : c.cut_list.new.cpu.number ≡ p = (cut_off _ _ _ _ _ cuts.does.takes).number in
-    let lent = subst (λ (q : ℕ). MakesAs t q (visit_state c.cut_list.new.machine c.cut_list.new.cpu) (lend_steps q c.args.frame)
-    (visit_state c.lend.new.self c.lend.new.cpu)) same c.lend.ensures.steps in record {
+    let lent = subst (λ (q : ℕ). Makes t x (lend_steps q c.args.frame) n) same c.lend.ensures.steps in record {
       steps = cuts.steps ++ lend_steps p c.args.frame;
       does = record {
-        mid = visit_state c.cut_list.new.machine c.cut_list.new.cpu;
+        mid = visit_state x c.cut_list.new.cpu;
         cutting = cuts.steps;
         cuts = cuts.does;
         lends = c.lend.ensures.lends;
         steps_are = refl;
       };
-      makes = makes_both t p cuts.steps (lend_steps p c.args.frame) (visit_state c.args.machine.now before) (visit_state c.cut_list.new.machine c.cut_list.new.cpu)
-          (visit_state c.lend.new.self c.lend.new.cpu) cuts.makes lent;
+      makes = makes_both t cuts.steps (lend_steps p c.args.frame) m x n cuts.makes lent;
     }
 
 pub returns-clause-stays : goal.returns-clause-stays
@@ -44,7 +43,6 @@ returns-clause-stays g c =
     let kept = cut_off _ _ _ _ _ c.cut_list.ensures.cuts.does.takes in
     record {
       visit = c.lend.ensures.visit;
-      opened = ap (λ (k : KnownMachine). k.frame_seat.view.opened) c.lend.ensures.lends.machine ∙ kept.opened;
       number = ap (λ (e : KnownCpu). e.number) c.lend.ensures.lends.cpu ∙ kept.number;
       back = ap (λ (e : KnownCpu). e.back) c.lend.ensures.lends.cpu ∙ kept.back;
     }

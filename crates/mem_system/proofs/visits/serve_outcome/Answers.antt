@@ -1,45 +1,71 @@
 use Rattle.std.proofs.Common.{◌≡◌, ℕ, ◌+◌, ◌≤◌, List, length, ap, sym, ◌∙◌, refl, subst}
-use Rattle.frame_word.specs.Seats.{KnownSeat, LentIsBorrowed, NothingPasses}
 use Rattle.group_charge.specs.Charges.{Ledger}
-use Rattle.cpu_part.specs.Cpus.{KnownCpu}
-use Rattle.mem_machine.specs.Machines.{KnownMachine, without_notes}
-use Rattle.mem_machine.specs.Local.{IsSeenByRun, MakesAs, visit_state}
-use Rattle.mem_machine.specs.Steps.{open_steps}
-use Rattle.mem_machine.proofs.Reached.{with_past}
+use Rattle.boot_words.specs.Cpus.{KnownCpuSeat}
+use Rattle.mem_machine.specs.Machines.{KnownMachine}
 use Rattle.mem_system.specs.Cpus.{CpuInRun, cpu_in_run}
 use Rattle.mem_system.specs.Locked.{KnownLocked}
 use Rattle.mem_system.specs.Outcomes.{HasItsGroups, reply_of}
-use Rattle.mem_system.specs.Commands.{FreshAfter}
 use Rattle.mem_system.specs.Visits.{locked_state, IsServed}
 use Rattle.mem_system.proofs.Lost.{no_unit_is_lost}
-use Rattle.mem_system.proofs.Counted.{visit_counted}
-use Rattle.mem_system.proofs.Visiting.{all_made, command_shuts, forgotten_shown, opened_so, served}
+use Rattle.mem_system.proofs.Visiting.{GoesThrough, counted, forgotten_holds, forgotten_shut, resting_shut, served}
+use Rattle.mem_system.proofs.visits.serve_outcome.Given as given
 use Rattle.mem_system.proofs.visits.serve_outcome.Goals as goal
+use Rattle.mem_system.proofs.visits.serve_outcome.Goals.{After-unlock}
 
-pub open-requires-clause-shown : goal.open-requires-clause-shown
-open-requires-clause-shown g c = forgotten_shown g.N.BootName.frames _ _ _ c.forget_notes.ensures c.lock.ensures.shown
+-- the calls of the visit, one after the other
+visit : (g : given.Over) (c : After-unlock g) → GoesThrough g.N.BootName.frames c.locked.inside.machine c.cpu.inside.part c.cpu.inside.past
+    c.execute-outcome.ensures.executed.steps c.unlock.new.self c.execute-outcome.new.cpu c.unlock.new.past
+visit g c = record {
+  found = c.lock.new.self;
+  begun = c.forget_notes.new.self;
+  entered = c.open.new.self;
+  mid = c.settle.new.self;
+  settled = c.settle.new.cpu;
+  done = c.execute-outcome.new.machine;
+  left = c.shut.new.self;
+  knows = c.cpu.invariant;
+  locks = c.lock.ensures.machine;
+  takes = c.lock.ensures.run;
+  holds = c.lock.ensures.holds;
+  shut = c.lock.ensures.shut;
+  forgets = c.forget_notes.ensures;
+  opens = c.open.ensures.machine;
+  opening = c.open.ensures.steps;
+  settles = c.settle.ensures.settles;
+  settling = c.settle.ensures.steps;
+  same = c.settle.ensures.others.number;
+  making = c.execute-outcome.ensures.executed.makes;
+  still = c.execute-outcome.ensures.stays.number;
+  shuts = c.shut.ensures.machine;
+  shutting = c.shut.ensures.steps;
+  left_holds = c.shut.ensures.holds;
+  left_shut = c.shut.ensures.shut;
+  unlocks = c.unlock.ensures.machine;
+  gives = c.unlock.ensures.run;
+}
+
+pub open-requires-clause-holds : goal.open-requires-clause-holds
+open-requires-clause-holds g c = forgotten_holds g.N.BootName.frames c.lock.new.self c.forget_notes.new.self c.cpu.inside.part c.forget_notes.ensures c.lock.ensures.holds
+
+pub open-requires-clause-shut : goal.open-requires-clause-shut
+open-requires-clause-shut g c = forgotten_shut g.N.BootName.frames c.lock.new.self c.forget_notes.new.self c.cpu.inside.part.number c.forget_notes.ensures c.lock.ensures.shut
+
+pub unlock-requires-clause-number : goal.unlock-requires-clause-number
+unlock-requires-clause-number g c =
+    ap (λ (s : KnownCpuSeat). s.number) c.lock.ensures.given ∙ c.cpu.invariant.number
+    ∙ sym (c.execute-outcome.ensures.stays.number ∙ c.settle.ensures.others.number)
 
 pub invariant_of-locked : goal.invariant_of-locked
 invariant_of-locked g c =
     let t = g.N.BootName.frames in
-    let m = c.locked.inside.machine in
-    let part = c.cpu.inside.part in
     let quiet = c.locked.invariant.quiet in
-    let stays = c.execute-outcome.ensures.stays in
-    let opened = opened_so m _ _ _ _ c.lock.new.self.run.past _ c.lock.ensures.machine c.forget_notes.ensures c.open.ensures.machine in
+    let rests = c.unlock.ensures.rests in
     record {
       quiet = record {
-        shut = command_shuts m c.open.new.self c.settle.new.self c.execute-outcome.new.machine c.unlock.new.self part
-            c.open.new.cpu c.settle.new.cpu c.execute-outcome.new.cpu _ _ quiet.shut opened c.open.ensures.cpu c.settle.ensures.others.number stays.number c.settle.ensures.settles stays.opened
-            (c.unlock.ensures.machine ∙ (λ i. with_past (c.shut.ensures.machine i) c.unlock.new.self.run.past));
-        rests = c.unlock.ensures.rests;
-        counted = visit_counted t m c.shut.new.self c.unlock.new.self part c.shut.new.cpu _ c.cpu.inside.past c.unlock.new.past c.lock.new.self.run.past
-            quiet.rests quiet.counted c.lock.ensures.run (subst (λ (y : KnownMachine). IsSeenByRun t (visit_state y part)) c.lock.ensures.machine c.lock.ensures.shown)
-            (all_made t m part c.shut.new.cpu c.open.new.self c.settle.new.self c.execute-outcome.new.machine c.shut.new.self c.open.new.cpu c.settle.new.cpu
-            c.execute-outcome.new.cpu c.lock.new.self.run.past c.execute-outcome.ensures.executed.steps opened c.open.ensures.cpu c.settle.ensures.others.number
-            stays.number (subst (λ (y : KnownMachine). MakesAs t part.number (visit_state y part) (open_steps part.number) (visit_state c.open.new.self c.open.new.cpu))
-            (c.forget_notes.ensures ∙ ap without_notes c.lock.ensures.machine) c.open.ensures.steps) c.settle.ensures.steps
-            c.execute-outcome.ensures.executed.makes c.shut.ensures.steps) c.unlock.ensures.run c.unlock.ensures.rests c.unlock.ensures.machine;
+        shut = resting_shut t c.unlock.new.self rests;
+        rests = rests;
+        counted = counted t c.locked.inside.machine c.cpu.inside.part c.cpu.inside.past c.execute-outcome.ensures.executed.steps c.unlock.new.self
+            c.execute-outcome.new.cpu c.unlock.new.past (visit g (goal.at.invariant_of-locked g c).After-unlock) quiet.rests quiet.counted rests;
         valid = quiet.valid;
         sized = quiet.sized;
       };
@@ -47,50 +73,31 @@ invariant_of-locked g c =
     }
 
 pub returns : goal.returns
+unfolding visit
 returns g c =
     let t = g.N.BootName.frames in
-    let m = c.locked.inside.machine in
-    let part = c.cpu.inside.part in
-    let x = c.execute-outcome.new.machine in
-    let n = c.shut.new.self in
+    let d = c.execute-outcome.new.cpu in
+    let l : KnownLocked = record { machine = c.locked.inside.machine; sizes = c.locked.inside.sizes } in
     let k : KnownLocked = record { machine = c.unlock.new.self; sizes = c.locked.inside.sizes } in
-    let same = c.shut.ensures.cpu in
-    let reply = reply_of x.ledger c.execute-outcome.result in
-    let kept : k.machine.ledger ≡ x.ledger =
-    ap (λ (y : KnownMachine). y.ledger) c.unlock.ensures.machine ∙ ap (λ (y : KnownMachine). y.ledger) c.shut.ensures.machine in
-    let seat : n.frame_seat ≡ k.machine.frame_seat = sym (ap (λ (y : KnownMachine). y.frame_seat) c.unlock.ensures.machine) in
-    let opened = opened_so c.locked.inside.machine _ _ _ _ c.lock.new.self.run.past _ c.lock.ensures.machine c.forget_notes.ensures c.open.ensures.machine in
+    let executed = c.execute-outcome.ensures.executed in
     let stays = c.execute-outcome.ensures.stays in
+    let reply = reply_of c.execute-outcome.new.machine.ledger c.execute-outcome.result in
+    let kept : k.machine.ledger ≡ c.execute-outcome.new.machine.ledger =
+    ap (λ (y : KnownMachine). y.ledger) c.unlock.ensures.machine ∙ ap (λ (y : KnownMachine). y.ledger) c.shut.ensures.machine in
     let told : reply_of k.machine.ledger c.execute-outcome.result ≡ reply = ap (λ (l : Ledger). reply_of l c.execute-outcome.result) kept in
     rw told record {
       groups = subst (λ (l : Ledger). HasItsGroups l c.execute-outcome.result) (sym kept) c.execute-outcome.ensures.groups;
-      served = subst (λ (y : KnownLocked × CpuInRun). IsServed t c.args.cmd.now reply (locked_state y.0 y.1) (locked_state k (cpu_in_run c.shut.new.cpu c.unlock.new.past)))
+      served = subst (λ (y : KnownLocked × CpuInRun). IsServed t c.args.cmd.now reply (locked_state y.0 y.1) (locked_state k (cpu_in_run d c.unlock.new.past)))
           (λ i. (c.locked.view_is i, c.cpu.view_is i))
-          (served t c.args.cmd.now (record { machine = m; sizes = c.locked.inside.sizes }) k part c.shut.new.cpu
-          reply c.open.new.self c.settle.new.self x n c.open.new.cpu c.settle.new.cpu c.execute-outcome.new.cpu c.lock.new.self.run.past
-          c.locked.invariant.quiet.rests.past_is.alone opened c.open.ensures.cpu c.settle.ensures.others.number stays.number
-          c.shut.ensures.machine c.unlock.ensures.machine c.shut.ensures.cpu refl
-          (subst (λ (y : KnownMachine). MakesAs t part.number (visit_state y part) (open_steps part.number) (visit_state c.open.new.self c.open.new.cpu))
-          (c.forget_notes.ensures ∙ ap without_notes c.lock.ensures.machine) c.open.ensures.steps) c.settle.ensures.settles c.settle.ensures.steps
-          c.execute-outcome.ensures.executed c.shut.ensures.steps c.cpu.inside.past c.unlock.new.past c.cpu.invariant.number c.lock.ensures.run
-          c.unlock.ensures.run);
-      settled = (
-        subst (λ (y : KnownCpu). FreshAfter c.args.cmd.now reply y.fresh) (sym same) c.execute-outcome.ensures.fresh,
-        ap (λ (y : KnownCpu). y.back) same ∙ stays.back ∙ c.settle.ensures.none_back,
-      );
+          (served t c.args.cmd.now reply l k c.cpu.inside.part c.cpu.inside.past executed.steps d c.unlock.new.past
+          (visit g (goal.at.returns g c).After-unlock) refl executed.does);
+      settled = (c.execute-outcome.ensures.fresh, stays.back ∙ c.settle.ensures.none_back);
       ends = record {
-        at_most_high = subst (λ (y : KnownLocked × CpuInRun). length y.1.part.list ≤ y.0.sizes.high
-            → length c.shut.new.cpu.list + length c.shut.new.cpu.fresh ≤ y.0.sizes.high)
+        at_most_high = subst (λ (y : KnownLocked × CpuInRun). length y.1.part.list ≤ y.0.sizes.high → length d.list + length d.fresh ≤ y.0.sizes.high)
             (λ i. (c.locked.view_is i, c.cpu.view_is i))
-            (λ within. subst (λ (y : KnownCpu). length y.list + length y.fresh ≤ c.locked.inside.sizes.high) (sym same) (c.execute-outcome.ensures.at_most_high
-            (subst (λ (l : List ℕ). length l ≤ c.locked.inside.sizes.high)
-            (sym (c.settle.ensures.others.list ∙ ap (λ (y : KnownCpu). y.list) c.open.ensures.cpu)) within)));
-        still = subst (λ (s : KnownSeat). NothingPasses t s c.shut.new.cpu.frame_seat) seat c.shut.ensures.still;
-        lent = subst (λ (s : KnownSeat). LentIsBorrowed t s c.shut.new.cpu.frame_seat) seat c.shut.ensures.lent;
+            (λ within. c.execute-outcome.ensures.at_most_high
+            (subst (λ (l : List ℕ). length l ≤ c.locked.inside.sizes.high) (sym c.settle.ensures.others.list) within));
+        last = c.unlock.ensures.last;
       };
-      lost = no_unit_is_lost t g.N.BootName.stocks c.unlock.new.self c.prove_consistent.ensures
-          (command_shuts m c.open.new.self c.settle.new.self x c.unlock.new.self part c.open.new.cpu c.settle.new.cpu
-          c.execute-outcome.new.cpu _ _ c.locked.invariant.quiet.shut opened c.open.ensures.cpu c.settle.ensures.others.number stays.number
-          c.settle.ensures.settles stays.opened
-          (c.unlock.ensures.machine ∙ (λ i. with_past (c.shut.ensures.machine i) c.unlock.new.self.run.past)));
+      lost = no_unit_is_lost t c.unlock.new.self c.prove_consistent.ensures c.unlock.ensures.rests;
     }

@@ -2,6 +2,7 @@ use Rattle.std.proofs.Common.{IsTrue, List, ap, refl, sym, subst, ◌∙◌}
 use Rattle.group_charge.specs.Charges.{Ledger}
 use Rattle.group_tree.specs.Groups.{has_group, number_at}
 use Rattle.group_tree.specs.declared.group.Group.{Group}
+use Rattle.mem_machine.specs.Showing.{stock_left}
 use Rattle.mem_system.specs.declared.command.Cmd.TheVariants as cmd
 use Rattle.mem_system.specs.Locked.{KnownLocked}
 use Rattle.mem_system.specs.Outcomes.{reply_of}
@@ -35,4 +36,5 @@ returns g c =
       groups = groups_locked t c.args.is_explained Settle before found served.new.locked after c.args.cpu.now served.new.cpu c.number-cpu_number.result
           c.number-cpu_number.ensures.number c.number-cpu_number.ensures.in_run c.begin_command.ensures.zone c.begin_command.ensures.watched c.end_command.ensures
           (Served served.result) served.ensures.groups;
+      last = served.ensures.ends.last ∙ sym (ap (λ (l : KnownLocked). stock_left t l.machine served.new.cpu.part.number) c.end_command.ensures.locked);
     }

@@ -16,12 +16,12 @@ returns-in-Some g c =
         served = served.ensures.served;
       };
       groups = served.ensures.groups;
-      lent = served.ensures.ends.lent;
+      last = served.ensures.ends.last;
     }
 
 pub returns-in-None : goal.returns-in-None
 returns-in-None g c = let none : cmd_of c.args.command.now ≡ None = search rules in record {
   answers = record { asked = Settle; reply = Done; is_answer = (c.requires.settles none, refl); served = c.settle.ensures.served };
   groups = tt;
-  lent = c.settle.ensures.ends.lent;
+  last = c.settle.ensures.ends.last;
 }

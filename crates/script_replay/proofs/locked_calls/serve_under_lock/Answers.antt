@@ -1,3 +1,6 @@
+use Rattle.std.proofs.Common.{◌∙◌, ap, sym}
+use Rattle.mem_machine.specs.Showing.{stock_left}
+use Rattle.mem_system.specs.Locked.{KnownLocked}
 use Rattle.script_replay.proofs.UnderLock.{groups_locked, value_locked}
 use Rattle.script_replay.proofs.locked_calls.serve_under_lock.Goals as goal
 
@@ -12,4 +15,5 @@ returns g c =
           c.number-cpu_number.ensures.number c.number-cpu_number.ensures.in_run c.begin_command.ensures.zone c.begin_command.ensures.watched c.end_command.ensures served.result served.ensures.answers;
       groups = groups_locked t c.args.is_explained c.args.command.now before found served.new.locked after c.args.cpu.now served.new.cpu c.number-cpu_number.result
           c.number-cpu_number.ensures.number c.number-cpu_number.ensures.in_run c.begin_command.ensures.zone c.begin_command.ensures.watched c.end_command.ensures served.result served.ensures.groups;
+      last = served.ensures.last ∙ sym (ap (λ (l : KnownLocked). stock_left t l.machine served.new.cpu.part.number) c.end_command.ensures.locked);
     }

@@ -7,5 +7,5 @@ use Rattle.script_replay.proofs.owned_replay.replay.Given as goal
 
 abbrev pub invariant-loop-line : goal.invariant-loop-line
 invariant-loop-line g l =
-    ServesAllAndKeeps (form_terms g.N.BootName.frames g.N.BootName.stocks l.form) (take l.line-index l.lines)
+    ServesAllAndKeeps (form_terms g.N.BootName.frames l.form) (take l.line-index l.lines)
     (system_state l.initial.locked l.initial.cpus) (system_state l.locked l.cpus) (string_bytes l.answers)

@@ -12,16 +12,16 @@ returns-in-Some-clause-answer g c =
     let said = c.in-Some.said in
     let before = c.args.cpu.now in
     let tried = c.try_in_order in
-    let alone : AnswersAlone command before.part tried.new.cpu.part said = search rules in
+    let alone : AnswersAlone command before tried.new.cpu said = search rules in
     let gains : Gains (steps_alone before.part.number command said) (locked_state c.args.locked.now before) (locked_state tried.new.locked tried.new.cpu) =
     search rules in
-    unlocked_served (terms g.N.BootName.frames g.N.BootName.stocks c.args.is_explained) command c.args.locked.now c.watch_unlocked.new.locked before
+    unlocked_served (terms g.N.BootName.frames c.args.is_explained) command c.args.locked.now c.watch_unlocked.new.locked before
     tried.new.cpu tried.new.locked c.number-cpu_number.result said c.number-cpu_number.ensures.number alone tried.ensures.only_saw gains c.watch_unlocked.ensures
 
 pub serve_under_lock-requires : goal.serve_under_lock-requires
 serve_under_lock-requires g c = record {
   in_range = c.requires.in_range;
-  settles = λ none. (only_settles c.args.command.now c.args.cpu.now.part c.try_in_order.new.cpu.part none (search rules)).0;
+  settles = λ none. only_settles c.args.command.now c.args.cpu.now c.try_in_order.new.cpu none (search rules);
 }
 
 pub returns-clause-answer : goal.returns-clause-answer
@@ -31,9 +31,9 @@ returns-clause-answer g c =
     let before = c.args.cpu.now in
     let seen = locked_state tried.new.locked tried.new.cpu in
     let served = c.serve_under_lock in
-    let needs : NeedsLock command before.part tried.new.cpu.part = search rules in
+    let needs : NeedsLock command before tried.new.cpu = search rules in
     let gains : Gains [] (locked_state c.args.locked.now before) seen = search rules in
-    lock_served (terms g.N.BootName.frames g.N.BootName.stocks c.args.is_explained) command c.args.locked.now served.new.locked before served.new.cpu
+    lock_served (terms g.N.BootName.frames c.args.is_explained) command c.args.locked.now served.new.locked before served.new.cpu
     seen (answer_of served.new.locked.machine.ledger served.result)
-    (vain_is command c.args.locked.now before tried.new.cpu.part c.requires.other needs) tried.ensures.only_saw gains
+    (vain_is command c.args.locked.now before tried.new.cpu c.requires.other needs) tried.ensures.only_saw gains
     (λ settles. tried.ensures.stays (untried command settles)) served.ensures.served

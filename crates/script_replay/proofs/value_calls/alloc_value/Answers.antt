@@ -13,7 +13,7 @@ returns-clause-answer g c path is =
     let part : CpuInRun = get_or cpus at c.index-cpus-at.result in
     let frames = g.N.BootName.frames.frames in
     let there : CpuCommandInRange frames (length cpus) c.args.cpu (Alloc path 0) = record { low = c.requires.low; high = c.requires.high; names = tt } in
-    command_said g.N.BootName.frames g.N.BootName.stocks c.args.locked.now c.alloc_value_at_cpu.new.locked cpus c.args.cpu (Alloc path 0)
-    part c.alloc_value_at_cpu.new.cpu _ there tt
+    command_said g.N.BootName.frames c.args.locked.now c.serve_frame_of-value.new.locked cpus c.args.cpu (Alloc path 0)
+    part c.serve_frame_of-value.new.cpu _ there tt
     (part_of cpus frames c.args.cpu (Alloc path 0) part there (ap (λ (d : CpuInRun). get_or cpus at d) c.index-cpus-at.is))
-    (c.alloc_value_at_cpu.ensures.answer path is) c.alloc_value_at_cpu.ensures.held
+    (c.serve_frame_of-value.ensures.answer path is) c.prove_sound.ensures

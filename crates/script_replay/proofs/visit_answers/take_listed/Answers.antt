@@ -14,7 +14,7 @@ returns-in_default g c = let found = c.in_default.ensures in record {
   answers = record {
     steps = [];
     answers = (
-      record { locked = found.locked; sound = found.sound; part = found.part; sees = found.sees; same = found.same; so = sym found.so },
+      record { locked = found.locked; sound = found.sound; part = found.part; last = found.last; sees = found.sees; same = found.same; so = sym found.so },
       refl,
     );
     grew = seen_grew c.args.cpu.now.past c.find.new.cpu.past found.sees;
@@ -32,7 +32,7 @@ returns-in-Got g c =
     let steps = steps_alone met.part.number (Fast c.in-Some.group) said in
     let made : MakesAlone met.part.number steps met.past left.past =
     subst (λ (group : ℕ). MakesAlone met.part.number (steps_alone met.part.number (Fast group) said) met.past left.past) c.number.ensures.value
-    (fast_made met.part.number met.past left.past c.number.result (Got c.in-Got.frame) met.part.stock_seat.view.last c.in-Got.ensures.run) in record {
+    (fast_made met.part.number met.past left.past c.number.result (Got c.in-Got.frame) met.last c.in-Got.ensures.run) in record {
       answers = record {
         steps = steps;
         answers = (
@@ -41,13 +41,14 @@ returns-in-Got g c =
             locked = found.locked;
             sound = found.sound;
             part = found.part;
+            last = found.last;
             sees = found.sees;
             same = found.same;
             so = record {
               gets = record {
                 group = c.in-Some.group;
                 found = sym found.so;
-                got = subst (λ (group : ℕ). FastAnswers group (Got c.in-Got.frame) met.part left.part) c.number.ensures.value c.in-Got.ensures.answer;
+                got = subst (λ (group : ℕ). FastAnswers group (Got c.in-Got.frame) met.last met.part left.last left.part) c.number.ensures.value c.in-Got.ensures.answer;
               };
               steps_are = refl;
             };
@@ -66,7 +67,7 @@ returns-in_default-alloc_fast g c =
     let met = c.find.new.cpu in
     let seen = c.alloc_fast.new.self in
     let alone : MakesAlone met.part.number [] met.past seen.past =
-    no_fast_made met.part.number met.past seen.past c.number.result c.alloc_fast.result met.part.stock_seat.view.last c.in_default-alloc_fast.not-Got
+    no_fast_made met.part.number met.past seen.past c.number.result c.alloc_fast.result met.last c.in_default-alloc_fast.not-Got
     c.alloc_fast.ensures.run in record {
       answers = tt;
       needs_visit = record {
@@ -76,13 +77,14 @@ returns-in_default-alloc_fast g c =
             locked = found.locked;
             sound = found.sound;
             part = found.part;
+            last = found.last;
             sees = found.sees;
             same = found.same;
             so = record {
               group = c.in-Some.group;
               found = sym found.so;
               fast = c.alloc_fast.result;
-              answers = subst (λ (g : ℕ). FastAnswers g c.alloc_fast.result met.part seen.part) c.number.ensures.value c.alloc_fast.ensures.answer;
+              answers = subst (λ (g : ℕ). FastAnswers g c.alloc_fast.result met.last met.part seen.last seen.part) c.number.ensures.value c.alloc_fast.ensures.answer;
               none = c.in_default-alloc_fast.not-Got;
             };
           };

@@ -1,4 +1,4 @@
-use Rattle.std.proofs.Common.{◌&&◌, ◌++◌, refl}
+use Rattle.std.proofs.Common.{◌&&◌, ◌++◌}
 use Rattle.mem_system.specs.Visits.{locked_state}
 use Rattle.script_replay.specs.Answers.{explanation_if, is_noted}
 use Rattle.script_replay.specs.Commands.{head_named, path_removed}
@@ -7,19 +7,13 @@ use Rattle.script_replay.specs.ValueAnswers.{answer_of}
 use Rattle.script_replay.proofs.Serving.{value_text}
 use Rattle.script_replay.proofs.writer.write_answer.Goals as goal
 
-pub returns-in_default : goal.returns-in_default
-returns-in_default g c =
+pub returns-in_default-clause-told : goal.returns-in_default-clause-told
+returns-in_default-clause-told g c =
     let left = locked_state c.args.locked.now c.args.cpu.now in
     let machine = c.args.locked.now.machine in
     let said = answer_of machine.ledger c.args.value.now in record {
-      written = record {
-        text = reasoned_text c.args.is_explained said (borrower_of (head_named c.args.command.now) machine)
-            ++ explanation_if (is_noted said && c.args.is_explained) (path_removed c.args.command.now) machine;
-        so = record {
-          told = value_text c.args.is_explained c.args.command.now machine.ledger c.args.value.now left c.in_default.not-Settled;
-          sizes = refl;
-          cpu = refl;
-        };
-        added = c.write_value.ensures;
-      };
+      text = reasoned_text c.args.is_explained said (borrower_of (head_named c.args.command.now) machine)
+          ++ explanation_if (is_noted said && c.args.is_explained) (path_removed c.args.command.now) machine;
+      so = value_text g.N.BootName.frames c.args.is_explained c.args.command.now machine.ledger c.args.value.now left c.in_default.not-Settled;
+      added = c.write_value.ensures;
     }

@@ -1,5 +1,5 @@
-use Rattle.tempolemon_threads.specs.Serving.{home_frames_after, home_stocks_after}
+use Rattle.tempolemon_threads.specs.Serving.{home_frames_after}
 use Rattle.tempolemon_threads.proofs.raw.serve_raw.Given as goal
 
 abbrev pub ghosts-serve : goal.ghosts-serve
-ghosts-serve a = record { frames = home_frames_after a.pointer.frames a.request; stocks = home_stocks_after a.pointer.stocks a.request }
+ghosts-serve a = record { frames = home_frames_after a.pointer.frames a.request }

@@ -12,7 +12,7 @@ held_is_pinned : (f : ℕ) (got : Get) (c d : KnownCpu) → got ≡ Held → Pin
 held_is_pinned f got c d is answers =
     let held = subst (λ (x : Get). PinAnswers f x c d) is answers in
     let last = times_last f f c.pins in let one = times_same f in
-    let pins = ap (λ (k : KnownCpu). times f k.pins) held.2 in
+    let pins = ap (λ (k : KnownCpu). times f k.pins) held in
     omega (arith, last, one, pins)
 
 pub put-requires : goal.put-requires

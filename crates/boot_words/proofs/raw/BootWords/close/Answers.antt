@@ -1,9 +1,11 @@
-use Rattle.std.proofs.Common.{◌++◌, ◌∙◌, ap}
-use Rattle.boot_words.specs.Closing.{all_views_in}
-use Rattle.boot_words.proofs.Closing.{closed_end}
+use Rattle.std.proofs.Common.{◌++◌, ◌∙◌, ap, subst}
+use Rattle.boot_words.specs.Seats.{zone_of_boot}
+use Rattle.boot_words.specs.Closed.{IsClosedRun, pasts_of_cpus}
+use Rattle.boot_words.proofs.Closing.{closed_run}
 use Rattle.boot_words.proofs.raw.BootWords.close.Goals as goal
 
 pub returns-clause-end : goal.returns-clause-end
 returns-clause-end c =
-    let views = ap (λ r. r.views) c.gather.ensures ∙ ap (λ r. r.views ++ all_views_in c.args.cpus.items) c.merged-raw.ensures in
-    closed_end _ _ _ c.args.zone c.args.cpus.items _ c.end.ensures.end views c.requires.cpus.1 c.requires.zone.1
+    let pasts = ap (λ s. s.pasts) c.gather.ensures in
+    subst (IsClosedRun (zone_of_boot c.args.self) _) pasts
+    (closed_run _ c.args.self _ _ c.args.cpus.items _ c.end.ensures.end c.requires.cpus.0 (pasts ∙ ap (λ l. l ++ pasts_of_cpus c.args.cpus.items) c.requires.zone.alone) c.requires.cpus.1)

@@ -1,26 +1,22 @@
 use Rattle.std.proofs.Common.{◌+◌, rules, ap, ◌∙◌, arith}
+use Rattle.stock_word.specs.declared.view.Stock.TheVariants.{NoGroup}
 use Rattle.stock_word.proofs.Deals.{all_left, none_more, one_more}
-use Rattle.boot_words.specs.Seating.{cpus_views}
-use Rattle.boot_words.specs.Seats.{rest_of_views}
-use Rattle.boot_words.specs.Opening.{seats_in}
-use Rattle.boot_words.proofs.Dealing.{begins, last_seats, next_seats, next_views, no_seats}
+use Rattle.boot_words.specs.Seats.{cpus_pasts, first_alone, rest_of}
+use Rattle.boot_words.proofs.Dealing.{last_seats, next_past, next_seats, no_seats}
 use Rattle.boot_words.proofs.raw.BootWords.deal.Goals as goal
 
 pub loop-cpu-init : goal.loop-cpu-init
 loop-cpu-init c = record {
   table = search rules;
   range = omega arith;
-  views = c.requires.views ∙ ap (cpus_views 1) (all_left c.args.cpus);
+  pasts = c.requires.pasts ∙ ap (cpus_pasts 1) (all_left c.args.cpus);
   room = c.in_ok-seats.ensures.exact;
   number = ap (λ n. n + 1) c.in_ok-seats.ensures.len;
   seats = no_seats _ _ _ c.in_ok-seats.ensures.items;
 }
 
-pub seated-requires-clause-table : goal.seated-requires-clause-table
-seated-requires-clause-table c = c.loop-cpu.invariant.table
-
-pub seated-requires-clause-begins : goal.seated-requires-clause-begins
-seated-requires-clause-begins c = begins _ _ _ (next_views _ _ _ _ c.loop-cpu.invariant.views (one_more _ _ c.loop-cpu-test.true))
+pub seated-requires : goal.seated-requires
+seated-requires c = record { table = c.loop-cpu.invariant.table }
 
 pub push_reserved-requires : goal.push_reserved-requires
 push_reserved-requires c =
@@ -31,14 +27,16 @@ push_reserved-requires c =
 pub loop-cpu-preserved : goal.loop-cpu-preserved
 loop-cpu-preserved c =
     let more = one_more _ _ c.loop-cpu-test.true in
-    let next = next_views _ _ _ _ c.loop-cpu.invariant.views more in
+    let next = next_past _ _ _ _ c.loop-cpu.invariant.pasts more in
     record {
-      table = ap (λ raw. raw.table) c.seated.ensures.rest;
+      table = ap (λ s. s.table) c.seated.ensures.rest;
       range = omega arith;
       room = c.push_reserved.ensures.capacity ∙ c.loop-cpu.invariant.room;
       number = let longer = c.push_reserved.ensures.len in let n = c.loop-cpu.invariant.number in omega arith;
-      views = ap (λ raw. raw.views) c.seated.ensures.rest ∙ ap (λ l. rest_of_views (rest_of_views (rest_of_views l))) next;
-      seats = next_seats _ _ _ _ _ _ _ _ c.loop-cpu.invariant.seats more (c.seated.ensures.seats ∙ ap (seats_in _) next) c.push_reserved.ensures.items;
+      pasts = ap (λ s. s.pasts) c.seated.ensures.rest ∙ ap rest_of next;
+      seats = next_seats _ _ _ _ _ _ _ _ c.loop-cpu.invariant.seats more
+          (c.seated.ensures.seat ∙ ap (λ l. record { seat = record { table = c.args.self.now.table; pasts = first_alone l }; number = c.loop-cpu.cpu; last = NoGroup }) next)
+          c.push_reserved.ensures.items;
     }
 
 pub returns : goal.returns

@@ -1,54 +1,41 @@
-use Rattle.std.proofs.Common.{ℕ, sym, ap, ◌∙◌, subst}
-use Rattle.stock_word.specs.declared.view.StockView.{StockView}
-use Rattle.stock_word.specs.Stock.{account_of, stock_pages_of}
-use Rattle.stock_word.specs.Kinds.{with_steps, zone_after_drain}
-use Rattle.stock_word.proofs.Told.{either_group, found_group, drained_booked, drained_before, looked_and_drained}
-use Rattle.step_rules.specs.declared.step.Action.TheVariants.{DrainStock}
-use Rattle.step_rules.specs.declared.step.Answer.TheVariants.{Pages}
-use Rattle.boot_words.specs.StockHeld.{pages_said}
-use Rattle.boot_words.specs.Pasts.{KnownPasts, MakesStep}
-use Rattle.boot_words.proofs.Banking.{said_pages}
-use Rattle.boot_words.proofs.StockTold.{some_word}
+use Rattle.std.proofs.Common.{sym, ◌∙◌, subst}
+use Rattle.stock_word.specs.declared.view.Stock.TheVariants.{DrainedOf}
+use Rattle.stock_word.specs.Stock.{word_of}
+use Rattle.boot_words.specs.Pasts.{KnownPasts, cpu_past, own_past}
+use Rattle.boot_words.specs.Seats.{zone_of_boot, MayChange}
+use Rattle.boot_words.specs.declared.word.Word.TheVariants.{StockOf}
+use Rattle.boot_words.proofs.Drains.{Drains, cpu_of_drain, drained_none, drained_some, drains, looked_on, looks_to_drain}
 use Rattle.boot_words.proofs.raw.BootWords.drain.Goals as goal
 
-pub step_drain-found-requires-clause-group : goal.step_drain-found-requires-clause-group
-step_drain-found-requires-clause-group c =
-    let seen = found_group _ _ _ _ _ _ _ (c.step_look_drain-seen.ensures.none, c.step_look_drain-seen.ensures.some) c.of_word.ensures (either_group _ _ c.in-HeldBy.is) in
-    ap (λ (v : StockView). (account_of v c.args.cpu).group) seen.1 ∙ seen.0
+pub load-looked-requires-clause-place : goal.load-looked-requires-clause-place
+load-looked-requires-clause-place c = (cpu_of_drain c.args.self.now c.args.held.now c.args.cpu c.requires.legal).1
 
-pub step_drain-found-requires-clause-fits : goal.step_drain-found-requires-clause-fits
-step_drain-found-requires-clause-fits c =
-    (found_group _ _ _ _ _ _ _ (c.step_look_drain-seen.ensures.none, c.step_look_drain-seen.ensures.some) c.of_word.ensures (either_group _ _ c.in-HeldBy.is)).2
+pub load-looked-requires-clause-may : goal.load-looked-requires-clause-may
+load-looked-requires-clause-may c = looks_to_drain c.args.self.now c.args.held.now c.args.cpu c.requires.held c.requires.legal
 
-pub returns-in-HeldBy-clause-zone : goal.returns-in-HeldBy-clause-zone
-returns-in-HeldBy-clause-zone c =
-    let seen = found_group _ _ _ _ _ _ _ (c.step_look_drain-seen.ensures.none, c.step_look_drain-seen.ensures.some) c.of_word.ensures (either_group _ _ c.in-HeldBy.is) in
-    let kind = c.step_drain-found.ensures.kind in
-    let pages = c.pages.ensures ∙ ap stock_pages_of (c.of_word-in-HeldBy.ensures kind.stock kind.has_word kind.word_before) in
-    let table = c.step_drain-found.ensures.table ∙ c.step_look_drain-seen.ensures.table in
-    let view = kind.zone_after ∙ (λ i. with_steps 1 (zone_after_drain (seen.1 i) c.args.cpu (sym pages i)))
-    ∙ looked_and_drained c.args.zone.now.view c.args.cpu _ c.pages.result seen.0 in
-    λ i. record { table = table i; view = view i }
+pub drain_of-requires-clause-cpu : goal.drain_of-requires-clause-cpu
+drain_of-requires-clause-cpu c = (cpu_of_drain c.args.self.now c.args.held.now c.args.cpu c.requires.legal).1
 
-pub returns-in-HeldBy-clause-booked : goal.returns-in-HeldBy-clause-booked
-returns-in-HeldBy-clause-booked c =
-    let seen = found_group _ _ _ _ _ _ _ (c.step_look_drain-seen.ensures.none, c.step_look_drain-seen.ensures.some) c.of_word.ensures (either_group _ _ c.in-HeldBy.is) in
-    let kind = c.step_drain-found.ensures.kind in
-    let pages = c.pages.ensures ∙ ap stock_pages_of (c.of_word-in-HeldBy.ensures kind.stock kind.has_word kind.word_before) in
-    drained_booked _ _ _ _ _ _ _ _ _ seen.1 kind pages
+pub drain_of-requires-clause-may : goal.drain_of-requires-clause-may
+drain_of-requires-clause-may c =
+    let t = c.args.self.now in
+    let g = c.in-Some.group in
+    let on = looked_on t c.args.held.now c.args.cpu c.load-looked.result c.load-looked.new.seat c.of_word.result g c.requires.held c.load-looked.ensures.table c.load-looked.ensures.told
+    c.of_word.ensures (sym c.group.ensures ∙ c.in-Some.is) in
+    subst (λ (s : KnownPasts). MayChange (zone_of_boot t) s.pasts (StockOf c.args.cpu) (λ n. word_of (DrainedOf g)) (Drains (zone_of_boot t) (own_past s) (cpu_past s) c.args.cpu)) (sym on.0)
+    (drains t c.args.held.now c.args.cpu g c.requires.held c.requires.legal on.1 on.2)
 
-pub returns-in-HeldBy-clause-drained_before : goal.returns-in-HeldBy-clause-drained_before
-returns-in-HeldBy-clause-drained_before c =
-    let seen = found_group _ _ _ _ _ _ _ (c.step_look_drain-seen.ensures.none, c.step_look_drain-seen.ensures.some) c.of_word.ensures (either_group _ _ c.in-HeldBy.is) in
-    let kind = c.step_drain-found.ensures.kind in
-    let pages = c.pages.ensures ∙ ap stock_pages_of (c.of_word-in-HeldBy.ensures kind.stock kind.has_word kind.word_before) in
-    drained_before _ _ _ _ _ _ _ _ _ seen.1 kind pages
+pub returns-in-None : goal.returns-in-None
+returns-in-None c =
+    drained_none c.args.self.now c.args.held.now c.args.cpu c.load-looked.result c.load-looked.new.seat c.of_word.result c.requires.held c.load-looked.ensures.table c.load-looked.ensures.told
+    c.of_word.ensures (sym c.group.ensures ∙ c.in-None.is)
 
-pub returns-in-HeldBy-clause-run : goal.returns-in-HeldBy-clause-run
-returns-in-HeldBy-clause-run c =
-    let kind = c.step_drain-found.ensures.kind in
-    let pages = c.pages.ensures ∙ ap stock_pages_of (c.of_word-in-HeldBy.ensures kind.stock kind.has_word kind.word_before) in
-    let held = c.step_look_drain-seen.ensures.some_run (some_word _ _ _ c.of_word.ensures (either_group _ _ c.in-HeldBy.is)) in
-    let said = ap pages_said kind.word_before ∙ said_pages kind.stock kind.has_word ∙ sym pages in
-    subst (λ (y : KnownPasts × ℕ). MakesStep c.args.self.now y.0 0 (DrainStock c.args.cpu) (Pages y.1) c.step_drain-found.new.held) (λ i. (held i, said i))
-    c.step_drain-found.ensures.run
+pub returns-in-Some : goal.returns-in-Some
+returns-in-Some c =
+    let t = c.args.self.now in
+    let on = looked_on t c.args.held.now c.args.cpu c.load-looked.result c.load-looked.new.seat c.of_word.result c.in-Some.group c.requires.held c.load-looked.ensures.table c.load-looked.ensures.told
+    c.of_word.ensures (sym c.group.ensures ∙ c.in-Some.is) in
+    let told : Drains (zone_of_boot t) (own_past c.args.held.now) (cpu_past c.args.held.now) c.args.cpu c.drain_of.result c.drain_of.new.held.pasts =
+    subst (λ (s : KnownPasts). Drains (zone_of_boot t) (own_past s) (cpu_past s) c.args.cpu c.drain_of.result c.drain_of.new.held.pasts) on.0 c.drain_of.ensures.told in
+    drained_some t c.args.held.now c.args.cpu c.drain_of.result c.drain_of.new.held c.of_word-in-Some.result c.pages.result c.requires.held
+    (c.drain_of.ensures.table ∙ c.load-looked.ensures.table) told c.of_word-in-Some.ensures c.pages.ensures

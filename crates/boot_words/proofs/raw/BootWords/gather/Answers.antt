@@ -1,25 +1,25 @@
 use Rattle.std.proofs.Common.{◌≡◌, [], ◌∷◌, ◌++◌, length, List, sym, ap, ◌∙◌, subst, append_assoc, append-nil, arith, refl}
 use Rattle.std.specs.Vec.Iter.{into_iter_items}
 use Rattle.boot_words.specs.Rule.{AllOf}
-use Rattle.boot_words.specs.Closing.{AreAt, all_views_in, views_in}
+use Rattle.boot_words.specs.Closed.{HasCpuPast, pasts_of_cpus}
 use Rattle.boot_words.proofs.raw.BootWords.gather.Goals as goal
 
-pub merged-raw-requires : goal.merged-raw-requires
-merged-raw-requires c =
-    let at = c.loop-seat in
-    let steps : into_iter_items at.seat-iterator ≡ c.in-Some.seat ∷ into_iter_items c.next.new.self = c.in-Some.ensures.steps.0 in
-    (subst (AllOf (AreAt c.args.self.now.table)) steps at.invariant.left).0
+pub join-requires : goal.join-requires
+join-requires c =
+    let at = c.loop-cpu in
+    let steps : into_iter_items at.cpu-iterator ≡ c.in-Some.cpu ∷ into_iter_items c.next.new.self = c.in-Some.ensures.steps.0 in
+    record { tables = (at.invariant.table, ap (λ k. k.seat.table) c.cpu.view_is ∙ (subst (AllOf (HasCpuPast c.args.self.now)) steps at.invariant.left).0.table_is) }
 
-pub loop-seat-preserved : goal.loop-seat-preserved
-loop-seat-preserved c =
-    let at = c.loop-seat in
-    let steps : into_iter_items at.seat-iterator ≡ c.in-Some.seat ∷ into_iter_items c.next.new.self = c.in-Some.ensures.steps.0 in
-    let more = all_views_in (into_iter_items c.next.new.self) in record {
-      table = ap (λ r. r.table) c.join.ensures.raw;
-      left = (subst (AllOf (AreAt c.args.self.now.table)) steps at.invariant.left).1;
+pub loop-cpu-preserved : goal.loop-cpu-preserved
+loop-cpu-preserved c =
+    let at = c.loop-cpu in
+    let steps : into_iter_items at.cpu-iterator ≡ c.in-Some.cpu ∷ into_iter_items c.next.new.self = c.in-Some.ensures.steps.0 in
+    let more = pasts_of_cpus (into_iter_items c.next.new.self) in record {
+      table = ap (λ s. s.table) c.join.ensures.seat;
+      left = (subst (AllOf (HasCpuPast c.args.self.now)) steps at.invariant.left).1;
       counted = (let was = at.invariant.counted in let gone = c.in-Some.ensures.steps.1 in let short = ap length steps in omega arith);
-      views = ap (λ r. r.views ++ more) c.join.ensures.raw ∙ ap (λ r. (at.all.views ++ r.views) ++ more) c.merged-raw.ensures
-          ∙ append_assoc at.all.views (views_in c.in-Some.seat) more ∙ ap (λ l. at.all.views ++ all_views_in l) (sym steps) ∙ at.invariant.views;
+      pasts = ap (λ s. s.pasts ++ more) c.join.ensures.seat ∙ ap (λ k. (at.zone.pasts ++ k.seat.pasts) ++ more) c.cpu.view_is
+          ∙ append_assoc at.zone.pasts c.in-Some.cpu.seat.pasts more ∙ ap (λ l. at.zone.pasts ++ pasts_of_cpus l) (sym steps) ∙ at.invariant.pasts;
     }
 
 nothing_left : {X : Type 0} (l : List X) → length l ≡ 0 → l ≡ []
@@ -28,10 +28,10 @@ nothing_left (x ∷ xs) h = absurd (omega arith)
 
 pub returns : goal.returns
 returns c =
-    let at = c.loop-seat in
+    let at = c.loop-cpu in
     let gone = c.in-None.ensures.steps in
-    let empty : into_iter_items at.seat-iterator ≡ [] = nothing_left _ (sym at.invariant.counted ∙ gone.0) in
-    let items = c.into_iter-seat-iterator.ensures.into_iter_gives.0 in
-    let views = sym (append-nil at.all.views) ∙ ap (λ l. at.all.views ++ all_views_in l) (sym empty) ∙ at.invariant.views
-    ∙ ap (λ l. c.args.all.now.views ++ all_views_in l) items in
-    λ i. record { table = at.invariant.table i; views = views i }
+    let empty : into_iter_items at.cpu-iterator ≡ [] = nothing_left _ (sym at.invariant.counted ∙ gone.0) in
+    let items = c.into_iter-cpu-iterator.ensures.into_iter_gives.0 in
+    let pasts = sym (append-nil at.zone.pasts) ∙ ap (λ l. at.zone.pasts ++ pasts_of_cpus l) (sym empty) ∙ at.invariant.pasts
+    ∙ ap (λ l. c.args.zone.now.pasts ++ pasts_of_cpus l) items in
+    λ i. record { table = at.invariant.table i; pasts = pasts i }

@@ -1,13 +1,13 @@
 use Rattle.std.proofs.Common.{◌≡◌, ◌++◌, length}
 use Rattle.std.specs.Vec.Iter.{into_iter_items, into_iter_len}
 use Rattle.boot_words.specs.Rule.{AllOf}
-use Rattle.boot_words.specs.Closing.{AreAt, all_views_in}
+use Rattle.boot_words.specs.Closed.{HasCpuPast, pasts_of_cpus}
 use Rattle.boot_words.proofs.raw.BootWords.gather.Given as goal
 
-abbrev pub invariant-loop-seat : goal.invariant-loop-seat
-invariant-loop-seat l = record {
-  table : l.all.table ≡ l.self.table;
-  left : AllOf (AreAt l.self.table) (into_iter_items l.seat-iterator);
-  counted : into_iter_len l.seat-iterator ≡ length (into_iter_items l.seat-iterator);
-  views : l.all.views ++ all_views_in (into_iter_items l.seat-iterator) ≡ l.initial.all.views ++ all_views_in (into_iter_items l.initial.seat-iterator);
+abbrev pub invariant-loop-cpu : goal.invariant-loop-cpu
+invariant-loop-cpu l = record {
+  table : l.zone.table ≡ l.self.table;
+  left : AllOf (HasCpuPast l.self) (into_iter_items l.cpu-iterator);
+  counted : into_iter_len l.cpu-iterator ≡ length (into_iter_items l.cpu-iterator);
+  pasts : l.zone.pasts ++ pasts_of_cpus (into_iter_items l.cpu-iterator) ≡ l.initial.zone.pasts ++ pasts_of_cpus (into_iter_items l.initial.cpu-iterator);
 }

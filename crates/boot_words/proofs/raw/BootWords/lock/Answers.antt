@@ -1,11 +1,17 @@
-use Rattle.std.proofs.Common.{ap}
-use Rattle.boot_words.proofs.Joining.{joined_views, past_views}
-use Rattle.boot_words.proofs.LockTold.{may_lock}
+use Rattle.std.proofs.Common.{◌++◌, ap, ◌∙◌}
+use Rattle.boot_words.specs.Pasts.{KnownPasts}
+use Rattle.boot_words.proofs.Locking.{locks}
+use Rattle.boot_words.proofs.SeenSame.{lock_last}
 use Rattle.boot_words.proofs.raw.BootWords.lock.Goals as goal
 
 pub load-requires-clause-may : goal.load-requires-clause-may
 load-requires-clause-may c =
-    let zone = past_views _ c.args.zone.now _ c.zone.invariant (ap (λ s. s.pasts) c.zone.view_is) c.requires.zone.alone in
-    let cpu = past_views _ c.args.cpu.now _ c.cpu.invariant (ap (λ s. s.pasts) c.cpu.view_is) c.requires.cpu.alone in
-    may_lock _ _ _ _ (joined_views _ _ _ _ _ (ap (λ r. r.views) c.join.ensures.raw) zone cpu) c.requires.zone.zone_is c.requires.cpu.low c.requires.cpu.high
-    c.requires.free
+    let seat = ap (λ k. k.seat) c.cpu.view_is in
+    locks c.args.self.now c.args.zone.now c.args.cpu.now.seat c.join.new.seat c.requires.zone c.requires.cpu.past c.requires.free
+    (ap (λ s. s.pasts) c.join.ensures.seat ∙ ap (λ (s : KnownPasts). c.args.zone.now.pasts ++ s.pasts) seat)
+
+pub returns-clause-last : goal.returns-clause-last
+returns-clause-last c =
+    let seat = ap (λ k. k.seat) c.cpu.view_is in
+    lock_last c.args.self.now c.args.zone.now c.args.cpu.now c.join.new.seat c.load.new.seat c.load.result c.requires.zone c.requires.cpu
+    (ap (λ s. s.pasts) c.join.ensures.seat ∙ ap (λ (s : KnownPasts). c.args.zone.now.pasts ++ s.pasts) seat) (c.load.ensures.table ∙ ap (λ s. s.table) c.join.ensures.seat) c.load.ensures.told

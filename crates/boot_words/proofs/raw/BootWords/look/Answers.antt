@@ -1,13 +1,24 @@
-use Rattle.std.proofs.Common.{◌∷◌, [], ◌∙◌, ap}
-use Rattle.boot_words.specs.declared.view.BootView.TheVariants.{OfStocks}
-use Rattle.boot_words.proofs.Joining.{joined_views}
-use Rattle.boot_words.proofs.StockTold.{may_see_stock}
+use Rattle.std.proofs.Common.{◌<◌, sym, subst}
+use Rattle.stock_word.specs.Stock.{HasWord}
+use Rattle.boot_words.specs.Pasts.{local_by_pasts}
+use Rattle.boot_words.proofs.Visiting.{holder_of_held}
+use Rattle.boot_words.proofs.Looking.{same_seat, sees_stock, stock_is}
 use Rattle.boot_words.proofs.raw.BootWords.look.Goals as goal
 
+pub load-found-requires-clause-place : goal.load-found-requires-clause-place
+load-found-requires-clause-place c = (holder_of_held c.args.self.now c.args.held.now c.args.cpu c.requires.held c.requires.holder).1
+
 pub load-found-requires-clause-may : goal.load-found-requires-clause-may
-load-found-requires-clause-may c =
-    let zone = c.zone.invariant.alone ∙ ap (λ s. OfStocks s.view ∷ []) c.zone.view_is in
-    let seat = c.seat.invariant.alone ∙ ap (λ s. OfStocks s.view ∷ []) c.seat.view_is in
-    let both = joined_views _ _ _ _ _ (ap (λ r. r.views) c.join.ensures.raw) zone seat in
-    let number = c.seat.invariant.sound.same_number ∙ ap (λ s. s.view.number) c.seat.view_is in
-    may_see_stock _ _ _ c.args.zone.now.view c.args.seat.now.view both number c.requires.zone c.requires.cpu.0 c.requires.cpu.1
+load-found-requires-clause-may c = sees_stock c.args.self.now c.args.held.now c.args.cpu c.requires.held c.requires.holder
+
+pub returns-clause-stock : goal.returns-clause-stock
+returns-clause-stock c = stock_is c.args.self.now c.args.held.now c.args.cpu c.load-found.result c.load-found.new.seat.pasts c.of_word.result c.requires.holder c.load-found.ensures.told c.of_word.ensures
+
+pub returns-clause-has_word : goal.returns-clause-has_word
+returns-clause-has_word c = subst HasWord (sym (c.of_word.ensures _ c.load-found.ensures.told.fits c.load-found.ensures.told.word)) c.load-found.ensures.told.fits
+
+pub returns-clause-bounded : goal.returns-clause-bounded
+returns-clause-bounded c = subst (λ q. ((local_by_pasts c.args.self.now c.args.held.now).parts q).book < 65536) (sym c.requires.holder) c.load-found.ensures.told.few
+
+pub returns-clause-same : goal.returns-clause-same
+returns-clause-same c = same_seat c.args.self.now c.args.held.now c.load-found.new.seat c.requires.held c.load-found.ensures.table c.load-found.ensures.told.later_is

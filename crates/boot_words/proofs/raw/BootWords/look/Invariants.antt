@@ -1,5 +1,7 @@
-use Rattle.boot_words.proofs.StockTold.{sees_stock_told}
+use Rattle.boot_words.specs.Seats.{zone_of_boot}
+use Rattle.boot_words.specs.Pasts.{cpu_past, own_past}
+use Rattle.boot_words.proofs.Looking.{SeesStock}
 use Rattle.boot_words.proofs.raw.BootWords.look.Given as goal
 
 abbrev pub ghosts-load : goal.ghosts-load
-ghosts-load a = record { told = sees_stock_told a.raw.now.views }
+ghosts-load a = record { told = SeesStock (zone_of_boot a.self.now) (own_past a.seat.now) (cpu_past a.seat.now) }

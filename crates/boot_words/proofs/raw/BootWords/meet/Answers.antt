@@ -1,11 +1,18 @@
-use Rattle.std.proofs.Common.{ap}
-use Rattle.boot_words.proofs.Joining.{joined_views, past_views}
-use Rattle.boot_words.proofs.LockTold.{may_meet}
+use Rattle.std.proofs.Common.{◌++◌, ap, sym, ◌∙◌, subst}
+use Rattle.boot_words.specs.Pasts.{KnownPasts}
+use Rattle.boot_words.specs.Cpus.{IsAwayCpu}
+use Rattle.boot_words.proofs.SeenSame.{meet_knows, meets}
 use Rattle.boot_words.proofs.raw.BootWords.meet.Goals as goal
 
 pub load-requires-clause-may : goal.load-requires-clause-may
 load-requires-clause-may c =
-    let zone = past_views _ c.args.zone.now _ c.zone.invariant (ap (λ s. s.pasts) c.zone.view_is) c.requires.zone.alone in
-    let cpu = past_views _ c.args.cpu.now _ c.cpu.invariant (ap (λ s. s.pasts) c.cpu.view_is) c.requires.cpu.alone in
-    may_meet _ _ _ _ (joined_views _ _ _ _ _ (ap (λ r. r.views) c.join.ensures.raw) zone cpu) c.requires.zone.zone_is c.requires.cpu.low c.requires.cpu.high
-    c.requires.free
+    let seat = ap (λ k. k.seat) c.cpu.view_is in
+    meets c.args.self.now c.args.zone.now c.args.cpu.now.seat c.join.new.seat c.requires.zone c.requires.cpu.past c.requires.free
+    (ap (λ s. s.pasts) c.join.ensures.seat ∙ ap (λ (s : KnownPasts). c.args.zone.now.pasts ++ s.pasts) seat)
+
+pub returns-clause-cpu : goal.returns-clause-cpu
+returns-clause-cpu c =
+    let t = c.args.self.now in
+    let is : IsAwayCpu t (record { seat = c.cpu.inside.past; number = c.cpu.inside.number; last = c.cpu.inside.last }) = subst (IsAwayCpu t) (sym c.cpu.view_is) c.requires.cpu in
+    meet_knows t c.args.zone.now (record { seat = c.cpu.inside.past; number = c.cpu.inside.number; last = c.cpu.inside.last }) c.join.new.seat c.split_others.result c.load.new.seat.pasts c.load.result
+    c.requires.zone is (ap (λ s. s.pasts) c.join.ensures.seat) c.load.ensures.told c.split_others.ensures.others

@@ -1,9 +1,7 @@
-use Rattle.frame_word.specs.Kinds.{stores_pass_back}
-use Rattle.step_rules.specs.declared.step.Action.TheVariants.{PassBack}
-use Rattle.boot_words.specs.Seats.{frame_at, zone_of_boot}
-use Rattle.boot_words.specs.Sitting.{second_view_of_frames}
-use Rattle.boot_words.proofs.HeldTold.{stores_told}
+use Rattle.boot_words.specs.Seats.{zone_of_boot, frame_of_word}
+use Rattle.boot_words.specs.Pasts.{cpu_past, own_past}
+use Rattle.boot_words.proofs.Visiting.{passes_told}
 use Rattle.boot_words.proofs.raw.BootWords.pass_back.Given as goal
 
 abbrev pub ghosts-store : goal.ghosts-store
-ghosts-store a = record { told = stores_told (zone_of_boot a.self.now) stores_pass_back a.raw.now.views (frame_at a.word) a.new (record { seat = (second_view_of_frames a.raw.now.views).number; action = PassBack (frame_at a.word) }) }
+ghosts-store a = record { told = passes_told (zone_of_boot a.self.now) (own_past a.seat.now) (cpu_past a.seat.now) (frame_of_word a.word) }

@@ -1,6 +1,6 @@
-use Rattle.boot_words.specs.Seats.{frame_at}
-use Rattle.boot_words.proofs.Told.{sees_told}
+use Rattle.boot_words.specs.Seats.{frame_of_word}
+use Rattle.boot_words.proofs.Looking.{SeesReferences}
 use Rattle.boot_words.proofs.raw.BootWords.references.Given as goal
 
 abbrev pub ghosts-load : goal.ghosts-load
-ghosts-load a = record { told = sees_told a.raw.now.views (frame_at a.word) }
+ghosts-load a = record { told = SeesReferences a.self.now a.seat.now (frame_of_word a.word) }

@@ -1,10 +1,10 @@
 use Rattle.std.proofs.Common.{◌∙◌, sym, subst, List, ℕ, ◌∷◌, []}
-use Rattle.boot_words.specs.Rule.{BootRule}
-use Rattle.boot_words.specs.Seating.{all_views}
+use Rattle.boot_words.specs.Rule.{RunRule}
+use Rattle.boot_words.specs.Seats.{all_pasts}
 use Rattle.boot_words.proofs.Beginning.{rule_opens}
 use Rattle.boot_words.proofs.raw.BootWords.start.Goals as goal
 
 pub of_words-requires : goal.of_words-requires
 of_words-requires c =
-    subst (λ (l : List ℕ). BootRule (record { frames = c.args.frames; cpus = c.args.cpus }) l (all_views (record { frames = c.args.frames; cpus = c.args.cpus }) ∷ []))
+    subst (λ (l : List ℕ). RunRule (record { frames = c.args.frames; cpus = c.args.cpus }) l (all_pasts c.args.cpus ∷ []))
     (sym (c.as_slice.ensures.value ∙ c.in_ok-words.ensures.items_if_clones_equal (λ y is. is))) (rule_opens (record { frames = c.args.frames; cpus = c.args.cpus }))

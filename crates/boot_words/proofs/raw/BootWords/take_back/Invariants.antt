@@ -1,6 +1,8 @@
+use Rattle.boot_words.specs.Composed.{take_back_run}
 use Rattle.boot_words.specs.Seats.{zone_of_boot}
-use Rattle.boot_words.proofs.TakenBack.{takes_back_told}
+use Rattle.boot_words.specs.Pasts.{cpu_past, own_past}
+use Rattle.boot_words.proofs.InTurn.{MadeInTurn}
 use Rattle.boot_words.proofs.raw.BootWords.take_back.Given as goal
 
 abbrev pub ghosts-load_for : goal.ghosts-load_for
-ghosts-load_for a = record { told = takes_back_told (zone_of_boot a.self.now) a.raw.now.views a._frame }
+ghosts-load_for a = record { told = λ found. MadeInTurn (zone_of_boot a.self.now) (own_past a.held.now) (cpu_past a.held.now) (take_back_run a._cpu a._frame) }

@@ -1,22 +1,14 @@
-use Rattle.std.proofs.Common.{◌∷◌, [], ◌∙◌, ap}
-use Rattle.boot_words.specs.declared.view.BootView.TheVariants.{OfFrames}
-use Rattle.boot_words.proofs.Joining.{joined_views, past_views}
-use Rattle.boot_words.proofs.HeldTold.{held_run, may_unfreeze, one_left}
+use Rattle.boot_words.proofs.Zoning.{frame_of_unfreeze, unfreezes}
+use Rattle.step_rules.specs.declared.step.Action.TheVariants.{Unfreeze}
+use Rattle.step_rules.specs.declared.step.Answer.TheVariants.{Done}
+use Rattle.boot_words.proofs.UnderLock.{held_made}
 use Rattle.boot_words.proofs.raw.BootWords.unfreeze.Goals as goal
 
-pub store-requires-clause-may : goal.store-requires-clause-may
-store-requires-clause-may c =
-    let pasts = past_views _ c.args.held.now _ c.held.invariant (ap (λ s. s.pasts) c.held.view_is) c.requires.held.both in
-    let seat = c.zone.invariant.alone ∙ ap (λ s. OfFrames s.view ∷ []) c.zone.view_is in
-    may_unfreeze _ _ c.args.frame c.args.count _ _ c.args.zone.now.view (joined_views _ _ _ _ _ (ap (λ r. r.views) c.join.ensures.raw) pasts seat)
-    c.requires.held.holds c.requires.frame c.requires.count.0 c.requires.count.1 c.requires.hand c.requires.legal
+pub store-requires-clause-place : goal.store-requires-clause-place
+store-requires-clause-place c = frame_of_unfreeze c.args.self.now c.args.held.now c.args.frame c.args.count c.requires.legal
 
-pub returns-clause-run : goal.returns-clause-run
-returns-clause-run c =
-    let pasts = past_views _ c.args.held.now _ c.held.invariant (ap (λ s. s.pasts) c.held.view_is) c.requires.held.both in
-    let zone = c.zone.invariant.alone ∙ ap (λ s. OfFrames s.view ∷ []) c.zone.view_is in
-    let both = joined_views _ _ _ _ _ (ap (λ r. r.views) c.join.ensures.raw) pasts zone in
-    let told = c.store.ensures.told in
-    held_run OfFrames c.args.self.now c.args.held.now _ _ _ (c.args.zone.now.view ∷ []) _ _ _ _ both told
-    (one_left OfFrames told.zone_past told.cpu_past told.made.0 told.views _ _ told.later_is told.made.1
-    (ap (λ r. r.views) c.split_last.ensures.rest)) (ap (λ r. r.table) c.split_last.ensures.rest)
+pub store-requires-clause-may : goal.store-requires-clause-may
+store-requires-clause-may c = unfreezes c.args.self.now c.args.held.now c.args.frame c.args.count c.requires.held c.requires.legal
+
+pub returns : goal.returns
+returns c = held_made c.args.self.now c.args.held.now (record { seat = 0; action = Unfreeze c.args.frame c.args.count }) Done c.store.new.seat c.requires.held c.store.ensures.table c.store.ensures.told

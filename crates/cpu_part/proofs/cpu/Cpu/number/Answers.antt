@@ -3,6 +3,3 @@ use Rattle.cpu_part.proofs.cpu.Cpu.number.Goals as goal
 
 pub returns-clause-number : goal.returns-clause-number
 returns-clause-number g c = search rules
-
-pub returns-clause-tied : goal.returns-clause-tied
-returns-clause-tied g c = search rules

@@ -1,61 +1,93 @@
-use Rattle.std.proofs.Common.{◌≡◌, ℕ, Option, None, Some, ap, refl, sym, ◌∙◌, subst, rules}
+use Rattle.std.proofs.Common.{◌≡◌, ℕ, ◌<◌, ◌≤◌, Some, None, refl, sym, ap, ◌∙◌, arith, rules}
 use Rattle.step_rules.specs.declared.step.Action.TheVariants.{DrainStock}
-use Rattle.step_rules.specs.declared.step.Answer.TheVariants.{Pages}
-use Rattle.mem_machine.proofs.Draining.{drain_may, drained_never, drained_some, never_drained}
-use Rattle.mem_machine.specs.Machines.{KnownMachine}
-use Rattle.cpu_part.specs.Cpus.{KnownCpu}
 use Rattle.mem_machine.specs.Kept.{machine_of}
-use Rattle.mem_machine.specs.Local.{MakesAs, visit_state}
-use Rattle.mem_machine.specs.Noted.{KnownRun, Notes}
-use Rattle.mem_machine.specs.Stocks.{stock_group}
-use Rattle.mem_machine.specs.Steps.{drain_steps, zone_makes}
-use Rattle.mem_machine.proofs.Followed.{makes_noted}
-use Rattle.mem_machine.proofs.Noted.{notes_one}
-use Rattle.mem_machine.proofs.Reached.{held_here}
-use Rattle.mem_machine.proofs.Watched.{drains_still, consistent_still, stays_then}
+use Rattle.mem_machine.specs.Machines.{stock_group}
+use Rattle.mem_machine.proofs.AtTable.{made_at, may_at}
+use Rattle.mem_machine.proofs.Drained.{drained_now, drained_sound, emptied_sound, knows_drain, no_group_none, noted_none, noted_some, sum_within, there_now, ungrant_may}
+use Rattle.mem_machine.proofs.Draining.{drain_may, drained_none}
+use Rattle.mem_machine.proofs.Made.{held_here}
+use Rattle.mem_machine.proofs.Owning.{owner_at}
 use Rattle.mem_machine.proofs.machine.Machine.drain_stock.Goals as goal
 
-pub drain_none-requires : goal.drain_none-requires
-drain_none-requires g c = record {
-  held = held_here g.N.BootName.frames _ _ c.self.view_is c.requires.shown.cpu c.requires.shown.is;
-  legal = drain_may g.N.BootName.frames _ _ c.self.view_is c.requires.shown.cpu c.requires.shown.is c.args.cpu c.requires.cpu.0 c.requires.cpu.1;
-  cpu = search rules;
-  group = sym c.in-None.ensures.group;
-  drained = c.in-None.ensures.unfilled refl;
-}
+pub drain-pages-requires-clause-legal : goal.drain-pages-requires-clause-legal
+drain-pages-requires-clause-legal g c =
+    may_at _ _ c.args.tables.now.frames_are 0 refl c.self.inside.past (DrainStock c.args.cpu)
+    (drain_may g.N.BootName.frames c.self.inside.past (held_here g.N.BootName.frames (machine_of c.self.inside) _ c.self.view_is c.requires.held) c.args.cpu c.requires.cpu)
+
+pub group-requires : goal.group-requires
+group-requires g c = let few = c.self.invariant.owners.few in omega (arith, few, c.requires.cpu.0, c.requires.cpu.1)
+
+pub unreachable-requires : goal.unreachable-requires
+unreachable-requires g c =
+    let t = g.N.BootName.frames in
+    let m = machine_of c.self.inside in
+    let knows = knows_drain t _ c.args.tables.now.frames_are m _ c.self.view_is c.requires.held c.args.cpu _ c.requires.cpu _ c.drain-pages.ensures in
+    let none : stock_group t m c.args.cpu ≡ None = owner_at t.cpus _ _ c.self.invariant.owners c.args.cpu c.requires.cpu.0 c.requires.cpu.1 ∙ sym c.group.ensures ∙ c.in_default.is in
+    let no_page = no_group_none t m c.self.invariant.consistent c.args.cpu _ knows none in
+    let some = c.if-pages-gt0.true in
+    absurd (omega (arith, no_page, some))
+
+pub overflow_sub-self : goal.overflow_sub-self
+overflow_sub-self g c =
+    let t = g.N.BootName.frames in
+    let m = machine_of c.self.inside in
+    let knows = knows_drain t _ c.args.tables.now.frames_are m _ c.self.view_is c.requires.held c.args.cpu _ c.requires.cpu _ c.drain-pages.ensures in
+    let owner : stock_group t m c.args.cpu ≡ Some c.in-Some.group = owner_at t.cpus _ _ c.self.invariant.owners c.args.cpu c.requires.cpu.0 c.requires.cpu.1 ∙ sym c.group.ensures ∙ c.in-Some.is in
+    sum_within t m c.self.invariant.consistent c.args.cpu _ knows _ c.self.invariant.sums c.number.result (owner ∙ ap Some (sym c.number.ensures.value)) c.number.ensures.below
+
+pub uncharge-requires : goal.uncharge-requires
+uncharge-requires g c =
+    let t = g.N.BootName.frames in
+    let m = machine_of c.self.inside in
+    let knows = knows_drain t _ c.args.tables.now.frames_are m _ c.self.view_is c.requires.held c.args.cpu _ c.requires.cpu _ c.drain-pages.ensures in
+    let owner : stock_group t m c.args.cpu ≡ Some c.in-Some.group = owner_at t.cpus _ _ c.self.invariant.owners c.args.cpu c.requires.cpu.0 c.requires.cpu.1 ∙ sym c.group.ensures ∙ c.in-Some.is in
+    let both = there_now t m c.self.invariant.consistent c.args.cpu _ knows c.in-Some.group owner c.if-pages-gt0.true in
+    record { there = both.0; charged = both.1 }
+
+pub ungrant-requires-clause-legal : goal.ungrant-requires-clause-legal
+ungrant-requires-clause-legal g c =
+    let t = g.N.BootName.frames in
+    let m = machine_of c.self.inside in
+    let knows = knows_drain t _ c.args.tables.now.frames_are m _ c.self.view_is c.requires.held c.args.cpu _ c.requires.cpu _ c.drain-pages.ensures in
+    let owner : stock_group t m c.args.cpu ≡ Some c.in-Some.group = owner_at t.cpus _ _ c.self.invariant.owners c.args.cpu c.requires.cpu.0 c.requires.cpu.1 ∙ sym c.group.ensures ∙ c.in-Some.is in
+    ungrant_may t m c.self.invariant.consistent c.args.cpu _ knows c.in-Some.group owner c.if-pages-gt0.true _
+    (made_at _ _ c.args.tables.now.frames_are 0 refl _ _ _ _ c.drain-pages.ensures)
 
 pub invariant_of-self : goal.invariant_of-self
-invariant_of-self g c = record {
-  consistent = consistent_still _ _ _ _ (never_drained g.N.BootName.frames g.N.BootName.stocks _ _ c.self.view_is c.self.invariant.consistent c.args.cpu c.requires.cpu.0
-      c.requires.cpu.1 c.in-None.ensures.group 1 _ c.drain_none.ensures.seat).consistent;
-  free = c.self.invariant.free;
-}
+invariant_of-self g c =
+    let t = g.N.BootName.frames in
+    let m = machine_of c.self.inside in
+    let knows = knows_drain t _ c.args.tables.now.frames_are m _ c.self.view_is c.requires.held c.args.cpu _ c.requires.cpu _ c.drain-pages.ensures in
+    let owner : stock_group t m c.args.cpu ≡ Some c.in-Some.group = owner_at t.cpus _ _ c.self.invariant.owners c.args.cpu c.requires.cpu.0 c.requires.cpu.1 ∙ sym c.group.ensures ∙ c.in-Some.is in
+    let noted = noted_some t _ c.args.tables.now.frames_are m.run c.args.cpu _ c.in-Some.group c.if-pages-gt0.true _ _ c.drain-pages.ensures c.drained.ensures _ c.ungrant.ensures.notes in
+    drained_sound t c.self.inside c.self.invariant c.args.cpu _ knows c.in-Some.group owner c.number.result c.number.ensures.value c.number.ensures.below _ noted _ c.uncharge.ensures.uncharged
 
-pub returns-in-None : goal.returns-in-None
-returns-in-None g c =
-    let all = never_drained g.N.BootName.frames g.N.BootName.stocks _ _ c.self.view_is c.self.invariant.consistent c.args.cpu c.requires.cpu.0
-    c.requires.cpu.1 c.in-None.ensures.group 1 _ c.drain_none.ensures.seat in
-    let none : None ≡ stock_group c.args.self.now c.args.cpu = c.in-None.ensures.group
-    ∙ ap (λ (x : KnownMachine). stock_group x c.args.cpu) c.self.view_is in
-    let first : KnownRun = record { past = c.self.inside.past; watch = c.self.inside.watch } in
-    let last : KnownRun = record { past = c.drain_none.new.held; watch = c.drained.new.self } in
-    let one = notes_one g.N.BootName.frames first (zone_makes (DrainStock c.args.cpu) (Pages 0)) last c.drain_none.ensures.run c.drained.ensures in
-    let steps : (cpu : KnownCpu) → MakesAs g.N.BootName.frames cpu.number (visit_state c.args.self.now cpu)
-    (drain_steps c.args.cpu (stock_group c.args.self.now c.args.cpu) 0) (visit_state (record (machine_of c.self.inside)
-    { stock_seat = c.drain_none.new.self; run = last }) cpu) = λ cpu. makes_noted _ _ _ _ c.self.view_is cpu cpu _ _ (all.steps cpu) _
-    (subst (λ (o : Option ℕ). Notes g.N.BootName.frames first (drain_steps c.args.cpu o 0) last) none one) in
-    record {
-      drains = drained_never _ _ c.args.cpu none (drains_still _ _ _ _ _ _ all.drains);
-      steps = steps;
-      visit = stays_then g.N.BootName.frames _ _ c.self.view_is _ refl _ steps;
-    }
+pub invariant_of-self-else-pages-gt0 : goal.invariant_of-self-else-pages-gt0
+invariant_of-self-else-pages-gt0 g c =
+    let t = g.N.BootName.frames in
+    let m = machine_of c.self.inside in
+    let knows = knows_drain t _ c.args.tables.now.frames_are m _ c.self.view_is c.requires.held c.args.cpu _ c.requires.cpu _ c.drain-pages.ensures in
+    let none : c.drain-pages.result ≡ 0 = search rules in
+    emptied_sound t c.self.inside c.self.invariant c.args.cpu _ knows none _
+    (noted_none t _ c.args.tables.now.frames_are m.run c.args.cpu _ (stock_group t m c.args.cpu) none _ _ c.drain-pages.ensures c.drained.ensures)
 
 pub returns-in-Some : goal.returns-in-Some
 returns-in-Some g c =
-    let of : Some c.in-Some.group ≡ stock_group c.args.self.now c.args.cpu = c.in-Some.ensures.group
-    ∙ ap (λ (x : KnownMachine). stock_group x c.args.cpu) c.self.view_is in
-    record {
-      drains = drained_some _ _ c.args.cpu c.drain_of.result c.in-Some.group of c.drain_of.ensures.drains;
-      steps = c.drain_of.ensures.steps;
-      visit = c.drain_of.ensures.visit;
-    }
+    let t = g.N.BootName.frames in
+    let m = machine_of c.self.inside in
+    let knows = knows_drain t _ c.args.tables.now.frames_are m _ c.self.view_is c.requires.held c.args.cpu _ c.requires.cpu _ c.drain-pages.ensures in
+    let owner : stock_group t m c.args.cpu ≡ Some c.in-Some.group = owner_at t.cpus _ _ c.self.invariant.owners c.args.cpu c.requires.cpu.0 c.requires.cpu.1 ∙ sym c.group.ensures ∙ c.in-Some.is in
+    let noted = noted_some t _ c.args.tables.now.frames_are m.run c.args.cpu _ c.in-Some.group c.if-pages-gt0.true _ _ c.drain-pages.ensures c.drained.ensures _ c.ungrant.ensures.notes in
+    let all = drained_now t m c.self.invariant.consistent c.args.cpu _ knows (Some c.in-Some.group) owner _ noted _ c.self.view_is _ c.uncharge.ensures.uncharged in
+    record { drains = all.drains; steps = all.steps; visit = all.visit }
+
+pub returns-else-pages-gt0 : goal.returns-else-pages-gt0
+returns-else-pages-gt0 g c =
+    let t = g.N.BootName.frames in
+    let m = machine_of c.self.inside in
+    let knows = knows_drain t _ c.args.tables.now.frames_are m _ c.self.view_is c.requires.held c.args.cpu _ c.requires.cpu _ c.drain-pages.ensures in
+    let none : c.drain-pages.result ≡ 0 = search rules in
+    let o = stock_group t m c.args.cpu in
+    let noted = noted_none t _ c.args.tables.now.frames_are m.run c.args.cpu _ o none _ _ c.drain-pages.ensures c.drained.ensures in
+    let all = drained_now t m c.self.invariant.consistent c.args.cpu _ knows o refl _ noted _ c.self.view_is _ (drained_none c.self.inside.charges o _ none) in
+    record { drains = all.drains; steps = all.steps; visit = all.visit }

@@ -1,129 +1,189 @@
-use Rattle.std.proofs.Common.{ℕ, refl, sym, ap, ◌∙◌, [], ◌∷◌, subst, rules, IsTrue, ◌+◌, ◌<◌, ◌^◌}
+use Rattle.std.proofs.Common.{◌≡◌, ℕ, ◌+◌, ◌-◌, ◌<◌, ◌≤◌, ◌^◌, [], ◌∷◌, IsTrue, refl, sym, ap, ◌∙◌, subst, arith}
+use Rattle.frame_word.specs.Seats.{KnownTable}
 use Rattle.group_tree.specs.Groups.{has_group}
-use Rattle.group_tree.specs.Room.{IsLowestOver}
-use Rattle.group_charge.specs.Charges.{Ledger, current_of}
-use Rattle.cpu_part.specs.Cpus.{KnownCpu}
+use Rattle.group_charge.specs.Charges.{current_of}
 use Rattle.step_rules.specs.declared.step.Action.TheVariants.{Fill, Grant}
-use Rattle.step_rules.specs.declared.step.Answer.TheVariants.{Done, Granted}
-use Rattle.step_watch.specs.Watched.{Watches}
+use Rattle.step_rules.specs.declared.step.Answer.TheVariants.{Granted}
+use Rattle.step_rules.specs.State.{State}
+use Rattle.boot_words.specs.Pasts.{MayMake, local_by_pasts}
+use Rattle.step_rules.specs.Laws.{IsLocalStep}
 use Rattle.mem_machine.specs.Kept.{machine_of}
-use Rattle.mem_machine.specs.Machines.{IsConsistent, KnownMachine}
+use Rattle.mem_machine.specs.Local.{local_of}
+use Rattle.mem_machine.specs.Machines.{KnownMachine}
 use Rattle.mem_machine.specs.Noted.{KnownRun}
-use Rattle.mem_machine.specs.Local.{visit_state}
-use Rattle.mem_machine.specs.Steps.{over_steps, zone_makes}
-use Rattle.mem_machine.proofs.Booking.{room_booked}
-use Rattle.mem_machine.proofs.Followed.{LeadsAs, makes_noted}
-use Rattle.mem_machine.proofs.GroupSteps.{still_visited}
-use Rattle.mem_machine.proofs.Noted.{notes_both, notes_one}
-use Rattle.mem_machine.proofs.Prepaying.{filled_all, granted_may, nothing_booked, refused_all}
-use Rattle.mem_machine.proofs.Reached.{held_here, may_lead, may_lead_all, who_here}
-use Rattle.mem_machine.proofs.Watched.{consistent_still, open_still, visits_then}
+use Rattle.mem_machine.proofs.Prepaying.{fill_fits, fill_leads, fill_may, fill_noted, filled_now, filled_sound, filler_is, knows_fill, nothing_booked, refused_may, refused_now, refused_sound, refused_visits}
 use Rattle.mem_machine.proofs.machine.Machine.fill_stock.Goals as goal
-
-pub refuse-requires-clause-held : goal.refuse-requires-clause-held
-refuse-requires-clause-held g c = held_here g.N.BootName.frames _ _ c.self.view_is c.args.cpu.now c.requires.visit.shown
-
-pub refuse-requires-clause-legal : goal.refuse-requires-clause-legal
-refuse-requires-clause-legal g c =
-    let m = c.args.self.now in
-    let low = subst (λ (x : KnownMachine). IsLowestOver x.ledger.groups (current_of x.ledger) c.args.group c.args.pages c.in-Err.over.group) c.self.view_is c.in-Err.ensures.over in
-    may_lead g.N.BootName.frames _ _ c.self.view_is c.args.cpu.now c.requires.visit.shown _ _ _
-    (refused_all g.N.BootName.frames g.N.BootName.stocks _ _ c.self.view_is c.args.cpu.now c.args.group c.args.pages c.in-Err.over.group c.self.invariant.consistent c.prove_charges.ensures.legal
-    c.number-cpu_number.ensures.tied c.requires.visit c.requires.none_fresh c.requires.charges.there c.requires.charges.alive low)
-
-pub grant-requires-clause-held : goal.grant-requires-clause-held
-grant-requires-clause-held g c = held_here g.N.BootName.frames _ _ c.self.view_is c.args.cpu.now c.requires.visit.shown
-
-pub grant-requires-clause-legal : goal.grant-requires-clause-legal
-grant-requires-clause-legal g c =
-    granted_may g.N.BootName.frames g.N.BootName.stocks _ _ c.self.view_is c.args.cpu.now c.args.group c.args.pages c.self.invariant.consistent c.prove_charges.ensures.legal
-    c.number-cpu_number.ensures.tied c.requires.visit c.requires.none_fresh c.requires.charges.there c.requires.charges.alive (c.in_default.ensures.granted.0 refl)
-
-pub fill-requires-clause-held : goal.fill-requires-clause-held
-fill-requires-clause-held g c = c.grant.ensures.run.held
-
-pub fill-requires-clause-holder : goal.fill-requires-clause-holder
-fill-requires-clause-holder g c =
-    sym (c.grant.ensures.run.cpu_grew.number ∙ who_here g.N.BootName.frames _ _ c.self.view_is c.args.cpu.now c.requires.visit.shown)
-
--- the fill is the second step, legal because nothing is booked for the CPU
-pub fill-requires-clause-legal : goal.fill-requires-clause-legal
-fill-requires-clause-legal g c =
-    let all = filled_all g.N.BootName.frames g.N.BootName.stocks _ _ c.args.cpu.now c.args.group c.args.pages c.self.view_is c.self.invariant.consistent c.prove_charges.ensures.legal
-    c.number-cpu_number.ensures.tied c.requires.visit c.requires.none_fresh c.requires.pages.1 c.requires.charges.there c.requires.charges.alive
-    (nothing_booked g.N.BootName.frames g.N.BootName.stocks _ _ c.self.view_is c.args.cpu.now c.requires.visit.shown c.self.invariant.consistent
-    c.requires.none_fresh c.requires.drained) (c.in_default.ensures.granted.0 refl)
-    _ _ _ _ refl c.in_default.ensures.charged refl refl in
-    ((may_lead_all g.N.BootName.frames _ _ c.self.view_is c.args.cpu.now c.requires.visit.shown _ _ all.steps).1 _ c.grant.ensures.run).0.legal
-
-pub fill-requires-clause-fits : goal.fill-requires-clause-fits
-fill-requires-clause-fits g c =
-    room_booked g.N.BootName.frames g.N.BootName.stocks _ _ c.self.view_is c.self.invariant.consistent c.prove_charges.ensures.legal c.args.group c.args.pages
-    c.requires.charges.there c.requires.charges.fits _ refl
-
-pub invariant_of-self-2 : goal.invariant_of-self-2
-invariant_of-self-2 g c = record {
-  consistent = consistent_still _ _ _ _ (filled_all g.N.BootName.frames g.N.BootName.stocks _ _ c.args.cpu.now c.args.group c.args.pages c.self.view_is c.self.invariant.consistent c.prove_charges.ensures.legal
-      c.number-cpu_number.ensures.tied c.requires.visit c.requires.none_fresh c.requires.pages.1 c.requires.charges.there c.requires.charges.alive
-      c.fill.ensures.nothing_booked (c.in_default.ensures.granted.0 refl)
-      _ _ _ _ refl c.in_default.ensures.charged c.fill.ensures.seat c.fill.ensures.cpu).consistent;
-  free = c.self.invariant.free;
-}
-
-pub returns-clause-steps : goal.returns-clause-steps
-returns-clause-steps g c =
-    let all = filled_all g.N.BootName.frames g.N.BootName.stocks _ _ c.args.cpu.now c.args.group c.args.pages c.self.view_is c.self.invariant.consistent c.prove_charges.ensures.legal
-    c.number-cpu_number.ensures.tied c.requires.visit c.requires.none_fresh c.requires.pages.1 c.requires.charges.there c.requires.charges.alive
-    c.fill.ensures.nothing_booked (c.in_default.ensures.granted.0 refl)
-    _ _ _ _ refl c.in_default.ensures.charged c.fill.ensures.seat c.fill.ensures.cpu in
-    let first : KnownRun = record { past = c.self.inside.past; watch = c.self.inside.watch } in
-    let granted : KnownRun = record { past = c.grant.new.past; watch = c.grant.new.watch } in
-    let filled : KnownRun = record { past = c.fill.new.held; watch = c.filled.new.self } in
-    let watched = subst (λ (n : ℕ). Watches granted.watch (zone_makes (Fill n c.args.group c.args.pages) Done ∷ []) filled.watch)
-    c.number-cpu_number.ensures.number c.filled.ensures in
-    let took = notes_one g.N.BootName.frames granted (zone_makes (Fill c.args.cpu.now.number c.args.group c.args.pages) Done) filled c.fill.ensures.run watched in
-    makes_noted _ _ _ _ c.self.view_is _ _ _ _ all.steps _
-    (notes_both g.N.BootName.frames first (zone_makes (Grant c.args.group c.args.pages) Granted ∷ []) granted _ filled c.grant.ensures.notes took)
-
-pub returns-clause-visit : goal.returns-clause-visit
-returns-clause-visit g c =
-    let all = filled_all g.N.BootName.frames g.N.BootName.stocks _ _ c.args.cpu.now c.args.group c.args.pages c.self.view_is c.self.invariant.consistent c.prove_charges.ensures.legal
-    c.number-cpu_number.ensures.tied c.requires.visit c.requires.none_fresh c.requires.pages.1 c.requires.charges.there c.requires.charges.alive
-    c.fill.ensures.nothing_booked (c.in_default.ensures.granted.0 refl)
-    _ _ _ _ refl c.in_default.ensures.charged c.fill.ensures.seat c.fill.ensures.cpu in
-    visits_then _ _ _ _ c.requires.visit.shown (returns-clause-steps g c) (ap (λ (x : KnownCpu). x.number) c.fill.ensures.cpu) (open_still _ _ _ _ all.visit)
-
-pub returns-in-Err-clause-refused : goal.returns-in-Err-clause-refused
-returns-in-Err-clause-refused g c =
-    let t = g.N.BootName.frames in
-    let m = c.args.self.now in
-    let over = c.in-Err.over.group in
-    let low = subst (λ (x : KnownMachine). IsLowestOver x.ledger.groups (current_of x.ledger) c.args.group c.args.pages over) c.self.view_is c.in-Err.ensures.over in
-    let same = (λ i. record (machine_of c.self.inside) { ledger = c.in-Err.ensures.unchanged i }) ∙ c.self.view_is in
-    let refused = subst (λ (x : KnownMachine). LeadsAs t c.args.cpu.now.number (visit_state m c.args.cpu.now) (over_steps c.args.group c.args.pages over)
-    (visit_state x c.args.cpu.now)) (sym same)
-    (refused_all g.N.BootName.frames g.N.BootName.stocks _ _ c.self.view_is c.args.cpu.now c.args.group c.args.pages c.in-Err.over.group c.self.invariant.consistent c.prove_charges.ensures.legal
-    c.number-cpu_number.ensures.tied c.requires.visit c.requires.none_fresh c.requires.charges.there c.requires.charges.alive low) in
-    makes_noted _ _ _ _ c.self.view_is _ _ _ _ refused _ c.refuse.ensures.notes
-
-pub returns-in-Err-clause-visit : goal.returns-in-Err-clause-visit
-returns-in-Err-clause-visit g c = still_visited g.N.BootName.frames _ _ c.self.view_is _ refl c.args.cpu.now _ c.requires.visit (returns-in-Err-clause-refused g c)
-
-pub invariant_of-self : goal.invariant_of-self
-invariant_of-self g c = record {
-  consistent = consistent_still _ _ _ _ (subst (λ (l : Ledger). IsConsistent g.N.BootName.frames g.N.BootName.stocks (record (machine_of c.self.inside) { ledger = l }))
-      (sym c.in-Err.ensures.unchanged) c.self.invariant.consistent);
-  free = c.self.invariant.free;
-}
-
-pub returns-clause-fills : goal.returns-clause-fills
-returns-clause-fills g c = search rules
-
-pub returns-clause-over : goal.returns-clause-over
-returns-clause-over g c = search rules
 
 pub try_charge-requires-clause-there : goal.try_charge-requires-clause-there
 try_charge-requires-clause-there g c = subst (λ (m : KnownMachine). IsTrue (has_group m.ledger.groups c.args.group)) (sym c.self.view_is) c.requires.charges.there
 
 pub try_charge-requires-clause-fits : goal.try_charge-requires-clause-fits
 try_charge-requires-clause-fits g c = subst (λ (m : KnownMachine). current_of m.ledger 0 + c.args.pages < 2 ^ 32) (sym c.self.view_is) c.requires.charges.fits
+
+-- ---- a limit has no room
+
+pub refuse-requires-clause-legal : goal.refuse-requires-clause-legal
+refuse-requires-clause-legal g c =
+    let t = g.N.BootName.frames in
+    let m = machine_of c.self.inside in
+    let cpu = c.args.cpu.now in
+    let knows = knows_fill t m _ c.self.view_is cpu c.args.group c.args.pages c.requires.visit c.requires.charges c.requires.drained in
+    let ok = c.self.invariant.consistent in
+    let facts = c.prove_charges.ensures.legal in
+    refused_may t m ok facts knows.visit.held c.args.group c.args.pages c.in-Err.over.group knows.there knows.alive c.in-Err.ensures.over
+
+pub invariant_of-self : goal.invariant_of-self
+invariant_of-self g c =
+    let t = g.N.BootName.frames in
+    let m = machine_of c.self.inside in
+    let cpu = c.args.cpu.now in
+    let knows = knows_fill t m _ c.self.view_is cpu c.args.group c.args.pages c.requires.visit c.requires.charges c.requires.drained in
+    let ok = c.self.invariant.consistent in
+    let facts = c.prove_charges.ensures.legal in
+    refused_sound t c.self.inside c.self.invariant cpu c.args.group c.args.pages c.in-Err.over.group facts knows c.in-Err.ensures.over _ c.refuse.ensures.notes _ c.in-Err.ensures.unchanged
+
+pub returns-in-Err-clause-refused : goal.returns-in-Err-clause-refused
+returns-in-Err-clause-refused g c =
+    let t = g.N.BootName.frames in
+    let m = machine_of c.self.inside in
+    let cpu = c.args.cpu.now in
+    let knows = knows_fill t m _ c.self.view_is cpu c.args.group c.args.pages c.requires.visit c.requires.charges c.requires.drained in
+    let ok = c.self.invariant.consistent in
+    let facts = c.prove_charges.ensures.legal in
+    refused_now t c.self.inside c.self.invariant cpu c.args.group c.args.pages c.in-Err.over.group facts knows c.in-Err.ensures.over _ c.refuse.ensures.notes _ c.in-Err.ensures.unchanged
+    _ c.self.view_is
+
+pub returns-in-Err-clause-visit : goal.returns-in-Err-clause-visit
+returns-in-Err-clause-visit g c =
+    let t = g.N.BootName.frames in
+    let m = machine_of c.self.inside in
+    let cpu = c.args.cpu.now in
+    let knows = knows_fill t m _ c.self.view_is cpu c.args.group c.args.pages c.requires.visit c.requires.charges c.requires.drained in
+    let ok = c.self.invariant.consistent in
+    let facts = c.prove_charges.ensures.legal in
+    refused_visits t c.self.inside c.self.invariant cpu c.args.group c.args.pages c.in-Err.over.group facts knows c.in-Err.ensures.over _ c.refuse.ensures.notes _ c.in-Err.ensures.unchanged
+
+-- ---- the pages are granted, and fill the stock
+
+pub grant-requires-clause-legal : goal.grant-requires-clause-legal
+grant-requires-clause-legal g c =
+    let t = g.N.BootName.frames in
+    let m = machine_of c.self.inside in
+    let cpu = c.args.cpu.now in
+    let knows = knows_fill t m _ c.self.view_is cpu c.args.group c.args.pages c.requires.visit c.requires.charges c.requires.drained in
+    let ok = c.self.invariant.consistent in
+    let facts = c.prove_charges.ensures.legal in
+    subst (λ (n : ℕ). IsLocalStep (local_of t m) n 0 (Grant c.args.group c.args.pages) Granted) (sym knows.visit.who)
+    (fill_leads t m cpu ok facts knows.visit c.requires.none_fresh knows.drained c.args.group c.args.pages knows.there knows.alive (c.in_default.ensures.granted.0 refl)).0
+
+pub fill-requires-clause-cpu : goal.fill-requires-clause-cpu
+fill-requires-clause-cpu g c =
+    let t = g.N.BootName.frames in
+    let m = machine_of c.self.inside in
+    let cpu = c.args.cpu.now in
+    let knows = knows_fill t m _ c.self.view_is cpu c.args.group c.args.pages c.requires.visit c.requires.charges c.requires.drained in
+    let ok = c.self.invariant.consistent in
+    let facts = c.prove_charges.ensures.legal in
+    let inside = (filler_is t m cpu ok facts knows.visit c.requires.none_fresh knows.drained).1 in
+    let same = ap (λ (x : KnownTable). x.cpus) c.args.tables.now.frames_are in
+    omega (arith, inside, same, c.number-cpu_number.ensures.number)
+
+pub fill-requires-clause-nothing : goal.fill-requires-clause-nothing
+fill-requires-clause-nothing g c =
+    let t = g.N.BootName.frames in
+    let m = machine_of c.self.inside in
+    let cpu = c.args.cpu.now in
+    let knows = knows_fill t m _ c.self.view_is cpu c.args.group c.args.pages c.requires.visit c.requires.charges c.requires.drained in
+    let ok = c.self.invariant.consistent in
+    let facts = c.prove_charges.ensures.legal in
+    subst (λ (x : KnownTable × ℕ). ((local_by_pasts x.0 c.grant.new.past).parts x.1).book ≡ 0)
+    (λ i. (sym c.args.tables.now.frames_are i, sym c.number-cpu_number.ensures.number i))
+    (ap (λ (s : State). (s.parts cpu.number).book) c.grant.ensures.run.local_is
+    ∙ nothing_booked t m cpu ok facts knows.visit c.requires.none_fresh knows.drained)
+
+-- the fill is the second step, legal because nothing is booked for the CPU
+pub fill-requires-clause-legal : goal.fill-requires-clause-legal
+fill-requires-clause-legal g c =
+    let t = g.N.BootName.frames in
+    let m = machine_of c.self.inside in
+    let cpu = c.args.cpu.now in
+    let knows = knows_fill t m _ c.self.view_is cpu c.args.group c.args.pages c.requires.visit c.requires.charges c.requires.drained in
+    let ok = c.self.invariant.consistent in
+    let facts = c.prove_charges.ensures.legal in
+    subst (λ (x : KnownTable × ℕ × ℕ). MayMake x.0 c.grant.new.past 0 (Fill x.1 x.2 c.args.pages))
+    (λ i. (sym c.args.tables.now.frames_are i, sym c.number-cpu_number.ensures.number i, sym c.number-owner.ensures.value i))
+    ((fill_may t m cpu ok facts knows.visit c.requires.none_fresh knows.drained c.args.group c.args.pages knows.there knows.alive (c.in_default.ensures.granted.0 refl)).1
+    _ c.grant.ensures.run).0.legal
+
+pub overflow_add-self : goal.overflow_add-self
+overflow_add-self g c =
+    let t = g.N.BootName.frames in
+    let m = machine_of c.self.inside in
+    let cpu = c.args.cpu.now in
+    let knows = knows_fill t m _ c.self.view_is cpu c.args.group c.args.pages c.requires.visit c.requires.charges c.requires.drained in
+    let ok = c.self.invariant.consistent in
+    let facts = c.prove_charges.ensures.legal in
+    let fits = fill_fits t c.self.inside c.self.invariant cpu c.args.group c.args.pages facts knows c.requires.none_fresh _ c.self.view_is c.requires.charges.fits
+    c.number-owner.result c.number-owner.ensures.value c.number-owner.ensures.below in
+    omega (arith, fits)
+
+pub set-requires : goal.set-requires
+set-requires g c =
+    let t = g.N.BootName.frames in
+    let m = machine_of c.self.inside in
+    let cpu = c.args.cpu.now in
+    let knows = knows_fill t m _ c.self.view_is cpu c.args.group c.args.pages c.requires.visit c.requires.charges c.requires.drained in
+    let ok = c.self.invariant.consistent in
+    let facts = c.prove_charges.ensures.legal in
+    let filler = filler_is t m cpu ok facts knows.visit c.requires.none_fresh knows.drained in
+    let few = c.self.invariant.owners.few in
+    omega (arith, filler.0, filler.1, few, c.number-cpu_number.ensures.number)
+
+pub invariant_of-self-2 : goal.invariant_of-self-2
+invariant_of-self-2 g c =
+    let t = g.N.BootName.frames in
+    let m = machine_of c.self.inside in
+    let cpu = c.args.cpu.now in
+    let knows = knows_fill t m _ c.self.view_is cpu c.args.group c.args.pages c.requires.visit c.requires.charges c.requires.drained in
+    let ok = c.self.invariant.consistent in
+    let facts = c.prove_charges.ensures.legal in
+    let noted = fill_noted t _ c.args.tables.now.frames_are m.run cpu.number c.args.group c.args.pages _ _ c.number-cpu_number.ensures.number c.number-owner.ensures.value _
+    c.grant.ensures.notes _ _ c.fill.ensures c.filled.ensures in
+    filled_sound t c.self.inside c.self.invariant cpu c.args.group c.args.pages facts knows c.requires.none_fresh (c.in_default.ensures.granted.0 refl) _ noted c.requires.pages.1
+    c.number-owner.result c.number-owner.ensures.value c.number-owner.ensures.below _ c.number-cpu_number.ensures.number _ c.in_default.ensures.charged _ c.set.ensures
+
+pub returns-clause-fills : goal.returns-clause-fills
+returns-clause-fills g c =
+    let t = g.N.BootName.frames in
+    let m = machine_of c.self.inside in
+    let cpu = c.args.cpu.now in
+    let knows = knows_fill t m _ c.self.view_is cpu c.args.group c.args.pages c.requires.visit c.requires.charges c.requires.drained in
+    let ok = c.self.invariant.consistent in
+    let facts = c.prove_charges.ensures.legal in
+    let noted = fill_noted t _ c.args.tables.now.frames_are m.run cpu.number c.args.group c.args.pages _ _ c.number-cpu_number.ensures.number c.number-owner.ensures.value _
+    c.grant.ensures.notes _ _ c.fill.ensures c.filled.ensures in
+    (filled_now t m _ c.self.view_is cpu c.args.group c.args.pages ok facts knows c.requires.none_fresh (c.in_default.ensures.granted.0 refl) _ noted _ c.in_default.ensures.charged).fills
+
+pub returns-clause-steps : goal.returns-clause-steps
+returns-clause-steps g c =
+    let t = g.N.BootName.frames in
+    let m = machine_of c.self.inside in
+    let cpu = c.args.cpu.now in
+    let knows = knows_fill t m _ c.self.view_is cpu c.args.group c.args.pages c.requires.visit c.requires.charges c.requires.drained in
+    let ok = c.self.invariant.consistent in
+    let facts = c.prove_charges.ensures.legal in
+    let noted = fill_noted t _ c.args.tables.now.frames_are m.run cpu.number c.args.group c.args.pages _ _ c.number-cpu_number.ensures.number c.number-owner.ensures.value _
+    c.grant.ensures.notes _ _ c.fill.ensures c.filled.ensures in
+    (filled_now t m _ c.self.view_is cpu c.args.group c.args.pages ok facts knows c.requires.none_fresh (c.in_default.ensures.granted.0 refl) _ noted _ c.in_default.ensures.charged).steps
+
+pub returns-clause-visit : goal.returns-clause-visit
+returns-clause-visit g c =
+    let t = g.N.BootName.frames in
+    let m = machine_of c.self.inside in
+    let cpu = c.args.cpu.now in
+    let knows = knows_fill t m _ c.self.view_is cpu c.args.group c.args.pages c.requires.visit c.requires.charges c.requires.drained in
+    let ok = c.self.invariant.consistent in
+    let facts = c.prove_charges.ensures.legal in
+    let noted = fill_noted t _ c.args.tables.now.frames_are m.run cpu.number c.args.group c.args.pages _ _ c.number-cpu_number.ensures.number c.number-owner.ensures.value _
+    c.grant.ensures.notes _ _ c.fill.ensures c.filled.ensures in
+    (filled_now t m _ c.self.view_is cpu c.args.group c.args.pages ok facts knows c.requires.none_fresh (c.in_default.ensures.granted.0 refl) _ noted _ c.in_default.ensures.charged).visit

@@ -1,28 +1,38 @@
-use Rattle.std.proofs.Common.{sym, subst}
-use Rattle.frame_word.specs.Seats.{KnownTable, IsShut}
-use Rattle.boot_words.specs.Pasts.{IsCpuPast, Locks}
-use Rattle.mem_machine.specs.Machines.{KnownMachine}
-use Rattle.mem_machine.specs.Resting.{Rests}
-use Rattle.mem_machine.proofs.Locks.{is_shown_then, rests_at}
+use Rattle.std.proofs.Common.{◌≡◌, sym, subst}
+use Rattle.frame_word.specs.Seats.{KnownTable}
+use Rattle.step_rules.specs.declared.phase.Hold.TheVariants.{HeldBy}
+use Rattle.boot_words.specs.Pasts.{Locks, own_past}
+use Rattle.boot_words.specs.Cpus.{IsAwayCpu}
+use Rattle.mem_machine.specs.Kept.{machine_of}
+use Rattle.mem_machine.specs.Machines.{KnownMachine, with_past}
+use Rattle.mem_machine.proofs.Locks.{locked_holds, locked_shut, rests_at, sound_then}
 use Rattle.mem_machine.proofs.machine.Machine.lock.Goals as goal
 
-pub returns-clause-shown : goal.returns-clause-shown
-returns-clause-shown g c =
-    let rests = subst (Rests g.N.BootName.frames) (sym c.self.view_is) c.requires.rests in
-    let shut = subst (λ (k : KnownMachine). IsShut k.frame_seat c.args.cpu.now.number) (sym c.self.view_is) c.requires.shut in
-    let locks = subst (λ (t : KnownTable). Locks t c.self.inside.past c.args.past.now c.lock.new.zone) c.args.tables.now.frames_are c.lock.ensures.run in
-    is_shown_then g.N.BootName.frames g.N.BootName.stocks _ c.args.cpu.now c.args.past.now c.lock.new.zone rests shut c.requires.knows c.prove_tied.ensures locks
+pub lock-requires-clause-zone : goal.lock-requires-clause-zone
+lock-requires-clause-zone g c = (rests_at _ _ c.args.tables.now.frames_are (machine_of c.self.inside) _ c.self.view_is c.requires.rests).0
+
+pub lock-requires-clause-free : goal.lock-requires-clause-free
+lock-requires-clause-free g c = (rests_at _ _ c.args.tables.now.frames_are (machine_of c.self.inside) _ c.self.view_is c.requires.rests).1
+
+pub lock-requires-clause-cpu : goal.lock-requires-clause-cpu
+lock-requires-clause-cpu g c = subst (λ (t : KnownTable). IsAwayCpu t c.args.past.now) (sym c.args.tables.now.frames_are) c.requires.knows.is
+
+pub invariant_of-self : goal.invariant_of-self
+invariant_of-self g c =
+    let locks = subst (λ (t : KnownTable). Locks t c.self.inside.past c.args.past.now.seat c.lock.new.zone) c.args.tables.now.frames_are c.lock.ensures.run in
+    sound_then g.N.BootName.frames c.self.inside c.self.invariant c.lock.new.zone (HeldBy (own_past c.args.past.now.seat).number) locks.found
+
+pub returns-clause-holds : goal.returns-clause-holds
+returns-clause-holds g c =
+    let locks = subst (λ (t : KnownTable). Locks t c.self.inside.past c.args.past.now.seat c.lock.new.zone) c.args.tables.now.frames_are c.lock.ensures.run in
+    locked_holds g.N.BootName.frames c.self.inside.past c.args.past.now c.args.cpu.now (with_past (machine_of c.self.inside) c.lock.new.zone) c.requires.knows locks
+
+pub returns-clause-shut : goal.returns-clause-shut
+returns-clause-shut g c =
+    let locks = subst (λ (t : KnownTable). Locks t c.self.inside.past c.args.past.now.seat c.lock.new.zone) c.args.tables.now.frames_are c.lock.ensures.run in
+    locked_shut g.N.BootName.frames c.self.inside.past c.args.past.now c.args.cpu.now (with_past (machine_of c.self.inside) c.lock.new.zone) c.requires.knows locks
 
 pub returns-clause-run : goal.returns-clause-run
 returns-clause-run g c =
-    let locks = subst (λ (t : KnownTable). Locks t c.self.inside.past c.args.past.now c.lock.new.zone) c.args.tables.now.frames_are c.lock.ensures.run in
-    subst (λ (k : KnownMachine). Locks g.N.BootName.frames k.run.past c.args.past.now c.lock.new.zone) c.self.view_is locks
-
-pub lock-requires-clause-zone : goal.lock-requires-clause-zone
-lock-requires-clause-zone g c = (rests_at _ _ c.args.tables.now.frames_are _ _ c.self.view_is c.requires.rests).0
-
-pub lock-requires-clause-free : goal.lock-requires-clause-free
-lock-requires-clause-free g c = (rests_at _ _ c.args.tables.now.frames_are _ _ c.self.view_is c.requires.rests).1
-
-pub lock-requires-clause-cpu : goal.lock-requires-clause-cpu
-lock-requires-clause-cpu g c = subst (λ (t : KnownTable). IsCpuPast t c.args.past.now) (sym c.args.tables.now.frames_are) c.requires.knows.past_is
+    let locks = subst (λ (t : KnownTable). Locks t c.self.inside.past c.args.past.now.seat c.lock.new.zone) c.args.tables.now.frames_are c.lock.ensures.run in
+    subst (λ (k : KnownMachine). Locks g.N.BootName.frames k.run.past c.args.past.now.seat c.lock.new.zone) c.self.view_is locks

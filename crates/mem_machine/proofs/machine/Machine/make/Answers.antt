@@ -1,21 +1,18 @@
-use Rattle.std.proofs.Common.{refl, rules, ℕ, ◌<◌, List, false, length, arith, ap, sym, subst}
+use Rattle.std.proofs.Common.{ℕ, ◌<◌, List, [], ◌∷◌, ◌∙◌, false, length, arith, ap, refl, rules, sym, subst}
 use Rattle.std.specs.Prelude.{slice_set}
+use Rattle.std.proofs.lemmas.List.{length-set}
 use Rattle.group_tree.proofs.GroupLemmas.{can_make}
 use Rattle.step_rules.specs.declared.step.Action.TheVariants.{Make}
 use Rattle.step_rules.specs.declared.step.Answer.TheVariants.{Number}
+use Rattle.mem_machine.specs.Kept.{machine_of}
 use Rattle.mem_machine.specs.Noted.{MayTake, Notes}
-use Rattle.mem_machine.specs.Steps.{make_steps, zone_makes}
-use Rattle.mem_machine.proofs.GroupSteps.{made_runs}
-use Rattle.mem_machine.proofs.Followed.{makes_noted}
-use Rattle.mem_machine.proofs.Reached.{held_here, may_lead}
-use Rattle.mem_machine.proofs.Watched.{stays_then}
+use Rattle.mem_machine.specs.Steps.{zone_makes}
+use Rattle.mem_machine.proofs.GroupSteps.{adds, grouped, makes_group}
+use Rattle.mem_machine.proofs.Made.{held_here}
 use Rattle.mem_machine.proofs.machine.Machine.make.Goals as goal
 
-pub unreachable-requires : goal.unreachable-requires
-unreachable-requires g c = c.in_default.ensures (can_make _ _ (sym c.in_ok-group.ensures.refused)).short
-
 pub make_step-requires-clause-held : goal.make_step-requires-clause-held
-make_step-requires-clause-held g c = held_here g.N.BootName.frames _ _ c.self.view_is c.requires.shown.cpu c.requires.shown.is
+make_step-requires-clause-held g c = held_here g.N.BootName.frames (machine_of c.self.inside) _ c.self.view_is c.requires.held
 
 pub make_step-requires-clause-legal : goal.make_step-requires-clause-legal
 make_step-requires-clause-legal g c =
@@ -24,10 +21,21 @@ make_step-requires-clause-legal g c =
     let sized = c.self.invariant.consistent.sizes.killed in
     let inside : c.in_ok-group.group < length c.self.inside.killed.items = omega (arith, value, below, sized) in
     subst (λ (path : List ℕ). MayTake g.N.BootName.frames c.self.inside.past (zone_makes (Make path) (Number c.in_ok-group.group))) (sym c.in-Some.ensures.1)
-    (may_lead g.N.BootName.frames _ _ c.self.view_is c.requires.shown.cpu c.requires.shown.is _ _ _
-    (made_runs g.N.BootName.frames _ _ c.self.view_is _ _ c.in_ok-group.group c.args.path.now inside c.in_ok-group.ensures.refused
-    c.prove_charges.ensures.legal c.in_ok-group.ensures.least
-    c.in_ok-group.ensures.made (ap (λ (n : ℕ). slice_set c.self.inside.killed.items n false) value) c.requires.shown.cpu))
+    (makes_group g.N.BootName.frames (machine_of c.self.inside) _ c.self.view_is c.self.invariant.consistent c.requires.held c.in_ok-group.group c.args.path.now inside c.in_ok-group.ensures.refused
+    c.prove_charges.ensures.legal c.in_ok-group.ensures.least _ c.in_ok-group.ensures.made _ (ap (λ (n : ℕ). slice_set c.self.inside.killed.items n false) value)).step
+
+pub invariant_of-self-2 : goal.invariant_of-self-2
+invariant_of-self-2 g c =
+    let value = c.number-number.ensures.value in
+    let below = c.number-number.ensures.below in
+    let sized = c.self.invariant.consistent.sizes.killed in
+    let inside : c.in_ok-group.group < length c.self.inside.killed.items = omega (arith, value, below, sized) in
+    let all = grouped g.N.BootName.frames (machine_of c.self.inside) c.self.invariant.consistent (held_here g.N.BootName.frames (machine_of c.self.inside) _ c.self.view_is c.requires.held) _ _ _
+    (makes_group g.N.BootName.frames (machine_of c.self.inside) _ c.self.view_is c.self.invariant.consistent c.requires.held c.in_ok-group.group c.args.path.now inside c.in_ok-group.ensures.refused
+    c.prove_charges.ensures.legal c.in_ok-group.ensures.least _ c.in_ok-group.ensures.made _ (ap (λ (n : ℕ). slice_set c.self.inside.killed.items n false) value))
+    c.in_ok-group.ensures.pages (length-set c.self.inside.killed.items c.number-number.result false ∙ sized) _ (subst (λ (path : List ℕ). Notes g.N.BootName.frames (machine_of c.self.inside).run (zone_makes (Make path) (Number c.in_ok-group.group) ∷ [])
+    (record { past = c.make_step.new.past; watch = c.make_step.new.watch })) c.in-Some.ensures.1 c.make_step.ensures.notes) _ refl in
+    record { consistent = all.consistent; free = c.self.invariant.free; sums = all.sums _ c.self.invariant.sums; owners = all.owners _ c.self.invariant.owners }
 
 pub returns-clause-steps : goal.returns-clause-steps
 returns-clause-steps g c =
@@ -35,21 +43,31 @@ returns-clause-steps g c =
     let below = c.number-number.ensures.below in
     let sized = c.self.invariant.consistent.sizes.killed in
     let inside : c.in_ok-group.group < length c.self.inside.killed.items = omega (arith, value, below, sized) in
-    let notes = subst (λ (path : List ℕ). Notes g.N.BootName.frames (record { past = c.self.inside.past; watch = c.self.inside.watch }) (make_steps path c.in_ok-group.group)
-    (record { past = c.make_step.new.past; watch = c.make_step.new.watch })) c.in-Some.ensures.1 c.make_step.ensures.notes in
-    λ cpu. makes_noted _ _ _ _ c.self.view_is cpu cpu _ _
-    (made_runs g.N.BootName.frames _ _ c.self.view_is _ _ c.in_ok-group.group c.args.path.now inside c.in_ok-group.ensures.refused
-    c.prove_charges.ensures.legal c.in_ok-group.ensures.least
-    c.in_ok-group.ensures.made (ap (λ (n : ℕ). slice_set c.self.inside.killed.items n false) value) cpu) _ notes
+    (grouped g.N.BootName.frames (machine_of c.self.inside) c.self.invariant.consistent (held_here g.N.BootName.frames (machine_of c.self.inside) _ c.self.view_is c.requires.held) _ _ _
+    (makes_group g.N.BootName.frames (machine_of c.self.inside) _ c.self.view_is c.self.invariant.consistent c.requires.held c.in_ok-group.group c.args.path.now inside c.in_ok-group.ensures.refused
+    c.prove_charges.ensures.legal c.in_ok-group.ensures.least _ c.in_ok-group.ensures.made _ (ap (λ (n : ℕ). slice_set c.self.inside.killed.items n false) value))
+    c.in_ok-group.ensures.pages (length-set c.self.inside.killed.items c.number-number.result false ∙ sized) _ (subst (λ (path : List ℕ). Notes g.N.BootName.frames (machine_of c.self.inside).run (zone_makes (Make path) (Number c.in_ok-group.group) ∷ [])
+    (record { past = c.make_step.new.past; watch = c.make_step.new.watch })) c.in-Some.ensures.1 c.make_step.ensures.notes) _ c.self.view_is).steps
 
 pub returns-clause-visit : goal.returns-clause-visit
-returns-clause-visit g c = stays_then g.N.BootName.frames _ _ c.self.view_is _ refl _ (returns-clause-steps g c)
+returns-clause-visit g c =
+    let value = c.number-number.ensures.value in
+    let below = c.number-number.ensures.below in
+    let sized = c.self.invariant.consistent.sizes.killed in
+    let inside : c.in_ok-group.group < length c.self.inside.killed.items = omega (arith, value, below, sized) in
+    (grouped g.N.BootName.frames (machine_of c.self.inside) c.self.invariant.consistent (held_here g.N.BootName.frames (machine_of c.self.inside) _ c.self.view_is c.requires.held) _ _ _
+    (makes_group g.N.BootName.frames (machine_of c.self.inside) _ c.self.view_is c.self.invariant.consistent c.requires.held c.in_ok-group.group c.args.path.now inside c.in_ok-group.ensures.refused
+    c.prove_charges.ensures.legal c.in_ok-group.ensures.least _ c.in_ok-group.ensures.made _ (ap (λ (n : ℕ). slice_set c.self.inside.killed.items n false) value))
+    c.in_ok-group.ensures.pages (length-set c.self.inside.killed.items c.number-number.result false ∙ sized) _ (subst (λ (path : List ℕ). Notes g.N.BootName.frames (machine_of c.self.inside).run (zone_makes (Make path) (Number c.in_ok-group.group) ∷ [])
+    (record { past = c.make_step.new.past; watch = c.make_step.new.watch })) c.in-Some.ensures.1 c.make_step.ensures.notes) _ c.self.view_is).visit
+
+pub unreachable-requires : goal.unreachable-requires
+unreachable-requires g c = c.in_default.ensures (can_make _ _ (sym c.in_ok-group.ensures.refused)).short
+
+pub returns-clause-made : goal.returns-clause-made
+returns-clause-made g c =
+    adds g.N.BootName.frames (machine_of c.self.inside) _ c.self.view_is c.self.invariant.consistent c.requires.held _ _ c.in_ok-group.group c.args.path.now
+    c.in_ok-group.ensures.least c.in_ok-group.ensures.made (ap (λ (n : ℕ). slice_set c.self.inside.killed.items n false) c.number-number.ensures.value) _
 
 pub invariant_of-self : goal.invariant_of-self
 invariant_of-self g c = search rules
-
-pub invariant_of-self-2 : goal.invariant_of-self-2
-invariant_of-self-2 g c = search rules
-
-pub returns-clause-made : goal.returns-clause-made
-returns-clause-made g c = search rules

@@ -1,16 +1,16 @@
 use Rattle.std.proofs.Common.{ℕ, ◌<◌, ◌∙◌, IsTrue, true, length, arith, ap, refl, sym, subst}
 use Rattle.std.specs.Prelude.{slice_set}
+use Rattle.std.proofs.lemmas.List.{length-set}
 use Rattle.group_tree.specs.Groups.{has_group}
 use Rattle.group_charge.specs.Charges.{with_kill_noted}
+use Rattle.mem_machine.specs.Kept.{machine_of}
 use Rattle.mem_machine.specs.Machines.{KnownMachine}
-use Rattle.mem_machine.proofs.GroupSteps.{kills}
-use Rattle.mem_machine.proofs.Followed.{makes_noted}
-use Rattle.mem_machine.proofs.Reached.{held_here, may_lead}
-use Rattle.mem_machine.proofs.Watched.{stays_then}
+use Rattle.mem_machine.proofs.GroupSteps.{grouped, kills}
+use Rattle.mem_machine.proofs.Made.{held_here}
 use Rattle.mem_machine.proofs.machine.Machine.mark_killed.Goals as goal
 
 pub make_step-requires-clause-held : goal.make_step-requires-clause-held
-make_step-requires-clause-held g c = held_here g.N.BootName.frames _ _ c.self.view_is c.requires.shown.cpu c.requires.shown.is
+make_step-requires-clause-held g c = held_here g.N.BootName.frames (machine_of c.self.inside) _ c.self.view_is c.requires.held
 
 pub make_step-requires-clause-legal : goal.make_step-requires-clause-legal
 make_step-requires-clause-legal g c =
@@ -18,9 +18,20 @@ make_step-requires-clause-legal g c =
     let below = c.number.ensures.below in
     let sized = c.self.invariant.consistent.sizes.killed in
     let inside : c.args.group < length c.self.inside.killed.items = omega (arith, value, below, sized) in
-    may_lead g.N.BootName.frames _ _ c.self.view_is c.requires.shown.cpu c.requires.shown.is _ _ _
-    (kills g.N.BootName.frames _ _ c.self.view_is c.args.group inside c.requires.there c.requires.alive _ c.note_kill.ensures.noted
-    c.note_kill.ensures.only.counts c.note_kill.ensures.only.peaks _ (ap (λ (n : ℕ). slice_set c.self.inside.killed.items n true) value) c.requires.shown.cpu)
+    (kills g.N.BootName.frames (machine_of c.self.inside) _ c.self.view_is c.self.invariant.consistent c.requires.held c.args.group c.requires.there inside c.requires.alive _
+    c.note_kill.ensures.only.groups c.note_kill.ensures.only.counts c.note_kill.ensures.only.peaks _ (ap (λ (n : ℕ). slice_set c.self.inside.killed.items n true) value)).step
+
+pub invariant_of-self : goal.invariant_of-self
+invariant_of-self g c =
+    let value = c.number.ensures.value in
+    let below = c.number.ensures.below in
+    let sized = c.self.invariant.consistent.sizes.killed in
+    let inside : c.args.group < length c.self.inside.killed.items = omega (arith, value, below, sized) in
+    let all = grouped g.N.BootName.frames (machine_of c.self.inside) c.self.invariant.consistent (held_here g.N.BootName.frames (machine_of c.self.inside) _ c.self.view_is c.requires.held) _ _ _
+    (kills g.N.BootName.frames (machine_of c.self.inside) _ c.self.view_is c.self.invariant.consistent c.requires.held c.args.group c.requires.there inside c.requires.alive _
+    c.note_kill.ensures.only.groups c.note_kill.ensures.only.counts c.note_kill.ensures.only.peaks _ (ap (λ (n : ℕ). slice_set c.self.inside.killed.items n true) value))
+    c.note_kill.ensures.only.pages (length-set c.self.inside.killed.items c.number.result true ∙ sized) _ c.make_step.ensures.notes _ refl in
+    record { consistent = all.consistent; free = c.self.invariant.free; sums = all.sums _ c.self.invariant.sums; owners = all.owners _ c.self.invariant.owners }
 
 pub returns-clause-steps : goal.returns-clause-steps
 returns-clause-steps g c =
@@ -28,12 +39,21 @@ returns-clause-steps g c =
     let below = c.number.ensures.below in
     let sized = c.self.invariant.consistent.sizes.killed in
     let inside : c.args.group < length c.self.inside.killed.items = omega (arith, value, below, sized) in
-    λ cpu. makes_noted _ _ _ _ c.self.view_is cpu cpu _ _
-    (kills g.N.BootName.frames _ _ c.self.view_is c.args.group inside c.requires.there c.requires.alive _ c.note_kill.ensures.noted
-    c.note_kill.ensures.only.counts c.note_kill.ensures.only.peaks _ (ap (λ (n : ℕ). slice_set c.self.inside.killed.items n true) value) cpu) _ c.make_step.ensures.notes
+    (grouped g.N.BootName.frames (machine_of c.self.inside) c.self.invariant.consistent (held_here g.N.BootName.frames (machine_of c.self.inside) _ c.self.view_is c.requires.held) _ _ _
+    (kills g.N.BootName.frames (machine_of c.self.inside) _ c.self.view_is c.self.invariant.consistent c.requires.held c.args.group c.requires.there inside c.requires.alive _
+    c.note_kill.ensures.only.groups c.note_kill.ensures.only.counts c.note_kill.ensures.only.peaks _ (ap (λ (n : ℕ). slice_set c.self.inside.killed.items n true) value))
+    c.note_kill.ensures.only.pages (length-set c.self.inside.killed.items c.number.result true ∙ sized) _ c.make_step.ensures.notes _ c.self.view_is).steps
 
 pub returns-clause-visit : goal.returns-clause-visit
-returns-clause-visit g c = stays_then g.N.BootName.frames _ _ c.self.view_is _ refl _ (returns-clause-steps g c)
+returns-clause-visit g c =
+    let value = c.number.ensures.value in
+    let below = c.number.ensures.below in
+    let sized = c.self.invariant.consistent.sizes.killed in
+    let inside : c.args.group < length c.self.inside.killed.items = omega (arith, value, below, sized) in
+    (grouped g.N.BootName.frames (machine_of c.self.inside) c.self.invariant.consistent (held_here g.N.BootName.frames (machine_of c.self.inside) _ c.self.view_is c.requires.held) _ _ _
+    (kills g.N.BootName.frames (machine_of c.self.inside) _ c.self.view_is c.self.invariant.consistent c.requires.held c.args.group c.requires.there inside c.requires.alive _
+    c.note_kill.ensures.only.groups c.note_kill.ensures.only.counts c.note_kill.ensures.only.peaks _ (ap (λ (n : ℕ). slice_set c.self.inside.killed.items n true) value))
+    c.note_kill.ensures.only.pages (length-set c.self.inside.killed.items c.number.result true ∙ sized) _ c.make_step.ensures.notes _ c.self.view_is).visit
 
 pub note_kill-requires : goal.note_kill-requires
 note_kill-requires g c = subst (λ (m : KnownMachine). IsTrue (has_group m.ledger.groups c.args.group)) (sym c.self.view_is) c.requires.there

@@ -1,105 +1,110 @@
-use Rattle.std.proofs.Common.{◌<◌, ◌∙◌, ap, inl, refl, rules, sym, subst, arith}
-use Rattle.frame_word.specs.Seats.{KnownTable}
-use Rattle.cpu_part.specs.Cpus.{KnownCpu}
-use Rattle.mem_machine.proofs.Freeing.{unit_in_use, unit_charged}
+use Rattle.std.proofs.Common.{refl, arith}
 use Rattle.step_rules.specs.declared.step.Action.TheVariants.{Put}
-use Rattle.step_rules.specs.declared.step.Answer.TheVariants.{Last, Left}
-use Rattle.mem_machine.proofs.Releases.{left_all, notes_back, notes_of_zone, put_may, read_head, return_may, returned_all}
-use Rattle.mem_machine.proofs.AtTable.{held_at, made_at, may_at}
-use Rattle.mem_machine.proofs.Evicts.{kept_held}
-use Rattle.mem_machine.proofs.Followed.{makes_noted}
-use Rattle.mem_machine.proofs.Reached.{held_here, may_lead_all}
-use Rattle.mem_machine.proofs.Watched.{consistent_still, open_still, returned_still, visits_then}
+use Rattle.step_rules.specs.declared.step.Answer.TheVariants as answer
+use Rattle.mem_machine.specs.declared.releasing.Released.TheVariants.{Left, Returned}
+use Rattle.mem_machine.specs.Kept.{machine_of}
+use Rattle.mem_machine.specs.Releasing.{release_steps}
+use Rattle.mem_machine.proofs.Freeing.{unit_in_use, unit_charged}
+use Rattle.mem_machine.proofs.Releases.{left_all, left_few, notes_back, notes_of_zone, put_may, put_returns, read_head, return_may, returned_all}
+use Rattle.mem_machine.proofs.AtTable.{made_at, may_at}
+use Rattle.mem_machine.proofs.Made.{held_here}
+use Rattle.mem_machine.proofs.Staying.{owners_stay, sums_stay}
+use Rattle.mem_machine.proofs.ZoneSteps.{same_books}
 use Rattle.mem_machine.proofs.machine.Machine.put_zone_reference.Goals as goal
 
-pub free_unit-requires : goal.free_unit-requires
-free_unit-requires g c =
-    let head = read_head g.N.BootName.frames g.N.BootName.stocks _ c.self.invariant.consistent c.args.head _ c.requires.frame c.number-at.ensures _ c.in-Head.unit
-    c.index.ensures c.in-Head.is in
-    record {
-      in_use = unit_in_use _ _ _ c.in-Head.unit c.self.invariant.free c.self.invariant.consistent.units head;
-      inside = (c.self.invariant.consistent.units.heads _ c.in-Head.unit head).block.inside;
-      charged = unit_charged g.N.BootName.frames g.N.BootName.stocks _ c.self.invariant.consistent _ c.in-Head.unit head;
-    }
+pub put_held-requires-clause-legal : goal.put_held-requires-clause-legal
+put_held-requires-clause-legal g c = may_at _ _ c.args.tables.now.frames_are 0 refl c.self.inside.past (Put c.args.head)
+    (put_may g.N.BootName.frames (machine_of c.self.inside) _ c.self.view_is c.self.invariant.consistent c.args.head c.requires.frame c.requires.kept c.requires.held)
+
+pub overflow_cast-left : goal.overflow_cast-left
+overflow_cast-left g c =
+    let few = left_few g.N.BootName.frames (machine_of c.self.inside).run.past _ c.args.head _
+    (held_here g.N.BootName.frames (machine_of c.self.inside) _ c.self.view_is c.requires.held)
+    (made_at _ _ c.args.tables.now.frames_are 0 refl _ _ _ _ c.in-Left.ensures) in
+    let small = few.1 in
+    omega (arith, small)
 
 pub invariant_of-self : goal.invariant_of-self
-invariant_of-self g c = record {
-  consistent = consistent_still _ _ _ _ (left_all g.N.BootName.frames g.N.BootName.stocks _ _ c.self.view_is c.self.invariant.consistent c.args.head _
-      c.requires.frame c.number-at.ensures c.requires.kept _ _ c.leave_list.ensures.leaves c.leave_list.ensures.lists.stand c.leave_list.ensures.frames
-      c.leave_list.ensures.lists.groups c.in-Left.left _ c.in-Left.ensures.answer.2).consistent;
-  free = c.self.invariant.free;
-}
-
-pub put_held-requires : goal.put_held-requires
-put_held-requires g c = record {
-  table = c.self.invariant.consistent.seats.frames.0 ∙ sym (ap (λ (t : KnownTable). t.table) c.args.tables.now.frames_are);
-  held = held_at _ _ c.args.tables.now.frames_are _ (held_here g.N.BootName.frames _ _ c.self.view_is c.requires.shown.cpu c.requires.shown.is);
-  number = inl c.self.invariant.consistent.seats.frames.1;
-  frame = subst (λ (t : KnownTable). c.args.head < t.frames) (sym c.args.tables.now.frames_are) c.requires.frame;
-  reference =
-      let one = kept_held g.N.BootName.frames g.N.BootName.stocks _ _ c.self.view_is c.self.invariant.consistent c.args.head c.requires.frame c.requires.kept in
-      omega (arith, one);
-  legal = may_at _ _ c.args.tables.now.frames_are _ c.self.invariant.consistent.seats.frames.1 c.self.inside.past (Put c.args.head)
-      (put_may g.N.BootName.frames g.N.BootName.stocks _ _ c.self.view_is c.requires.shown.cpu c.requires.shown.is c.self.invariant.consistent c.args.head c.requires.frame
-      c.requires.kept).0.legal;
-}
+invariant_of-self g c =
+    let t = g.N.BootName.frames in
+    let m = machine_of c.self.inside in
+    let held = held_here t m _ c.self.view_is c.requires.held in
+    let made = made_at _ _ c.args.tables.now.frames_are 0 refl _ _ _ _ c.in-Left.ensures in
+    let noted = notes_of_zone t m.run _ c.args.head _ c.number-at.ensures (λ x. Put x) (answer.Left c.in-Left.left) made c.put_left.ensures in
+    let all = left_all t m _ c.self.view_is c.self.invariant.consistent c.args.head _ c.requires.frame c.number-at.ensures c.requires.kept c.requires.held _ _
+    c.leave_list.ensures.leaves c.leave_list.ensures.lists.stand c.leave_list.ensures.frames c.leave_list.ensures.lists.groups c.in-Left.left
+    (left_few t m.run.past _ c.args.head _ held made).0 _ noted _ c.self.invariant.free in
+    record {
+      consistent = all.consistent;
+      free = all.free_is;
+      sums = sums_stay t m held (release_steps c.args.head (Left c.in-Left.left)) _ noted (same_books _ _ refl) _ c.self.invariant.sums;
+      owners = owners_stay t m held (release_steps c.args.head (Left c.in-Left.left)) _ noted (same_books _ _ refl) _ c.self.invariant.owners;
+    }
 
 pub returns-in-Left : goal.returns-in-Left
 returns-in-Left g c =
-    let all = left_all g.N.BootName.frames g.N.BootName.stocks _ _ c.self.view_is c.self.invariant.consistent c.args.head _
-    c.requires.frame c.number-at.ensures c.requires.kept _ _ c.leave_list.ensures.leaves c.leave_list.ensures.lists.stand c.leave_list.ensures.frames
-    c.leave_list.ensures.lists.groups c.in-Left.left _ c.in-Left.ensures.answer.2 in
-    let makes = λ (cpu : KnownCpu). makes_noted _ _ _ _ c.self.view_is cpu cpu _ _ (all.steps cpu) _
-    (notes_of_zone g.N.BootName.frames _ _ c.args.head _ c.number-at.ensures (λ x. Put x) (Left c.in-Left.left)
-    (made_at _ _ c.args.tables.now.frames_are _ c.self.invariant.consistent.seats.frames.1 _ _ _ _ c.in-Left.ensures.run) c.put_left.ensures) in
+    let t = g.N.BootName.frames in
+    let m = machine_of c.self.inside in
+    let held = held_here t m _ c.self.view_is c.requires.held in
+    let made = made_at _ _ c.args.tables.now.frames_are 0 refl _ _ _ _ c.in-Left.ensures in
+    let noted = notes_of_zone t m.run _ c.args.head _ c.number-at.ensures (λ x. Put x) (answer.Left c.in-Left.left) made c.put_left.ensures in
+    let all = left_all t m _ c.self.view_is c.self.invariant.consistent c.args.head _ c.requires.frame c.number-at.ensures c.requires.kept c.requires.held _ _
+    c.leave_list.ensures.leaves c.leave_list.ensures.lists.stand c.leave_list.ensures.frames c.leave_list.ensures.lists.groups c.in-Left.left
+    (left_few t m.run.past _ c.args.head _ held made).0 _ noted _ c.self.invariant.free in
+    record { releases = all.releases; visit = all.visit; steps = all.steps }
+
+pub free_unit-requires : goal.free_unit-requires
+free_unit-requires g c =
+    let t = g.N.BootName.frames in
+    let m = machine_of c.self.inside in
+    let head = read_head t m c.self.invariant.consistent c.args.head _ c.requires.frame c.number-at.ensures _ c.in-Head.unit c.index.ensures c.in-Head.is in
     record {
-      releases = search rules;
-      visit = λ cpu visit. visits_then _ _ _ _ visit.shown (makes cpu) refl (open_still _ _ _ _ (all.visit cpu visit));
-      steps = makes;
+      in_use = unit_in_use _ _ _ c.in-Head.unit c.self.invariant.free c.self.invariant.consistent.units head;
+      inside = (c.self.invariant.consistent.units.heads _ c.in-Head.unit head).block.inside;
+      charged = unit_charged t m c.self.invariant.consistent _ c.in-Head.unit head;
     }
-
-pub invariant_of-self-in-Last : goal.invariant_of-self-in-Last
-invariant_of-self-in-Last g c =
-    let head = read_head g.N.BootName.frames g.N.BootName.stocks _ c.self.invariant.consistent c.args.head _ c.requires.frame c.number-at.ensures _ c.in-Head.unit
-    c.index.ensures c.in-Head.is in
-    let all = returned_all g.N.BootName.frames g.N.BootName.stocks _ _ c.self.view_is c.self.invariant.consistent c.args.head _
-    c.requires.frame c.number-at.ensures c.requires.kept _ _ c.leave_list.ensures.leaves c.leave_list.ensures.lists.stand c.leave_list.ensures.frames
-    c.leave_list.ensures.lists.groups _ c.in-Last.ensures.answer.0 c.in-Head.unit head _ _ _ _ _ _ c.self.invariant.free c.free_unit.ensures.frame_states
-    c.free_unit.ensures.frames c.free_unit.ensures.areas c.free_unit.ensures.charges c.with_last_put-self-inside.ensures in
-    record { consistent = consistent_still _ _ _ _ all.consistent; free = all.free_is }
-
-pub return_unit-requires-clause-held : goal.return_unit-requires-clause-held
-return_unit-requires-clause-held g c = (made_at _ _ c.args.tables.now.frames_are _ c.self.invariant.consistent.seats.frames.1 _ _ _ _ c.in-Last.ensures.run).held
 
 pub return_unit-requires-clause-legal : goal.return_unit-requires-clause-legal
 return_unit-requires-clause-legal g c =
-    let head = read_head g.N.BootName.frames g.N.BootName.stocks _ c.self.invariant.consistent c.args.head _ c.requires.frame c.number-at.ensures _ c.in-Head.unit
-    c.index.ensures c.in-Head.is in
-    let all = returned_all g.N.BootName.frames g.N.BootName.stocks _ _ c.self.view_is c.self.invariant.consistent c.args.head _
-    c.requires.frame c.number-at.ensures c.requires.kept _ _ c.leave_list.ensures.leaves c.leave_list.ensures.lists.stand c.leave_list.ensures.frames
-    c.leave_list.ensures.lists.groups _ c.in-Last.ensures.answer.0 c.in-Head.unit head _ _ _ _ _ _ c.self.invariant.free c.free_unit.ensures.frame_states
-    c.free_unit.ensures.frames c.free_unit.ensures.areas c.free_unit.ensures.charges refl in
-    return_may g.N.BootName.frames _ _ c.args.head _ c.number-at.ensures _ _
-    (may_lead_all g.N.BootName.frames _ _ c.self.view_is c.requires.shown.cpu c.requires.shown.is _ _ (all.steps c.requires.shown.cpu))
-    (made_at _ _ c.args.tables.now.frames_are _ c.self.invariant.consistent.seats.frames.1 _ _ _ _ c.in-Last.ensures.run)
+    let t = g.N.BootName.frames in
+    let m = machine_of c.self.inside in
+    let head = read_head t m c.self.invariant.consistent c.args.head _ c.requires.frame c.number-at.ensures _ c.in-Head.unit c.index.ensures c.in-Head.is in
+    return_may t m.run.past _ c.args.head _ c.number-at.ensures (Put c.args.head) answer.Last (made_at _ _ c.args.tables.now.frames_are 0 refl _ _ _ _ c.in-Last.ensures)
+    (put_returns t m _ c.self.view_is c.self.invariant.consistent c.args.head _ c.requires.frame c.number-at.ensures c.requires.kept c.requires.held c.in-Head.unit head)
+
+pub invariant_of-self-in-Last : goal.invariant_of-self-in-Last
+invariant_of-self-in-Last g c =
+    let t = g.N.BootName.frames in
+    let m = machine_of c.self.inside in
+    let head = read_head t m c.self.invariant.consistent c.args.head _ c.requires.frame c.number-at.ensures _ c.in-Head.unit c.index.ensures c.in-Head.is in
+    let noted = notes_back t m.run _ c.args.head _ c.number-at.ensures (λ x. Put x) answer.Last
+    (notes_of_zone t m.run _ c.args.head _ c.number-at.ensures (λ x. Put x) answer.Last
+    (made_at _ _ c.args.tables.now.frames_are 0 refl _ _ _ _ c.in-Last.ensures) c.put_last.ensures) _ c.return_unit.ensures.notes in
+    let all = returned_all t m _ c.self.view_is c.self.invariant.consistent c.args.head _ c.requires.frame c.number-at.ensures c.requires.kept c.requires.held _ _
+    c.leave_list.ensures.leaves c.leave_list.ensures.lists.stand c.leave_list.ensures.frames c.leave_list.ensures.lists.groups c.in-Head.unit head _ _ _ _ _ _
+    c.self.invariant.free c.free_unit.ensures.frame_states c.free_unit.ensures.frames c.free_unit.ensures.areas c.free_unit.ensures.charges
+    c.with_last_put-self-inside.ensures _ noted in
+    let held = held_here t m _ c.self.view_is c.requires.held in
+    record {
+      consistent = all.consistent;
+      free = all.free_is;
+      sums = sums_stay t m held (release_steps c.args.head Returned) _ noted (same_books _ _ refl) _ c.self.invariant.sums;
+      owners = owners_stay t m held (release_steps c.args.head Returned) _ noted (same_books _ _ refl) _ c.self.invariant.owners;
+    }
 
 pub returns-in-Head : goal.returns-in-Head
 returns-in-Head g c =
-    let head = read_head g.N.BootName.frames g.N.BootName.stocks _ c.self.invariant.consistent c.args.head _ c.requires.frame c.number-at.ensures _ c.in-Head.unit
-    c.index.ensures c.in-Head.is in
-    let all = returned_all g.N.BootName.frames g.N.BootName.stocks _ _ c.self.view_is c.self.invariant.consistent c.args.head _
-    c.requires.frame c.number-at.ensures c.requires.kept _ _ c.leave_list.ensures.leaves c.leave_list.ensures.lists.stand c.leave_list.ensures.frames
-    c.leave_list.ensures.lists.groups _ c.in-Last.ensures.answer.0 c.in-Head.unit head _ _ _ _ _ _ c.self.invariant.free c.free_unit.ensures.frame_states
-    c.free_unit.ensures.frames c.free_unit.ensures.areas c.free_unit.ensures.charges c.with_last_put-self-inside.ensures in
-    let makes = λ (cpu : KnownCpu). makes_noted _ _ _ _ c.self.view_is cpu cpu _ _ (all.steps cpu) _
-    (notes_back g.N.BootName.frames _ _ c.args.head _ c.number-at.ensures (λ x. Put x) Last
-    (notes_of_zone g.N.BootName.frames _ _ c.args.head _ c.number-at.ensures (λ x. Put x) Last
-    (made_at _ _ c.args.tables.now.frames_are _ c.self.invariant.consistent.seats.frames.1 _ _ _ _ c.in-Last.ensures.run) c.put_last.ensures) _ c.return_unit.ensures.notes) in
-    record {
-      releases = returned_still _ _ _ _ all.returns;
-      visit = λ cpu visit. visits_then _ _ _ _ visit.shown (makes cpu) refl (open_still _ _ _ _ (all.visit cpu visit));
-      steps = makes;
-    }
+    let t = g.N.BootName.frames in
+    let m = machine_of c.self.inside in
+    let head = read_head t m c.self.invariant.consistent c.args.head _ c.requires.frame c.number-at.ensures _ c.in-Head.unit c.index.ensures c.in-Head.is in
+    let noted = notes_back t m.run _ c.args.head _ c.number-at.ensures (λ x. Put x) answer.Last
+    (notes_of_zone t m.run _ c.args.head _ c.number-at.ensures (λ x. Put x) answer.Last
+    (made_at _ _ c.args.tables.now.frames_are 0 refl _ _ _ _ c.in-Last.ensures) c.put_last.ensures) _ c.return_unit.ensures.notes in
+    let all = returned_all t m _ c.self.view_is c.self.invariant.consistent c.args.head _ c.requires.frame c.number-at.ensures c.requires.kept c.requires.held _ _
+    c.leave_list.ensures.leaves c.leave_list.ensures.lists.stand c.leave_list.ensures.frames c.leave_list.ensures.lists.groups c.in-Head.unit head _ _ _ _ _ _
+    c.self.invariant.free c.free_unit.ensures.frame_states c.free_unit.ensures.frames c.free_unit.ensures.areas c.free_unit.ensures.charges
+    c.with_last_put-self-inside.ensures _ noted in
+    record { releases = all.releases; visit = all.visit; steps = all.steps }
 
 pub index-requires : goal.index-requires
 index-requires g c = omega (arith, c.requires.frame, c.number-at.ensures, c.self.invariant.consistent.sizes.frame_states)

@@ -1,34 +1,40 @@
-use Rattle.std.proofs.Common.{rules, refl}
+use Rattle.std.proofs.Common.{refl}
 use Rattle.group_charge.specs.Charges.{Ledger, with_group_removed}
-use Rattle.mem_machine.proofs.GroupSteps.{removes, still_visited, ledger_is}
-use Rattle.mem_machine.proofs.Usage.{usage_seen, balanced_alone}
-use Rattle.mem_machine.proofs.Followed.{makes_noted}
-use Rattle.mem_machine.proofs.Reached.{held_here, may_lead}
+use Rattle.mem_machine.specs.Kept.{machine_of}
+use Rattle.mem_machine.proofs.GroupSteps.{grouped, ledger_is, removes}
+use Rattle.mem_machine.proofs.Made.{held_here}
 use Rattle.mem_machine.proofs.machine.Machine.remove.Goals as goal
 
 pub make_step-requires-clause-held : goal.make_step-requires-clause-held
-make_step-requires-clause-held g c = held_here g.N.BootName.frames _ _ c.self.view_is c.args.cpu.now c.requires.visit.shown
+make_step-requires-clause-held g c =
+    held_here g.N.BootName.frames (machine_of c.self.inside) _ c.self.view_is c.requires.held
 
 pub make_step-requires-clause-legal : goal.make_step-requires-clause-legal
-make_step-requires-clause-legal g c = may_lead g.N.BootName.frames _ _ c.self.view_is c.args.cpu.now c.requires.visit.shown _ _ _
-    (removes g.N.BootName.frames _ _ c.self.view_is c.args.cpu.now _ refl c.args.group c.requires.there
-    c.requires.leaf c.requires.below_root c.requires.empty
-    (usage_seen g.N.BootName.frames g.N.BootName.stocks _ _ c.self.view_is c.args.cpu.now c.self.invariant.consistent c.prove_charges.ensures.legal
-    c.requires.visit.lent c.prove_tied.ensures (balanced_alone _ _ c.requires.none_fresh) c.args.group) _ c.remove.ensures.removed)
+make_step-requires-clause-legal g c =
+    (removes g.N.BootName.frames (machine_of c.self.inside) _ c.self.view_is c.self.invariant.consistent c.requires.held c.args.group c.requires.there c.prove_charges.ensures.legal
+    c.requires.leaf c.requires.below_root c.requires.empty _ c.remove.ensures.removed).step
+
+pub invariant_of-self : goal.invariant_of-self
+invariant_of-self g c =
+    let all = grouped g.N.BootName.frames (machine_of c.self.inside) c.self.invariant.consistent (held_here g.N.BootName.frames (machine_of c.self.inside) _ c.self.view_is c.requires.held) _ _ _
+    (removes g.N.BootName.frames (machine_of c.self.inside) _ c.self.view_is c.self.invariant.consistent c.requires.held c.args.group c.requires.there c.prove_charges.ensures.legal
+    c.requires.leaf c.requires.below_root c.requires.empty _ c.remove.ensures.removed)
+    c.remove.ensures.pages c.self.invariant.consistent.sizes.killed _ c.make_step.ensures.notes _ refl in
+    record { consistent = all.consistent; free = c.self.invariant.free; sums = all.sums _ c.self.invariant.sums; owners = all.owners _ c.self.invariant.owners }
 
 pub returns-clause-steps : goal.returns-clause-steps
 returns-clause-steps g c =
-    makes_noted _ _ _ _ c.self.view_is _ _ _ _
-    (removes g.N.BootName.frames _ _ c.self.view_is c.args.cpu.now _ refl c.args.group c.requires.there
-    c.requires.leaf c.requires.below_root c.requires.empty
-    (usage_seen g.N.BootName.frames g.N.BootName.stocks _ _ c.self.view_is c.args.cpu.now c.self.invariant.consistent c.prove_charges.ensures.legal
-    c.requires.visit.lent c.prove_tied.ensures (balanced_alone _ _ c.requires.none_fresh) c.args.group) _ c.remove.ensures.removed) _ c.make_step.ensures.notes
+    (grouped g.N.BootName.frames (machine_of c.self.inside) c.self.invariant.consistent (held_here g.N.BootName.frames (machine_of c.self.inside) _ c.self.view_is c.requires.held) _ _ _
+    (removes g.N.BootName.frames (machine_of c.self.inside) _ c.self.view_is c.self.invariant.consistent c.requires.held c.args.group c.requires.there c.prove_charges.ensures.legal
+    c.requires.leaf c.requires.below_root c.requires.empty _ c.remove.ensures.removed)
+    c.remove.ensures.pages c.self.invariant.consistent.sizes.killed _ c.make_step.ensures.notes _ c.self.view_is).steps
 
 pub returns-clause-visit : goal.returns-clause-visit
-returns-clause-visit g c = still_visited g.N.BootName.frames _ _ c.self.view_is _ refl c.args.cpu.now _ c.requires.visit (returns-clause-steps g c)
-
-pub invariant_of-self : goal.invariant_of-self
-invariant_of-self g c = search rules
+returns-clause-visit g c =
+    (grouped g.N.BootName.frames (machine_of c.self.inside) c.self.invariant.consistent (held_here g.N.BootName.frames (machine_of c.self.inside) _ c.self.view_is c.requires.held) _ _ _
+    (removes g.N.BootName.frames (machine_of c.self.inside) _ c.self.view_is c.self.invariant.consistent c.requires.held c.args.group c.requires.there c.prove_charges.ensures.legal
+    c.requires.leaf c.requires.below_root c.requires.empty _ c.remove.ensures.removed)
+    c.remove.ensures.pages c.self.invariant.consistent.sizes.killed _ c.make_step.ensures.notes _ c.self.view_is).visit
 
 pub returns-clause-machine : goal.returns-clause-machine
 returns-clause-machine g c = ledger_is _ _ c.self.view_is (λ (l : Ledger). with_group_removed l c.args.group) _ c.remove.ensures.removed _

@@ -10,7 +10,7 @@ loop-frame-preserved g c =
     fresh_more _ _ _ _ _ _ _ _ c.loop-frame.invariant c.in-Some.ensures.settles c.settle_one.ensures.visit c.in-Some.ensures.steps
 
 pub loop-frame-smaller : goal.loop-frame-smaller
-loop-frame-smaller g c = fewer _ _ _ (settled_over _ _ _ _ _ c.in-Some.ensures.settles).front
+loop-frame-smaller g c = fewer _ _ _ (settled_over g.N.BootName.frames _ _ _ _ _ c.in-Some.ensures.settles).front
 
 pub returns : goal.returns
 returns g c =

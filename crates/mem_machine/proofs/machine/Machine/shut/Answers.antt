@@ -1,48 +1,73 @@
-use Rattle.std.proofs.Common.{ℕ, rules, refl, sym, ap, subst}
-use Rattle.cpu_part.specs.Cpus.{KnownCpu}
-use Rattle.mem_machine.proofs.Holds.{shuts, is_shut_then}
+use Rattle.std.proofs.Common.{◌≡◌, ◌∙◌, ℕ, ap, eq-eqb, refl, sym, subst}
+use Rattle.frame_word.specs.Seats.{KnownTable}
+use Rattle.step_rules.specs.declared.phase.Hold.TheVariants.{HeldBy}
+use Rattle.step_rules.specs.declared.step.Action.TheVariants.{ShutVisit}
+use Rattle.step_rules.specs.declared.step.Answer.TheVariants.{Done}
 use Rattle.step_watch.specs.Watched.{Watches}
-use Rattle.mem_machine.specs.Steps.{shut_steps}
+use Rattle.boot_words.specs.Pasts.{IsHeld, MakesStep, MayMake}
+use Rattle.mem_machine.specs.Kept.{machine_of}
+use Rattle.mem_machine.specs.Local.{IsOpen, Makes}
+use Rattle.mem_machine.specs.Machines.{KnownMachine, with_run}
+use Rattle.mem_machine.specs.Steps.{shut_steps, zone_makes}
+use Rattle.mem_machine.proofs.AtTable.{made_at, may_at}
+use Rattle.mem_machine.proofs.Holds.{hold_then, holds_then, makes_then, may_shut, visit_holds, sound_held}
+use Rattle.mem_machine.proofs.Made.{holds_here}
 use Rattle.mem_machine.proofs.Noted.{notes_one}
-use Rattle.mem_machine.proofs.Followed.{makes_noted}
-use Rattle.mem_machine.proofs.Reached.{held_here, may_lead, shown_then, who_here}
 use Rattle.mem_machine.proofs.machine.Machine.shut.Goals as goal
 
-pub returns-clause-shut : goal.returns-clause-shut
-returns-clause-shut g c = is_shut_then _ _ _ _ c.shut.ensures.zone (ap (λ (d : KnownCpu). d.number) c.shut.ensures.cpu)
+pub shut_visit-requires-clause-held : goal.shut_visit-requires-clause-held
+shut_visit-requires-clause-held g c =
+    let holds = holds_here g.N.BootName.frames (machine_of c.self.inside) _ c.self.view_is c.args.cpu.now (visit_holds g.N.BootName.frames _ c.args.cpu.now c.requires) in
+    subst (λ (t : KnownTable). IsHeld t c.self.inside.past) (sym c.args.tables.now.frames_are) holds.held
 
-pub returns-clause-steps : goal.returns-clause-steps
-returns-clause-steps g c = makes_noted _ _ _ _ c.self.view_is _ _ _ _
-    (shuts g.N.BootName.frames _ _ c.self.view_is _ _ c.shut.ensures.cpu _ c.shut.ensures.zone c.requires (c.self.invariant.consistent.absorbed _)) _
-    (notes_one g.N.BootName.frames _ _ _ c.shut.ensures.run
-    (subst (λ (n : ℕ). Watches c.self.inside.watch (shut_steps n) c.visit_shut.new.self) c.number-cpu_number.ensures.number c.visit_shut.ensures))
+pub shut_visit-requires-clause-holder : goal.shut_visit-requires-clause-holder
+shut_visit-requires-clause-holder g c =
+    let holds = holds_here g.N.BootName.frames (machine_of c.self.inside) _ c.self.view_is c.args.cpu.now (visit_holds g.N.BootName.frames _ c.args.cpu.now c.requires) in
+    c.number-cpu_number.ensures.number ∙ sym holds.who
 
-pub returns-clause-shown : goal.returns-clause-shown
-returns-clause-shown g c =
-    shown_then _ _ _ _ c.requires.shown (returns-clause-steps g c) (ap (λ (d : KnownCpu). d.number) c.shut.ensures.cpu)
-
-pub shut-requires-clause-held : goal.shut-requires-clause-held
-shut-requires-clause-held g c = held_here g.N.BootName.frames _ _ c.self.view_is c.args.cpu.now c.requires.shown
-
-pub shut-requires-clause-holder : goal.shut-requires-clause-holder
-shut-requires-clause-holder g c = sym (who_here g.N.BootName.frames _ _ c.self.view_is c.args.cpu.now c.requires.shown)
-
-pub shut-requires-clause-legal : goal.shut-requires-clause-legal
-shut-requires-clause-legal g c =
-    (may_lead g.N.BootName.frames _ _ c.self.view_is c.args.cpu.now c.requires.shown _ _ _
-    (shuts g.N.BootName.frames _ _ c.self.view_is c.args.cpu.now _ refl _ refl c.requires (c.self.invariant.consistent.absorbed _))).legal
+pub shut_visit-requires-clause-legal : goal.shut_visit-requires-clause-legal
+shut_visit-requires-clause-legal g c =
+    let holds = holds_here g.N.BootName.frames (machine_of c.self.inside) _ c.self.view_is c.args.cpu.now (visit_holds g.N.BootName.frames _ c.args.cpu.now c.requires) in
+    let legal = may_shut g.N.BootName.frames c.self.inside c.self.invariant c.args.cpu.now holds
+    (subst (λ (k : KnownMachine). IsOpen g.N.BootName.frames k c.args.cpu.now.number) (sym c.self.view_is) c.requires.is_open) in
+    may_at _ _ c.args.tables.now.frames_are 0 refl c.self.inside.past (ShutVisit c.number-cpu_number.result)
+    (subst (λ (n : ℕ). MayMake g.N.BootName.frames c.self.inside.past 0 (ShutVisit n)) (sym c.number-cpu_number.ensures.number) legal.legal)
 
 pub invariant_of-self : goal.invariant_of-self
-invariant_of-self g c = search rules
+invariant_of-self g c =
+    let holds = holds_here g.N.BootName.frames (machine_of c.self.inside) _ c.self.view_is c.args.cpu.now (visit_holds g.N.BootName.frames _ c.args.cpu.now c.requires) in
+    let made = made_at g.N.BootName.frames _ c.args.tables.now.frames_are 0 refl c.self.inside.past (ShutVisit c.number-cpu_number.result) Done c.shut_visit.new.held c.shut_visit.ensures in
+    let noted = notes_one g.N.BootName.frames (machine_of c.self.inside).run (zone_makes (ShutVisit c.args.cpu.now.number) Done) (record { past = c.shut_visit.new.held; watch = c.visit_shut.new.self })
+    (subst (λ (n : ℕ). MakesStep g.N.BootName.frames c.self.inside.past 0 (ShutVisit n) Done c.shut_visit.new.held) c.number-cpu_number.ensures.number made)
+    (subst (λ (n : ℕ). Watches c.self.inside.watch (shut_steps n) c.visit_shut.new.self) c.number-cpu_number.ensures.number c.visit_shut.ensures) in
+    sound_held g.N.BootName.frames c.self.inside c.self.invariant c.args.cpu.now holds (zone_makes (ShutVisit c.args.cpu.now.number) Done) (HeldBy c.args.cpu.now.number) refl _ noted
 
-pub returns-clause-cpu : goal.returns-clause-cpu
-returns-clause-cpu g c = search rules
+pub returns-clause-steps : goal.returns-clause-steps
+returns-clause-steps g c =
+    let holds = holds_here g.N.BootName.frames (machine_of c.self.inside) _ c.self.view_is c.args.cpu.now (visit_holds g.N.BootName.frames _ c.args.cpu.now c.requires) in
+    let legal = may_shut g.N.BootName.frames c.self.inside c.self.invariant c.args.cpu.now holds
+    (subst (λ (k : KnownMachine). IsOpen g.N.BootName.frames k c.args.cpu.now.number) (sym c.self.view_is) c.requires.is_open) in
+    let made = made_at g.N.BootName.frames _ c.args.tables.now.frames_are 0 refl c.self.inside.past (ShutVisit c.number-cpu_number.result) Done c.shut_visit.new.held c.shut_visit.ensures in
+    let noted = notes_one g.N.BootName.frames (machine_of c.self.inside).run (zone_makes (ShutVisit c.args.cpu.now.number) Done) (record { past = c.shut_visit.new.held; watch = c.visit_shut.new.self })
+    (subst (λ (n : ℕ). MakesStep g.N.BootName.frames c.self.inside.past 0 (ShutVisit n) Done c.shut_visit.new.held) c.number-cpu_number.ensures.number made)
+    (subst (λ (n : ℕ). Watches c.self.inside.watch (shut_steps n) c.visit_shut.new.self) c.number-cpu_number.ensures.number c.visit_shut.ensures) in
+    subst (λ (k : KnownMachine). Makes g.N.BootName.frames k (shut_steps c.args.cpu.now.number)
+    (with_run (machine_of c.self.inside) (record { past = c.shut_visit.new.held; watch = c.visit_shut.new.self }))) c.self.view_is (makes_then g.N.BootName.frames c.self.inside c.self.invariant c.args.cpu.now holds (zone_makes (ShutVisit c.args.cpu.now.number) Done) (HeldBy c.args.cpu.now.number) refl _ noted legal refl refl)
 
-pub returns-clause-machine : goal.returns-clause-machine
-returns-clause-machine g c = search rules
+pub returns-clause-holds : goal.returns-clause-holds
+returns-clause-holds g c =
+    let holds = holds_here g.N.BootName.frames (machine_of c.self.inside) _ c.self.view_is c.args.cpu.now (visit_holds g.N.BootName.frames _ c.args.cpu.now c.requires) in
+    let made = made_at g.N.BootName.frames _ c.args.tables.now.frames_are 0 refl c.self.inside.past (ShutVisit c.number-cpu_number.result) Done c.shut_visit.new.held c.shut_visit.ensures in
+    let noted = notes_one g.N.BootName.frames (machine_of c.self.inside).run (zone_makes (ShutVisit c.args.cpu.now.number) Done) (record { past = c.shut_visit.new.held; watch = c.visit_shut.new.self })
+    (subst (λ (n : ℕ). MakesStep g.N.BootName.frames c.self.inside.past 0 (ShutVisit n) Done c.shut_visit.new.held) c.number-cpu_number.ensures.number made)
+    (subst (λ (n : ℕ). Watches c.self.inside.watch (shut_steps n) c.visit_shut.new.self) c.number-cpu_number.ensures.number c.visit_shut.ensures) in
+    holds_then g.N.BootName.frames c.self.inside c.self.invariant c.args.cpu.now holds (zone_makes (ShutVisit c.args.cpu.now.number) Done) (HeldBy c.args.cpu.now.number) refl _ noted
 
-pub returns-clause-lent : goal.returns-clause-lent
-returns-clause-lent g c = search rules
-
-pub returns-clause-still : goal.returns-clause-still
-returns-clause-still g c = search rules
+pub returns-clause-shut : goal.returns-clause-shut
+returns-clause-shut g c =
+    let holds = holds_here g.N.BootName.frames (machine_of c.self.inside) _ c.self.view_is c.args.cpu.now (visit_holds g.N.BootName.frames _ c.args.cpu.now c.requires) in
+    let made = made_at g.N.BootName.frames _ c.args.tables.now.frames_are 0 refl c.self.inside.past (ShutVisit c.number-cpu_number.result) Done c.shut_visit.new.held c.shut_visit.ensures in
+    let noted = notes_one g.N.BootName.frames (machine_of c.self.inside).run (zone_makes (ShutVisit c.args.cpu.now.number) Done) (record { past = c.shut_visit.new.held; watch = c.visit_shut.new.self })
+    (subst (λ (n : ℕ). MakesStep g.N.BootName.frames c.self.inside.past 0 (ShutVisit n) Done c.shut_visit.new.held) c.number-cpu_number.ensures.number made)
+    (subst (λ (n : ℕ). Watches c.self.inside.watch (shut_steps n) c.visit_shut.new.self) c.number-cpu_number.ensures.number c.visit_shut.ensures) in
+    hold_then g.N.BootName.frames c.self.inside c.self.invariant c.args.cpu.now holds (zone_makes (ShutVisit c.args.cpu.now.number) Done) (HeldBy c.args.cpu.now.number) refl _ noted

@@ -6,6 +6,7 @@ use Rattle.group_tree.proofs.GroupLemmas.{has_group-contains}
 use Rattle.mem_machine.specs.Machines.{KnownMachine}
 use Rattle.mem_machine.specs.Stocks.{stock_group}
 use Rattle.mem_machine.proofs.Choosing.{FoundSoFar, OwnsStock, stocks_found, found_more, found_not}
+use Rattle.mem_machine.proofs.Owning.{stocks_owned}
 use Rattle.mem_machine.proofs.machine.Machine.stocks_below.Goals.{then-is_at_or_below, else-is_at_or_below}
 use Rattle.mem_machine.proofs.machine.Machine.stocks_below.Goals as goal
 
@@ -23,7 +24,8 @@ loop-row-preserved g c =
     elim c.if-is_at_or_below.branch [
       | then-is_at_or_below w ↦
           let owned = subst (λ (x : KnownMachine). (p : ℕ) → p < 64 → (bit_at w.stocks_of-stocks.result p ≡ 1)
-          ↔ (p < g.N.BootName.frames.cpus) × (stock_group x (p + 1) ≡ Some c.row-item.result.number)) c.self.view_is w.stocks_of-stocks.ensures in
+          ↔ (p < g.N.BootName.frames.cpus) × (stock_group g.N.BootName.frames x (p + 1) ≡ Some c.row-item.result.number)) c.self.view_is
+          (stocks_owned g.N.BootName.frames.cpus _ _ c.self.invariant.owners c.row-item.result.number w.stocks_of-stocks.result w.stocks_of-stocks.ensures) in
           subst (FoundSoFar (OwnsStock g.N.BootName.frames c.args.self.now) c.args.self.now.ledger.groups c.args.group c.groups-row-items.result.now (c.loop-row.row-index + 1)) (sym w.stocks-is)
           (found_more (OwnsStock g.N.BootName.frames c.args.self.now) c.args.self.now.ledger.groups c.args.group c.groups-row-items.result.now c.loop-row.row-index c.loop-row.stocks c.loop-row.invariant
           c.row-item.result c.loop-row-test.true c.row-item.is w.stocks_of-stocks.result (test ∙ w.if-is_at_or_below.true) owned)

@@ -1,35 +1,69 @@
-use Rattle.std.proofs.Common.{◌∙◌, sym, subst}
-use Rattle.frame_word.specs.Seats.{KnownTable, IsShut}
+use Rattle.std.proofs.Common.{◌≡◌, ◌∙◌, ap, sym, subst}
+use Rattle.frame_word.specs.Seats.{KnownTable}
+use Rattle.step_rules.specs.declared.phase.Hold.TheVariants.{Unheld}
 use Rattle.step_rules.specs.declared.step.Action.TheVariants.{Unlock}
-use Rattle.boot_words.specs.Pasts.{MayMake, Unlocks, cpu_past}
-use Rattle.mem_machine.specs.Machines.{KnownMachine, visit_state}
-use Rattle.mem_machine.specs.Local.{IsSeenByRun}
-use Rattle.mem_machine.proofs.Locks.{knows_then, may_release, rests_then}
+use Rattle.boot_words.specs.Pasts.{IsHeld, MayMake, Unlocks}
+use Rattle.step_rules.specs.After.{Run, state_of}
+use Rattle.boot_words.specs.Seats.{zone_of_boot}
+use Rattle.boot_words.specs.Words.{stock_in}
+use Rattle.boot_words.specs.Cpus.{IsAwayCpu, state_left}
+use Rattle.mem_machine.specs.Kept.{machine_of}
+use Rattle.mem_machine.specs.Local.{IsShut}
+use Rattle.mem_machine.specs.Machines.{KnownMachine}
+use Rattle.mem_machine.proofs.Locks.{may_unlock, sound_then, unlocked_found, unlocked_knows}
+use Rattle.mem_machine.proofs.Made.{holds_here}
 use Rattle.mem_machine.proofs.machine.Machine.unlock.Goals as goal
+
+pub unlock-requires-clause-held : goal.unlock-requires-clause-held
+unlock-requires-clause-held g c =
+    let holds = holds_here g.N.BootName.frames (machine_of c.self.inside) _ c.self.view_is c.args.cpu.now c.requires.holds in
+    subst (λ (t : KnownTable). IsHeld t c.self.inside.past) (sym c.args.tables.now.frames_are) holds.held
+
+pub unlock-requires-clause-holder : goal.unlock-requires-clause-holder
+unlock-requires-clause-holder g c =
+    let holds = holds_here g.N.BootName.frames (machine_of c.self.inside) _ c.self.view_is c.args.cpu.now c.requires.holds in
+    c.requires.number ∙ sym holds.who
 
 pub unlock-requires-clause-legal : goal.unlock-requires-clause-legal
 unlock-requires-clause-legal g c =
-    let shown = subst (λ (k : KnownMachine). IsSeenByRun g.N.BootName.frames (visit_state k c.args.cpu.now)) (sym c.self.view_is) c.requires.shown in
-    let shut = subst (λ (k : KnownMachine). IsShut k.frame_seat c.args.cpu.now.number) (sym c.self.view_is) c.requires.shut in
-    subst (λ (t : KnownTable). MayMake t c.self.inside.past (cpu_past c.self.inside.past).number Unlock) (sym c.args.tables.now.frames_are)
-    (may_release g.N.BootName.frames g.N.BootName.stocks _ c.args.cpu.now shown shut c.prove_tied.ensures)
+    let holds = holds_here g.N.BootName.frames (machine_of c.self.inside) _ c.self.view_is c.args.cpu.now c.requires.holds in
+    let shut = subst (λ (k : KnownMachine). IsShut g.N.BootName.frames k c.args.cpu.now.number) (sym c.self.view_is) c.requires.shut in
+    subst (λ (t : KnownTable). MayMake t c.self.inside.past c.args.past.now.number Unlock) (sym c.args.tables.now.frames_are)
+    (subst (λ n. MayMake g.N.BootName.frames c.self.inside.past n Unlock) (sym c.requires.number)
+    (may_unlock g.N.BootName.frames (machine_of c.self.inside) c.args.cpu.now c.self.invariant.consistent holds shut))
+
+pub invariant_of-self : goal.invariant_of-self
+invariant_of-self g c =
+    let holds = holds_here g.N.BootName.frames (machine_of c.self.inside) _ c.self.view_is c.args.cpu.now c.requires.holds in
+    let unlocks = subst (λ (t : KnownTable). Unlocks t c.self.inside.past c.unlock.new.zone c.unlock.new.cpu.seat) c.args.tables.now.frames_are c.unlock.ensures.run in
+    sound_then g.N.BootName.frames c.self.inside c.self.invariant c.unlock.new.zone Unheld
+    (unlocked_found g.N.BootName.frames (machine_of c.self.inside) c.args.cpu.now c.unlock.new.zone c.unlock.new.cpu holds unlocks)
 
 pub returns-clause-rests : goal.returns-clause-rests
 returns-clause-rests g c =
-    let shown = subst (λ (k : KnownMachine). IsSeenByRun g.N.BootName.frames (visit_state k c.args.cpu.now)) (sym c.self.view_is) c.requires.shown in
-    let shut = subst (λ (k : KnownMachine). IsShut k.frame_seat c.args.cpu.now.number) (sym c.self.view_is) c.requires.shut in
-    let unlocks = subst (λ (t : KnownTable). Unlocks t c.self.inside.past c.unlock.new.zone c.unlock.new.cpu) c.args.tables.now.frames_are c.unlock.ensures.run in
-    rests_then g.N.BootName.frames g.N.BootName.stocks _ c.args.cpu.now shown shut c.prove_tied.ensures c.unlock.new.zone c.unlock.new.cpu unlocks
+    let unlocks = subst (λ (t : KnownTable). Unlocks t c.self.inside.past c.unlock.new.zone c.unlock.new.cpu.seat) c.args.tables.now.frames_are c.unlock.ensures.run in
+    record { past_is = unlocks.zone_is; free = unlocks.free }
 
 pub returns-clause-knows : goal.returns-clause-knows
 returns-clause-knows g c =
-    let shown = subst (λ (k : KnownMachine). IsSeenByRun g.N.BootName.frames (visit_state k c.args.cpu.now)) (sym c.self.view_is) c.requires.shown in
-    let shut = subst (λ (k : KnownMachine). IsShut k.frame_seat c.args.cpu.now.number) (sym c.self.view_is) c.requires.shut in
-    let unlocks = subst (λ (t : KnownTable). Unlocks t c.self.inside.past c.unlock.new.zone c.unlock.new.cpu) c.args.tables.now.frames_are c.unlock.ensures.run in
-    knows_then g.N.BootName.frames g.N.BootName.stocks _ c.args.cpu.now shown shut c.prove_tied.ensures c.unlock.new.zone c.unlock.new.cpu unlocks
-    (λ e. c.last_stock-last.ensures.none_fresh (c.last_stock-last.ensures.last ∙ e))
+    let holds = holds_here g.N.BootName.frames (machine_of c.self.inside) _ c.self.view_is c.args.cpu.now c.requires.holds in
+    let unlocks = subst (λ (t : KnownTable). Unlocks t c.self.inside.past c.unlock.new.zone c.unlock.new.cpu.seat) c.args.tables.now.frames_are c.unlock.ensures.run in
+    unlocked_knows g.N.BootName.frames (machine_of c.self.inside) c.args.cpu.now c.unlock.new.zone c.unlock.new.cpu holds unlocks
+    (subst (λ (t : KnownTable). IsAwayCpu t c.unlock.new.cpu) c.args.tables.now.frames_are c.unlock.ensures.cpu)
 
 pub returns-clause-run : goal.returns-clause-run
 returns-clause-run g c =
-    let unlocks = subst (λ (t : KnownTable). Unlocks t c.self.inside.past c.unlock.new.zone c.unlock.new.cpu) c.args.tables.now.frames_are c.unlock.ensures.run in
-    subst (λ (k : KnownMachine). Unlocks g.N.BootName.frames k.run.past c.unlock.new.zone c.unlock.new.cpu) c.self.view_is unlocks
+    let unlocks = subst (λ (t : KnownTable). Unlocks t c.self.inside.past c.unlock.new.zone c.unlock.new.cpu.seat) c.args.tables.now.frames_are c.unlock.ensures.run in
+    subst (λ (k : KnownMachine). Unlocks g.N.BootName.frames k.run.past c.unlock.new.zone c.unlock.new.cpu.seat) c.self.view_is unlocks
+
+pub returns-clause-last : goal.returns-clause-last
+returns-clause-last g c =
+    let table = g.N.BootName.frames in
+    let cpu = c.unlock.new.cpu in
+    let holds = holds_here table (machine_of c.self.inside) _ c.self.view_is c.args.cpu.now c.requires.holds in
+    let unlocks = subst (λ (t : KnownTable). Unlocks t c.self.inside.past c.unlock.new.zone cpu.seat) c.args.tables.now.frames_are c.unlock.ensures.run in
+    let knows = unlocked_knows table (machine_of c.self.inside) c.args.cpu.now c.unlock.new.zone cpu holds unlocks
+    (subst (λ (t : KnownTable). IsAwayCpu t cpu) c.args.tables.now.frames_are c.unlock.ensures.cpu) in
+    subst (λ (t : KnownTable). cpu.last ≡ stock_in ((state_left t cpu).parts cpu.number)) c.args.tables.now.frames_are c.unlock.ensures.last
+    ∙ ap (λ n. stock_in ((state_left table cpu).parts n)) knows.number
+    ∙ ap (λ (r : Run). stock_in ((state_of (zone_of_boot table) r).parts c.args.cpu.now.number)) (sym unlocks.same)

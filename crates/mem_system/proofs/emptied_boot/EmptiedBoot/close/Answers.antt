@@ -1,32 +1,36 @@
-use Rattle.std.proofs.Common.{◌∙◌, length, sym, ap, subst}
-use Rattle.frame_word.specs.Seats.{KnownTable}
-use Rattle.stock_word.specs.Stock.{KnownStockTable}
-use Rattle.mem_system.specs.Cpus.{parts_of}
-use Rattle.mem_system.specs.Ends.{KnownEmptiedBoot, Closes}
-use Rattle.mem_system.proofs.Closing.{idle_all, long_frames, long_parts, all_closes}
-use Rattle.mem_system.proofs.Gathering.{long_gathered, sit_all}
+use Rattle.std.proofs.Common.{◌∙◌, List, length, sym, ap, subst}
+use Rattle.std.proofs.lemmas.List.{length-map}
+use Rattle.std.proofs.lemmas.List.Elements.{All-weaker}
+use Rattle.boot_words.specs.Closed.{HasCpuPast}
+use Rattle.boot_words.specs.Cpus.{KnownCpuSeat}
+use Rattle.boot_words.specs.Rule.{AllOf}
+use Rattle.cpu_part.specs.Cpus.{IsIdle}
+use Rattle.mem_system.specs.Cpus.{parts_of, seat_of}
+use Rattle.mem_system.specs.Ends.{Closes, IsClosed, IsEmptied, KnownEmptiedBoot}
+use Rattle.mem_system.proofs.Closing.{all_closes}
+use Rattle.mem_system.proofs.Gathering.{closed_run, have_pasts}
 use Rattle.mem_system.proofs.emptied_boot.EmptiedBoot.close.Goals as goal
 
 pub gather_seats-seats-requires-clause-idle : goal.gather_seats-seats-requires-clause-idle
 gather_seats-seats-requires-clause-idle g c =
-    idle_all g.N.BootName.frames g.N.BootName.stocks c.self.inside.machine (parts_of c.self.inside.cpus.items) c.self.invariant.0.all_emptied
+    All-weaker (IsEmptied g.N.BootName.frames c.self.inside.machine) IsIdle (λ cpu emptied. emptied.idle) (parts_of c.self.inside.cpus.items) c.self.invariant.0.all_emptied
 
-pub gather_seats-seats-requires-clause-at : goal.gather_seats-seats-requires-clause-at
-gather_seats-seats-requires-clause-at g c =
-    sit_all g.N.BootName.frames g.N.BootName.stocks c.self.inside.machine (parts_of c.self.inside.cpus.items)
-    (sym (ap (λ (x : KnownStockTable). x.table) c.self.inside.tables.stocks_are) ∙ ap (λ (x : KnownTable). x.table) c.self.inside.tables.frames_are)
-    c.self.invariant.0.all_emptied
+pub close_table-requires-clause-seats : goal.close_table-requires-clause-seats
+close_table-requires-clause-seats g c =
+    let t = g.N.BootName.frames in
+    subst (AllOf (HasCpuPast t)) (sym c.gather_seats-seats.ensures.seats) (have_pasts t c.self.inside.cpus.items c.gather_seats-seats.ensures.knows)
 
-pub close_tables-requires-clause-count : goal.close_tables-requires-clause-count
-close_tables-requires-clause-count g c =
-    sym (long_gathered c.gather_seats-seats.result.items) ∙ ap length c.gather_seats-seats.ensures.frames ∙ long_frames (parts_of c.self.inside.cpus.items) ∙ long_parts c.self.inside.cpus.items ∙ c.self.invariant.0.count
+pub close_table-requires-clause-count : goal.close_table-requires-clause-count
+close_table-requires-clause-count g c =
+    ap length c.gather_seats-seats.ensures.seats ∙ length-map c.self.inside.cpus.items seat_of ∙ c.self.invariant.0.count
 
 pub returns : goal.returns
 returns g c =
     let t = g.N.BootName.frames in
-    let w = g.N.BootName.stocks in
-    subst (λ (k : KnownEmptiedBoot). Closes t w k c.take_audit-audit.result) c.self.view_is
-    (all_closes t w (record { machine = c.self.inside.machine; cpus = c.self.inside.cpus.items; drops = c.self.inside.drops }) c.take_audit-audit.result _ _ _
-    c.self.invariant.0.shut c.self.invariant.0.all_emptied c.self.invariant.0.count
-    c.self.invariant.0.rests c.take_audit-audit.ensures c.close_tables.ensures
-    c.gather_seats-seats.ensures.frames c.gather_seats-seats.ensures.stocks c.gather_seats-seats.ensures.pasts)
+    let m = c.self.inside.machine in
+    let cpus = c.self.inside.cpus.items in
+    let gathered = c.gather_seats-seats.ensures in
+    let closed = subst (λ (l : List KnownCpuSeat). IsClosed t m l c.close_table.result.words) gathered.seats c.close_table.ensures in
+    subst (λ (k : KnownEmptiedBoot). Closes t k c.take_audit-audit.result) c.self.view_is
+    (all_closes t (record { machine = m; cpus = cpus; drops = c.self.inside.drops }) c.take_audit-audit.result c.close_table.result.words
+    c.self.invariant.0 gathered.knows closed.consistent (closed_run t m cpus c.close_table.result.words c.self.invariant.0.rests gathered.knows closed) c.take_audit-audit.ensures)

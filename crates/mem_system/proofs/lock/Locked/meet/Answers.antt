@@ -1,18 +1,18 @@
-use Rattle.std.proofs.Common.{subst, sym}
-use Rattle.mem_system.specs.Locked.{AllShut}
 use Rattle.mem_system.proofs.Counted.{met_counted}
+use Rattle.mem_system.proofs.Visiting.{resting_shut}
 use Rattle.mem_system.proofs.lock.Locked.meet.Goals as goal
 
 pub invariant_of-self : goal.invariant_of-self
 invariant_of-self g c =
+    let t = g.N.BootName.frames in
     let quiet = c.self.invariant.quiet in
     let met = c.meet.ensures in
     record {
       quiet = record {
-        shut = subst AllShut (sym met.machine) quiet.shut;
+        shut = resting_shut t c.meet.new.self met.rests;
         rests = met.rests;
-        counted = met_counted g.N.BootName.frames c.self.inside.machine c.meet.new.self c.cpu.inside.past c.meet.new.past quiet.rests quiet.counted
-            met.meets met.rests met.machine;
+        counted = met_counted t c.self.inside.machine c.meet.new.self c.cpu.inside.past.seat c.meet.new.past.seat quiet.rests quiet.counted met.meets met.rests
+            met.machine;
         valid = quiet.valid;
         sized = quiet.sized;
       };

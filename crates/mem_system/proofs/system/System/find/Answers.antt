@@ -6,6 +6,7 @@ returns g c = let met = c.meet.ensures in record {
   locked = c.meet.new.self;
   sound = search rules;
   part = met.part;
+  last = met.last;
   sees = met.meets.cpu_sees;
   same = met.meets.same;
   so = c.find.ensures.found;

@@ -11,7 +11,6 @@ returns g c = record {
     sound_before = search rules;
     served = c.serve_into.ensures.served;
     sound_after = search rules;
-    lent = c.serve_into.ensures.ends.lent;
   };
   settled = c.serve_into.ensures.settled;
 }

@@ -13,7 +13,6 @@ use Rattle.tempolemon_c.proofs.live.Live.serve_inlined.Goals as goal
 pub returns : goal.returns
 returns g c =
     let frames = g.N.BootName.frames in
-    let stocks = g.N.BootName.stocks in
     let inside = c.self.inside in
     let cpu = c.args.cpu in
     let command : Command = c.args.command.now in
@@ -30,21 +29,21 @@ returns g c =
       unread_answer = inside.unread_answer.items;
     } in
     let said = answer_of left.state.locked.machine.ledger value in
-    let says : SaysCommand frames stocks cpu command live.state left.state said =
-    subst (λ l. SaysCommand frames stocks cpu command (system_state inside.locked l) left.state said)
+    let says : SaysCommand frames cpu command live.state left.state said =
+    subst (λ l. SaysCommand frames cpu command (system_state inside.locked l) left.state said)
     c.deref_mut.ensures.value c.serve_value.ensures.answer in
     let there : CpuCommandInRange inside.sizes.frames inside.sizes.cpus cpu command = search rules in
     let short : inside.cpus.len ≤ length cpus = search rules in
     let long : length cpus ≤ inside.cpus.len = search rules in
     let same : take inside.cpus.len (cpus ++ drop (length cpus) inside.cpus.items) ≡ cpus
     = take-append-le inside.cpus.len cpus (drop (length cpus) inside.cpus.items) short ∙ take_all inside.cpus.len cpus long in
-    subst (λ (from : KnownLive). ReturnsCommandAnswer frames stocks cpu command from
+    subst (λ (from : KnownLive). ReturnsCommandAnswer frames cpu command from
     (record {
       sizes = inside.sizes;
       state = system_state c.serve_value.new.locked (take inside.cpus.len (cpus ++ drop (length cpus) inside.cpus.items));
       unread_answer = inside.unread_answer.items;
     }) (Served value)) c.self.view_is
-    (subst (λ (l : List CpuInRun). ReturnsCommandAnswer frames stocks cpu command live
+    (subst (λ (l : List CpuInRun). ReturnsCommandAnswer frames cpu command live
     (record { sizes = inside.sizes; state = system_state c.serve_value.new.locked l; unread_answer = inside.unread_answer.items })
     (Served value)) (sym same)
     (record {

@@ -35,29 +35,28 @@ returns g c =
       unread_answer = c.self.inside.unread_answer.items;
     } in
     let says : (named : Bor (List ℕ)) → number_at live.state.locked.machine.ledger.groups named.now ≡ Some group
-    → SaysCommand g.N.BootName.frames g.N.BootName.stocks c.args.cpu (cmd.Alloc named 0) live.state left.state
+    → SaysCommand g.N.BootName.frames c.args.cpu (cmd.Alloc named 0) live.state left.state
     (answer_of left.state.locked.machine.ledger c.alloc_value.result) =
-    λ named found. subst (λ cpus. SaysCommand g.N.BootName.frames g.N.BootName.stocks c.args.cpu (cmd.Alloc named 0)
+    λ named found. subst (λ cpus. SaysCommand g.N.BootName.frames c.args.cpu (cmd.Alloc named 0)
     (system_state c.self.inside.locked cpus) left.state (answer_of left.state.locked.machine.ledger c.alloc_value.result))
     c.deref_mut.ensures.value (c.alloc_value.ensures.answer named found) in
     let most : c.args.cpu ≤ c.self.inside.sizes.cpus = search rules in
     let exists : IsCpu c.self.inside.sizes.cpus c.args.cpu = record { low = c.requires.there.low; high = most } in
     let frames = g.N.BootName.frames in
-    let stocks = g.N.BootName.stocks in
     let inside = c.self.inside in
     let cpus = c.alloc_value.new.cpus in
     let short : inside.cpus.len ≤ length cpus = search rules in
     let long : length cpus ≤ inside.cpus.len = search rules in
     let same : take inside.cpus.len (cpus ++ drop (length cpus) inside.cpus.items) ≡ cpus
     = take-append-le inside.cpus.len cpus (drop (length cpus) inside.cpus.items) short ∙ take_all inside.cpus.len cpus long in
-    subst (λ (from : KnownLive). CallsLive frames stocks c.args.cpu (Alloc group 0) from
+    subst (λ (from : KnownLive). CallsLive frames c.args.cpu (Alloc group 0) from
     (record {
       sizes = inside.sizes;
       state = system_state c.alloc_value.new.locked (take inside.cpus.len (cpus ++ drop (length cpus) inside.cpus.items));
       unread_answer = inside.unread_answer.items;
     }) (Served c.alloc_value.result)) c.self.view_is
-    (subst (λ (l : List CpuInRun). CallsLive frames stocks c.args.cpu (Alloc group 0) live
+    (subst (λ (l : List CpuInRun). CallsLive frames c.args.cpu (Alloc group 0) live
     (record { sizes = inside.sizes; state = system_state c.alloc_value.new.locked l; unread_answer = inside.unread_answer.items })
     (Served c.alloc_value.result)) (sym same)
-    (frame_taken frames stocks c.args.cpu group live left c.alloc_value.result c.as_bytes-path.result exists
+    (frame_taken frames c.args.cpu group live left c.alloc_value.result c.as_bytes-path.result exists
     (subst AreCharges c.charges.ensures c.tree.ensures.legal) is says c.alloc_value.ensures.groups (record { sizes = refl; unread_answer = refl })))

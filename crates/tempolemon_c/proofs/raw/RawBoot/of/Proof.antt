@@ -12,7 +12,7 @@ use Rattle.tempolemon_c.proofs.raw.RawBoot.of.Code as code
 pub of_spec : {M : Type 1} → stated.statement M
 of_spec 𝓤 𝓛 𝓜 𝓡 wired =
     moved 𝓛 𝓜 𝓡 0 (LivePointer.the_row brand) RawBoot.the_type yes (F.clauses 𝓛 𝓜.mem 𝓡.returns)
-    (λ x. x.ptr) (λ x. x.alloc) (λ x. live_owns brand x.frames x.stocks x.alloc x.ptr x.live)
-    (λ x. Unit {0}) (λ x t. record { ptr = x.ptr; alloc = x.alloc; frames = x.frames; stocks = x.stocks; live = x.live })
-    (λ κs x g. always 𝓤 _) (λ x t vs. refl) (λ κs x t g w. shown 𝓤 (refl, refl, refl))
+    (λ x. x.ptr) (λ x. x.alloc) (λ x. live_owns brand x.frames x.alloc x.ptr x.live)
+    (λ x. Unit {0}) (λ x t. record { ptr = x.ptr; alloc = x.alloc; frames = x.frames; live = x.live })
+    (λ κs x g. always 𝓤 _) (λ x t vs. refl) (λ κs x t g w. shown 𝓤 (refl, refl))
     (shape (LivePointer.the_type brand)) #self code.function (code.unfolded 𝓤 𝓛.H 𝓜 𝓡 wired) (λ x f. tt) (λ x vs. refl)

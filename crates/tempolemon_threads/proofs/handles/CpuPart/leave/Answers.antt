@@ -7,5 +7,5 @@ use Rattle.tempolemon_threads.proofs.handles.CpuPart.leave.Goals as goal
 pub unreachable-requires : goal.unreachable-requires
 unreachable-requires c =
     let raw = c.take-raw in
-    no_cpu_left raw.result.frames raw.result.stocks c.args.alloc _ _ _ _ _ _ c.args.self.now.is_cpu
+    no_cpu_left raw.result.frames c.args.alloc _ _ _ _ _ _ c.args.self.now.is_cpu
     (ap (λ (r : RawHome). r.home) raw.ensures.taken) c.serve_raw-raw.ensures.serves.serves c.in-NotLeft.is c.in_default-reason.is

@@ -12,11 +12,11 @@ pub returns : goal.returns
 returns c =
     let raw = c.take-raw in
     let served = c.serve_raw-raw in
-    let some : IsSome (led_of raw.result.frames raw.result.stocks raw.result.home) =
-    subst (λ (r : RawHome). IsSome (led_of r.frames r.stocks r.home)) (sym raw.ensures.taken) c.requires.live in
-    let ends : EndsAs served.result.1 (led_of raw.result.frames raw.result.stocks raw.result.home)
-    (led_of served.result.0.frames served.result.0.stocks served.result.0.home) =
-    ends_led raw.result.frames raw.result.stocks c.args.alloc raw.result.home _ _ _ _ some served.ensures.serves in
-    subst (λ (r : RawHome). EndsAs served.result.1 (zone_behind c.args.self.now) (led_of r.frames r.stocks r.home)) (sym c.put.ensures)
-    (subst (λ (r : RawHome). EndsAs served.result.1 (led_of r.frames r.stocks r.home)
-    (led_of served.result.0.frames served.result.0.stocks served.result.0.home)) raw.ensures.taken ends)
+    let some : IsSome (led_of raw.result.frames raw.result.home) =
+    subst (λ (r : RawHome). IsSome (led_of r.frames r.home)) (sym raw.ensures.taken) c.requires.live in
+    let ends : EndsAs served.result.1 (led_of raw.result.frames raw.result.home)
+    (led_of served.result.0.frames served.result.0.home) =
+    ends_led raw.result.frames c.args.alloc raw.result.home _ _ _ some served.ensures.serves in
+    subst (λ (r : RawHome). EndsAs served.result.1 (zone_behind c.args.self.now) (led_of r.frames r.home)) (sym c.put.ensures)
+    (subst (λ (r : RawHome). EndsAs served.result.1 (led_of r.frames r.home)
+    (led_of served.result.0.frames served.result.0.home)) raw.ensures.taken ends)

@@ -12,7 +12,7 @@ use Rattle.tempolemon_threads.proofs.raw.RawHome.of.Code as code
 pub of_spec : {M : Type 1} → stated.statement M
 of_spec 𝓤 𝓛 𝓜 𝓡 wired =
     moved 𝓛 𝓜 𝓡 0 (HomePointer.the_row brand) RawHome.the_type yes (F.clauses 𝓛 𝓜.mem 𝓡.returns)
-    (λ x. x.ptr) (λ x. x.alloc) (λ x. home_owns brand x.frames x.stocks x.alloc x.ptr x.home)
-    (λ x. Unit {0}) (λ x t. record { ptr = x.ptr; alloc = x.alloc; frames = x.frames; stocks = x.stocks; home = x.home })
-    (λ κs x g. always 𝓤 _) (λ x t vs. refl) (λ κs x t g w. shown 𝓤 (refl, refl, refl))
+    (λ x. x.ptr) (λ x. x.alloc) (λ x. home_owns brand x.frames x.alloc x.ptr x.home)
+    (λ x. Unit {0}) (λ x t. record { ptr = x.ptr; alloc = x.alloc; frames = x.frames; home = x.home })
+    (λ κs x g. always 𝓤 _) (λ x t vs. refl) (λ κs x t g w. shown 𝓤 (refl, refl))
     (shape (HomePointer.the_type brand)) #self code.function (code.unfolded 𝓤 𝓛.H 𝓜 𝓡 wired) (λ x f. tt) (λ x vs. refl)

@@ -17,5 +17,4 @@ returns-clause-served g c =
       sound_before = record { quiet = c.prove_quiet.ensures.quiet; consistent = c.prove_quiet.ensures.consistent; charges = c.prove_quiet.ensures.charges };
       served = record { path = c.as_bytes.result; path_is = named; serves = done.ensures.served };
       sound_after = record { quiet = c.prove_quiet-2.ensures.quiet; consistent = c.prove_quiet-2.ensures.consistent; charges = c.prove_quiet-2.ensures.charges };
-      lent = done.ensures.ends.lent;
     }

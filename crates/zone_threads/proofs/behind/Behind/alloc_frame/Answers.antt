@@ -15,5 +15,4 @@ returns-clause-served g c =
       served = subst (λ (k : ℕ). ServesFrameOutcome t k done.result (locked_state c.self.inside.locked c.args.cpu.now) (locked_state done.new.locked done.new.cpu))
           c.in-Some.ensures.found.0 done.ensures.served;
       sound_after = record { quiet = c.prove_quiet-2.ensures.quiet; consistent = c.prove_quiet-2.ensures.consistent; charges = c.prove_quiet-2.ensures.charges };
-      lent = done.ensures.ends.lent;
     }

@@ -1,40 +1,72 @@
 -- Serves `read`: the reply is what the charges after the visit make of the outcome.
-use Rattle.std.proofs.Common.{◌≢◌, ◌∙◌, ap, sym, subst}
+use Rattle.std.proofs.Common.{◌≡◌, ◌≢◌, ◌∙◌, ap, sym, subst}
+use Rattle.zone_blocks.specs.declared.config.Config.{Config}
+use Rattle.frame_word.specs.Seats.{KnownTable}
 use Rattle.group_charge.specs.Charges.{Ledger}
 use Rattle.control_files.specs.Files as files
+use Rattle.mem_system.specs.Cpus.{CpuInRun}
+use Rattle.mem_system.specs.declared.command.Cmd.{Cmd}
 use Rattle.mem_system.specs.declared.command.Cmd.TheVariants as cmd
 use Rattle.mem_system.specs.declared.command.Reply.{Reply}
+use Rattle.mem_system.specs.declared.command.Reply.TheVariants as reply
+use Rattle.mem_system.specs.declared.outcome.Outcome.{Outcome}
 use Rattle.mem_system.specs.Outcomes.{HasItsGroups, reply_of, text_reply}
-use Rattle.mem_system.specs.Visits.{IsServed, IsVisited, locked_state}
+use Rattle.mem_system.specs.Visits.{IsServed, IsVisited, ServesOutcome, locked_state}
 use Rattle.zone_threads.specs.declared.calls.ReadAnswer.{ReadAnswer}
 use Rattle.zone_threads.specs.Calling.{IsReadUnderLock}
 use Rattle.zone_threads.specs.Homes.{KnownBehind}
 use Rattle.zone_threads.proofs.behind.Behind.read.Goals.{in-Ok, in-Err}
 use Rattle.zone_threads.proofs.behind.Behind.read.Goals as goal
 
-pub returns : goal.returns
-returns g c =
-    let t = g.N.BootName.frames in
-    let w = g.N.BootName.stocks in
-    let sizes = c.args.self.now.locked.sizes in
-    let ledger = c.serve_outcome-outcome.new.locked.machine.ledger in
-    let group : c.in-Text.group ≢ 0 = (subst (HasItsGroups ledger) c.in-Text.is c.serve_outcome-outcome.ensures.groups).1 in
-    let told = c.file_text.ensures.text group ∙ ap (λ (l : Ledger). files.file_text l c.in-Text.group c.in-Text.file) c.charges.ensures in
-    let reply = ap (reply_of ledger) c.in-Text.is ∙ sym (ap text_reply told) in
-    let visited : IsVisited t w sizes (IsServed t (cmd.Read c.args.asked.now.path c.args.asked.now.file) (text_reply c.file_text.result)) c.args.cpu.now c.serve_outcome-outcome.new.cpu =
-    record {
+-- a visit with an outcome is one with the reply that the charges make of the outcome
+replied : (t : KnownTable) (sizes : Config) (asked : Cmd) (outcome : Outcome) (reply : Reply) (from to : CpuInRun)
+    → (v : IsVisited t sizes (ServesOutcome t asked outcome) from to) → reply_of v.left.machine.ledger outcome ≡ reply
+    → IsVisited t sizes (IsServed t asked reply) from to
+replied t sizes asked outcome reply from to v is = record {
+  found = v.found;
+  left = v.left;
+  sizes_are = v.sizes_are;
+  sound_before = v.sound_before;
+  served = subst (λ (r : Reply). IsServed t asked r (locked_state v.found from) (locked_state v.left to)) is v.served;
+  sound_after = v.sound_after;
+}
+
+pub returns-in-Refused : goal.returns-in-Refused
+returns-in-Refused g c =
+    replied g.N.BootName.frames c.args.self.now.locked.sizes (cmd.Read c.args.asked.now.path c.args.asked.now.file) c.serve_outcome-outcome.result
+    (reply.Refused c.in-Refused.fault) c.args.cpu.now c.serve_outcome-outcome.new.cpu
+    (record {
       found = c.self.inside.locked;
       left = c.serve_outcome-outcome.new.locked;
       sizes_are = ap (λ (b : KnownBehind). b.locked.sizes) c.self.view_is;
       sound_before = record { quiet = c.prove_quiet.ensures.quiet; consistent = c.prove_quiet.ensures.consistent; charges = c.prove_quiet.ensures.charges };
-      served = subst (λ (r : Reply). IsServed t (cmd.Read c.args.asked.now.path c.args.asked.now.file) r (locked_state c.self.inside.locked c.args.cpu.now)
-          (locked_state c.serve_outcome-outcome.new.locked c.serve_outcome-outcome.new.cpu)) reply c.serve_outcome-outcome.ensures.served;
+      served = c.serve_outcome-outcome.ensures.served;
       sound_after = record { quiet = c.prove_quiet-2.ensures.quiet; consistent = c.prove_quiet-2.ensures.consistent; charges = c.prove_quiet-2.ensures.charges };
-      lent = c.serve_outcome-outcome.ensures.ends.lent;
-    } in
+    })
+    (ap (reply_of c.serve_outcome-outcome.new.locked.machine.ledger) c.in-Refused.is)
+
+pub returns : goal.returns
+returns g c =
+    let t = g.N.BootName.frames in
+    let sizes = c.args.self.now.locked.sizes in
+    let ledger = c.serve_outcome-outcome.new.locked.machine.ledger in
+    let group : c.in-Text.group ≢ 0 = (subst (HasItsGroups ledger) c.in-Text.is c.serve_outcome-outcome.ensures.groups).1 in
+    let told = c.file_text.ensures.text group ∙ ap (λ (l : Ledger). files.file_text l c.in-Text.group c.in-Text.file) c.charges.ensures in
+    let visited : IsVisited t sizes (IsServed t (cmd.Read c.args.asked.now.path c.args.asked.now.file) (text_reply c.file_text.result)) c.args.cpu.now c.serve_outcome-outcome.new.cpu =
+    replied t sizes (cmd.Read c.args.asked.now.path c.args.asked.now.file) c.serve_outcome-outcome.result (text_reply c.file_text.result)
+    c.args.cpu.now c.serve_outcome-outcome.new.cpu
+    (record {
+      found = c.self.inside.locked;
+      left = c.serve_outcome-outcome.new.locked;
+      sizes_are = ap (λ (b : KnownBehind). b.locked.sizes) c.self.view_is;
+      sound_before = record { quiet = c.prove_quiet.ensures.quiet; consistent = c.prove_quiet.ensures.consistent; charges = c.prove_quiet.ensures.charges };
+      served = c.serve_outcome-outcome.ensures.served;
+      sound_after = record { quiet = c.prove_quiet-2.ensures.quiet; consistent = c.prove_quiet-2.ensures.consistent; charges = c.prove_quiet-2.ensures.charges };
+    })
+    (ap (reply_of ledger) c.in-Text.is ∙ sym (ap text_reply told)) in
     elim c.match-file_text.branch [
-      | in-Ok x ↦ subst (λ (a : ReadAnswer). IsReadUnderLock t w sizes c.args.asked.now c.args.cpu.now c.serve_outcome-outcome.new.cpu a) (sym x.result-is)
-          (subst (λ r. IsVisited t w sizes (IsServed t (cmd.Read c.args.asked.now.path c.args.asked.now.file) (text_reply r)) c.args.cpu.now c.serve_outcome-outcome.new.cpu) x.in-Ok.is visited)
-      | in-Err x ↦ subst (λ (a : ReadAnswer). IsReadUnderLock t w sizes c.args.asked.now c.args.cpu.now c.serve_outcome-outcome.new.cpu a) (sym x.result-is)
-          (subst (λ r. IsVisited t w sizes (IsServed t (cmd.Read c.args.asked.now.path c.args.asked.now.file) (text_reply r)) c.args.cpu.now c.serve_outcome-outcome.new.cpu) x.in-Err.is visited)
+      | in-Ok x ↦ subst (λ (a : ReadAnswer). IsReadUnderLock t sizes c.args.asked.now c.args.cpu.now c.serve_outcome-outcome.new.cpu a) (sym x.result-is)
+          (subst (λ r. IsVisited t sizes (IsServed t (cmd.Read c.args.asked.now.path c.args.asked.now.file) (text_reply r)) c.args.cpu.now c.serve_outcome-outcome.new.cpu) x.in-Ok.is visited)
+      | in-Err x ↦ subst (λ (a : ReadAnswer). IsReadUnderLock t sizes c.args.asked.now c.args.cpu.now c.serve_outcome-outcome.new.cpu a) (sym x.result-is)
+          (subst (λ r. IsVisited t sizes (IsServed t (cmd.Read c.args.asked.now.path c.args.asked.now.file) (text_reply r)) c.args.cpu.now c.serve_outcome-outcome.new.cpu) x.in-Err.is visited)
     ]

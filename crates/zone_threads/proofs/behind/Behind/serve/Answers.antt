@@ -10,5 +10,4 @@ returns g c = record {
   sound_before = record { quiet = c.prove_quiet.ensures.quiet; consistent = c.prove_quiet.ensures.consistent; charges = c.prove_quiet.ensures.charges };
   served = c.serve_outcome-outcome.ensures.served;
   sound_after = record { quiet = c.prove_quiet-2.ensures.quiet; consistent = c.prove_quiet-2.ensures.consistent; charges = c.prove_quiet-2.ensures.charges };
-  lent = c.serve_outcome-outcome.ensures.ends.lent;
 }

@@ -28,7 +28,7 @@ returns-then-not-is_there g c =
       settles = c.settle.ensures.served;
       sound_settled = search rules;
       sound_after = search rules;
-      told = units_missing _ _ _ _ _ (λ shown told. true≢false (sym told.0 ∙ gone)) c.in-Ok.ensures.units;
+      told = units_missing _ _ _ _ _ _ (λ shown told. true≢false (sym told.0 ∙ gone)) c.in-Ok.ensures.units;
     }
 
 pub returns : goal.returns
@@ -43,6 +43,6 @@ returns g c =
       settles = c.settle.ensures.served;
       sound_settled = search rules;
       sound_after = search rules;
-      told = units_shown _ _ _ _ _ _ (λ missing. there_is c.in-Ok.is_there there missing.0)
+      told = units_shown _ _ _ _ _ _ _ (λ missing. there_is c.in-Ok.is_there there missing.0)
           (λ shown told. same ∙ told.1 ∙ ap (λ (b : List ℕ). b ++ shown) c.new-text.ensures.bytes) c.in-Ok.ensures.units;
     }

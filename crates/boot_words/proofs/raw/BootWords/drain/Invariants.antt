@@ -1,0 +1,10 @@
+use Rattle.boot_words.specs.Seats.{zone_of_boot, cpu_of_word}
+use Rattle.boot_words.specs.Pasts.{cpu_past, own_past}
+use Rattle.boot_words.proofs.Drains.{Drains, LooksToDrain}
+use Rattle.boot_words.proofs.raw.BootWords.drain.Given as goal
+
+abbrev pub ghosts-load : goal.ghosts-load
+ghosts-load a = record { told = LooksToDrain (zone_of_boot a.self.now) (own_past a.seat.now) (cpu_past a.seat.now) (cpu_of_word a.word) }
+
+abbrev pub ghosts-drain_of : goal.ghosts-drain_of
+ghosts-drain_of a = record { told = Drains (zone_of_boot a.self.now) (own_past a.held.now) (cpu_past a.held.now) a.cpu }

@@ -1,0 +1,7 @@
+use Rattle.boot_words.specs.Seats.{zone_of_boot}
+use Rattle.boot_words.specs.Pasts.{cpu_past, own_past}
+use Rattle.boot_words.proofs.Drains.{PutsHeld}
+use Rattle.boot_words.proofs.raw.BootWords.put_held.Given as goal
+
+abbrev pub ghosts-take_one_by : goal.ghosts-take_one_by
+ghosts-take_one_by a = record { told = PutsHeld (zone_of_boot a.self.now) (own_past a.held.now) (cpu_past a.held.now) a._seat a.frame }

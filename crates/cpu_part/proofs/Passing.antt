@@ -1,0 +1,49 @@
+-- What a step under the lock says of the CPU's frames.
+use Rattle.std.proofs.Common.{◌≡◌, ℕ, ◌<◌, ◌≤◌, List, ◌∷◌, length, sym, ap, ◌∙◌, subst, arith, inr}
+use Rattle.std.proofs.lemmas.Bool.{leb-true, ltb-true}
+use Rattle.frame_word.specs.Seats.{KnownTable}
+use Rattle.step_rules.specs.declared.step.Action.TheVariants.{Consume, PassBack}
+use Rattle.step_rules.specs.Invariant.{KeepsInvariant}
+use Rattle.step_rules.specs.State.{Part, Zone, is_frame, times}
+use Rattle.step_rules.specs.After.{state_of}
+use Rattle.step_rules.specs.Views.{seen_by}
+use Rattle.step_rules.proofs.Freeing.{zone_of_run}
+use Rattle.step_rules.proofs.LegalTests.{consume_tests, pass_back_tests}
+use Rattle.step_rules.proofs.Lists.{times_same}
+use Rattle.step_rules.proofs.Runs.{sound_run}
+use Rattle.step_rules.proofs.SoundSteps.{below_frames}
+use Rattle.boot_words.specs.Pasts.{KnownPasts, IsHeld, IsHolder, MayMake, cpu_past, local_by_pasts}
+use Rattle.boot_words.specs.Seats.{zone_of_boot}
+use Rattle.cpu_part.specs.Cpus.{KnownCpu}
+use Rattle.cpu_part.specs.Known.{HasOwn}
+use Rattle.cpu_part.proofs.Legal.{list_inside}
+use Rattle.cpu_part.proofs.Owning.{own_unseen}
+
+module _ (t : KnownTable) (s : KnownPasts) where
+  zone_is : (local_by_pasts t s).zone ≡ zone_of_boot t
+  zone_is = zone_of_run (zone_of_boot t) (cpu_past s).seen
+
+  -- a frame that may be passed back is one of the table
+  pub passed_inside : (p f : ℕ) → MayMake t s p (PassBack f) → f < t.frames
+  passed_inside p f legal =
+      let inside = (pass_back_tests (local_by_pasts t s) p f legal).1 in
+      below_frames (zone_of_boot t) f (ap (λ (z : Zone). is_frame z f) (sym zone_is) ∙ inside)
+
+  module _ (c : KnownCpu) (own : HasOwn (local_by_pasts t s) c) where
+    -- a CPU that may consume has a frame listed, and room for another fresh one
+    pub may_take : (g : ℕ) → MayMake t s c.number (Consume g) → (1 ≤ length c.list) × (length c.fresh < 32)
+    may_take g legal =
+        let tests = consume_tests (local_by_pasts t s) c.number g legal in (
+          subst (λ (l : List ℕ). 1 ≤ length l) own.list (leb-true 1 (length ((local_by_pasts t s).parts c.number).list) tests.1),
+          subst (λ (l : List ℕ). length l < 32) own.fresh (ltb-true (length ((local_by_pasts t s).parts c.number).fresh) 32 tests.2),
+        )
+
+    -- a listed frame of the lock's holder is one of the table
+    pub front_inside : IsHeld t s → IsHolder s c.number → (f : ℕ) (rest : List ℕ) → c.list ≡ f ∷ rest → f < t.frames
+    front_inside held holder f rest front =
+        let zone = zone_of_boot t in let run = (cpu_past s).seen in
+        let sound : KeepsInvariant (state_of zone run) = sound_run zone run held.holds.shows.legal in
+        let there : HasOwn (state_of zone run) c =
+        own_unseen (state_of zone run) c (subst (λ (q : ℕ). HasOwn (seen_by q (state_of zone run)) c) (sym holder) own) in
+        let count = ap (times f) front in let once = times_same f in
+        subst (λ (z : Zone). f < z.frames) (zone_of_run zone run) (list_inside (state_of zone run) sound c there f (omega (arith, count, once)))

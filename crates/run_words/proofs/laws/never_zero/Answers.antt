@@ -1,5 +1,0 @@
-use Rattle.run_words.proofs.Counts.{never_zero}
-use Rattle.run_words.proofs.laws.never_zero.Goals as goal
-
-pub returns : goal.returns
-returns c = never_zero

@@ -1,5 +1,0 @@
-use Rattle.run_words.proofs.Groupless.{no_group_nothing_fresh}
-use Rattle.run_words.proofs.laws.no_group_nothing_fresh.Goals as goal
-
-pub returns : goal.returns
-returns c = no_group_nothing_fresh

@@ -1,7 +1,0 @@
-use Rattle.boot_words.specs.Seats.{zone_of_boot}
-use Rattle.boot_words.specs.Pasts.{cpu_past, own_past}
-use Rattle.run_words.proofs.Zoning.{fills_told}
-use Rattle.run_words.proofs.raw.RunWords.fill.Given as goal
-
-abbrev pub ghosts-fill_with : goal.ghosts-fill_with
-ghosts-fill_with a = record { told = λ found. fills_told (zone_of_boot a.self.now) (own_past a.seat.now) (cpu_past a.seat.now) a.cpu a.group a.pages }

@@ -1,8 +1,0 @@
-use Rattle.boot_words.specs.Seats.{zone_of_boot}
-use Rattle.boot_words.specs.Pasts.{cpu_past, own_past}
-use Rattle.run_words.specs.Seats.{frame_of_word}
-use Rattle.run_words.proofs.Zoning.{freezes_told}
-use Rattle.run_words.proofs.raw.RunWords.freeze.Given as goal
-
-abbrev pub ghosts-exchange : goal.ghosts-exchange
-ghosts-exchange a = record { told = freezes_told (zone_of_boot a.self.now) (own_past a.seat.now) (cpu_past a.seat.now) (frame_of_word a.word) a.old }

@@ -1,8 +1,0 @@
-use Rattle.boot_words.specs.Seats.{zone_of_boot}
-use Rattle.boot_words.specs.Pasts.{cpu_past, own_past}
-use Rattle.run_words.specs.Seats.{cpu_of_word}
-use Rattle.run_words.proofs.Looking.{SeesGroup}
-use Rattle.run_words.proofs.raw.RunWords.group.Given as goal
-
-abbrev pub ghosts-load : goal.ghosts-load
-ghosts-load a = record { told = SeesGroup (zone_of_boot a.self.now) (own_past a.seat.now) (cpu_past a.seat.now) (cpu_of_word a.word) }

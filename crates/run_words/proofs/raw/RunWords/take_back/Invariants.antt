@@ -1,8 +1,0 @@
-use Rattle.boot_words.specs.TakenBack.{take_back_run}
-use Rattle.boot_words.specs.Seats.{zone_of_boot}
-use Rattle.boot_words.specs.Pasts.{cpu_past, own_past}
-use Rattle.run_words.proofs.InTurn.{MadeInTurn}
-use Rattle.run_words.proofs.raw.RunWords.take_back.Given as goal
-
-abbrev pub ghosts-load_for : goal.ghosts-load_for
-ghosts-load_for a = record { told = λ found. MadeInTurn (zone_of_boot a.self.now) (own_past a.held.now) (cpu_past a.held.now) (take_back_run a._cpu a._frame) }
