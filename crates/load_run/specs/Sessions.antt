@@ -65,14 +65,14 @@ pub record EndsSession (options : Options) (form : SessionForm) (input before mi
       ++ steps_of_end form frames options.is_audited end ending ends
   pub is_whole : IsWholeRun (zone_of frames) (words_of_end form frames options.is_audited end ending ends) whole
 
--- a session ended, and all of the text of its end was written behind its answers
+-- a session ended, and all of the text of its end was written after its answers
 pub record ServesInput (options : Options) (form : SessionForm) (input before after : Option (List ℕ)) : Type 0 where
   pub middle : Option (List ℕ)
   pub ending : List ℕ
   pub ends : EndsSession options form input before middle ending
   pub written : Appends middle after ending
 
--- a session ended, and a beginning of the text of its end was written behind its answers
+-- a session ended, and a beginning of the text of its end was written after its answers
 pub record BeginsEnding (options : Options) (form : SessionForm) (input before after : Option (List ℕ)) : Type 0 where
   pub middle : Option (List ℕ)
   pub ending : List ℕ

@@ -91,7 +91,7 @@ may_all t past p a (e ∷ rest) who at all = (
   λ later made. may_all t later p (after_made a e) rest (made.cpu_grew.number ∙ who) (made.local_is ∙ ap (λ (s : State). after_made s e) at) all.1,
 )
 
--- behind the first of two lists the second may be taken
+-- after the first of two lists the second may be taken
 pub may_behind : (t : KnownTable) (past : KnownPasts) (first second : Run) (later : KnownPasts) → MayTakeAll t past (first ++ second) → MakesAll t past first later
     → MayTakeAll t later second
 may_behind t past [] second later all is = subst (λ (s : KnownPasts). MayTakeAll t s second) (sym is) all

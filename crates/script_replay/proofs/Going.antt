@@ -227,7 +227,7 @@ keeps_stop on s m e lines i default text more inside all one =
       served = all_replayed on first s e said served;
     }
 
--- the line after so many, as a stop behind it names the line
+-- the line after so many, as a stop after it names the line
 line_of_stop : (lines : List Line) (i : ℕ) (default : Line) → i < length lines → get_or lines i default ≡ get_or lines (i + 1 - 1) Go
 line_of_stop lines i default inside =
     let back : i ≡ i + 1 - 1 = omega arith in
