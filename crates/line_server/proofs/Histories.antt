@@ -6,7 +6,7 @@ use Rattle.zone_blocks.specs.declared.config.Config.{Config}
 use Rattle.step_rules.specs.After.{Run, IsLegalRun}
 use Rattle.mem_machine.specs.Interleaving.{zone_of}
 use Rattle.mem_history.specs.Whole.{ShowsAll}
-use Rattle.mem_history.proofs.Deciding.{legal_front}
+use Rattle.mem_history.proofs.Along.{legal_front}
 use Rattle.mem_history.proofs.Promised.{the_whole_is_promised}
 use Rattle.std.proofs.lemmas.Option.{none-some}
 use Rattle.mem_system.specs.Cpus.{parts_of}
@@ -60,9 +60,9 @@ line_kept : (on : Terms) (run : Run) (line : Line) (s e : SystemState) (text : L
     → (keeps : ServesAndKeeps on line s e text) → IsLegalRun (zone_of on.frames) (run ++ keeps.serves.steps)
     → HoldsPromise on.frames run s (run ++ keeps.serves.steps) e
 line_kept on run line s e text shows keeps legal =
-    let follows = line_follows on run line s e text shows keeps legal in record {
-      tells = follows.1;
-      promise = the_whole_is_promised on.frames (run ++ keeps.serves.steps) e.locked.machine (parts_of e.cpus) follows.0 keeps.sound.consistent
+    let follows = line_follows on run line s e text shows keeps.serves legal in record {
+      tells = follows.agrees;
+      promise = the_whole_is_promised on.frames (run ++ keeps.serves.steps) e.locked.machine (parts_of e.cpus) follows.shows keeps.sound.consistent
           keeps.sound.charges;
     }
 
@@ -93,7 +93,7 @@ module _ (t : KnownTable) where
         logs = logs;
         kept_where_legal = λ legal. line_kept (terms t true) before.run line logs.begun m logs.answer (shown (legal_front (zone_of t) before.run steps legal)) logs.serves legal;
         tells = next (past_line before steps m)
-            (λ legal. (line_follows (terms t true) before.run line logs.begun m logs.answer (shown (legal_front (zone_of t) before.run steps legal)) logs.serves legal).0) more;
+            (λ legal. (line_follows (terms t true) before.run line logs.begun m logs.answer (shown (legal_front (zone_of t) before.run steps legal)) logs.serves.serves legal).shows) more;
       }
 
   logged_history : (sizes : Config) (number : ℕ) (turns : List Turn) (before : Past) (e : SystemState)

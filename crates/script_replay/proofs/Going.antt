@@ -8,14 +8,12 @@ use Rattle.std.specs.String.{string_bytes}
 use Rattle.std.proofs.lemmas.List.{get_or_default, map-set}
 use Rattle.std.proofs.lemmas.Option.{slice_get_read, slice_get-map}
 use Rattle.frame_word.specs.Seats.{KnownTable}
-use Rattle.cpu_part.specs.Cpus.{KnownCpu}
 use Rattle.step_rules.specs.After.{Run, IsLegalRun}
 use Rattle.step_watch.specs.Watched.{has_legal_steps}
 use Rattle.mem_machine.specs.Interleaving.{zone_of}
-use Rattle.mem_machine.specs.Agreeing.{AgreesWithRun}
-use Rattle.mem_history.specs.Whole.{ShowsAll}
+use Rattle.mem_history.specs.Whole.{GoesOnTo, ShowsAll}
+use Rattle.mem_history.proofs.Along.{legal_front}
 use Rattle.mem_history.proofs.Promised.{the_whole_is_promised}
-use Rattle.mem_history.proofs.Deciding.{legal_front}
 use Rattle.mem_system.specs.Cpus.{CpuInRun, parts_of}
 use Rattle.mem_system.specs.Locked.{KnownLocked, IsSound}
 use Rattle.mem_system.specs.Visits.{transition, locked_state}
@@ -32,7 +30,7 @@ use Rattle.script_replay.specs.declared.form.Form.{Form}
 use Rattle.script_replay.specs.Numbers.{numbered_text, text_with_number}
 use Rattle.script_replay.specs.Terms.{Terms, form_terms, numbered_terms, terms}
 use Rattle.script_replay.proofs.InOrder.{in_order_line}
-use Rattle.script_replay.proofs.Following.{command_follows}
+use Rattle.script_replay.proofs.Following.{answer_follows}
 use Rattle.script_replay.proofs.Gaining.{goes_on_none, part_goes_on}
 use Rattle.script_replay.proofs.Seeing.{legal_history, line_seen}
 use Rattle.script_replay.proofs.Telling.{at_ok}
@@ -151,24 +149,20 @@ all_served on (line ∷ lines) s e text all = record {
 -- a run shows the state; if the ledger before had the peaks and event counts of the run before, the ledger now has
 -- those of this run
 abbrev Follows : KnownTable → Run → SystemState → Run → SystemState → Type 0
-Follows t earlier s run e = ShowsAll t run e.locked.machine (parts_of e.cpus) × (AgreesWithRun t earlier s.locked.machine.ledger → AgreesWithRun t run e.locked.machine.ledger)
+Follows t earlier s run e = GoesOnTo t earlier s.locked.machine run e.locked.machine (parts_of e.cpus)
 
 pub line_follows : (on : Terms) (run : Run) (line : Line) (s e : SystemState) (text : List ℕ) → ShowsAll on.frames run s.locked.machine (parts_of s.cpus) →
-    (keeps : ServesAndKeeps on line s e text) →
-    IsLegalRun (zone_of on.frames) (run ++ keeps.serves.steps) →
-    Follows on.frames run s (run ++ keeps.serves.steps) e
-line_follows on run Go s e text shows keeps legal =
-    subst (λ (r : Run). Follows on.frames run s r e) (sym (ap (λ (r : Run). run ++ r) keeps.serves.tells.so.steps_are ∙ append-nil run))
-    (subst (λ (x : SystemState). Follows on.frames run s run x) (sym keeps.serves.tells.so.stays) (shows, λ told. told))
-line_follows on run (At number cpu command) s e text shows keeps legal =
-    let steps = keeps.serves.steps in
+    (serves : ServesLine on line s e text) → IsLegalRun (zone_of on.frames) (run ++ serves.steps) → Follows on.frames run s (run ++ serves.steps) e
+line_follows on run Go s e text shows serves legal =
+    subst (λ (r : Run). Follows on.frames run s r e) (sym (ap (λ (r : Run). run ++ r) serves.tells.so.steps_are ∙ append-nil run))
+    (subst (λ (x : SystemState). Follows on.frames run s run x) (sym serves.tells.so.stays) (record { shows = shows; agrees = λ told. told }))
+line_follows on run (At number cpu command) s e text shows serves legal =
+    let steps = serves.steps in
     let is : AtPart cpu (λ part left. WritesCommand on.is_explained command
-    (transition on.frames (locked_state s.locked part) steps (locked_state e.locked left)) keeps.serves.tells.plain) s.cpus e.cpus = keeps.serves.tells.so in
-    subst (λ (cpus : List KnownCpu). ShowsAll on.frames (run ++ steps) e.locked.machine cpus
-    × (AgreesWithRun on.frames run s.locked.machine.ledger → AgreesWithRun on.frames (run ++ steps) e.locked.machine.ledger))
-    (sym (ap parts_of is.cpus ∙ parts_set s.cpus (cpu - 1) is.left))
-    (command_follows on.frames run s.locked (parts_of s.cpus) (cpu - 1) is.part shows (part_at s.cpus (cpu - 1) is.part is.is_part) on.is_explained command steps (locked_state e.locked is.left) keeps.serves.tells.plain
-    keeps.there.names is.done keeps.sound.consistent legal)
+    (transition on.frames (locked_state s.locked part) steps (locked_state e.locked left)) serves.tells.plain) s.cpus e.cpus = serves.tells.so in
+    subst (GoesOnTo on.frames run s.locked.machine (run ++ steps) e.locked.machine) (sym (ap parts_of is.cpus ∙ parts_set s.cpus (cpu - 1) is.left))
+    (answer_follows on.frames run s.locked (parts_of s.cpus) (cpu - 1) is.part shows (part_at s.cpus (cpu - 1) is.part is.is_part) on.is_explained command steps
+    (locked_state e.locked is.left) is.done.answer is.done.answered legal)
 
 pub keeps_history : (on : Terms) (lines : List Line) (before : Past) (e : SystemState) (text : List ℕ) →
     (IsLegalRun (zone_of on.frames) before.run → ShowsAll on.frames before.run before.now.locked.machine (parts_of before.now.cpus)) →
@@ -180,7 +174,7 @@ keeps_history on (line ∷ lines) before e text shows all =
     let steps : Run = one.serves.steps in
     let next : Run = before.run ++ steps in
     let follows : IsLegalRun (zone_of on.frames) next → Follows on.frames before.run before.now next mid =
-    λ legal. line_follows on before.run line before.now mid all.first (shows (legal_front (zone_of on.frames) before.run steps legal)) one legal in record {
+    λ legal. line_follows on before.run line before.now mid all.first (shows (legal_front (zone_of on.frames) before.run steps legal)) one.serves legal in record {
       first = all.first;
       rest = all.rest;
       between = mid;
@@ -189,10 +183,10 @@ keeps_history on (line ∷ lines) before e text shows all =
       watched = line_seen on.frames on.is_explained line before.now steps mid one.serves.tells.plain one.serves.tells.so;
       goes_on = one.serves.goes_on;
       kept_where_legal = λ legal. record {
-        tells = (follows legal).1;
-        promise = the_whole_is_promised on.frames next mid.locked.machine (parts_of mid.cpus) (follows legal).0 one.sound.consistent one.sound.charges;
+        tells = (follows legal).agrees;
+        promise = the_whole_is_promised on.frames next mid.locked.machine (parts_of mid.cpus) (follows legal).shows one.sound.consistent one.sound.charges;
       };
-      tells = keeps_history on lines (past_line before steps mid) e all.rest (λ legal. (follows legal).0) all.serves_rest;
+      tells = keeps_history on lines (past_line before steps mid) e all.rest (λ legal. (follows legal).shows) all.serves_rest;
       text_is = all.text_is;
     }
 

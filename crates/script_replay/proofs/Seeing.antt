@@ -12,7 +12,7 @@ use Rattle.step_watch.proofs.Watching.{watches_none, watches_both, watched_runs_
 use Rattle.mem_machine.specs.Interleaving.{zone_of}
 use Rattle.mem_machine.specs.Steps.{cpu_makes}
 use Rattle.mem_machine.specs.Agreeing.{AgreesWithRun}
-use Rattle.mem_history.proofs.Deciding.{legal_front}
+use Rattle.mem_history.proofs.Along.{legal_front}
 use Rattle.mem_system.specs.Locked.{KnownLocked}
 use Rattle.mem_system.specs.Visits.{transition, LockedState}
 use Rattle.reply_texts.specs.LineAnswer.{LineAnswer}

@@ -2,7 +2,7 @@ use Rattle.std.proofs.Common.{◌∙◌, ◌++◌, List, [], ap, length, refl, s
 use Rattle.mem_system.specs.Cpus.{CpuInRun}
 use Rattle.step_rules.specs.After.{Run}
 use Rattle.mem_machine.specs.Interleaving.{zone_of}
-use Rattle.mem_history.proofs.Deciding.{legal_front}
+use Rattle.mem_history.proofs.Along.{legal_front}
 use Rattle.script_replay.specs.History.{past, steps_of}
 use Rattle.script_replay.specs.Lines.{HasRun, SystemState, system_state}
 use Rattle.script_replay.specs.Terms.{form_terms}
