@@ -1,5 +1,5 @@
 -- The run of no step shows a new boot. Serves `a_boot_is_shown`.
-use Rattle.std.proofs.Common.{◌≡◌, [], refl, sym, subst}
+use Rattle.std.proofs.Common.{◌≡◌, refl, sym, subst}
 use Rattle.cpu_part.specs.Cpus.{KnownCpu}
 use Rattle.step_rules.specs.State.{at_boot}
 use Rattle.boot_words.specs.Pasts.{KnownPasts}

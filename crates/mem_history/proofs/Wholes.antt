@@ -19,8 +19,7 @@ use Rattle.step_rules.specs.After.{Run, after, state_of, IsLegalRun}
 use Rattle.step_rules.specs.Views.{seen_by}
 use Rattle.step_rules.specs.Laws.{ShowsLocal, pushed}
 use Rattle.step_rules.specs.Reaches.{IsLocalRun}
-use Rattle.step_rules.specs.Invariant.{KeepsInvariant}
-use Rattle.step_rules.proofs.Runs.{sound_run, state_more}
+use Rattle.step_rules.proofs.Runs.{state_more}
 use Rattle.step_rules.proofs.Freeing.{zone_of_run}
 use Rattle.step_rules.proofs.Interleaving.{local_runs_interleave}
 use Rattle.step_rules.proofs.Seeing.{the_lock_is_passed_on}
@@ -73,9 +72,6 @@ module _ (t : KnownTable) (run : Run) (m : KnownMachine) (cpus : List KnownCpu) 
 
   pub not_zone : c.number ≡ 0 → ⊥
   not_zone e = let named = part_number in absurd (omega arith)
-
-  pub whole_sound : KeepsInvariant whole
-  whole_sound = sound_run zone run shows.legal
 
   -- each has its lists and pins
   pub has_own : (j : ℕ) (d : KnownCpu) → slice_get cpus j ≡ Some d → HasOwn whole d
