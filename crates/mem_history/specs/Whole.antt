@@ -89,7 +89,7 @@ LinesFollow = (table : KnownTable) (run : Run) (cpus : List KnownCpu) (index : â
 
 -- ---- a call that takes no lock
 
--- the step makes the CPU of this part that part
+-- the CPU of the first part makes this step, and then has the second part
 pub record IsOwnStep (state : State) (cpu : KnownCpu) (action : Action) (answer : Answer) (later : KnownCpu) : Type 0 where
   pub number : later.number â‰¡ cpu.number
   pub own : HasOwn (after state cpu.number action answer) later
