@@ -14,6 +14,7 @@ use crate::machine::Machine;
 use crate::proving::prove_sizes;
 use cpu_part::{BootName, Cpu, Tables};
 use frame_word::Frame;
+use step_rules::step::{Action, Answer};
 use zone_blocks::block::Block;
 
 impl<N: BootName> Machine<N> {
@@ -34,8 +35,17 @@ impl<N: BootName> Machine<N> {
         };
         let at = frame.number();
         cpu.borrow(tables, &mut self.past, frame);
-        self.watch.passed_out(at, cpu_number);
-        self.watch.took_in(cpu_number, at);
+        self.watch.take(
+            0,
+            || (
+                Action::PassOut {
+                    frame: at,
+                    cpu: cpu_number,
+                },
+                Answer::Done,
+            ),
+        );
+        self.watch.take(cpu_number, || (Action::TakeIn { frame: at }, Answer::Done));
         self.frame_states[at as usize] = FrameState::Lent(cpu_number as u8);
         true
     }
@@ -75,8 +85,20 @@ impl<N: BootName> Machine<N> {
         let given = frame.number();
         self.zone.take_frame(given);
         cpu.borrow(tables, &mut self.past, frame);
-        self.watch.passed_out(given, cpu_number);
-        self.watch.took_in(cpu_number, given);
+        self.watch.take(
+            0,
+            || (
+                Action::PassOut {
+                    frame: given,
+                    cpu: cpu_number,
+                },
+                Answer::Done,
+            ),
+        );
+        self.watch.take(
+            cpu_number,
+            || (Action::TakeIn { frame: given }, Answer::Done),
+        );
         self.frame_states[given as usize] = FrameState::Lent(cpu_number as u8);
     }
 
@@ -92,9 +114,21 @@ impl<N: BootName> Machine<N> {
             return false;
         };
         let at = frame.number();
-        self.watch.passed_back(cpu_number, at);
+        self.watch.take(
+            cpu_number,
+            || (Action::PassBack { frame: at }, Answer::Done),
+        );
         tables.words.collect(&mut self.past, cpu_number, frame);
-        self.watch.collected(at, cpu_number);
+        self.watch.take(
+            0,
+            || (
+                Action::Collect {
+                    frame: at,
+                    cpu: cpu_number,
+                },
+                Answer::Done,
+            ),
+        );
         self.frame_states[at as usize] = FrameState::Free;
         self.zone.give(Block {
             at,

@@ -17,22 +17,23 @@ use crate::frame_state::{FrameState, single_order};
 use crate::freed::free_unit;
 use crate::lists::join_list;
 use crate::machine::Machine;
-use crate::stepping;
+use crate::stepping::make_step;
 use boot_words::PastSeat;
 use cpu_part::{BootName, Cpu, Tables};
 use frame_word::Frame;
 use group_tree::group::{GroupId, MAX_GROUPS};
 use step_rules::phase::ChargedUnit;
+use step_rules::step::{Action, Answer};
 use step_watch::Watch;
 
 // The watch takes the steps by which the zone took over a fresh frame of the CPU.
 fn watch_collected(watch: &mut Watch, cpu: u32, frame: u32)
     ensures { Watches watch.old (collect_steps cpu frame) watch.new }
 {
-    watch.passed_back(cpu, frame);
-    watch.reported(cpu, 1);
-    watch.collected(frame, cpu);
-    watch.absorbed(cpu, 1);
+    watch.take(cpu, || (Action::PassBack { frame }, Answer::Done));
+    watch.take(cpu, || (Action::Report { pages: 1 }, Answer::Done));
+    watch.take(0, || (Action::Collect { frame, cpu }, Answer::Done));
+    watch.take(0, || (Action::Absorb { cpu }, Answer::Pages(1)));
 }
 
 // Moves the oldest fresh frame of the visited CPU into the zone's hand. Its page is no longer booked to the CPU's stock,
@@ -89,11 +90,22 @@ impl<N: BootName> Machine<N> {
         );
         let at = frame.number();
         tables.words.unfreeze(&mut self.past, frame, 1);
-        self.watch.unfroze(at, 1);
+        self.watch.take(
+            0,
+            || (
+                Action::Unfreeze {
+                    frame: at,
+                    count: 1,
+                },
+                Answer::Done,
+            ),
+        );
         let order = single_order();
         self.frame_states[at as usize] = FrameState::Head(ChargedUnit { group, order });
         join_list(&mut self.links, &mut self.lists, group, at);
-        stepping::publish(tables, &mut self.past, &mut self.watch, at);
+        make_step(tables, &mut self.past, &mut self.watch, || {
+            (Action::Publish { frame: at }, Answer::Done)
+        });
         frame
     }
 
@@ -126,7 +138,9 @@ impl<N: BootName> Machine<N> {
             at,
             unit,
         );
-        stepping::return_unit(tables, &mut self.past, &mut self.watch, at);
+        make_step(tables, &mut self.past, &mut self.watch, || {
+            (Action::Return { frame: at }, Answer::Done)
+        });
         self.counts = self.counts.with_killed_fresh();
         frame
     }
@@ -143,9 +157,21 @@ impl<N: BootName> Machine<N> {
             return None;
         };
         let at = frame.number();
-        self.watch.passed_back(cpu_number, at);
+        self.watch.take(
+            cpu_number,
+            || (Action::PassBack { frame: at }, Answer::Done),
+        );
         tables.words.collect(&mut self.past, cpu_number, frame);
-        self.watch.collected(at, cpu_number);
+        self.watch.take(
+            0,
+            || (
+                Action::Collect {
+                    frame: at,
+                    cpu: cpu_number,
+                },
+                Answer::Done,
+            ),
+        );
         let FrameState::Head(unit) = self.frame_states[at as usize] else {
             unreachable!()
         };
@@ -156,7 +182,9 @@ impl<N: BootName> Machine<N> {
             at,
             unit,
         );
-        stepping::return_unit(tables, &mut self.past, &mut self.watch, at);
+        make_step(tables, &mut self.past, &mut self.watch, || {
+            (Action::Return { frame: at }, Answer::Done)
+        });
         self.counts = self.counts.with_last_put();
         Some(frame)
     }

@@ -44,12 +44,12 @@ join_list-requires-clause-away g c =
     away_here g.N.BootName.frames (machine_of c.self.inside) _ c.self.view_is c.args.cpu.now c.requires.visit c.self.invariant.consistent c.args.group c.requires.group
     c.collect_fresh-frame.result _ c.collect_fresh-frame.ensures.cpu.front _ c.number-at.ensures
 
-pub publish-requires-clause-legal : goal.publish-requires-clause-legal
-publish-requires-clause-legal g c =
+pub make_step-requires-clause-legal : goal.make_step-requires-clause-legal
+make_step-requires-clause-legal g c =
     let e = c.collect_fresh-frame.ensures in
-    may_publish g.N.BootName.frames (machine_of c.self.inside) _ c.self.view_is c.args.cpu.now c.requires.visit c.self.invariant.consistent c.args.group c.requires.group
-    c.collect_fresh-frame.result _ e.cpu.front _ e.notes (record { past = c.unfreeze.new.held; watch = c.unfroze.new.self })
-    (unfrozen_notes g.N.BootName.frames _ c.args.tables.now.frames_are _ _ _ _ c.number-at.ensures c.unfreeze.ensures c.unfroze.ensures) _ c.number-at.ensures
+    (_, _, may_publish g.N.BootName.frames (machine_of c.self.inside) _ c.self.view_is c.args.cpu.now c.requires.visit c.self.invariant.consistent c.args.group c.requires.group
+    c.collect_fresh-frame.result _ e.cpu.front _ e.notes (record { past = c.unfreeze.new.held; watch = c.take.new.self })
+    (unfrozen_notes g.N.BootName.frames _ c.args.tables.now.frames_are _ _ _ _ c.number-at.ensures c.unfreeze.ensures (c.take.ensures _ _ (search rules))) _ c.number-at.ensures, tt, search rules)
 
 pub invariant_of-self : goal.invariant_of-self
 invariant_of-self g c =
@@ -58,8 +58,8 @@ invariant_of-self g c =
     let e = c.collect_fresh-frame.ensures in
     let a = c.join_list.ensures in
     let notes = kept_notes t (machine_of c.self.inside) _ c.self.view_is c.args.cpu.now c.requires.visit c.self.invariant.consistent c.args.group c.requires.group
-    c.collect_fresh-frame.result _ e.cpu.front _ e.notes (record { past = c.unfreeze.new.held; watch = c.unfroze.new.self })
-    (unfrozen_notes t _ c.args.tables.now.frames_are _ _ _ _ c.number-at.ensures c.unfreeze.ensures c.unfroze.ensures) _ _ c.number-at.ensures c.publish.ensures.notes in
+    c.collect_fresh-frame.result _ e.cpu.front _ e.notes (record { past = c.unfreeze.new.held; watch = c.take.new.self })
+    (unfrozen_notes t _ c.args.tables.now.frames_are _ _ _ _ c.number-at.ensures c.unfreeze.ensures (c.take.ensures _ _ (search rules))) _ _ c.number-at.ensures (c.make_step.ensures.notes _ _ (search rules)) in
     let all = keep_all t (machine_of c.self.inside) _ c.self.view_is c.args.cpu.now c.requires.visit c.self.invariant.consistent c.args.group c.requires.group
     c.collect_fresh-frame.result _ e.cpu.front _ _ _ _ c.self.invariant.free c.self.invariant.sums c.self.invariant.owners fits _ e.cpu e.sums _ _ c.number-at.ensures
     c.single_order-order.ensures _ _ (record { joins = a.joins; stand = a.lists.stand; frames = a.frames; groups = a.lists.groups }) _ notes in
@@ -72,8 +72,8 @@ returns g c =
     let e = c.collect_fresh-frame.ensures in
     let a = c.join_list.ensures in
     let notes = kept_notes t (machine_of c.self.inside) _ c.self.view_is c.args.cpu.now c.requires.visit c.self.invariant.consistent c.args.group c.requires.group
-    c.collect_fresh-frame.result _ e.cpu.front _ e.notes (record { past = c.unfreeze.new.held; watch = c.unfroze.new.self })
-    (unfrozen_notes t _ c.args.tables.now.frames_are _ _ _ _ c.number-at.ensures c.unfreeze.ensures c.unfroze.ensures) _ _ c.number-at.ensures c.publish.ensures.notes in
+    c.collect_fresh-frame.result _ e.cpu.front _ e.notes (record { past = c.unfreeze.new.held; watch = c.take.new.self })
+    (unfrozen_notes t _ c.args.tables.now.frames_are _ _ _ _ c.number-at.ensures c.unfreeze.ensures (c.take.ensures _ _ (search rules))) _ _ c.number-at.ensures (c.make_step.ensures.notes _ _ (search rules)) in
     let all = keep_all t (machine_of c.self.inside) _ c.self.view_is c.args.cpu.now c.requires.visit c.self.invariant.consistent c.args.group c.requires.group
     c.collect_fresh-frame.result _ e.cpu.front _ _ _ _ c.self.invariant.free c.self.invariant.sums c.self.invariant.owners fits _ e.cpu e.sums _ _ c.number-at.ensures
     c.single_order-order.ensures _ _ (record { joins = a.joins; stand = a.lists.stand; frames = a.frames; groups = a.lists.groups }) _ notes in
