@@ -90,28 +90,20 @@ impl<N: BootName> Machine<N> {
         let Some(head) = tables.words.frame(block.at) else {
             unreachable!()
         };
-        let at = head.number();
+        let frame = head.number();
         place_unit(&mut self.frame_states, block, group);
         make_step(tables, &mut self.past, &mut self.watch, || {
             (
                 Action::PlaceBlock { group, order },
-                Answer::Placed(Block { at, order }),
+                Answer::Placed(Block { at: frame, order }),
             )
         });
         tables.words.unfreeze(&mut self.past, head, 1);
-        self.watch.take(
-            0,
-            || (
-                Action::Unfreeze {
-                    frame: at,
-                    count: 1,
-                },
-                Answer::Done,
-            ),
-        );
-        join_list(&mut self.links, &mut self.lists, group, at);
+        self.watch
+            .take(0, || (Action::Unfreeze { frame, count: 1 }, Answer::Done));
+        join_list(&mut self.links, &mut self.lists, group, frame);
         make_step(tables, &mut self.past, &mut self.watch, || {
-            (Action::Publish { frame: at }, Answer::Done)
+            (Action::Publish { frame }, Answer::Done)
         });
         Ok(head)
     }

@@ -8,6 +8,7 @@ ghost use Rattle.mem_machine.specs.Lending.{HasListRoom, LendsIfFree, LendsFrame
 ghost use Rattle.mem_machine.specs.Lending.{UnlistsIfListed, UnlistsMany, unlist_front_steps};
 ghost use Rattle.mem_machine.specs.Local.{VisitMakes, Visits, visit_state};
 ghost use Rattle.mem_machine.specs.Steps.{lend_steps};
+ghost use Rattle.step_watch.specs.Watched.{Watches};
 
 use crate::frame_state::{FrameState, single_order};
 use crate::machine::Machine;
@@ -15,7 +16,16 @@ use crate::proving::prove_sizes;
 use cpu_part::{BootName, Cpu, Tables};
 use frame_word::Frame;
 use step_rules::step::{Action, Answer};
+use step_watch::Watch;
 use zone_blocks::block::Block;
+
+// The watch takes the steps by which the zone lent the CPU a frame.
+fn watch_lent(watch: &mut Watch, cpu: u32, frame: u32)
+    ensures { Watches watch.old (lend_steps cpu frame) watch.new }
+{
+    watch.take(0, || (Action::PassOut { frame, cpu }, Answer::Done));
+    watch.take(cpu, || (Action::TakeIn { frame }, Answer::Done));
+}
 
 impl<N: BootName> Machine<N> {
     // Lends one free frame to the CPU, if there is one, at the end of its list.
@@ -35,17 +45,7 @@ impl<N: BootName> Machine<N> {
         };
         let at = frame.number();
         cpu.borrow(tables, &mut self.past, frame);
-        self.watch.take(
-            0,
-            || (
-                Action::PassOut {
-                    frame: at,
-                    cpu: cpu_number,
-                },
-                Answer::Done,
-            ),
-        );
-        self.watch.take(cpu_number, || (Action::TakeIn { frame: at }, Answer::Done));
+        watch_lent(&mut self.watch, cpu_number, at);
         self.frame_states[at as usize] = FrameState::Lent(cpu_number as u8);
         true
     }
@@ -85,20 +85,7 @@ impl<N: BootName> Machine<N> {
         let given = frame.number();
         self.zone.take_frame(given);
         cpu.borrow(tables, &mut self.past, frame);
-        self.watch.take(
-            0,
-            || (
-                Action::PassOut {
-                    frame: given,
-                    cpu: cpu_number,
-                },
-                Answer::Done,
-            ),
-        );
-        self.watch.take(
-            cpu_number,
-            || (Action::TakeIn { frame: given }, Answer::Done),
-        );
+        watch_lent(&mut self.watch, cpu_number, given);
         self.frame_states[given as usize] = FrameState::Lent(cpu_number as u8);
     }
 

@@ -80,7 +80,7 @@ impl<N: BootName> Machine<N> {
         ensures steps { VisitMakes N.frames (visit_state self.old cpu.old)
             (keep_steps cpu.old.number result) (visit_state self.new cpu.new) }
     {
-        let frame = collect_fresh(
+        let head = collect_fresh(
             tables,
             cpu,
             &mut self.past,
@@ -88,25 +88,17 @@ impl<N: BootName> Machine<N> {
             &mut self.sums,
             group,
         );
-        let at = frame.number();
-        tables.words.unfreeze(&mut self.past, frame, 1);
-        self.watch.take(
-            0,
-            || (
-                Action::Unfreeze {
-                    frame: at,
-                    count: 1,
-                },
-                Answer::Done,
-            ),
-        );
+        let frame = head.number();
+        tables.words.unfreeze(&mut self.past, head, 1);
+        self.watch
+            .take(0, || (Action::Unfreeze { frame, count: 1 }, Answer::Done));
         let order = single_order();
-        self.frame_states[at as usize] = FrameState::Head(ChargedUnit { group, order });
-        join_list(&mut self.links, &mut self.lists, group, at);
+        self.frame_states[frame as usize] = FrameState::Head(ChargedUnit { group, order });
+        join_list(&mut self.links, &mut self.lists, group, frame);
         make_step(tables, &mut self.past, &mut self.watch, || {
-            (Action::Publish { frame: at }, Answer::Done)
+            (Action::Publish { frame }, Answer::Done)
         });
-        frame
+        head
     }
 
     // Frees the oldest fresh frame, whose group is killed, and uncharges its page from the group.

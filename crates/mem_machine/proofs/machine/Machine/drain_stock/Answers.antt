@@ -49,9 +49,14 @@ make_step-requires-clause-legal g c =
     let t = g.N.BootName.frames in
     let m = machine_of c.self.inside in
     let knows = knows_drain t _ c.args.tables.now.frames_are m _ c.self.view_is c.requires.held c.args.cpu _ c.requires.cpu _ c.drain-pages.ensures in
-    let owner : stock_group t m c.args.cpu ≡ Some c.in-Some.group = owner_at t.cpus _ _ c.self.invariant.owners c.args.cpu c.requires.cpu.0 c.requires.cpu.1 ∙ sym c.group.ensures ∙ c.in-Some.is in
-    (_, _, ungrant_may t m c.self.invariant.consistent c.args.cpu _ knows c.in-Some.group owner c.if-pages-gt0.true _
-    (made_at _ _ c.args.tables.now.frames_are 0 refl _ _ _ _ c.drain-pages.ensures), tt, search rules)
+    let owner : stock_group t m c.args.cpu ≡ Some c.in-Some.group = owner_at t.cpus _ _ c.self.invariant.owners c.args.cpu c.requires.cpu.0 c.requires.cpu.1 ∙ sym c.group.ensures ∙ c.in-Some.is in (
+      _,
+      _,
+      ungrant_may t m c.self.invariant.consistent c.args.cpu _ knows c.in-Some.group owner c.if-pages-gt0.true _
+          (made_at _ _ c.args.tables.now.frames_are 0 refl _ _ _ _ c.drain-pages.ensures),
+      tt,
+      search rules,
+    )
 
 pub invariant_of-self : goal.invariant_of-self
 invariant_of-self g c =

@@ -37,9 +37,14 @@ free_unit-requires g c =
 
 pub make_step-requires-clause-legal : goal.make_step-requires-clause-legal
 make_step-requires-clause-legal g c =
-    let e = c.collect_fresh-frame.ensures in
-    (_, _, may_return g.N.BootName.frames (machine_of c.self.inside) _ c.self.view_is c.args.cpu.now c.requires.visit c.self.invariant.consistent c.args.group c.requires.group
-    c.collect_fresh-frame.result _ e.cpu.front _ e.notes c.requires.killed _ c.number-at.ensures, tt, search rules)
+    let e = c.collect_fresh-frame.ensures in (
+      _,
+      _,
+      may_return g.N.BootName.frames (machine_of c.self.inside) _ c.self.view_is c.args.cpu.now c.requires.visit c.self.invariant.consistent c.args.group c.requires.group
+          c.collect_fresh-frame.result _ e.cpu.front _ e.notes c.requires.killed _ c.number-at.ensures,
+      tt,
+      search rules,
+    )
 
 pub invariant_of-self : goal.invariant_of-self
 invariant_of-self g c =

@@ -72,9 +72,14 @@ make_step-requires-2-clause-legal g c =
     let cpu = c.args.cpu.now in
     let knows = knows_fill t m _ c.self.view_is cpu c.args.group c.args.pages c.requires.visit c.requires.charges c.requires.drained in
     let ok = c.self.invariant.consistent in
-    let facts = c.prove_charges.ensures.legal in
-    (_, _, subst (λ (n : ℕ). IsLocalStep (local_of t m) n 0 (Grant c.args.group c.args.pages) Granted) (sym knows.visit.who)
-    (fill_leads t m cpu ok facts knows.visit c.requires.none_fresh knows.drained c.args.group c.args.pages knows.there knows.alive (c.in_default.ensures.granted.0 refl)).0, tt, search rules)
+    let facts = c.prove_charges.ensures.legal in (
+      _,
+      _,
+      subst (λ (n : ℕ). IsLocalStep (local_of t m) n 0 (Grant c.args.group c.args.pages) Granted) (sym knows.visit.who)
+          (fill_leads t m cpu ok facts knows.visit c.requires.none_fresh knows.drained c.args.group c.args.pages knows.there knows.alive (c.in_default.ensures.granted.0 refl)).0,
+      tt,
+      search rules,
+    )
 
 pub fill-requires-clause-cpu : goal.fill-requires-clause-cpu
 fill-requires-clause-cpu g c =

@@ -10,9 +10,14 @@ make_step-requires-clause-held g c =
     held_here g.N.BootName.frames (machine_of c.self.inside) _ c.self.view_is c.requires.held
 
 pub make_step-requires-clause-legal : goal.make_step-requires-clause-legal
-make_step-requires-clause-legal g c =
-    (_, _, (notes_max g.N.BootName.frames (machine_of c.self.inside) _ c.self.view_is c.self.invariant.consistent c.requires.held c.args.group c.requires.there _
-    c.note_max.ensures.only.groups c.note_max.ensures.only.counts c.note_max.ensures.only.peaks).step, tt, search rules)
+make_step-requires-clause-legal g c = (
+  _,
+  _,
+  (notes_max g.N.BootName.frames (machine_of c.self.inside) _ c.self.view_is c.self.invariant.consistent c.requires.held c.args.group c.requires.there _
+      c.note_max.ensures.only.groups c.note_max.ensures.only.counts c.note_max.ensures.only.peaks).step,
+  tt,
+  search rules,
+)
 
 pub invariant_of-self : goal.invariant_of-self
 invariant_of-self g c =

@@ -36,11 +36,16 @@ free_unit-requires g c =
     }
 
 pub make_step-requires-clause-legal : goal.make_step-requires-clause-legal
-make_step-requires-clause-legal g c =
-    (_, _, may_return g.N.BootName.frames (machine_of c.self.inside) _ c.self.view_is c.args.cpu.now c.requires c.self.invariant.consistent c.in-Some.frame _
-    c.in-Some.ensures.answer.1 _ c.number-cpu_number.ensures.number _ c.number-at.ensures (record { past = c.pass_back_unit.new.held; watch = c.take.new.self })
-    c.in-Some.ensures.run (c.take.ensures _ _ (search rules)) _ c.args.tables.now.frames_are (record { past = c.collect.new.held; watch = c.take-2.new.self })
-    c.collect.ensures (c.take-2.ensures _ _ (search rules)), tt, search rules)
+make_step-requires-clause-legal g c = (
+  _,
+  _,
+  may_return g.N.BootName.frames (machine_of c.self.inside) _ c.self.view_is c.args.cpu.now c.requires c.self.invariant.consistent c.in-Some.frame _
+      c.in-Some.ensures.answer.1 _ c.number-cpu_number.ensures.number _ c.number-at.ensures (record { past = c.pass_back_unit.new.held; watch = c.take.new.self })
+      c.in-Some.ensures.run (c.take.ensures _ _ (search rules)) _ c.args.tables.now.frames_are (record { past = c.collect.new.held; watch = c.take-2.new.self })
+      c.collect.ensures (c.take-2.ensures _ _ (search rules)),
+  tt,
+  search rules,
+)
 
 pub invariant_of-self-2 : goal.invariant_of-self-2
 invariant_of-self-2 g c =
