@@ -25,7 +25,7 @@ use Rattle.step_rules.specs.Reaches.{IsLocalRun}
 use Rattle.step_rules.proofs.Basics.{at_other, at_same}
 use Rattle.boot_words.specs.Composed.{AreLegal, MakesInTurn}
 use Rattle.boot_words.specs.Hidden.{hide, hide_phase}
-use Rattle.boot_words.specs.Pasts.{KnownPasts, IsHeld, MakesStep}
+use Rattle.boot_words.specs.Pasts.{KnownPasts, IsHeld}
 use Rattle.cpu_part.specs.Cpus.{KnownCpu}
 use Rattle.cpu_part.proofs.CallerLemmas.{makes_each}
 use Rattle.step_watch.specs.Watched.{KnownWatch, Watches}
@@ -38,13 +38,13 @@ use Rattle.mem_machine.specs.Lending.{LendsFrame, LendsNone, LendsOne}
 use Rattle.mem_machine.specs.Local.{Visits, local_of, visit_state}
 use Rattle.mem_machine.specs.Machines.{KnownMachine, VisitState, FitsFrameState, IsConsistent, IsShownBy, home_of, left_by, pages_booked}
 use Rattle.mem_machine.specs.Noted.{AreLocal, KnownRun, Notes, after_made}
-use Rattle.mem_machine.specs.Steps.{cpu_makes, lend_steps, zone_makes}
+use Rattle.mem_machine.specs.Steps.{lend_steps}
 use Rattle.mem_machine.proofs.Followed.{are_still, follows_same}
 use Rattle.mem_machine.proofs.HandOvers.{IsVisited}
 use Rattle.mem_machine.proofs.Hiding.{is_free_seen}
 use Rattle.mem_machine.proofs.Made.{visits_here, zone_seen}
 use Rattle.mem_machine.proofs.Moved.{AllMoved, books_stay, is_visited, left_moved, makes_moved, number_range, own_moved, owners_moved, shown_moved, sums_moved, visit_moved}
-use Rattle.mem_machine.proofs.Noted.{all_grow, local_legal, notes_both, notes_one}
+use Rattle.mem_machine.proofs.Noted.{all_grow, local_legal}
 use Rattle.mem_machine.proofs.Reaching.{cpu_step, zone_step}
 use Rattle.mem_machine.proofs.Records.{charges_stay, covers_one, free_at, free_inside, free_is, free_taken, units_stay}
 use Rattle.mem_machine.proofs.Sight.{left_seen, shown_seen}

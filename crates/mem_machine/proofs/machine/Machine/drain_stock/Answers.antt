@@ -1,4 +1,4 @@
-use Rattle.std.proofs.Common.{◌≡◌, ℕ, ◌<◌, ◌≤◌, Some, None, refl, sym, ap, ◌∙◌, arith, rules}
+use Rattle.std.proofs.Common.{◌≡◌, Some, None, refl, sym, ap, ◌∙◌, arith, rules}
 use Rattle.step_rules.specs.declared.step.Action.TheVariants.{DrainStock}
 use Rattle.mem_machine.specs.Kept.{machine_of}
 use Rattle.mem_machine.specs.Machines.{stock_group}
@@ -6,6 +6,7 @@ use Rattle.mem_machine.proofs.AtTable.{made_at, may_at}
 use Rattle.mem_machine.proofs.Drained.{drained_now, drained_sound, emptied_sound, knows_drain, no_group_none, noted_none, noted_some, sum_within, there_now, ungrant_may}
 use Rattle.mem_machine.proofs.Draining.{drain_may, drained_none}
 use Rattle.mem_machine.proofs.Made.{held_here}
+use Rattle.mem_machine.proofs.Noted.{legal_step}
 use Rattle.mem_machine.proofs.Owning.{owner_at}
 use Rattle.mem_machine.proofs.machine.Machine.drain_stock.Goals as goal
 
@@ -49,14 +50,9 @@ make_step-requires-clause-legal g c =
     let t = g.N.BootName.frames in
     let m = machine_of c.self.inside in
     let knows = knows_drain t _ c.args.tables.now.frames_are m _ c.self.view_is c.requires.held c.args.cpu _ c.requires.cpu _ c.drain-pages.ensures in
-    let owner : stock_group t m c.args.cpu ≡ Some c.in-Some.group = owner_at t.cpus _ _ c.self.invariant.owners c.args.cpu c.requires.cpu.0 c.requires.cpu.1 ∙ sym c.group.ensures ∙ c.in-Some.is in (
-      _,
-      _,
-      ungrant_may t m c.self.invariant.consistent c.args.cpu _ knows c.in-Some.group owner c.if-pages-gt0.true _
-          (made_at _ _ c.args.tables.now.frames_are 0 refl _ _ _ _ c.drain-pages.ensures),
-      tt,
-      search rules,
-    )
+    let owner : stock_group t m c.args.cpu ≡ Some c.in-Some.group = owner_at t.cpus _ _ c.self.invariant.owners c.args.cpu c.requires.cpu.0 c.requires.cpu.1 ∙ sym c.group.ensures ∙ c.in-Some.is in
+    legal_step _ _ _ _ (ungrant_may t m c.self.invariant.consistent c.args.cpu _ knows c.in-Some.group owner c.if-pages-gt0.true _
+    (made_at _ _ c.args.tables.now.frames_are 0 refl _ _ _ _ c.drain-pages.ensures)) tt (search rules)
 
 pub invariant_of-self : goal.invariant_of-self
 invariant_of-self g c =

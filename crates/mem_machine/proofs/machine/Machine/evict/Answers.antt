@@ -4,6 +4,7 @@ use Rattle.step_rules.specs.declared.step.Answer.TheVariants.{Done, Missed}
 use Rattle.mem_machine.specs.Evicting.{evict_steps}
 use Rattle.mem_machine.specs.Kept.{machine_of}
 use Rattle.mem_machine.proofs.Freeing.{unit_in_use, unit_charged}
+use Rattle.mem_machine.proofs.Noted.{legal_step}
 use Rattle.mem_machine.proofs.Releases.{notes_back, notes_of_zone, read_head, return_may}
 use Rattle.mem_machine.proofs.Evicts.{evict_returns, evicted_all, freeze_may, missed_all}
 use Rattle.mem_machine.proofs.AtTable.{made_at, may_at}
@@ -55,14 +56,9 @@ pub make_step-requires-clause-legal : goal.make_step-requires-clause-legal
 make_step-requires-clause-legal g c =
     let t = g.N.BootName.frames in
     let m = machine_of c.self.inside in
-    let head = read_head t m c.self.invariant.consistent c.args.head _ c.requires.frame c.number-frame.ensures _ c.in-Head.unit c.index.ensures c.in-Head.is in (
-      _,
-      _,
-      return_may t m.run.past _ c.args.head _ c.number-frame.ensures (Freeze c.args.head 1) Done (made_at _ _ c.args.tables.now.frames_are 0 refl _ _ _ _ c.if-not-freeze.ensures)
-          (evict_returns t m _ c.self.view_is c.self.invariant.consistent c.args.head _ c.requires.frame c.number-frame.ensures c.requires.kept c.requires.held c.in-Head.unit head),
-      tt,
-      search rules,
-    )
+    let head = read_head t m c.self.invariant.consistent c.args.head _ c.requires.frame c.number-frame.ensures _ c.in-Head.unit c.index.ensures c.in-Head.is in
+    legal_step _ _ _ _ (return_may t m.run.past _ c.args.head _ c.number-frame.ensures (Freeze c.args.head 1) Done (made_at _ _ c.args.tables.now.frames_are 0 refl _ _ _ _ c.if-not-freeze.ensures)
+    (evict_returns t m _ c.self.view_is c.self.invariant.consistent c.args.head _ c.requires.frame c.number-frame.ensures c.requires.kept c.requires.held c.in-Head.unit head)) tt (search rules)
 
 pub invariant_of-self-2 : goal.invariant_of-self-2
 invariant_of-self-2 g c =

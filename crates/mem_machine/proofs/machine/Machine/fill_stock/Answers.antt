@@ -1,4 +1,4 @@
-use Rattle.std.proofs.Common.{◌≡◌, ℕ, ◌+◌, ◌-◌, ◌<◌, ◌≤◌, ◌^◌, [], ◌∷◌, IsTrue, refl, sym, ap, ◌∙◌, subst, arith, rules}
+use Rattle.std.proofs.Common.{◌≡◌, ℕ, ◌+◌, ◌<◌, ◌^◌, IsTrue, refl, sym, ap, ◌∙◌, subst, arith, rules}
 use Rattle.frame_word.specs.Seats.{KnownTable}
 use Rattle.group_tree.specs.Groups.{has_group}
 use Rattle.group_charge.specs.Charges.{current_of}
@@ -10,7 +10,7 @@ use Rattle.step_rules.specs.Laws.{IsLocalStep}
 use Rattle.mem_machine.specs.Kept.{machine_of}
 use Rattle.mem_machine.specs.Local.{local_of}
 use Rattle.mem_machine.specs.Machines.{KnownMachine}
-use Rattle.mem_machine.specs.Noted.{KnownRun}
+use Rattle.mem_machine.proofs.Noted.{legal_step}
 use Rattle.mem_machine.proofs.Prepaying.{fill_fits, fill_leads, fill_may, fill_noted, filled_now, filled_sound, filler_is, knows_fill, nothing_booked, refused_may, refused_now, refused_sound, refused_visits}
 use Rattle.mem_machine.proofs.machine.Machine.fill_stock.Goals as goal
 
@@ -30,7 +30,7 @@ make_step-requires-clause-legal g c =
     let knows = knows_fill t m _ c.self.view_is cpu c.args.group c.args.pages c.requires.visit c.requires.charges c.requires.drained in
     let ok = c.self.invariant.consistent in
     let facts = c.prove_charges.ensures.legal in
-    (_, _, refused_may t m ok facts knows.visit.held c.args.group c.args.pages c.in-Err.over.group knows.there knows.alive c.in-Err.ensures.over, tt, search rules)
+    legal_step _ _ _ _ (refused_may t m ok facts knows.visit.held c.args.group c.args.pages c.in-Err.over.group knows.there knows.alive c.in-Err.ensures.over) tt (search rules)
 
 pub invariant_of-self : goal.invariant_of-self
 invariant_of-self g c =
@@ -72,14 +72,9 @@ make_step-requires-2-clause-legal g c =
     let cpu = c.args.cpu.now in
     let knows = knows_fill t m _ c.self.view_is cpu c.args.group c.args.pages c.requires.visit c.requires.charges c.requires.drained in
     let ok = c.self.invariant.consistent in
-    let facts = c.prove_charges.ensures.legal in (
-      _,
-      _,
-      subst (λ (n : ℕ). IsLocalStep (local_of t m) n 0 (Grant c.args.group c.args.pages) Granted) (sym knows.visit.who)
-          (fill_leads t m cpu ok facts knows.visit c.requires.none_fresh knows.drained c.args.group c.args.pages knows.there knows.alive (c.in_default.ensures.granted.0 refl)).0,
-      tt,
-      search rules,
-    )
+    let facts = c.prove_charges.ensures.legal in
+    legal_step _ _ _ _ (subst (λ (n : ℕ). IsLocalStep (local_of t m) n 0 (Grant c.args.group c.args.pages) Granted) (sym knows.visit.who)
+    (fill_leads t m cpu ok facts knows.visit c.requires.none_fresh knows.drained c.args.group c.args.pages knows.there knows.alive (c.in_default.ensures.granted.0 refl)).0) tt (search rules)
 
 pub fill-requires-clause-cpu : goal.fill-requires-clause-cpu
 fill-requires-clause-cpu g c =

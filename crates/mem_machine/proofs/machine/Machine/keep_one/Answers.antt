@@ -2,6 +2,7 @@ use Rattle.std.proofs.Common.{◌<◌, rules, sym, arith}
 use Rattle.mem_machine.specs.Kept.{machine_of}
 use Rattle.mem_machine.proofs.Fresh.{away_here, collect_legal, keep_all, kept_notes, may_publish, may_unfreeze, none_reported_here, sum_some, unfrozen_notes, within_here}
 use Rattle.mem_machine.proofs.Made.{visits_here}
+use Rattle.mem_machine.proofs.Noted.{legal_step}
 use Rattle.mem_machine.proofs.machine.Machine.keep_one.Goals as goal
 
 pub collect_fresh-head-requires : goal.collect_fresh-head-requires
@@ -46,15 +47,10 @@ join_list-requires-clause-away g c =
 
 pub make_step-requires-clause-legal : goal.make_step-requires-clause-legal
 make_step-requires-clause-legal g c =
-    let e = c.collect_fresh-head.ensures in (
-      _,
-      _,
-      may_publish g.N.BootName.frames (machine_of c.self.inside) _ c.self.view_is c.args.cpu.now c.requires.visit c.self.invariant.consistent c.args.group c.requires.group
-          c.collect_fresh-head.result _ e.cpu.front _ e.notes (record { past = c.unfreeze.new.held; watch = c.take.new.self })
-          (unfrozen_notes g.N.BootName.frames _ c.args.tables.now.frames_are _ _ _ _ c.number-frame.ensures c.unfreeze.ensures (c.take.ensures _ _ (search rules))) _ c.number-frame.ensures,
-      tt,
-      search rules,
-    )
+    let e = c.collect_fresh-head.ensures in
+    legal_step _ _ _ _ (may_publish g.N.BootName.frames (machine_of c.self.inside) _ c.self.view_is c.args.cpu.now c.requires.visit c.self.invariant.consistent c.args.group c.requires.group
+    c.collect_fresh-head.result _ e.cpu.front _ e.notes (record { past = c.unfreeze.new.held; watch = c.take.new.self })
+    (unfrozen_notes g.N.BootName.frames _ c.args.tables.now.frames_are _ _ _ _ c.number-frame.ensures c.unfreeze.ensures (c.take.ensures _ _ (search rules))) _ c.number-frame.ensures) tt (search rules)
 
 pub invariant_of-self : goal.invariant_of-self
 invariant_of-self g c =

@@ -9,6 +9,7 @@ use Rattle.mem_machine.specs.Noted.{MayTake, Notes}
 use Rattle.mem_machine.specs.Steps.{zone_makes}
 use Rattle.mem_machine.proofs.GroupSteps.{adds, grouped, makes_group}
 use Rattle.mem_machine.proofs.Made.{held_here}
+use Rattle.mem_machine.proofs.Noted.{legal_step}
 use Rattle.mem_machine.proofs.machine.Machine.make.Goals as goal
 
 pub make_step-requires-clause-held : goal.make_step-requires-clause-held
@@ -19,15 +20,10 @@ make_step-requires-clause-legal g c =
     let value = c.number-number.ensures.value in
     let below = c.number-number.ensures.below in
     let sized = c.self.invariant.consistent.sizes.killed in
-    let inside : c.in_ok-group.group < length c.self.inside.killed.items = omega (arith, value, below, sized) in (
-      _,
-      _,
-      subst (λ (path : List ℕ). MayTake g.N.BootName.frames c.self.inside.past (zone_makes (Make path) (Number c.in_ok-group.group))) (sym c.in-Some.ensures.1)
-          (makes_group g.N.BootName.frames (machine_of c.self.inside) _ c.self.view_is c.self.invariant.consistent c.requires.held c.in_ok-group.group c.args.path.now inside c.in_ok-group.ensures.refused
-          c.prove_charges.ensures.legal c.in_ok-group.ensures.least _ c.in_ok-group.ensures.made _ (ap (λ (n : ℕ). slice_set c.self.inside.killed.items n false) value)).step,
-      tt,
-      search rules,
-    )
+    let inside : c.in_ok-group.group < length c.self.inside.killed.items = omega (arith, value, below, sized) in
+    legal_step _ _ _ _ (subst (λ (path : List ℕ). MayTake g.N.BootName.frames c.self.inside.past (zone_makes (Make path) (Number c.in_ok-group.group))) (sym c.in-Some.ensures.1)
+    (makes_group g.N.BootName.frames (machine_of c.self.inside) _ c.self.view_is c.self.invariant.consistent c.requires.held c.in_ok-group.group c.args.path.now inside c.in_ok-group.ensures.refused
+    c.prove_charges.ensures.legal c.in_ok-group.ensures.least _ c.in_ok-group.ensures.made _ (ap (λ (n : ℕ). slice_set c.self.inside.killed.items n false) value)).step) tt (search rules)
 
 pub invariant_of-self-2 : goal.invariant_of-self-2
 invariant_of-self-2 g c =

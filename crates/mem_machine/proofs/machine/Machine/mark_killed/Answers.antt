@@ -7,6 +7,7 @@ use Rattle.mem_machine.specs.Kept.{machine_of}
 use Rattle.mem_machine.specs.Machines.{KnownMachine}
 use Rattle.mem_machine.proofs.GroupSteps.{grouped, kills}
 use Rattle.mem_machine.proofs.Made.{held_here}
+use Rattle.mem_machine.proofs.Noted.{legal_step}
 use Rattle.mem_machine.proofs.machine.Machine.mark_killed.Goals as goal
 
 pub make_step-requires-clause-held : goal.make_step-requires-clause-held
@@ -17,14 +18,9 @@ make_step-requires-clause-legal g c =
     let value = c.number.ensures.value in
     let below = c.number.ensures.below in
     let sized = c.self.invariant.consistent.sizes.killed in
-    let inside : c.args.group < length c.self.inside.killed.items = omega (arith, value, below, sized) in (
-      _,
-      _,
-      (kills g.N.BootName.frames (machine_of c.self.inside) _ c.self.view_is c.self.invariant.consistent c.requires.held c.args.group c.requires.there inside c.requires.alive _
-          c.note_kill.ensures.only.groups c.note_kill.ensures.only.counts c.note_kill.ensures.only.peaks _ (ap (λ (n : ℕ). slice_set c.self.inside.killed.items n true) value)).step,
-      tt,
-      search rules,
-    )
+    let inside : c.args.group < length c.self.inside.killed.items = omega (arith, value, below, sized) in
+    legal_step _ _ _ _ (kills g.N.BootName.frames (machine_of c.self.inside) _ c.self.view_is c.self.invariant.consistent c.requires.held c.args.group c.requires.there inside c.requires.alive _
+    c.note_kill.ensures.only.groups c.note_kill.ensures.only.counts c.note_kill.ensures.only.peaks _ (ap (λ (n : ℕ). slice_set c.self.inside.killed.items n true) value)).step tt (search rules)
 
 pub invariant_of-self : goal.invariant_of-self
 invariant_of-self g c =

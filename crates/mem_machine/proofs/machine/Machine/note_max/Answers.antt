@@ -3,6 +3,7 @@ use Rattle.group_charge.specs.Charges.{Ledger, with_max_noted}
 use Rattle.mem_machine.specs.Kept.{machine_of}
 use Rattle.mem_machine.proofs.GroupSteps.{grouped, ledger_is, notes_max}
 use Rattle.mem_machine.proofs.Made.{held_here}
+use Rattle.mem_machine.proofs.Noted.{legal_step}
 use Rattle.mem_machine.proofs.machine.Machine.note_max.Goals as goal
 
 pub make_step-requires-clause-held : goal.make_step-requires-clause-held
@@ -10,14 +11,9 @@ make_step-requires-clause-held g c =
     held_here g.N.BootName.frames (machine_of c.self.inside) _ c.self.view_is c.requires.held
 
 pub make_step-requires-clause-legal : goal.make_step-requires-clause-legal
-make_step-requires-clause-legal g c = (
-  _,
-  _,
-  (notes_max g.N.BootName.frames (machine_of c.self.inside) _ c.self.view_is c.self.invariant.consistent c.requires.held c.args.group c.requires.there _
-      c.note_max.ensures.only.groups c.note_max.ensures.only.counts c.note_max.ensures.only.peaks).step,
-  tt,
-  search rules,
-)
+make_step-requires-clause-legal g c =
+    legal_step _ _ _ _ (notes_max g.N.BootName.frames (machine_of c.self.inside) _ c.self.view_is c.self.invariant.consistent c.requires.held c.args.group c.requires.there _
+    c.note_max.ensures.only.groups c.note_max.ensures.only.counts c.note_max.ensures.only.peaks).step tt (search rules)
 
 pub invariant_of-self : goal.invariant_of-self
 invariant_of-self g c =

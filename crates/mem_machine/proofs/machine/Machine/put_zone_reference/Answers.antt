@@ -5,6 +5,7 @@ use Rattle.mem_machine.specs.declared.releasing.Released.TheVariants.{Left, Retu
 use Rattle.mem_machine.specs.Kept.{machine_of}
 use Rattle.mem_machine.specs.Releasing.{release_steps}
 use Rattle.mem_machine.proofs.Freeing.{unit_in_use, unit_charged}
+use Rattle.mem_machine.proofs.Noted.{legal_step}
 use Rattle.mem_machine.proofs.Releases.{left_all, left_few, notes_back, notes_of_zone, put_may, put_returns, read_head, return_may, returned_all}
 use Rattle.mem_machine.proofs.AtTable.{made_at, may_at}
 use Rattle.mem_machine.proofs.Made.{held_here}
@@ -68,14 +69,9 @@ pub make_step-requires-clause-legal : goal.make_step-requires-clause-legal
 make_step-requires-clause-legal g c =
     let t = g.N.BootName.frames in
     let m = machine_of c.self.inside in
-    let head = read_head t m c.self.invariant.consistent c.args.head _ c.requires.frame c.number-at.ensures _ c.in-Head.unit c.index.ensures c.in-Head.is in (
-      _,
-      _,
-      return_may t m.run.past _ c.args.head _ c.number-at.ensures (Put c.args.head) answer.Last (made_at _ _ c.args.tables.now.frames_are 0 refl _ _ _ _ c.in-Last.ensures)
-          (put_returns t m _ c.self.view_is c.self.invariant.consistent c.args.head _ c.requires.frame c.number-at.ensures c.requires.kept c.requires.held c.in-Head.unit head),
-      tt,
-      search rules,
-    )
+    let head = read_head t m c.self.invariant.consistent c.args.head _ c.requires.frame c.number-at.ensures _ c.in-Head.unit c.index.ensures c.in-Head.is in
+    legal_step _ _ _ _ (return_may t m.run.past _ c.args.head _ c.number-at.ensures (Put c.args.head) answer.Last (made_at _ _ c.args.tables.now.frames_are 0 refl _ _ _ _ c.in-Last.ensures)
+    (put_returns t m _ c.self.view_is c.self.invariant.consistent c.args.head _ c.requires.frame c.number-at.ensures c.requires.kept c.requires.held c.in-Head.unit head)) tt (search rules)
 
 pub invariant_of-self-in-Last : goal.invariant_of-self-in-Last
 invariant_of-self-in-Last g c =

@@ -3,6 +3,7 @@ use Rattle.group_charge.specs.Charges.{Ledger, with_group_removed}
 use Rattle.mem_machine.specs.Kept.{machine_of}
 use Rattle.mem_machine.proofs.GroupSteps.{grouped, ledger_is, removes}
 use Rattle.mem_machine.proofs.Made.{held_here}
+use Rattle.mem_machine.proofs.Noted.{legal_step}
 use Rattle.mem_machine.proofs.machine.Machine.remove.Goals as goal
 
 pub make_step-requires-clause-held : goal.make_step-requires-clause-held
@@ -10,14 +11,9 @@ make_step-requires-clause-held g c =
     held_here g.N.BootName.frames (machine_of c.self.inside) _ c.self.view_is c.requires.held
 
 pub make_step-requires-clause-legal : goal.make_step-requires-clause-legal
-make_step-requires-clause-legal g c = (
-  _,
-  _,
-  (removes g.N.BootName.frames (machine_of c.self.inside) _ c.self.view_is c.self.invariant.consistent c.requires.held c.args.group c.requires.there c.prove_charges.ensures.legal
-      c.requires.leaf c.requires.below_root c.requires.empty _ c.remove.ensures.removed).step,
-  tt,
-  search rules,
-)
+make_step-requires-clause-legal g c =
+    legal_step _ _ _ _ (removes g.N.BootName.frames (machine_of c.self.inside) _ c.self.view_is c.self.invariant.consistent c.requires.held c.args.group c.requires.there c.prove_charges.ensures.legal
+    c.requires.leaf c.requires.below_root c.requires.empty _ c.remove.ensures.removed).step tt (search rules)
 
 pub invariant_of-self : goal.invariant_of-self
 invariant_of-self g c =

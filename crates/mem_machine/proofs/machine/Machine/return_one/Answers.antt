@@ -3,6 +3,7 @@ use Rattle.mem_machine.specs.Kept.{machine_of}
 use Rattle.mem_machine.proofs.Back.{back_may_pass, may_collect, may_return, not_other, read_head, return_all, returned_notes}
 use Rattle.mem_machine.proofs.Freeing.{unit_charged, unit_in_use}
 use Rattle.mem_machine.proofs.Made.{visits_here}
+use Rattle.mem_machine.proofs.Noted.{legal_step}
 use Rattle.mem_machine.proofs.machine.Machine.return_one.Goals as goal
 
 pub pass_back_unit-requires : goal.pass_back_unit-requires
@@ -36,16 +37,11 @@ free_unit-requires g c =
     }
 
 pub make_step-requires-clause-legal : goal.make_step-requires-clause-legal
-make_step-requires-clause-legal g c = (
-  _,
-  _,
-  may_return g.N.BootName.frames (machine_of c.self.inside) _ c.self.view_is c.args.cpu.now c.requires c.self.invariant.consistent c.in-Some.frame _
-      c.in-Some.ensures.answer.1 _ c.number-cpu_number.ensures.number _ c.number-at.ensures (record { past = c.pass_back_unit.new.held; watch = c.take.new.self })
-      c.in-Some.ensures.run (c.take.ensures _ _ (search rules)) _ c.args.tables.now.frames_are (record { past = c.collect.new.held; watch = c.take-2.new.self })
-      c.collect.ensures (c.take-2.ensures _ _ (search rules)),
-  tt,
-  search rules,
-)
+make_step-requires-clause-legal g c =
+    legal_step _ _ _ _ (may_return g.N.BootName.frames (machine_of c.self.inside) _ c.self.view_is c.args.cpu.now c.requires c.self.invariant.consistent c.in-Some.frame _
+    c.in-Some.ensures.answer.1 _ c.number-cpu_number.ensures.number _ c.number-at.ensures (record { past = c.pass_back_unit.new.held; watch = c.take.new.self })
+    c.in-Some.ensures.run (c.take.ensures _ _ (search rules)) _ c.args.tables.now.frames_are (record { past = c.collect.new.held; watch = c.take-2.new.self })
+    c.collect.ensures (c.take-2.ensures _ _ (search rules))) tt (search rules)
 
 pub invariant_of-self-2 : goal.invariant_of-self-2
 invariant_of-self-2 g c =

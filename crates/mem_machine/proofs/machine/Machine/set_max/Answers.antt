@@ -3,6 +3,7 @@ use Rattle.group_charge.specs.Charges.{Ledger, with_group_limit}
 use Rattle.mem_machine.specs.Kept.{machine_of}
 use Rattle.mem_machine.proofs.GroupSteps.{grouped, ledger_is, sets_max}
 use Rattle.mem_machine.proofs.Made.{held_here}
+use Rattle.mem_machine.proofs.Noted.{legal_step}
 use Rattle.mem_machine.proofs.machine.Machine.set_max.Goals as goal
 
 pub make_step-requires-clause-held : goal.make_step-requires-clause-held
@@ -10,14 +11,9 @@ make_step-requires-clause-held g c =
     held_here g.N.BootName.frames (machine_of c.self.inside) _ c.self.view_is c.requires.held
 
 pub make_step-requires-clause-legal : goal.make_step-requires-clause-legal
-make_step-requires-clause-legal g c = (
-  _,
-  _,
-  (sets_max g.N.BootName.frames (machine_of c.self.inside) _ c.self.view_is c.self.invariant.consistent c.requires.held c.args.group c.requires.there c.args.limit
-      c.requires.below_root _ c.set_max.ensures.limited).step,
-  tt,
-  search rules,
-)
+make_step-requires-clause-legal g c =
+    legal_step _ _ _ _ (sets_max g.N.BootName.frames (machine_of c.self.inside) _ c.self.view_is c.self.invariant.consistent c.requires.held c.args.group c.requires.there c.args.limit
+    c.requires.below_root _ c.set_max.ensures.limited).step tt (search rules)
 
 pub invariant_of-self : goal.invariant_of-self
 invariant_of-self g c =

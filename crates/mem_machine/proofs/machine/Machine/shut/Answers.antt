@@ -1,4 +1,4 @@
-use Rattle.std.proofs.Common.{◌≡◌, ◌∙◌, ℕ, ap, eq-eqb, refl, sym, subst, rules}
+use Rattle.std.proofs.Common.{◌∙◌, ℕ, refl, sym, subst, rules}
 use Rattle.frame_word.specs.Seats.{KnownTable}
 use Rattle.step_rules.specs.declared.phase.Hold.TheVariants.{HeldBy}
 use Rattle.step_rules.specs.declared.step.Action.TheVariants.{ShutVisit}

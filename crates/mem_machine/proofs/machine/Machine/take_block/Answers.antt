@@ -14,6 +14,7 @@ use Rattle.mem_machine.specs.Blocks.{taken_steps, unplaced_steps}
 use Rattle.mem_machine.proofs.AtTable.{made_at, may_at}
 use Rattle.mem_machine.proofs.GroupSteps.{may_group}
 use Rattle.mem_machine.proofs.Made.{held_here}
+use Rattle.mem_machine.proofs.Noted.{legal_step}
 use Rattle.mem_machine.proofs.Staying.{owners_stay, sums_stay}
 use Rattle.mem_machine.proofs.TakesBlocks.{granted_may, head_inside, none_all, refused_all, refused_step, taken_all, taken_inside, taken_may, taken_notes, unplaced_may, unplaced_notes, was_away}
 use Rattle.mem_machine.proofs.ZoneSteps.{same_books}
@@ -24,15 +25,10 @@ use Rattle.mem_machine.proofs.machine.Machine.take_block.Goals as goal
 pub make_step-requires-clause-legal : goal.make_step-requires-clause-legal
 make_step-requires-clause-legal g c =
     let t = g.N.BootName.frames in
-    let m = machine_of c.self.inside in (
-      _,
-      _,
-      may_group t m (zone_makes (Grant c.args.group c.frames-pages.result) (Over c.in-Err.over.group)) c.self.inside.charges c.self.inside.killed.items
-          (refused_step t m _ c.self.view_is c.self.invariant.consistent c.prove_charges.ensures.legal c.requires.visit.held c.args.group _ c.frames-pages.result
-          c.in-Err.over.group c.requires.charges c.in-Err.ensures.over c.self.inside.charges refl),
-      tt,
-      search rules,
-    )
+    let m = machine_of c.self.inside in
+    legal_step _ _ _ _ (may_group t m (zone_makes (Grant c.args.group c.frames-pages.result) (Over c.in-Err.over.group)) c.self.inside.charges c.self.inside.killed.items
+    (refused_step t m _ c.self.view_is c.self.invariant.consistent c.prove_charges.ensures.legal c.requires.visit.held c.args.group _ c.frames-pages.result
+    c.in-Err.over.group c.requires.charges c.in-Err.ensures.over c.self.inside.charges refl)) tt (search rules)
 
 pub invariant_of-self : goal.invariant_of-self
 invariant_of-self g c =
@@ -63,26 +59,21 @@ returns-in-Err-clause-visit g c =
 -- ---- no block
 
 pub make_step-requires-2-clause-legal : goal.make_step-requires-2-clause-legal
-make_step-requires-2-clause-legal g c = (
-  _,
-  _,
-  (granted_may g.N.BootName.frames (machine_of c.self.inside) _ c.self.view_is c.self.invariant.consistent c.prove_charges.ensures.legal c.requires.visit.held c.args.group
-      c.args.order c.frames-pages.result c.requires.charges (c.in_default.ensures.granted.0 refl)).0,
-  tt,
-  search rules,
-)
+make_step-requires-2-clause-legal g c =
+    legal_step _ _ _ _ (granted_may g.N.BootName.frames (machine_of c.self.inside) _ c.self.view_is c.self.invariant.consistent c.prove_charges.ensures.legal c.requires.visit.held c.args.group
+    c.args.order c.frames-pages.result c.requires.charges (c.in_default.ensures.granted.0 refl)).0 tt (search rules)
 
 pub make_step-requires-in_default-take-clause-legal : goal.make_step-requires-in_default-take-clause-legal
 make_step-requires-in_default-take-clause-legal g c =
     let may = unplaced_may g.N.BootName.frames (machine_of c.self.inside) _ c.self.view_is c.self.invariant.consistent c.prove_charges.ensures.legal c.requires.visit.held c.args.group
     c.args.order _ c.frames-pages.ensures.frames c.requires.charges (c.in_default.ensures.granted.0 refl) c.in_default-take.ensures.taken in
-    (_, _, (may.1 _ (c.make_step-2.ensures.run _ _ (search rules))).0, tt, search rules)
+    legal_step _ _ _ _ (may.1 _ (c.make_step-2.ensures.run _ _ (search rules))).0 tt (search rules)
 
 pub make_step-requires-in_default-take-2-clause-legal : goal.make_step-requires-in_default-take-2-clause-legal
 make_step-requires-in_default-take-2-clause-legal g c =
     let may = unplaced_may g.N.BootName.frames (machine_of c.self.inside) _ c.self.view_is c.self.invariant.consistent c.prove_charges.ensures.legal c.requires.visit.held c.args.group
     c.args.order _ c.frames-pages.ensures.frames c.requires.charges (c.in_default.ensures.granted.0 refl) c.in_default-take.ensures.taken in
-    (_, _, ((may.1 _ (c.make_step-2.ensures.run _ _ (search rules))).1 _ (c.make_step-in_default-take.ensures.run _ _ (search rules))).0, tt, search rules)
+    legal_step _ _ _ _ ((may.1 _ (c.make_step-2.ensures.run _ _ (search rules))).1 _ (c.make_step-in_default-take.ensures.run _ _ (search rules))).0 tt (search rules)
 
 pub invariant_of-self-in_default-take : goal.invariant_of-self-in_default-take
 invariant_of-self-in_default-take g c =
@@ -132,7 +123,7 @@ make_step-requires-3-clause-legal g c =
     let may = taken_may g.N.BootName.frames (machine_of c.self.inside) _ c.self.view_is c.self.invariant.consistent c.prove_charges.ensures.legal c.requires.visit.held c.args.group
     c.args.order _ c.frames-pages.ensures.frames c.requires.charges (c.in_default.ensures.granted.0 refl) _ _ c.in-Some.block c.self.invariant.free
     c.in-Some.ensures.taken c.in-Some.ensures.frames c.in-Some-frame.head _ c.in-Some-frame.ensures.0 c.number-frame.ensures in
-    (_, _, (may.1 _ (c.make_step-2.ensures.run _ _ (search rules))).0, tt, search rules)
+    legal_step _ _ _ _ (may.1 _ (c.make_step-2.ensures.run _ _ (search rules))).0 tt (search rules)
 
 pub unfreeze-requires-clause-legal : goal.unfreeze-requires-clause-legal
 unfreeze-requires-clause-legal g c =
@@ -147,15 +138,10 @@ pub make_step-requires-4-clause-legal : goal.make_step-requires-4-clause-legal
 make_step-requires-4-clause-legal g c =
     let may = taken_may g.N.BootName.frames (machine_of c.self.inside) _ c.self.view_is c.self.invariant.consistent c.prove_charges.ensures.legal c.requires.visit.held c.args.group
     c.args.order _ c.frames-pages.ensures.frames c.requires.charges (c.in_default.ensures.granted.0 refl) _ _ c.in-Some.block c.self.invariant.free
-    c.in-Some.ensures.taken c.in-Some.ensures.frames c.in-Some-frame.head _ c.in-Some-frame.ensures.0 c.number-frame.ensures in (
-      _,
-      _,
-      (((may.1 _ (c.make_step-2.ensures.run _ _ (search rules))).1 _ (c.make_step-3.ensures.run _ _ (search rules))).1 _
-          (subst (λ (x : ℕ). MakesStep g.N.BootName.frames c.make_step-3.new.past 0 (Unfreeze x 1) Done c.unfreeze.new.held) (sym c.number-frame.ensures)
-          (made_at _ _ c.args.tables.now.frames_are 0 refl _ _ _ _ c.unfreeze.ensures))).0,
-      tt,
-      search rules,
-    )
+    c.in-Some.ensures.taken c.in-Some.ensures.frames c.in-Some-frame.head _ c.in-Some-frame.ensures.0 c.number-frame.ensures in
+    legal_step _ _ _ _ (((may.1 _ (c.make_step-2.ensures.run _ _ (search rules))).1 _ (c.make_step-3.ensures.run _ _ (search rules))).1 _
+    (subst (λ (x : ℕ). MakesStep g.N.BootName.frames c.make_step-3.new.past 0 (Unfreeze x 1) Done c.unfreeze.new.held) (sym c.number-frame.ensures)
+    (made_at _ _ c.args.tables.now.frames_are 0 refl _ _ _ _ c.unfreeze.ensures))).0 tt (search rules)
 
 pub invariant_of-self-2 : goal.invariant_of-self-2
 invariant_of-self-2 g c =

@@ -1,4 +1,4 @@
-use Rattle.std.proofs.Common.{◌≡◌, ℕ, ◌∷◌, [], subst, sym, rules}
+use Rattle.std.proofs.Common.{subst, sym, rules}
 use Rattle.mem_machine.specs.Kept.{machine_of}
 use Rattle.mem_machine.specs.Local.{Visits, visit_state}
 use Rattle.mem_machine.specs.Machines.{KnownMachine}
