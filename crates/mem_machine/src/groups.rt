@@ -35,13 +35,9 @@ impl<N: BootName> Machine<N> {
         ensures steps { Makes N.frames self.old (note_max_steps group) self.new }
     {
         self.charges.note_max(group);
-        make_step(
-            tables,
-            &mut self.past,
-            &mut self.watch,
-            Action::NoteMax { group },
-            Answer::Done,
-        );
+        make_step(tables, &mut self.past, &mut self.watch, || {
+            (Action::NoteMax { group }, Answer::Done)
+        });
     }
 
     /// Notes that only kills are left to keep a group within its limit: one more `oom` in its events and its ancestors'
@@ -58,13 +54,9 @@ impl<N: BootName> Machine<N> {
         ensures steps { Makes N.frames self.old (note_oom_steps group) self.new }
     {
         self.charges.note_oom(group);
-        make_step(
-            tables,
-            &mut self.past,
-            &mut self.watch,
-            Action::NoteOom { group },
-            Answer::Done,
-        );
+        make_step(tables, &mut self.past, &mut self.watch, || {
+            (Action::NoteOom { group }, Answer::Done)
+        });
     }
 
     /// Kills a group that isn't killed: nothing can be charged to it until it is removed. That is one more `oom_kill`
@@ -85,13 +77,9 @@ impl<N: BootName> Machine<N> {
     {
         self.charges.note_kill(group);
         self.killed[group.number() as usize] = true;
-        make_step(
-            tables,
-            &mut self.past,
-            &mut self.watch,
-            Action::Kill { group },
-            Answer::Done,
-        );
+        make_step(tables, &mut self.past, &mut self.watch, || {
+            (Action::Kill { group }, Answer::Done)
+        });
     }
 
     /// Notes that a group other than the root was killed as a whole, with all groups below it. That is one more
@@ -109,13 +97,9 @@ impl<N: BootName> Machine<N> {
         ensures steps { Makes N.frames self.old (note_group_kill_steps group) self.new }
     {
         self.charges.note_group_kill(group);
-        make_step(
-            tables,
-            &mut self.past,
-            &mut self.watch,
-            Action::NoteGroupKill { group },
-            Answer::Done,
-        );
+        make_step(tables, &mut self.past, &mut self.watch, || {
+            (Action::NoteGroupKill { group }, Answer::Done)
+        });
     }
 
     /// Makes a group, as `Tree::make` does. It has no pages, peak 0 and all counts 0, and isn't killed.
@@ -134,13 +118,9 @@ impl<N: BootName> Machine<N> {
         let Some(path) = PathText::of(path) else {
             unreachable!()
         };
-        make_step(
-            tables,
-            &mut self.past,
-            &mut self.watch,
-            Action::Make { path },
-            Answer::Number(group),
-        );
+        make_step(tables, &mut self.past, &mut self.watch, || {
+            (Action::Make { path }, Answer::Number(group))
+        });
         Ok(group)
     }
 
@@ -160,13 +140,9 @@ impl<N: BootName> Machine<N> {
     {
         prove_charges(&self.charges);
         self.charges.remove(group);
-        make_step(
-            tables,
-            &mut self.past,
-            &mut self.watch,
-            Action::Remove { group },
-            Answer::Done,
-        );
+        make_step(tables, &mut self.past, &mut self.watch, || {
+            (Action::Remove { group }, Answer::Done)
+        });
     }
 
     /// Gives a group other than the root another limit, in pages; None means no limit. Only later charges obey it.
@@ -182,13 +158,9 @@ impl<N: BootName> Machine<N> {
         ensures steps { Makes N.frames self.old (set_max_steps group limit) self.new }
     {
         self.charges.set_max(group, limit);
-        make_step(
-            tables,
-            &mut self.past,
-            &mut self.watch,
-            Action::SetMax { group, limit },
-            Answer::Done,
-        );
+        make_step(tables, &mut self.past, &mut self.watch, || {
+            (Action::SetMax { group, limit }, Answer::Done)
+        });
     }
 
     /// Sets whether a group other than the root is killed as a whole (memory.oom.group). Only later kills read it.
@@ -204,12 +176,8 @@ impl<N: BootName> Machine<N> {
         ensures steps { Makes N.frames self.old (set_oom_group_steps group oom_group) self.new }
     {
         self.charges.set_oom_group(group, oom_group);
-        make_step(
-            tables,
-            &mut self.past,
-            &mut self.watch,
-            Action::SetFlag { group, oom_group },
-            Answer::Done,
-        );
+        make_step(tables, &mut self.past, &mut self.watch, || {
+            (Action::SetFlag { group, oom_group }, Answer::Done)
+        });
     }
 }
