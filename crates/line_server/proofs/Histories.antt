@@ -1,6 +1,6 @@
 -- The turns of a session go on with one run, and keep the promise. Serves `legal_turns_keep_it`; `load_run` cites this of
 -- a session.
-use Rattle.std.proofs.Common.{◌≡◌, ℕ, ◌+◌, ◌++◌, true, List, [], ◌∷◌, Option, None, Some, ap, append-nil, append_assoc, refl, subst, sym}
+use Rattle.std.proofs.Common.{ℕ, ◌+◌, ◌++◌, true, List, [], ◌∷◌, Option, None, Some, append_assoc, refl, subst, sym}
 use Rattle.std.specs.Prelude.{IfSome}
 use Rattle.std.proofs.lemmas.Option.{none-some}
 use Rattle.zone_blocks.specs.declared.config.Config.{Config}
