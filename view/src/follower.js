@@ -396,6 +396,9 @@ class Follower {
       case "lock":
         this.owe("open", seat);
         break;
+      case "unlock":
+        this.sawNone[seat] = state.parts[seat].pages || state.parts[seat].isDrained ? 0 : 1;
+        break;
       case "unfreeze":
         this.hand--;
         this.unlisted++;
