@@ -12,9 +12,9 @@ use std::marker::Model;
 pub const PAGE_BYTES: u64 = 4096;
 
 /// How many bytes a text may have.
-pub const MAX_TEXT: usize = 160;
+pub const MAX_TEXT: usize = 256;
 
-/// A text of at most 160 bytes, kept without memory of its own. Zeros follow the text.
+/// A text of at most 256 bytes, kept without memory of its own. Zeros follow the text.
 #[derive(Clone, Copy, Debug, PartialEq, Eq)]
 pub struct ArrayText {
     bytes: [u8; MAX_TEXT],
