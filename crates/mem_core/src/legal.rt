@@ -20,7 +20,7 @@ use crate::sums::is_of_group;
 use group_tree::group::GroupId;
 use group_tree::path::PathText;
 use step_rules::phase::Phase;
-use step_rules::step::{Action, Step};
+use step_rules::step::{Action, NoteKey, Step};
 use zone_blocks::order::Order;
 
 fn may_lock(rows: &Rows, seat: u32) -> bool
@@ -202,16 +202,10 @@ fn may_return(rows: &Rows, seat: u32, frame: u32) -> bool
     may_zone_act(rows.hold, seat) && rows.is_frame(frame) && is_returnable(rows, frame)
 }
 
-fn may_note_max(rows: &Rows, seat: u32, group: GroupId) -> bool
-    ensures { result ≡ is_legal (state_in rows.now) seat (Action.NoteMax group) }
+fn may_note(rows: &Rows, seat: u32, key: NoteKey, group: GroupId) -> bool
+    ensures { result ≡ is_legal (state_in rows.now) seat (Action.Note key group) }
 {
     may_zone_act(rows.hold, seat) && rows.tree.contains(group)
-}
-
-fn may_note_oom(rows: &Rows, seat: u32, group: GroupId) -> bool
-    ensures { result ≡ is_legal (state_in rows.now) seat (Action.NoteOom group) }
-{
-    may_note_max(rows, seat, group)
 }
 
 fn may_note_group_kill(rows: &Rows, seat: u32, group: GroupId) -> bool
@@ -338,8 +332,7 @@ pub fn is_legal(rows: &Rows, step: &Step) -> bool
         Action::PlaceBlock { group, order } => may_place_block(rows, seat, *group, *order),
         Action::Publish { frame } => may_publish(rows, seat, *frame),
         Action::Return { frame } => may_return(rows, seat, *frame),
-        Action::NoteMax { group } => may_note_max(rows, seat, *group),
-        Action::NoteOom { group } => may_note_oom(rows, seat, *group),
+        Action::Note { key, group } => may_note(rows, seat, *key, *group),
         Action::NoteGroupKill { group } => may_note_group_kill(rows, seat, *group),
         Action::SetMax { group, limit } => may_set_max(rows, seat, *group, *limit),
         Action::SetFlag { group, oom_group } => may_set_flag(rows, seat, *group, *oom_group),
