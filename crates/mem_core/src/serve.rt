@@ -8,9 +8,7 @@ ghost use Rattle.mem_core.specs.Rows.{state_in};
 ghost use Rattle.mem_core.specs.Rooms.{AreasFor, FitsZone, IsBelowBounds, MakesOnRows, PlacesFront, pages_asked};
 
 use crate::blocks::{place_block, return_unit};
-use crate::groups::{
-    grant, kill, make, note, note_group_kill, remove, set_flag, set_max, ungrant,
-};
+use crate::groups::{grant, kill, make, note, note_group_kill, remove, set_flag, set_max, ungrant};
 use crate::hand_over::{collect, pass_back, pass_out, take_in};
 use crate::legal::is_legal;
 use crate::lock::{lock, open_visit, shut_visit, unlock};
