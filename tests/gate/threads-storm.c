@@ -100,7 +100,7 @@ static uint8_t call(caller *me, tempolemon_result *out) {
     }
     if (pick < 17) {
         snprintf(me->line, sizeof me->line, "read %s %s", path, file);
-        const uint8_t status = tempolemon_on_read(&me->cpu, path, length, file, strlen(file), me->text, 160, out);
+        const uint8_t status = tempolemon_on_read(&me->cpu, path, length, file, strlen(file), me->text, 256, out);
         if (out->kind == TEMPOLEMON_TEXT) me->written = (size_t)out->number;
         return status;
     }
