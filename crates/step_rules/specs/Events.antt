@@ -7,7 +7,7 @@ use Rattle.group_tree.specs.Events.{is_same_key}
 use Rattle.group_tree.specs.Room.{max_count, one_more}
 use Rattle.step_rules.specs.declared.step.Step.{Step}
 use Rattle.step_rules.specs.declared.step.NoteKey.{NoteKey}
-use Rattle.step_rules.specs.declared.step.NoteKey.TheVariants as note
+use Rattle.step_rules.specs.declared.step.NoteKey.TheVariants as kind
 use Rattle.step_rules.specs.declared.step.Action.{Action}
 use Rattle.step_rules.specs.declared.step.Action.TheVariants as action
 use Rattle.step_rules.specs.declared.step.Answer.{Answer}
@@ -20,10 +20,10 @@ use Rattle.step_rules.specs.Laws.{pushed}
 
 -- the key that counts a noted event
 abbrev pub event_key : NoteKey → EventKey
-event_key note.Low = Low
-event_key note.High = High
-event_key note.Max = Max
-event_key note.Oom = Oom
+event_key kind.Low = Low
+event_key kind.High = High
+event_key kind.Max = Max
+event_key kind.Oom = Oom
 
 -- the event that a step notes, and the group at which it notes it
 abbrev pub event_of : Action → Answer → Option (EventKey × ℕ)
