@@ -20,7 +20,7 @@ enum { MOST_THREADS = 8, MANY = 64 };
 typedef struct {
     tempolemon_cpu cpu;
     pthread_t thread;
-    uint32_t number, group, frame;
+    uint32_t number, group, frame, apart;
     double spent;
 } worker;
 
@@ -44,6 +44,11 @@ static void get_and_put(worker *me) {
     tempolemon_result result;
     need(tempolemon_on_get(&me->cpu, me->frame, &result), "get");
     need(tempolemon_on_put(&me->cpu, me->frame, &result), "put");
+}
+static void get_and_put_apart(worker *me) {
+    tempolemon_result result;
+    need(tempolemon_on_get(&me->cpu, me->apart, &result), "get");
+    need(tempolemon_on_put(&me->cpu, me->apart, &result), "put");
 }
 static void alloc_and_release(worker *me) {
     tempolemon_result result;
@@ -179,8 +184,15 @@ int main(int count, char **words) {
         need(tempolemon_alloc(&old, me->number, me->group, 1, &result), "alloc");
         if (result.number != me->frame) return EXIT_FAILURE;
     }
+    /* the words of those frames share a cache line; each of these heads 16 frames, whose words fill two lines */
+    for (int at = 0; at < MOST_THREADS; at++) {
+        need(tempolemon_on_alloc(&workers[at].cpu, workers[at].group, 4, &result), "alloc");
+        workers[at].apart = (uint32_t)result.number;
+    }
     puts("what                                              threads  ns/round  ns of a thread");
     for (int threads = 1; threads <= MOST_THREADS; threads *= 2) measure("get and put", get_and_put, threads, rounds);
+    for (int threads = 1; threads <= MOST_THREADS; threads *= 2)
+        measure("get and put, frames 16 apart", get_and_put_apart, threads, rounds);
     measure("get and put, old handle", bare_get_and_put, 1, rounds);
     for (int threads = 1; threads <= 4; threads *= 4)
         measure("get and put, old handle under a mutex", old_get_and_put, threads, rounds);

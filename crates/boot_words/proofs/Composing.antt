@@ -1,4 +1,4 @@
--- Several steps of the run that one atomic step makes: what a seat may make of all words, one step behind the other.
+-- Several steps of the run that one atomic step makes: what a seat may make of all words, one step after the other.
 use Rattle.std.proofs.Common.{[], ◌≡◌, ℕ, zero, suc, List, ◌∷◌, set, refl, ap, sym, ◌∙◌, subst}
 use Rattle.step_rules.specs.declared.step.Step.{Step}
 use Rattle.step_rules.specs.declared.step.Answer.{Answer}

@@ -298,7 +298,7 @@ seats_of_legal zone before (e ∷ run) legal =
     ] in
     (here, seats_of_legal zone (before ++ e ∷ []) run (subst (IsLegalRun zone) (sym (append_assoc before (e ∷ []) run)) legal))
 
--- behind a past of the run there is no change of its seat
+-- after a past of the run there is no change of its seat
 past_changes : (run : Run) (p : Past) → IsPastOf run p → changes_of p.number run ≡ changes_of p.number p.seen
 past_changes run p past = ap (changes_of p.number) past.goes.is ∙ others_add_none p.number p.seen past.goes.rest past.goes.others
 

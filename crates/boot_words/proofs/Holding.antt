@@ -24,7 +24,7 @@ pub append_none : (xs : Run) → xs ++ [] ≡ xs
 append_none [] = refl
 append_none (x ∷ xs) = ap (λ l. x ∷ l) (append_none xs)
 
--- the step behind a beginning of a legal run is allowed there
+-- the step after a beginning of a legal run is allowed there
 pub allowed_at : (zone : Zone) (xs : Run) (e : Step × Answer) (ys : Run) → IsLegalRun zone (xs ++ e ∷ ys) → Allows (state_of zone xs) e.0.seat e.0.action e.1
 allowed_at zone xs e ys legal =
     let here : IfSome (slice_get (xs ++ e ∷ ys) (length xs)) (λ d. Allows (state_of zone (take (length xs) (xs ++ e ∷ ys))) d.0.seat d.0.action d.1) = legal (length xs) in

@@ -44,7 +44,7 @@ none_of seat (e ∷ run) none =
     let here = other_adds_none seat e none.0 in
     let more = none_of seat run none.1 in omega (arith, here, more)
 
--- steps of others behind a run add none
+-- steps of others after a run add none
 pub others_add_none : (seat : ℕ) (run between : Run) → HasNoStepOf seat between → changes_of seat (run ++ between) ≡ changes_of seat run
 others_add_none seat run between none =
     let both = changes_both seat run between in

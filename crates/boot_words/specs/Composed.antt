@@ -27,7 +27,7 @@ lend_run cpu f = answered_done 0 (PassOut f cpu) ∷ answered_done cpu (TakeIn f
 
 -- ---- what each list requires and leaves
 
--- each step is legal behind those before it with their answers
+-- each step is legal after those before it with their answers
 abbrev pub AreLegal : State → Run → Type 0
 AreLegal s [] = Unit {0}
 AreLegal s (made ∷ rest) = (is_legal s made.0.seat made.0.action ≡ true)
@@ -40,13 +40,13 @@ pub record GrewUnderLock (zone : Zone) (z c : Past) (made : Step × Answer) (z' 
   pub holds : HoldsLock zone z' c' (local_seen zone c')
   pub local_is : local_seen zone c' ≡ after (local_seen zone c) made.0.seat made.0.action made.1
 
--- both pasts have grown by these steps, one behind the other
+-- both pasts have grown by these steps, one after the other
 abbrev pub GrewInTurn : Zone → Past → Past → Run → Past → Past → Type 0
 GrewInTurn zone z c [] z' c' = (z' ≡ z) × (c' ≡ c)
 GrewInTurn zone z c (made ∷ rest) z' c' =
     (x : Past) × (y : Past) × GrewUnderLock zone z c made x y × GrewInTurn zone x y rest z' c'
 
--- these steps were made under the lock, one behind the other
+-- these steps were made under the lock, one after the other
 pub record MakesInTurn (t : KnownTable) (s : KnownPasts) (steps : Run) (s' : KnownPasts) : Type 0 where
   pub held : IsHeld t s'
   pub grew : GrewInTurn (zone_of_boot t) (own_past s) (cpu_past s) steps (own_past s') (cpu_past s')

@@ -9,7 +9,7 @@ use Rattle.boot_words.specs.Runs.{HasNoStepOf, GrewBy}
 use Rattle.boot_words.specs.declared.past.Past.{Past}
 use Rattle.boot_words.specs.Rule.{AllOf, IsPastOf}
 
--- the past has grown by these steps with their answers, each behind steps of others
+-- the past has grown by these steps with their answers, each after steps of others
 abbrev pub GrewByAll : Past → Run → Past → Type 0
 GrewByAll before [] later = later ≡ before
 GrewByAll before (made ∷ rest) later =
@@ -50,7 +50,7 @@ abbrev pub AreChangesOf : (run steps : Run) → Type 0
 AreChangesOf run steps = IsRunWithout (λ made. changes_nothing made.1 ≡ true) run steps
 
 -- What the zone's past and a CPU's past gain by these steps of the CPU and of the zone's seat. Whatever steps the zone's
--- past had in order, it now has these behind them. Each of the two has made as many changes more as these steps have.
+-- past had in order, it now has these after them. Each of the two has made as many changes more as these steps have.
 pub record GainsSteps (zone cpu : Past) (steps : Run) (zone' cpu' : Past) : Type 0 where
   pub zone_number : zone'.number ≡ zone.number
   pub cpu_number : cpu'.number ≡ cpu.number
@@ -80,7 +80,7 @@ GainsGoOn = (earlier steps : Run) (zone zone' : Past) (cpus : List Past) (index 
     → IsRunSoFar earlier zone cpus → slice_get cpus index ≡ Some cpu → GainsSteps zone cpu steps zone' cpu'
     → IsRunSoFar (earlier ++ steps) zone' (slice_set cpus index cpu')
 
--- At the end, when a legal run has the pasts of all seats as its beginnings, behind each of which no step of its seat
+-- At the end, when a legal run has the pasts of all seats as its beginnings, after each of which no step of its seat
 -- follows: the run so far is that legal run, without steps whose answer changes nothing. So it is legal too, and leads to
 -- the same state.
 abbrev pub TheRunSoFarIsLegal : Type 0

@@ -28,7 +28,7 @@ abbrev pub LeavesLock : Run → Type 0
 LeavesLock [] = Unit {0}
 LeavesLock (e ∷ run) = (is_of_lock e.0.action ≡ false) × LeavesLock run
 
--- A past is a beginning of the run, behind which no step of its number follows. Behind the zone's past nobody takes or
+-- A past is a beginning of the run, after which no step of its number follows. After the zone's past nobody takes or
 -- releases the lock, so that the zone's past ends with each of these steps.
 pub record IsPastOf (run : Run) (p : Past) : Type 0 where
   pub goes : OthersFollow p.number p.seen run

@@ -42,7 +42,7 @@ abbrev pub BooksNothingOf : ℕ → Run → Type 0
 BooksNothingOf cpu [] = Unit {0}
 BooksNothingOf cpu (e ∷ run) = (books cpu e.0.action ≡ false) × BooksNothingOf cpu run
 
--- the past has grown by the step with its answer, behind steps of others
+-- the past has grown by the step with its answer, after steps of others
 pub record GrewBy (before : Past) (step : Step) (answer : Answer) (later : Past) : Type 0 where
   pub between : Run
   pub others : HasNoStepOf before.number between

@@ -45,7 +45,7 @@ HolderSeesBoth = (zone : Zone) (run : Run) (cpu : ℕ) → IsLegalRun zone run
     ≡ show_own cpu ((state_of zone run).parts cpu) ((state_of zone run).references cpu) (hide (state_of zone run))
 
 -- What the lock's holder saw at its last step it still sees, whatever other CPUs did since. So a local step of the zone
--- or of the holder, whose answer agrees with others' counts, goes on legally behind all that.
+-- or of the holder, whose answer agrees with others' counts, goes on legally after all that.
 abbrev pub HolderGoesOn : Type 0
 HolderGoesOn = (zone : Zone) (seen rest : Run) (cpu : ℕ) (local : State) (step : Step) (answer : Answer)
     → ShowsLocal zone seen cpu local → HasNoStepOf 0 rest → HasNoStepOf cpu rest → IsLegalRun zone (seen ++ rest)
@@ -53,7 +53,7 @@ HolderGoesOn = (zone : Zone) (seen rest : Run) (cpu : ℕ) (local : State) (step
     → IsCounted (state_of zone (seen ++ rest)) step.action answer
     → ShowsLocal zone (pushed (seen ++ rest) step answer) cpu (after local step.seat step.action answer)
 
--- A fast step is legal behind a run exactly if it was legal at the CPU's own last step, whatever others did since.
+-- A fast step is legal after a run exactly if it was legal at the CPU's own last step, whatever others did since.
 abbrev pub FastLegalityLasts : Type 0
 FastLegalityLasts = (zone : Zone) (seen run : Run) (cpu : ℕ) (action : Action) → cpu ≢ 0 → IsLegalRun zone run
     → OthersFollow cpu seen run → IsFast action

@@ -116,7 +116,7 @@ IsPlain (Remove g) = Unit {0}
 IsPlain (Kill g) = Unit {0}
 IsPlain action = ⊥
 
--- If the words are those of a run, the step is legal behind it, and the words that it finds decide this answer, then the
+-- If the words are those of a run, the step is legal after it, and the words that it finds decide this answer, then the
 -- words that it leaves are those of the run with the step.
 abbrev pub WordsFollow : Type 0
 WordsFollow = (zone : Zone) (words later : Words) (run : Run) (step : Step) (answer : Answer) → IsRunOf zone words run

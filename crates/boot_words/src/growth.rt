@@ -12,7 +12,7 @@ pub fn gains_go_on()
     ensures { GainsGoOn }
 {}
 
-/// If each past is a beginning of a legal run behind which no step of its seat follows, the run so far is legal too, and
+/// If each past is a beginning of a legal run after which no step of its seat follows, the run so far is legal too, and
 /// leads to the same state.
 pub fn the_run_so_far_is_legal()
     ensures { TheRunSoFarIsLegal }

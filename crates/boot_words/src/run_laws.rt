@@ -34,12 +34,12 @@ pub fn holder_sees_both()
     ensures { HolderSeesBoth }
 {}
 
-/// A step that is legal in what the lock's holder saw at its last step is legal behind all that other CPUs did since.
+/// A step that is legal in what the lock's holder saw at its last step is legal after all that other CPUs did since.
 pub fn holder_goes_on()
     ensures { HolderGoesOn }
 {}
 
-/// A get, put, consume or credit that was legal at the CPU's own last step is legal behind all that others did since.
+/// A get, put, consume or credit that was legal at the CPU's own last step is legal after all that others did since.
 pub fn fast_legality_lasts()
     ensures { FastLegalityLasts }
 {}

@@ -96,7 +96,7 @@ module _ (t : KnownTable) (k : KnownCpuSeat) (c : KnownCpu) (knows : KnowsItsPar
         ap (times f) (sym (same.back ∙ knows.own.back)) ∙ none BackFrame,
       )
 
-  -- the run behind which the CPU made its step, and that it was allowed there
+  -- the run after which the CPU made its step, and that it was allowed there
   record IsBehind (action : Action) (answer : Answer) : Type 0 where
     run : Run
     legal : IsLegalRun (zone_of_boot t) run

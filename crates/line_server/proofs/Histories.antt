@@ -1,114 +1,101 @@
--- The history of turns, in either form. Serves `serve`.
-use Rattle.std.proofs.Common.{◌≡◌, ℕ, ◌+◌, ◌++◌, Bool, true, List, [], ◌∷◌, Option, None, Some, refl, subst, sym}
-use Rattle.std.specs.Prelude.{unwrap_or}
-use Rattle.frame_word.specs.Seats.{KnownTable}
+-- The turns of a session go on with one run, and keep the promise. Serves `legal_turns_keep_it`; `load_run` cites this of
+-- a session.
+use Rattle.std.proofs.Common.{◌≡◌, ℕ, ◌+◌, ◌++◌, true, List, [], ◌∷◌, Option, None, Some, ap, append-nil, append_assoc, refl, subst, sym}
+use Rattle.std.specs.Prelude.{IfSome}
+use Rattle.std.proofs.lemmas.Option.{none-some}
 use Rattle.zone_blocks.specs.declared.config.Config.{Config}
 use Rattle.step_rules.specs.After.{Run, IsLegalRun}
+use Rattle.mem_machine.specs.Agreeing.{AgreesWithRun}
 use Rattle.mem_machine.specs.Interleaving.{zone_of}
 use Rattle.mem_history.specs.Whole.{ShowsAll}
-use Rattle.mem_history.proofs.Deciding.{legal_front}
-use Rattle.mem_history.proofs.Promised.{the_whole_is_promised}
-use Rattle.std.proofs.lemmas.Option.{none-some}
 use Rattle.mem_system.specs.Cpus.{parts_of}
 use Rattle.script_lines.specs.declared.line.Line.{Line}
-use Rattle.script_replay.specs.History.{HoldsPromise, Past, ServesAndKeeps, past, past_line}
-use Rattle.script_replay.specs.Lines.{SystemState}
-use Rattle.script_replay.specs.Terms.{Terms, terms}
+use Rattle.script_replay.specs.History.{KeepsPromise}
+use Rattle.script_replay.specs.Lines.{HasRun, RunGoesOn, SystemState}
+use Rattle.script_replay.specs.Terms.{terms}
 use Rattle.script_replay.proofs.Following.{shows_watched}
-use Rattle.script_replay.proofs.Going.{ServesAllAndKeeps, all_replayed, line_follows}
+use Rattle.script_replay.proofs.Gaining.{goes_on_none}
+use Rattle.script_replay.proofs.Keeping.{Follows, follows_both, legal_first, line_follows, line_kept, nothing_follows}
 use Rattle.line_server.specs.declared.form.SessionForm.{SessionForm}
 use Rattle.line_server.specs.declared.form.SessionForm.TheVariants.{Answers, Steps}
-use Rattle.line_server.specs.Forms.{session_terms}
-use Rattle.line_server.specs.Histories.{HasLoggedHistory, HasLoggedTurn, ReplaysTurns, served_answer, answers_of, lines_of, with_line}
-use Rattle.line_server.specs.Logs.{LogsLine, RenewsWatch}
+use Rattle.line_server.specs.Forms.{SessionTerms}
+use Rattle.line_server.specs.Histories.{LegalTurnsKeepIt, steps_in_form, steps_of_turn, steps_of_turns}
 use Rattle.line_server.specs.Sessions.{AnswersTurns}
-use Rattle.line_server.specs.Turns.{AnswersLine, Turn}
+use Rattle.line_server.specs.Turns.{AnswersLine, ServesInForm, Turn}
 
--- ---- answers
+module _ (on : SessionTerms) where
+  -- the run goes on to a longer one, which shows the state after, and then this holds too, if the ledger is that of the run
+  abbrev GoesOn : Run → SystemState → Run → SystemState → Type 0 → Type 0
+  GoesOn run s longer e Keeps = Follows on.frames run s longer e × (AgreesWithRun on.frames run s.locked.machine.ledger → Keeps)
 
--- the line of a turn, if one was served, was served so; else nothing was done
-abbrev KeptOne : Terms → Option Line → SystemState → SystemState → List ℕ → Type 0
-KeptOne on None s m answer = m ≡ s
-KeptOne on (Some line) s m answer = ServesAndKeeps on line s m answer
+  -- ---- a line that is served
 
-kept_one : (t : KnownTable) (is_explained : Bool) (sizes : Config) (number : ℕ) (text : Option (List ℕ)) (line : Option Line) (s m : SystemState)
-    (answer : List ℕ) → AnswersLine (session_terms t (Answers is_explained)) sizes number text line s m answer → KeptOne (terms t is_explained) line s m answer
-kept_one t is_explained sizes number None None s m answer one = one.1
-kept_one t is_explained sizes number None (Some line) s m answer one = absurd (none-some line (sym one.0))
-kept_one t is_explained sizes number (Some text) None s m answer one = one.0
-kept_one t is_explained sizes number (Some text) (Some line) s m answer one = one.1
+  served_keeps : (form : SessionForm) (run : Run) (text : List ℕ) (line : Line) (s e : SystemState) (answer : List ℕ)
+      → ShowsAll on.frames run s.locked.machine (parts_of s.cpus) → (one : ServesInForm form on.frames text line s e answer)
+      → IsLegalRun (zone_of on.frames) (run ++ steps_in_form form on.frames text line s e answer one)
+      → GoesOn run s (run ++ steps_in_form form on.frames text line s e answer one) e
+      (KeepsPromise on.frames (run ++ steps_in_form form on.frames text line s e answer one) e)
+  served_keeps (Answers is_explained) run text line s e answer shows one legal =
+      let goes = line_follows (terms on.frames is_explained) run line s e answer shows one legal in
+      (goes, λ told. line_kept (terms on.frames is_explained) run line s e answer one goes told)
+  served_keeps Steps run text line s e answer shows logs legal =
+      let begun = logs.begun in
+      let is = logs.renews.begun_is in
+      let shown : ShowsAll on.frames run begun.locked.machine (parts_of begun.cpus) =
+      subst (λ (x : SystemState). ShowsAll on.frames run x.locked.machine (parts_of x.cpus)) (sym is)
+      (shows_watched on.frames run s.locked.machine (parts_of s.cpus) logs.renews.watch shows) in
+      let was : AgreesWithRun on.frames run s.locked.machine.ledger → AgreesWithRun on.frames run begun.locked.machine.ledger =
+      subst (λ (x : SystemState). AgreesWithRun on.frames run x.locked.machine.ledger) (sym is) in
+      let goes = line_follows (terms on.frames true) run line begun e logs.answer shown logs.serves legal in (
+        record { shows = goes.shows; agrees = λ told. goes.agrees (was told) },
+        λ told. line_kept (terms on.frames true) run line begun e logs.answer logs.serves goes (was told),
+      )
 
--- a turn, and then lines that are served
-turn_and : (on : Terms) (line : Option Line) (answer : List ℕ) (lines : List Line) (s m e : SystemState) (rest : List ℕ) → KeptOne on line s m answer
-    → ServesAllAndKeeps on lines m e rest → ServesAllAndKeeps on (with_line line lines) s e (served_answer line answer ++ rest)
-turn_and on None answer lines s m e rest one all = subst (λ x. ServesAllAndKeeps on lines x e rest) one all
-turn_and on (Some line) answer lines s m e rest one all =
-    record { first = answer; rest = rest; between = m; serves_first = one; serves_rest = all; text_is = refl }
+  served_goes_on : (form : SessionForm) (text : List ℕ) (line : Line) (s e : SystemState) (answer : List ℕ)
+      → (one : ServesInForm form on.frames text line s e answer) → RunGoesOn (steps_in_form form on.frames text line s e answer one) s e
+  served_goes_on (Answers is_explained) text line s e answer one = one.goes_on
+  served_goes_on Steps text line s e answer logs earlier has =
+      logs.serves.goes_on earlier (subst (HasRun earlier) (sym logs.renews.begun_is) has)
 
-all_kept : (t : KnownTable) (is_explained : Bool) (sizes : Config) (number : ℕ) (turns : List Turn) (s e : SystemState)
-    → AnswersTurns (session_terms t (Answers is_explained)) sizes number turns s e
-    → ServesAllAndKeeps (terms t is_explained) (lines_of turns) s e (answers_of turns)
-all_kept t is_explained sizes number [] s e same = (refl, same)
-all_kept t is_explained sizes number (turn ∷ turns) s e all =
-    turn_and (terms t is_explained) turn.served turn.answer (lines_of turns) s all.0 e (answers_of turns)
-    (kept_one t is_explained sizes number turn.text turn.served s all.0 turn.answer all.1) (all_kept t is_explained sizes (number + 1) turns all.0 e all.2)
+  -- ---- a turn
 
--- ---- parts of a log
+  turn_keeps : (sizes : Config) (run : Run) (number : ℕ) (text : Option (List ℕ)) (served : Option Line) (s e : SystemState) (answer : List ℕ)
+      → ShowsAll on.frames run s.locked.machine (parts_of s.cpus) → (one : AnswersLine on sizes number text served s e answer)
+      → IsLegalRun (zone_of on.frames) (run ++ steps_of_turn on sizes number text served s e answer one)
+      → GoesOn run s (run ++ steps_of_turn on sizes number text served s e answer one) e
+      (IfSome served (λ line. KeepsPromise on.frames (run ++ steps_of_turn on sizes number text served s e answer one) e))
+  turn_keeps sizes run number None None s e answer shows one legal = (nothing_follows on.frames run s e [] refl one.1 shows, λ told. tt)
+  turn_keeps sizes run number None (Some line) s e answer shows one legal = absurd (none-some line (sym one.0))
+  turn_keeps sizes run number (Some text) None s e answer shows one legal = (nothing_follows on.frames run s e [] refl one.0 shows, λ told. tt)
+  turn_keeps sizes run number (Some text) (Some line) s e answer shows one legal = served_keeps on.form run text line s e answer shows one.1 legal
 
--- the promise holds after a line
-line_kept : (on : Terms) (run : Run) (line : Line) (s e : SystemState) (text : List ℕ) → ShowsAll on.frames run s.locked.machine (parts_of s.cpus)
-    → (keeps : ServesAndKeeps on line s e text) → IsLegalRun (zone_of on.frames) (run ++ keeps.serves.steps)
-    → HoldsPromise on.frames run s (run ++ keeps.serves.steps) e
-line_kept on run line s e text shows keeps legal =
-    let follows = line_follows on run line s e text shows keeps legal in record {
-      tells = follows.1;
-      promise = the_whole_is_promised on.frames (run ++ keeps.serves.steps) e.locked.machine (parts_of e.cpus) follows.0 keeps.sound.consistent
-          keeps.sound.charges;
-    }
+  turn_goes_on : (sizes : Config) (number : ℕ) (text : Option (List ℕ)) (served : Option Line) (s e : SystemState) (answer : List ℕ)
+      → (one : AnswersLine on sizes number text served s e answer) → RunGoesOn (steps_of_turn on sizes number text served s e answer one) s e
+  turn_goes_on sizes number None served s e answer one = subst (RunGoesOn [] s) (sym one.1) (goes_on_none s)
+  turn_goes_on sizes number (Some text) None s e answer one = subst (RunGoesOn [] s) (sym one.0) (goes_on_none s)
+  turn_goes_on sizes number (Some text) (Some line) s e answer one = served_goes_on on.form text line s e answer one.1
 
-module _ (t : KnownTable) where
-  -- a state is shown with a new watch too
-  renewed_shown : (run : Run) (before begun : SystemState) → RenewsWatch before begun → ShowsAll t run before.locked.machine (parts_of before.cpus)
-      → ShowsAll t run begun.locked.machine (parts_of begun.cpus)
-  renewed_shown run before begun renews shows = subst (λ (x : SystemState). ShowsAll t run x.locked.machine (parts_of x.cpus)) (sym renews.begun_is)
-      (shows_watched t run before.locked.machine (parts_of before.cpus) renews.watch shows)
+-- ---- all turns
 
-  -- what comes after a turn has its history, if that is so of each past in which the turn can end
-  turn_logged : (sizes : Config) (number : ℕ) (text : Option (List ℕ)) (line : Option Line) (answer : List ℕ) (before : Past) (m : SystemState)
-      (goes_on : SystemState → Type 0) (rest : Past → Type 0)
-      → (IsLegalRun (zone_of t) before.run → ShowsAll t before.run before.now.locked.machine (parts_of before.now.cpus))
-      → AnswersLine (session_terms t Steps) sizes number text line before.now m answer → goes_on m
-      → ((later : Past) → (IsLegalRun (zone_of t) later.run → ShowsAll t later.run later.now.locked.machine (parts_of later.now.cpus))
-      → goes_on later.now → rest later)
-      → HasLoggedTurn (terms t true) (unwrap_or text []) line before answer rest
-  turn_logged sizes number None None answer before m goes_on rest shows one more next = next before shows (subst goes_on one.1 more)
-  turn_logged sizes number None (Some line) answer before m goes_on rest shows one more next = absurd (none-some line (sym one.0))
-  turn_logged sizes number (Some text) None answer before m goes_on rest shows one more next = next before shows (subst goes_on one.0 more)
-  turn_logged sizes number (Some text) (Some line) answer before m goes_on rest shows one more next =
-      let logs : LogsLine (terms t true) text line before.now m answer = one.1 in
-      let steps : Run = logs.serves.serves.steps in
-      let shown : IsLegalRun (zone_of t) before.run → ShowsAll t before.run logs.begun.locked.machine (parts_of logs.begun.cpus)
-      = λ legal. renewed_shown before.run before.now logs.begun logs.renews (shows legal) in record {
-        between = m;
-        logs = logs;
-        kept_where_legal = λ legal. line_kept (terms t true) before.run line logs.begun m logs.answer (shown (legal_front (zone_of t) before.run steps legal)) logs.serves legal;
-        tells = next (past_line before steps m)
-            (λ legal. (line_follows (terms t true) before.run line logs.begun m logs.answer (shown (legal_front (zone_of t) before.run steps legal)) logs.serves legal).0) more;
-      }
+pub legal_turns_keep_it : LegalTurnsKeepIt
+legal_turns_keep_it on sizes number [] s e answers run shows legal = (nothing_follows on.frames run s e [] refl answers shows, λ told. tt)
+legal_turns_keep_it on sizes number (turn ∷ turns) s e answers run shows legal =
+    let mid = answers.0 in
+    let one = steps_of_turn on sizes number turn.text turn.served s mid turn.answer answers.1 in
+    let more = steps_of_turns on sizes (number + 1) turns mid e answers.2 in
+    let first = turn_keeps on sizes run number turn.text turn.served s mid turn.answer shows answers.1 (legal_first on.frames run one more legal) in
+    let rest = legal_turns_keep_it on sizes (number + 1) turns mid e answers.2 (run ++ one) first.0.shows
+    (subst (IsLegalRun (zone_of on.frames)) (sym (append_assoc run one more)) legal) in
+    (follows_both on.frames run s mid e one more first.0 rest.0, λ told. (first.1 told, rest.1 (first.0.agrees told)))
 
-  logged_history : (sizes : Config) (number : ℕ) (turns : List Turn) (before : Past) (e : SystemState)
-      → (IsLegalRun (zone_of t) before.run → ShowsAll t before.run before.now.locked.machine (parts_of before.now.cpus))
-      → AnswersTurns (session_terms t Steps) sizes number turns before.now e → HasLoggedHistory (terms t true) turns before e
-  logged_history sizes number [] before e shows same = same
-  logged_history sizes number (turn ∷ turns) before e shows all =
-      turn_logged sizes number turn.text turn.served turn.answer before all.0 (λ x. AnswersTurns (session_terms t Steps) sizes (number + 1) turns x e)
-      (λ later. HasLoggedHistory (terms t true) turns later e) shows all.1 all.2
-      (λ later shows_later rest. logged_history sizes (number + 1) turns later e shows_later rest)
-
--- ---- either
-
-pub turns_replayed : (form : SessionForm) (t : KnownTable) (sizes : Config) (turns : List Turn) (s e : SystemState)
-    → AnswersTurns (session_terms t form) sizes 1 turns s e → ReplaysTurns form t turns s e
-turns_replayed (Answers is_explained) t sizes turns s e all =
-    all_replayed (terms t is_explained) (lines_of turns) s e (answers_of turns) (all_kept t is_explained sizes 1 turns s e all)
-turns_replayed Steps t sizes turns s e all = λ run shows. logged_history t sizes 1 turns (past run s) e (λ legal. shows) all
+-- the run so far goes on by the lines of turns
+pub turns_go_on : (on : SessionTerms) (sizes : Config) (number : ℕ) (turns : List Turn) (s e : SystemState)
+    (answers : AnswersTurns on sizes number turns s e) → RunGoesOn (steps_of_turns on sizes number turns s e answers) s e
+turns_go_on on sizes number [] s e answers = subst (RunGoesOn [] s) (sym answers) (goes_on_none s)
+turns_go_on on sizes number (turn ∷ turns) s e answers earlier has =
+    let mid = answers.0 in
+    let one = steps_of_turn on sizes number turn.text turn.served s mid turn.answer answers.1 in
+    let more = steps_of_turns on sizes (number + 1) turns mid e answers.2 in
+    subst (λ (r : Run). HasRun r e) (append_assoc earlier one more)
+    (turns_go_on on sizes (number + 1) turns mid e answers.2 (earlier ++ one)
+    (turn_goes_on on sizes number turn.text turn.served s mid turn.answer answers.1 earlier has))

@@ -1,6 +1,5 @@
 pub mod Answered
 pub mod Commented
-pub mod GoingOn
 pub mod Histories
 pub mod Logged
 pub mod Sessions

@@ -7,7 +7,6 @@ use Rattle.step_watch.specs.Watched.{IsNewLog, KnownWatch, Watches, has_whole_lo
 use Rattle.mem_system.specs.Locked.{KnownLocked}
 use Rattle.script_lines.specs.declared.line.Line.{Line}
 use Rattle.script_replay.specs.Answers.{locked_with_watch}
-use Rattle.script_replay.specs.History.{ServesAndKeeps}
 use Rattle.script_replay.specs.Lines.{ServesLine, SystemState, system_state}
 use Rattle.script_replay.specs.Terms.{Terms}
 use Rattle.script_replay.proofs.Seeing.{line_seen}
@@ -29,11 +28,11 @@ line_watched : (on : Terms) (line : Line) (s e : SystemState) (answer : List ℕ
 line_watched on line s e answer one = line_seen on.frames on.is_explained line s one.steps e one.tells.plain one.tells.so
 
 module _ {T E : Type 0} (r : Result T E) (on : Terms) (text : List ℕ) (line : Line) (before begun after : SystemState) (answer old new : List ℕ)
-    (renews : RenewsWatch before begun) (serves : ServesAndKeeps on line begun after answer) where
+    (renews : RenewsWatch before begun) (serves : ServesLine on line begun after answer) where
   -- the line was served; its part was added, as far as the call succeeded
-  pub line_part : IfOk r (λ _. new ≡ old ++ line_log text line serves.serves.steps answer) → AddsPart r old new (LogsLine on text line before after)
+  pub line_part : IfOk r (λ _. new ≡ old ++ line_log text line serves.steps answer) → AddsPart r old new (LogsLine on text line before after)
   line_part added = record {
-    part = line_log text line serves.serves.steps answer;
+    part = line_log text line serves.steps answer;
     so = record { begun = begun; renews = renews; answer = answer; serves = serves; log_is = refl };
     added = added;
   }
@@ -44,11 +43,11 @@ module _ {T E : Type 0} (r : Result T E) (on : Terms) (text : List ℕ) (line : 
       → AddsPart r old new (LogsLine on text line before after)
   line_logged front both told is_front whole is_both is_told added =
       let named = line_comment text line in
-      let made = steps_text serves.serves.steps in
+      let made = steps_text serves.steps in
       let answered = answer_comments answer in
       let is_new : IsNewLog begun.locked.machine.run.watch = subst IsNewLog (sym (ap (λ (x : SystemState). x.locked.machine.run.watch) renews.begun_is)) renews.is_new in
-      let wrote : log_text after.locked.machine.run.watch ≡ made = wrote_alone begun.locked.machine.run.watch serves.serves.steps after.locked.machine.run.watch
-      is_new (line_watched on line begun after answer serves.serves) whole in
+      let wrote : log_text after.locked.machine.run.watch ≡ made = wrote_alone begun.locked.machine.run.watch serves.steps after.locked.machine.run.watch
+      is_new (line_watched on line begun after answer serves) whole in
       line_part (IfOk-weaker r _ _ (λ done is. is ∙ ap (λ (l : List ℕ). both ++ answer_comments l) is_told
       ∙ ap (λ (l : List ℕ). l ++ answered) (is_both ∙ ap (λ (l : List ℕ). front ++ l) wrote ∙ ap (λ (l : List ℕ). l ++ made) is_front)
       ∙ append_assoc (old ++ named) made answered ∙ append_assoc old named (made ++ answered)) added)

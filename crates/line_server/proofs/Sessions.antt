@@ -16,7 +16,6 @@ use Rattle.line_server.specs.Known.{KeepsTerms, KnownServer, terms_of}
 use Rattle.line_server.specs.Lines.{ReadsLine}
 use Rattle.line_server.specs.Turns.{AnswersTurn, Turn, turn_text}
 use Rattle.line_server.specs.Sessions.{AnswersTurns, EndsHere, FailsSession, FailsTurn, HoldsSession, ReadsTurns, ServesSession, WritesOne, session_text}
-use Rattle.line_server.proofs.Histories.{turns_replayed}
 
 -- ---- one turn more
 
@@ -53,7 +52,6 @@ module _ (on : SessionTerms) (sizes : Config) (count : ℕ) (input left : Option
   holds so_far = record {
     reads = so_far.reads;
     answers = so_far.answers;
-    replays = turns_replayed on.form on.frames sizes so_far.turns before between so_far.answers;
     written = so_far.written;
   }
 

@@ -1,100 +1,63 @@
 -- The history of a session's turns: what their steps are, and what holds after each line that was served.
-use Rattle.std.specs.Prelude.{◌≡◌, ℕ, true, List, [], ◌∷◌, ◌++◌, Option, None, Some, unwrap_or}
+use Rattle.std.specs.Prelude.{ℕ, ◌+◌, List, [], ◌∷◌, ◌++◌, Option, None, Some, IfSome}
 use Rattle.frame_word.specs.Seats.{KnownTable}
+use Rattle.zone_blocks.specs.declared.config.Config.{Config}
 use Rattle.step_rules.specs.After.{Run, IsLegalRun}
+use Rattle.mem_machine.specs.Agreeing.{AgreesWithRun}
 use Rattle.mem_machine.specs.Interleaving.{zone_of}
-use Rattle.mem_history.specs.Whole.{ShowsAll}
+use Rattle.mem_history.specs.Whole.{GoesOnTo, ShowsAll}
 use Rattle.mem_system.specs.Cpus.{parts_of}
 use Rattle.script_lines.specs.declared.line.Line.{Line}
-use Rattle.script_replay.specs.History.{HasHistory, HoldsPromise, Past, Replays, past, past_line, steps_of}
+use Rattle.script_replay.specs.History.{KeepsPromise}
 use Rattle.script_replay.specs.Lines.{SystemState}
-use Rattle.script_replay.specs.Terms.{Terms, terms}
 use Rattle.line_server.specs.declared.form.SessionForm.{SessionForm}
 use Rattle.line_server.specs.declared.form.SessionForm.TheVariants.{Answers, Steps}
-use Rattle.line_server.specs.Logs.{LogsLine}
-use Rattle.line_server.specs.Turns.{Turn}
+use Rattle.line_server.specs.Forms.{SessionTerms}
+use Rattle.line_server.specs.Sessions.{AnswersTurns}
+use Rattle.line_server.specs.Turns.{AnswersLine, ServesInForm, Turn}
 
--- the line, if there is one, and then these
-abbrev pub with_line : Option Line → List Line → List Line
-with_line None lines = lines
-with_line (Some line) lines = line ∷ lines
+-- the steps by which a line is served in this form
+abbrev pub steps_in_form : (form : SessionForm) (frames : KnownTable) (text : List ℕ) (line : Line)
+    (before after : SystemState) (answer : List ℕ) → ServesInForm form frames text line before after answer → Run
+steps_in_form (Answers is_explained) frames text line before after answer serves = serves.steps
+steps_in_form Steps frames text line before after answer logs = logs.serves.steps
 
--- the lines that were served in these turns
-abbrev pub lines_of : List Turn → List Line
-lines_of [] = []
-lines_of (turn ∷ turns) = with_line turn.served (lines_of turns)
+-- the steps of a turn: none if no line was served
+abbrev pub steps_of_turn : (on : SessionTerms) (sizes : Config) (number : ℕ) (text : Option (List ℕ))
+    (served : Option Line) (before after : SystemState) (answer : List ℕ)
+    → AnswersLine on sizes number text served before after answer → Run
+steps_of_turn on sizes number None served before after answer one = []
+steps_of_turn on sizes number (Some text) None before after answer one = []
+steps_of_turn on sizes number (Some text) (Some line) before after answer one =
+    steps_in_form on.form on.frames text line before after answer one.1
 
--- the answer, if a line was served
-abbrev pub served_answer : Option Line → List ℕ → List ℕ
-served_answer None answer = []
-served_answer (Some line) answer = answer
+-- the steps of turns, one after the other
+abbrev pub steps_of_turns : (on : SessionTerms) (sizes : Config) (number : ℕ) (turns : List Turn)
+    (before after : SystemState) → AnswersTurns on sizes number turns before after → Run
+steps_of_turns on sizes number [] before after answers = []
+steps_of_turns on sizes number (turn ∷ turns) before after answers =
+    steps_of_turn on sizes number turn.text turn.served before answers.0 turn.answer answers.1
+    ++ steps_of_turns on sizes (number + 1) turns answers.0 after answers.2
 
--- and the answers of these lines
-abbrev pub answers_of : List Turn → List ℕ
-answers_of [] = []
-answers_of (turn ∷ turns) = served_answer turn.served turn.answer ++ answers_of turns
+-- After each line that was served in these turns, the promise holds of the run so far, and the ledger has its peaks and
+-- event counts. The run before the first turn is `run`.
+abbrev pub TurnsKeepPromise : (on : SessionTerms) (sizes : Config) (number : ℕ) (turns : List Turn)
+    (before after : SystemState) → AnswersTurns on sizes number turns before after → (run : Run) → Type 0
+TurnsKeepPromise on sizes number [] before after answers run = Unit {0}
+TurnsKeepPromise on sizes number (turn ∷ turns) before after answers run =
+    IfSome turn.served (λ line. KeepsPromise on.frames
+    (run ++ steps_of_turn on sizes number turn.text turn.served before answers.0 turn.answer answers.1) answers.0)
+    × TurnsKeepPromise on sizes (number + 1) turns answers.0 after answers.2
+    (run ++ steps_of_turn on sizes number turn.text turn.served before answers.0 turn.answer answers.1)
 
--- The part of a log of a line with this text. If the run so far with the line's steps is legal, the promise holds after
--- it, and the ledger keeps the peaks and event counts of the run: to begin with a new watch changes no ledger. What
--- comes next has its history from there on.
-pub record HasLoggedLine (terms : Terms) (text : List ℕ) (line : Line) (past : Past) (log : List ℕ)
-    (has_rest : Past → Type 0) : Type 0 where
-  pub between : SystemState
-  pub logs : LogsLine terms text line past.now between log
-  pub kept_where_legal : IsLegalRun (zone_of terms.frames) (past.run ++ logs.serves.serves.steps)
-      → HoldsPromise terms.frames past.run logs.begun (past.run ++ logs.serves.serves.steps) between
-  pub tells : has_rest (past_line past logs.serves.serves.steps between)
-
--- the same for the line of a turn, if one was served
-abbrev pub HasLoggedTurn : Terms → (text : List ℕ) → Option Line → Past → (log : List ℕ) → (Past → Type 0) → Type 0
-HasLoggedTurn terms text None past log has_rest = has_rest past
-HasLoggedTurn terms text (Some line) past log has_rest = HasLoggedLine terms text line past log has_rest
-
--- The history of turns for which parts of a log are written. All steps of the lines that were served are one run. After
--- each line the promise holds if the steps so far are a legal run.
-abbrev pub HasLoggedHistory : Terms → List Turn → Past → (after : SystemState) → Type 0
-HasLoggedHistory terms [] past after = after ≡ past.now
-HasLoggedHistory terms (turn ∷ turns) past after =
-    HasLoggedTurn terms (unwrap_or turn.text []) turn.served past turn.answer
-    (λ later. HasLoggedHistory terms turns later after)
-
--- the steps of the line of a turn, if one was served, and then of what comes next
-abbrev pub steps_of_turn : (terms : Terms) (text : List ℕ) (line : Option Line) (past : Past) (log : List ℕ)
-    (has_rest : Past → Type 0) → ((later : Past) → has_rest later → Run)
-    → HasLoggedTurn terms text line past log has_rest → Run
-steps_of_turn terms text None past log has_rest steps_of_rest history = steps_of_rest past history
-steps_of_turn terms text (Some line) past log has_rest steps_of_rest history = history.logs.serves.serves.steps
-    ++ steps_of_rest (past_line past history.logs.serves.serves.steps history.between) history.tells
-
--- the steps of all lines of turns for which parts of a log are written
-abbrev pub steps_of_logged : (terms : Terms) (turns : List Turn) (past : Past) (after : SystemState)
-    → HasLoggedHistory terms turns past after → Run
-steps_of_logged terms [] past after history = []
-steps_of_logged terms (turn ∷ turns) past after history =
-    steps_of_turn terms (unwrap_or turn.text []) turn.served past turn.answer
-    (λ later. HasLoggedHistory terms turns later after) (λ later rest. steps_of_logged terms turns later after rest)
-    history
-
--- the history of turns in either form
-abbrev pub HasTurnsHistory : SessionForm → KnownTable → List Turn → Past → (after : SystemState)
-    → Type 0
-HasTurnsHistory (Answers is_explained) frames turns past after =
-    HasHistory (terms frames is_explained) (lines_of turns) past after (answers_of turns)
-HasTurnsHistory Steps frames turns past after = HasLoggedHistory (terms frames true) turns past after
-
--- the steps of all lines that were served
-abbrev pub steps_of_turns : (form : SessionForm) (frames : KnownTable) (turns : List Turn)
-    (past : Past) (after : SystemState) → HasTurnsHistory form frames turns past after → Run
-steps_of_turns (Answers is_explained) frames turns past after history =
-    steps_of (terms frames is_explained) (lines_of turns) past after (answers_of turns) history
-steps_of_turns Steps frames turns past after history =
-    steps_of_logged (terms frames true) turns past after history
-
--- the turns have a history from each run that shows the state before them
-abbrev pub ReplaysTurns : SessionForm → KnownTable → List Turn → (before after : SystemState)
-    → Type 0
-ReplaysTurns (Answers is_explained) frames turns before after =
-    Replays (terms frames is_explained) (lines_of turns) before after (answers_of turns)
-ReplaysTurns Steps frames turns before after =
-    (run : Run) → ShowsAll frames run before.locked.machine (parts_of before.cpus)
-    → HasLoggedHistory (terms frames true) turns (past run before) after
+-- If a run shows the state before turns, and goes on legally with their steps, it then shows the state after them. If the
+-- ledger before has the peaks and event counts of that run, the turns keep the promise.
+abbrev pub LegalTurnsKeepIt : Type 0
+LegalTurnsKeepIt = (on : SessionTerms) (sizes : Config) (number : ℕ) (turns : List Turn) (before after : SystemState)
+    (answers : AnswersTurns on sizes number turns before after) (run : Run)
+    → ShowsAll on.frames run before.locked.machine (parts_of before.cpus)
+    → IsLegalRun (zone_of on.frames) (run ++ steps_of_turns on sizes number turns before after answers)
+    → GoesOnTo on.frames run before.locked.machine (run ++ steps_of_turns on sizes number turns before after answers)
+    after.locked.machine (parts_of after.cpus)
+    × (AgreesWithRun on.frames run before.locked.machine.ledger
+    → TurnsKeepPromise on sizes number turns before after answers run)

@@ -8,8 +8,7 @@ use Rattle.script_lines.specs.declared.line.Line.{Line}
 use Rattle.script_lines.specs.declared.line.Line.TheVariants.{Go, At}
 use Rattle.script_lines.specs.Script.{texts_of}
 use Rattle.script_replay.specs.Answers.{locked_with_watch}
-use Rattle.script_replay.specs.History.{ServesAndKeeps}
-use Rattle.script_replay.specs.Lines.{SystemState, system_state}
+use Rattle.script_replay.specs.Lines.{ServesLine, SystemState, system_state}
 use Rattle.script_replay.specs.Terms.{Terms}
 
 -- ---- comments
@@ -67,8 +66,8 @@ pub record LogsLine (terms : Terms) (text : List ℕ) (line : Line) (before afte
   pub begun : SystemState
   pub renews : RenewsWatch before begun
   pub answer : List ℕ
-  pub serves : ServesAndKeeps terms line begun after answer
-  pub log_is : log ≡ line_log text line serves.serves.steps answer
+  pub serves : ServesLine terms line begun after answer
+  pub log_is : log ≡ line_log text line serves.steps answer
 
 -- A call that adds to a log. There is a part of it of which `is_part` holds, whether or not memory was available for
 -- it. If the call succeeds, that part was added.

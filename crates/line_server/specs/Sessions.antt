@@ -8,7 +8,6 @@ use Rattle.line_server.specs.Writing.{AppendsBeginning}
 use Rattle.line_server.specs.declared.fault.ServeFault.{ServeFault}
 use Rattle.line_server.specs.declared.fault.ServeFault.TheVariants.{Input, Output, NoMemory}
 use Rattle.line_server.specs.Forms.{SessionTerms}
-use Rattle.line_server.specs.Histories.{ReplaysTurns}
 use Rattle.line_server.specs.Lines.{EndsAt, ReadsLine}
 use Rattle.line_server.specs.Turns.{AnswersTurn, ServesAtMost, Turn, turn_text}
 
@@ -30,12 +29,11 @@ abbrev pub session_text : List Turn → List ℕ
 session_text turns = flat_map turn_text turns
 
 -- Turns of a session: their lines were read one after the other, each was answered, and the output got their answers,
--- each with an empty line behind it. The lines that were served have a history.
+-- each with an empty line behind it.
 pub record HoldsSession (on : SessionTerms) (sizes : Config) (turns : List Turn) (input left : Option (List ℕ))
     (before after : SystemState) (output now : Option (List ℕ)) : Type 0 where
   pub reads : ReadsTurns turns input left
   pub answers : AnswersTurns on sizes 1 turns before after
-  pub replays : ReplaysTurns on.form on.frames turns before after
   pub written : Appends output now (session_text turns)
 
 -- a session up to its end

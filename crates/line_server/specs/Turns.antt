@@ -5,8 +5,7 @@ use Rattle.frame_word.specs.Seats.{KnownTable}
 use Rattle.zone_blocks.specs.declared.config.Config.{Config}
 use Rattle.script_lines.specs.Script.{IsLineText, is_skipped}
 use Rattle.script_lines.specs.declared.line.Line.{Line}
-use Rattle.script_replay.specs.History.{ServesAndKeeps}
-use Rattle.script_replay.specs.Lines.{SystemState}
+use Rattle.script_replay.specs.Lines.{ServesLine, SystemState}
 use Rattle.script_replay.specs.Terms.{terms}
 use Rattle.line_server.specs.declared.form.SessionForm.{SessionForm}
 use Rattle.line_server.specs.declared.form.SessionForm.TheVariants.{Answers, Steps}
@@ -25,7 +24,7 @@ pub record Turn : Type 0 where
 abbrev pub ServesInForm : SessionForm → KnownTable → (text : List ℕ) → Line
     → (before after : SystemState) → (answer : List ℕ) → Type 0
 ServesInForm (Answers is_explained) frames text line before after answer =
-    ServesAndKeeps (terms frames is_explained) line before after answer
+    ServesLine (terms frames is_explained) line before after answer
 ServesInForm Steps frames text line before after answer =
     LogsLine (terms frames true) text line before after answer
 

@@ -11,6 +11,7 @@ mod comments;
 pub mod fault;
 pub mod form;
 mod input_line;
+pub mod laws;
 mod logging;
 pub mod reading;
 mod refusing;

@@ -52,7 +52,7 @@ changes_behind seat (e ∷ steps) run h =
 pub grew_number : (before : Past) (steps : Run) (later : Past) → GrewByAll before steps later → later.number ≡ before.number
 grew_number before steps later grew = (gained before steps later grew).number
 
--- what a seat changes behind a beginning, and then behind a longer one
+-- what a seat changes after a beginning, and then after a longer one
 pub follow_both : (seat : ℕ) (a one b two c : Run) → ChangesFollow seat a one b → ChangesFollow seat b two c → ChangesFollow seat a (one ++ two) c
 follow_both seat a one b two c f g = record {
   rest = f.rest ++ g.rest;

@@ -15,14 +15,14 @@ use Rattle.boot_words.specs.Runs.{OthersFollow}
 use Rattle.mem_system.specs.Boots.{IsSizedAs, KnownSystem}
 use Rattle.mem_system.specs.Cpus.{CpuInRun, pasts_of}
 use Rattle.script_lines.specs.declared.line.Line.{Line}
-use Rattle.script_replay.specs.History.{Replays, past, steps_of}
-use Rattle.script_replay.specs.Lines.{HasRun, SystemState}
+use Rattle.script_replay.specs.Lines.{HasRun, ServesAll, SystemState, steps_of_served}
 use Rattle.script_replay.specs.Ranges.{LineInRange}
 use Rattle.script_replay.specs.Terms.{boot_tables, numbered_terms}
 use Rattle.script_replay.specs.Each.{AreAllAnswers, workers_from}
 use Rattle.script_replay.specs.Runs.{lines_before_go}
 use Rattle.script_replay.specs.Visits.{GrewByChanges}
-use Rattle.script_replay.proofs.Seeing.{all_lines_go_on, legal_histories_keep_it}
+use Rattle.script_replay.proofs.Gaining.{all_lines_go_on}
+use Rattle.script_replay.proofs.Keeping.{legal_lines_keep_it}
 use Rattle.load_run.specs.declared.boot_end.BootEnd.{BootEnd}
 use Rattle.load_run.specs.Answers.{AreThreadAnswers, IsNewBootState, IsQuietSystem}
 use Rattle.load_run.specs.Ending.{EndsHeld, boot_end_text}
@@ -135,19 +135,18 @@ same_some a b e = cc
 pub are_answers : (sizes : Config) (is_numbered is_audited : Bool) (t : KnownTable) (lines first_lines other_lines : List Line)
     (start replayed at_go end at_end : SystemState) (early later text : List ℕ) (told : List Run) (ended : BootEnd) → IsNewBootState sizes t start
     → first_lines ≡ take (lines_before_go lines) lines → other_lines ≡ drop (lines_before_go lines) lines
-    → Replays (numbered_terms t false is_numbered) first_lines start replayed early → SeesAllPasts t replayed at_go
+    → ServesAll (numbered_terms t false is_numbered) first_lines start replayed early → SeesAllPasts t replayed at_go
     → AreAllAnswers (boot_tables t sizes) (workers_from 1 at_go.cpus other_lines is_numbered) end.cpus told later
     → IsQuietSystem t end → SeesAllPasts t end at_end → EndsHeld t at_end ended
     → text ≡ (early ++ later) ++ boot_end_text is_audited ended → AreThreadAnswers sizes is_numbered is_audited lines text
-are_answers sizes is_numbered is_audited t lines first_lines other_lines start replayed at_go end at_end early later text told ended new is_first is_other served
+are_answers sizes is_numbered is_audited t lines first_lines other_lines start replayed at_go end at_end early later text told ended new is_first is_other first
     sees all quiet sees_end ends is =
     let on = numbered_terms t false is_numbered in
     let front = take (lines_before_go lines) lines in
-    let replays = subst (λ (l : List Line). Replays on l start replayed early) is_first served in
+    let served = subst (λ (l : List Line). ServesAll on l start replayed early) is_first first in
     let tells = subst (λ (l : List Line). AreAllAnswers (boot_tables t sizes) (workers_from 1 at_go.cpus l is_numbered) end.cpus told later) is_other all in
-    let history = replays.history [] (boot_shown _ _ _ new) in
-    let run : Run = steps_of on front (past [] start) replayed early history in
-    let has : HasRun run replayed = all_lines_go_on on front (past [] start) replayed early history [] new.so_far in
+    let run : Run = steps_of_served on front start replayed early served in
+    let has : HasRun run replayed = all_lines_go_on on front start replayed early served [] new.so_far in
     let rest = drop (lines_before_go lines) lines in
     let z = own_past at_go.locked.machine.run.past in
     let told_at = tells_at (boot_tables t sizes) 1 at_go.cpus end.cpus rest is_numbered told later tells in
@@ -170,8 +169,8 @@ are_answers sizes is_numbered is_audited t lines first_lines other_lines start r
       later = later;
       ending = boot_end_text is_audited ended;
       first = new;
-      served = replays.served;
-      history = legal_histories_keep_it on front (past [] start) replayed early history (sees.steps_legal run has) (boot_agrees _ _ _ new);
+      served = served;
+      history = legal_lines_keep_it on front start replayed early served [] (boot_shown _ _ _ new) (sees.steps_legal run has) (boot_agrees _ _ _ new);
       agrees = boot_agrees _ _ _ new;
       sees = sees;
       tells = tells;

@@ -93,11 +93,11 @@ logs_go_on on texts [] s e log logs = λ earlier has.
     subst (λ (x : SystemState). HasRun (earlier ++ []) x) (sym logs.1) (subst (λ (r : Run). HasRun r s) (sym (append-nil earlier)) has)
 logs_go_on on texts (line ∷ lines) s e log logs = λ earlier has.
     let first = logs.serves_first in
-    let steps : Run = first.serves.serves.steps in
+    let steps : Run = first.serves.steps in
     let rest : Run = steps_of_logs on texts lines logs.between e logs.rest logs.serves_rest in
     let begun : HasRun earlier first.begun = subst (HasRun earlier) (sym first.renews.begun_is) has in
     subst (λ (r : Run). HasRun r e) (append_assoc earlier steps rest)
-    (logs_go_on on texts lines logs.between e logs.rest logs.serves_rest (earlier ++ steps) (first.serves.serves.goes_on earlier begun))
+    (logs_go_on on texts lines logs.between e logs.rest logs.serves_rest (earlier ++ steps) (first.serves.goes_on earlier begun))
 
 -- all steps of a log and of its end are those of a whole run
 pub logs_whole : (t : KnownTable) (texts : List (List ℕ)) (lines : List Line) (s : SystemState) (log : List ℕ) → HasRun [] s

@@ -7,19 +7,17 @@ use Rattle.std.specs.Io.KnownBytes.{Appends}
 use Rattle.frame_word.specs.Seats.{KnownTable}
 use Rattle.zone_blocks.specs.declared.config.Config.{Config}
 use Rattle.zone_blocks.specs.Config.{IsValidConfig}
-use Rattle.mem_system.specs.Cpus.{parts_of}
-use Rattle.mem_history.specs.Whole.{ShowsAll}
+use Rattle.mem_history.proofs.Along.{legal_front}
 use Rattle.step_rules.specs.After.{Run}
 use Rattle.mem_machine.specs.Interleaving.{zone_of}
 use Rattle.script_replay.specs.Lines.{HasRun, SystemState}
-use Rattle.script_replay.specs.History.{past}
 use Rattle.line_server.specs.declared.form.SessionForm.{SessionForm}
 use Rattle.line_server.specs.declared.form.SessionForm.TheVariants.{Answers, Steps}
 use Rattle.line_server.specs.Forms.{SessionTerms, session_terms}
-use Rattle.line_server.specs.Histories.{HasTurnsHistory, ReplaysTurns, steps_of_turns}
-use Rattle.line_server.proofs.GoingOn.{turns_go_on}
+use Rattle.line_server.specs.Histories.{steps_of_turns}
+use Rattle.line_server.proofs.Histories.{legal_turns_keep_it, turns_go_on}
 use Rattle.line_server.specs.Known.{KnownServer, terms_of}
-use Rattle.line_server.specs.Turns.{GivesAnswer, Turn}
+use Rattle.line_server.specs.Turns.{GivesAnswer}
 use Rattle.line_server.specs.Sessions.{FailsSession, ServesSession}
 use Rattle.line_server.specs.declared.fault.ServeFault.{ServeFault}
 use Rattle.line_server.specs.declared.fault.ServeFault.TheVariants as serve
@@ -141,12 +139,6 @@ head_missed form sizes before is = subst (λ (f : SessionForm). BeginsHead f siz
 
 -- ---- on a boot
 
--- turns that are replayed from a boot have their history
-history_of : (form : SessionForm) (t : KnownTable) (turns : List Turn) (start end : SystemState) → ShowsAll t [] start.locked.machine (parts_of start.cpus)
-    → ReplaysTurns form t turns start end → HasTurnsHistory form t turns (past [] start) end
-history_of (Answers is_explained) t turns start end shows replays = replays.history [] shows
-history_of Steps t turns start end shows replays = replays [] shows
-
 -- if a run led to the end of a session, it and the steps of the end are all steps of the boot
 end_whole : (form : SessionForm) (t : KnownTable) (is_audited : Bool) (run : Run) (end : SystemState) (text : List ℕ) → HasRun run end
     → (ends : EndsInForm form t is_audited end text)
@@ -171,21 +163,24 @@ module _ (options : Options) (form : SessionForm) (t : KnownTable) (server : Kno
       → EndsInForm form t options.is_audited left ending → EndsSession options form input before middle ending
   session_ends input before middle end left ending serves is ends =
       let session = as_made (λ on sizes s. ServesSession on sizes input s end before middle) serves in
-      let history = history_of form t session.turns start end (boot_shown _ _ _ new) session.holds.replays in
+      let on = session_terms t form in
+      let answers = session.holds.answers in
+      let run = steps_of_turns on options.sizes 1 session.turns start end answers in
       let end_is = subst (λ (s : SystemState). EndsInForm form t options.is_audited s ending) is ends in
+      let all = end_whole form t options.is_audited run end ending (turns_go_on on options.sizes 1 session.turns start end answers [] new.so_far) end_is in
+      let legal = legal_front (zone_of t) run (steps_of_end form t options.is_audited end ending end_is) all.leads.legal in
       record {
         frames = t;
         start = start;
         end = end;
         first = new;
         session = session;
-        history = history;
+        history = (legal_turns_keep_it on options.sizes 1 session.turns start end answers [] (boot_shown _ _ _ new) legal).1 (boot_agrees _ _ _ new);
         agrees = boot_agrees _ _ _ new;
         ends = end_is;
-        whole = steps_of_turns form t session.turns (past [] start) end history ++ steps_of_end form t options.is_audited end ending end_is;
+        whole = run ++ steps_of_end form t options.is_audited end ending end_is;
         whole_is = refl;
-        is_whole = end_whole form t options.is_audited (steps_of_turns form t session.turns (past [] start) end history) end ending
-            (turns_go_on form t session.turns (past [] start) end history [] new.so_far) end_is;
+        is_whole = all;
       }
 
   -- or the session failed

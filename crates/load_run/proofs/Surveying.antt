@@ -170,7 +170,7 @@ module _ (t : KnownTable) where
   -- ---- two rounds
 
   -- Let the zone have seen this run after the first round. Each CPU's past before and after that round is a beginning of it,
-  -- and at the second round the CPU sees it, and nothing of its own behind the beginning.
+  -- and at the second round the CPU sees it, and nothing of its own after the beginning.
   two_rounds : (seen : Run) (m : KnownMachine) (cpus : List CpuInRun) (n : KnownMachine) (mid : List CpuInRun) (x y : KnownMachine) (last : List CpuInRun)
       → Round m cpus n mid → Round x mid y last → seen ≡ (own_past n.run.past).seen → (more : Run) → (own_past x.run.past).seen ≡ seen ++ more
       → AllOf (HasPast seen) (pasts_of cpus) × AllOf (IsPastOf seen) (pasts_of mid) × AllOf (HasSeen seen) (pasts_of last)

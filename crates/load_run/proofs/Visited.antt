@@ -63,7 +63,7 @@ which_first (x ∷ xs) us (y ∷ ys) vs e =
     others_of [] = []
     others_of (z ∷ l) = l
 
--- Behind the zone's past and steps of others, the CPU and the zone's seat have made just these steps.
+-- After the zone's past and steps of others, the CPU and the zone's seat have made just these steps.
 pub record IsBehind (cpu : ℕ) (lock : Step × Answer) (steps seen run : Run) : Type 0 where
   pub gap : Run
   pub rest : Run

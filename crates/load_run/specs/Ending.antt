@@ -29,7 +29,7 @@ use Rattle.load_run.specs.declared.boot_end.CheckedSteps.{CheckedSteps}
 abbrev pub put_steps : (cpu frame : ℕ) → Put → Run
 put_steps cpu frame answer = cpu_makes cpu (step.Put frame) (put_answer answer) ∷ []
 
--- A pin of this frame is put, and the machine's watch takes the step. The pasts of the zone and of the CPU gain it behind
+-- A pin of this frame is put, and the machine's watch takes the step. The pasts of the zone and of the CPU gain it after
 -- all that the zone's past had.
 pub record PutsHeldPin (frame : ℕ) (before after : MachineAndCpu) : Type 0 where
   pub answer : Put

@@ -75,7 +75,7 @@ pub record LogsAllAndEnd (table : KnownTable) (texts : List (List ℕ))
 abbrev pub steps_of_logs : (terms : Terms) (texts : List (List ℕ)) (lines : List Line) (before after : SystemState)
     (log : List ℕ) → LogsAll terms texts lines before after log → Run
 steps_of_logs terms texts [] before after log logs = []
-steps_of_logs terms texts (line ∷ lines) before after log logs = logs.serves_first.serves.serves.steps
+steps_of_logs terms texts (line ∷ lines) before after log logs = logs.serves_first.serves.steps
     ++ steps_of_logs terms texts lines logs.between after logs.rest logs.serves_rest
 
 -- The steps of a boot with these sizes, as a log: the sizes; then for each line of the script a comment, the steps by

@@ -8,14 +8,13 @@ use Rattle.boot_words.specs.Words.{Words}
 use Rattle.step_rules.specs.After.{Run}
 use Rattle.mem_machine.specs.Interleaving.{zone_of}
 use Rattle.mem_machine.specs.Agreeing.{AgreesWithRun}
-use Rattle.script_replay.specs.History.{past}
 use Rattle.script_replay.specs.Lines.{SystemState}
 use Rattle.line_server.specs.declared.fault.ServeFault.{ServeFault}
 use Rattle.line_server.specs.declared.fault.ServeFault.TheVariants as serve
 use Rattle.line_server.specs.declared.form.SessionForm.{SessionForm}
 use Rattle.line_server.specs.declared.form.SessionForm.TheVariants.{Answers, Steps}
 use Rattle.line_server.specs.Forms.{session_terms}
-use Rattle.line_server.specs.Histories.{HasTurnsHistory, steps_of_turns}
+use Rattle.line_server.specs.Histories.{TurnsKeepPromise, steps_of_turns}
 use Rattle.line_server.specs.Sessions.{FailsSession, ServesSession}
 use Rattle.load_options.specs.declared.fault.WordsFault.TheVariants as words
 use Rattle.load_options.specs.declared.task.Options.{Options}
@@ -48,8 +47,8 @@ words_of_end Steps frames is_audited before text ends = last_words ends.ends.clo
 
 -- A new boot served a session on an input, and ended. `middle` is what the output holds after the session, and `ending`
 -- the text of the end, if there is one. `whole` is all steps of the lines that were served, and then of the end, from the
--- boot on. Its history says of each line that the promise is kept after it, as each beginning of the run is legal. The
--- ledger of the boot is that of a run without steps.
+-- boot on. After each line that was served the promise holds of what the machine and the CPUs show, and each group's peak
+-- and event counts are those of the run so far, as the ledger of the boot is that of a run without steps.
 pub record EndsSession (options : Options) (form : SessionForm) (input before middle : Option (List ℕ))
     (ending : List ℕ) : Type 0 where
   pub frames : KnownTable
@@ -57,22 +56,24 @@ pub record EndsSession (options : Options) (form : SessionForm) (input before mi
   pub end : SystemState
   pub first : IsNewBootState options.sizes frames start
   pub session : ServesSession (session_terms frames form) options.sizes input start end before middle
-  pub history : HasTurnsHistory form frames session.turns (past [] start) end
+  pub history : TurnsKeepPromise (session_terms frames form) options.sizes 1 session.turns start end
+      session.holds.answers []
   pub agrees : AgreesWithRun frames [] start.locked.machine.ledger
   pub ends : EndsInForm form frames options.is_audited end ending
   pub whole : Run
-  pub whole_is : whole ≡ steps_of_turns form frames session.turns (past [] start) end history
+  pub whole_is : whole
+      ≡ steps_of_turns (session_terms frames form) options.sizes 1 session.turns start end session.holds.answers
       ++ steps_of_end form frames options.is_audited end ending ends
   pub is_whole : IsWholeRun (zone_of frames) (words_of_end form frames options.is_audited end ending ends) whole
 
--- a session ended, and all of the text of its end was written behind its answers
+-- a session ended, and all of the text of its end was written after its answers
 pub record ServesInput (options : Options) (form : SessionForm) (input before after : Option (List ℕ)) : Type 0 where
   pub middle : Option (List ℕ)
   pub ending : List ℕ
   pub ends : EndsSession options form input before middle ending
   pub written : Appends middle after ending
 
--- a session ended, and a beginning of the text of its end was written behind its answers
+-- a session ended, and a beginning of the text of its end was written after its answers
 pub record BeginsEnding (options : Options) (form : SessionForm) (input before after : Option (List ℕ)) : Type 0 where
   pub middle : Option (List ℕ)
   pub ending : List ℕ

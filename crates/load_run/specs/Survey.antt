@@ -19,7 +19,7 @@ abbrev pub changes_by : ℕ → Run → Run
 changes_by seat run = filter (λ made. made.0.seat == seat && not (changes_nothing made.1)) run
 
 -- The run is `seen`, and then the steps of this seat are its steps among these, in their order, but for steps that change
--- nothing. Others' steps may be anywhere behind `seen`.
+-- nothing. Others' steps may be anywhere after `seen`.
 pub record ChangesFollow (seat : ℕ) (seen steps run : Run) : Type 0 where
   pub rest : Run
   pub is : run ≡ seen ++ rest

@@ -32,7 +32,7 @@ pub struct CheckedSteps {
     pub steps: u64,
 }
 
-// Puts a pin of the frame. The zone and the CPU see the same run before it and after it, so the zone knows the step behind
+// Puts a pin of the frame. The zone and the CPU see the same run before it and after it, so the zone knows the step after
 // all steps before it. The machine's watch takes it.
 fn put_pin<N: BootName>(locked: &mut Locked<N>, tables: &Tables<N>, cpu: &mut Cpu<N>, frame: Frame)
     requires pinned { 1 ≤ times frame cpu.old.part.pins }

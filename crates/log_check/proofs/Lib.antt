@@ -2,6 +2,4 @@ pub mod Bytes
 pub mod Exact
 pub mod Parts
 pub mod Steps
-pub mod AllMet
-pub mod Childless
 pub mod Pieces

@@ -3,6 +3,5 @@ pub mod Reading
 pub mod Taking
 pub mod Texts
 pub mod Verdicts
-pub mod Conditions
 pub mod Reasons
 pub mod ReasonTexts

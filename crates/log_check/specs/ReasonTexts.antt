@@ -11,9 +11,9 @@ use Rattle.step_rules.specs.declared.phase.Stage.TheVariants.{FreshAt, FreshPass
 use Rattle.step_rules.specs.declared.phase.Stage.TheVariants.{BackPassing, AwaitsReturn}
 use Rattle.step_rules.specs.declared.phase.Phase.{Phase}
 use Rattle.step_rules.specs.declared.phase.Phase.TheVariants.{InZone, Lent, Head, Tail}
-use Rattle.log_check.specs.declared.reason.Quantity.{Quantity}
-use Rattle.log_check.specs.declared.reason.Quantity.TheVariants.{Own, References, Pins, Listed, Fresh, Unreported}
-use Rattle.log_check.specs.declared.reason.Quantity.TheVariants.{Reported, InStock, Pending, Usage}
+use Rattle.mem_core.specs.declared.quantity.Quantity.{Quantity}
+use Rattle.mem_core.specs.declared.quantity.Quantity.TheVariants.{Own, References, Pins, Listed, Fresh, Unreported}
+use Rattle.mem_core.specs.declared.quantity.Quantity.TheVariants.{Reported, InStock, Pending, Usage}
 use Rattle.log_check.specs.declared.reason.Reason.{Reason}
 use Rattle.log_check.specs.declared.reason.Reason.TheVariants as why
 

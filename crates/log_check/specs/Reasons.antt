@@ -17,17 +17,17 @@ use Rattle.step_rules.specs.Phases.{ListFrame, has_as, is_free, is_passing}
 use Rattle.step_rules.specs.State.{State, free_in, front_of, live_references}
 use Rattle.step_rules.specs.Usage.{usage_of}
 use Rattle.step_rules.specs.Legal.{IsAnswer, is_legal, rests}
-use Rattle.log_check.specs.declared.reason.Quantity.TheVariants.{InStock, Pending, References, Reported}
+use Rattle.mem_core.specs.declared.quantity.Quantity.TheVariants.{InStock, Pending, References, Reported}
 use Rattle.log_check.specs.declared.reason.Reason.{Reason}
 use Rattle.log_check.specs.declared.reason.Reason.TheVariants as why
-use Rattle.log_check.specs.declared.conditions.PlaceTest.TheVariants.{Passable, Returnable}
-use Rattle.log_check.specs.declared.conditions.Condition.{Condition}
-use Rattle.log_check.specs.declared.conditions.Condition.TheVariants.{Cpu, ZoneSeat, AnySeat, Locked, Unlocked, HeldBy}
-use Rattle.log_check.specs.declared.conditions.Condition.TheVariants.{Visited, Frame, Group, NonePending, NonePassing}
-use Rattle.log_check.specs.declared.conditions.Condition.TheVariants.{NonePassingAt, AtLeast, Below, IsZero, OneUp}
-use Rattle.log_check.specs.declared.conditions.Condition.TheVariants.{UpTo255, InPlace, TakesFill, NotKilled, NotRoot}
-use Rattle.log_check.specs.declared.conditions.Condition.TheVariants.{NoChild, Makeable}
-use Rattle.log_check.specs.Conditions.{conditions_of, first_unmet, is_in_place, is_met, quantity_in}
+use Rattle.mem_core.specs.declared.conditions.PlaceTest.TheVariants.{Passable, Returnable}
+use Rattle.mem_core.specs.declared.conditions.Condition.{Condition}
+use Rattle.mem_core.specs.declared.conditions.Condition.TheVariants.{Cpu, ZoneSeat, AnySeat, Locked, Unlocked, HeldBy}
+use Rattle.mem_core.specs.declared.conditions.Condition.TheVariants.{Visited, Frame, Group, NonePending, NonePassing}
+use Rattle.mem_core.specs.declared.conditions.Condition.TheVariants.{NonePassingAt, AtLeast, Below, IsZero, OneUp}
+use Rattle.mem_core.specs.declared.conditions.Condition.TheVariants.{UpTo255, InPlace, TakesFill, NotKilled, NotRoot}
+use Rattle.mem_core.specs.declared.conditions.Condition.TheVariants.{NoChild, Makeable}
+use Rattle.mem_core.specs.Conditions.{conditions_of, first_unmet, is_in_place, is_met, quantity_in}
 
 -- the reason says of the state why this condition isn't met
 abbrev pub ShowsUnmet : State → Condition → Reason → Type 0

@@ -93,7 +93,7 @@ TakesLine count lines left line now (NotLegal expected reason) =
     (left ++ record { line = count + 1; step = now.steps; expected = expected; reason = reason } ∷ [])
 TakesLine count lines left line now (Bad fault) = ¬ MayBegin (lines ++ line ∷ []) × IsMisplaced fault lines line
 
--- and so behind all lines that were checked so
+-- and so after all lines that were checked so
 abbrev pub TakesAfter : Progress → LogLine → Progress → Taken → Type 0
 TakesAfter before line now taken = (count : ℕ) (lines : List LogLine) (left : List IllegalStep)
     → HasChecked before count lines left → TakesLine count lines left line now taken

@@ -14,11 +14,12 @@ ghost use Rattle.log_check.specs.Reasons.{Decides, IsNoRoom, DeniesClaim, SaysFr
 ghost use Rattle.log_check.specs.Reasons.{SaysNumber, SaysRoom, SaysStock};
 ghost use Rattle.log_check.specs.declared.reason.Reason.{Reason};
 
-use crate::reason::{Quantity, Reason};
+use crate::reason::Reason;
 use crate::showing::{number, place};
 use group_tree::group::GroupId;
 use group_tree::path::PathText;
 use mem_core::phases::is_free;
+use mem_core::quantity::Quantity;
 use mem_core::rows::Rows;
 use step_rules::step::{Action, Answer, Step};
 use zone_blocks::block::Block;

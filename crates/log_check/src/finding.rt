@@ -8,10 +8,9 @@ ghost use Rattle.mem_core.specs.Rooms.{FitsZone, IsBelowBounds};
 ghost use Rattle.log_check.specs.Reasons.{Fails, IsReason};
 
 use crate::answers::decide;
-use crate::conditions::conditions;
-use crate::meeting::is_met;
 use crate::reason::Reason;
 use crate::showing::show;
+use mem_core::legal::first_unmet;
 use mem_core::rows::Rows;
 use step_rules::step::{Answer, Step};
 
@@ -46,13 +45,8 @@ fn unmet(rows: &Rows, step: &Step) -> Reason
     requires illegal { is_legal (state_in rows.now) step.now.seat step.now.action ≡ false }
     ensures { Fails (state_in rows.now) step.now.seat step.now.action result }
 {
-    let conditions = conditions(step);
-    for condition in conditions.iter() {
-        if let Some(condition) = condition {
-            if !is_met(rows, condition) {
-                return show(rows, condition);
-            }
-        }
+    match first_unmet(rows, step) {
+        Some(condition) => show(rows, &condition),
+        None => unreachable!(),
     }
-    unreachable!()
 }

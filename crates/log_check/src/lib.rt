@@ -3,12 +3,10 @@
 #![tactic(auto)]
 
 mod answers;
-mod conditions;
 mod ending;
 mod finding;
 mod left_out;
 pub mod line_fault;
-mod meeting;
 mod number;
 mod progress;
 mod reader;

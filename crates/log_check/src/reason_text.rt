@@ -7,10 +7,11 @@ ghost use Rattle.step_rules.specs.declared.phase.Phase.{Phase};
 ghost use Rattle.log_check.specs.declared.reason.Reason.TheVariants as kinds;
 
 use crate::number::push_number;
-use crate::reason::{Quantity, Reason};
+use crate::reason::Reason;
 use group_tree::fault::Fault;
 use group_tree::group::GroupId;
 use group_tree::path::PathText;
+use mem_core::quantity::Quantity;
 use std::alloc::AllocError;
 use step_rules::phase::{Hold, Phase, Stage, Way};
 use zone_blocks::block::Block;

@@ -5,23 +5,24 @@ ghost use Rattle.group_tree.specs.Groups.{make_fault};
 ghost use Rattle.step_rules.specs.Legal.{is_passable, no_frame_passes, no_page_pends, nothing_passes, takes_fill};
 ghost use Rattle.mem_core.specs.Rows.{state_in};
 ghost use Rattle.mem_core.specs.Rooms.{FitsZone, IsBelowBounds};
-ghost use Rattle.log_check.specs.Conditions.{is_met, quantity_in};
+ghost use Rattle.mem_core.specs.Conditions.{is_met, quantity_in};
 ghost use Rattle.log_check.specs.Reasons.{ShowsUnmet};
-ghost use Rattle.log_check.specs.declared.conditions.Condition.TheVariants as kinds;
-ghost use Rattle.log_check.specs.declared.conditions.PlaceTest.TheVariants.{Passable, Returnable};
+ghost use Rattle.mem_core.specs.declared.conditions.Condition.TheVariants as kinds;
+ghost use Rattle.mem_core.specs.declared.conditions.PlaceTest.TheVariants.{Passable, Returnable};
 ghost use Rattle.log_check.specs.declared.reason.Reason.{Reason};
 
-use crate::conditions::{Condition, PlaceTest};
-use crate::meeting::quantity;
-use crate::reason::{Quantity, Reason};
+use crate::reason::Reason;
 use group_tree::group::GroupId;
 use group_tree::path::PathText;
+use mem_core::conditions::{Condition, PlaceTest};
+use mem_core::meeting::quantity;
 use mem_core::phases::{is_listed_at, is_passing, passes_back, passes_out};
+use mem_core::quantity::Quantity;
 use mem_core::rows::Rows;
 use step_rules::phase::{Phase, Stage};
 
 /// Why a condition isn't met.
-pub(crate) fn show(rows: &Rows, condition: &Condition) -> Reason
+pub(crate) fn show(rows: &Rows, condition: &Condition<'_>) -> Reason
     requires fits { FitsZone rows.now }
     requires bounded { IsBelowBounds (state_in rows.now) }
     requires unmet { is_met (state_in rows.now) condition.now ≡ false }
@@ -50,7 +51,7 @@ pub(crate) fn show(rows: &Rows, condition: &Condition) -> Reason
         Condition::NotKilled(group) => Reason::Killed(group),
         Condition::NotRoot(_) => Reason::Root,
         Condition::NoChild(group) => Reason::Child(group),
-        Condition::Makeable(path) => show_refusal(rows, &path),
+        Condition::Makeable(ref path) => show_refusal(rows, path.text),
     }
 }
 

@@ -2,7 +2,7 @@
 -- `push_lent`.
 use Rattle.std.proofs.Common.{◌≡◌, ◌++◌, ◌∙◌, sym, List, ℕ, Result, Ok, Err, IfOk, cond, is_ok, ap, append_assoc}
 
--- the last addition, which may fail, behind what was added before
+-- the last addition, which may fail, after what was added before
 pub then_added : {T E : Type 0} (r : Result T E) (before mid after said more : List ℕ) → mid ≡ before ++ said
     → after ≡ cond (is_ok r) (mid ++ more) mid → IfOk r (λ _. after ≡ before ++ (said ++ more))
 then_added (Ok x) before mid after said more first is = is ∙ (ap (λ (l : List ℕ). l ++ more) first ∙ append_assoc before said more)

@@ -17,3 +17,5 @@ pub mod Referring
 pub mod Serving
 pub mod Ranges
 pub mod FreeBlocks
+pub mod AllMet
+pub mod Childless

@@ -9,3 +9,4 @@ pub mod Rooms
 pub mod Counted
 pub mod Tables
 pub mod Bounded
+pub mod Conditions

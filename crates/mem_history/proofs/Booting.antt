@@ -1,6 +1,5 @@
--- A new boot shows the run of no step, and to the first that takes the lock the run of that. Serves `a_boot_is_shown`
--- and `the_first_holder_is_shown`.
-use Rattle.std.proofs.Common.{◌≡◌, [], refl, sym, subst}
+-- The run of no step shows a new boot. Serves `a_boot_is_shown`.
+use Rattle.std.proofs.Common.{◌≡◌, refl, sym, subst}
 use Rattle.cpu_part.specs.Cpus.{KnownCpu}
 use Rattle.step_rules.specs.State.{at_boot}
 use Rattle.boot_words.specs.Pasts.{KnownPasts}
@@ -8,8 +7,7 @@ use Rattle.boot_words.specs.Hidden.{hide}
 use Rattle.mem_machine.specs.Machines.{left_by}
 use Rattle.mem_machine.specs.Interleaving.{zone_of}
 use Rattle.mem_history.specs.Whole.{IsPartAt}
-use Rattle.mem_history.specs.Kept.{ABootIsShown, TheFirstHolderIsShown}
-use Rattle.mem_history.proofs.Wholes.{the_holder_is_shown, the_same_is_shown}
+use Rattle.mem_history.specs.Kept.{ABootIsShown}
 
 pub a_boot_is_shown : ABootIsShown
 a_boot_is_shown t m cpus boot = record {
@@ -22,7 +20,3 @@ a_boot_is_shown t m cpus boot = record {
     own = record { list = refl; fresh = refl; back = refl; references = λ f. refl };
   });
 }
-
-pub the_first_holder_is_shown : TheFirstHolderIsShown
-the_first_holder_is_shown t m cpus k now boot same taken =
-    the_holder_is_shown t [] cpus k now (the_same_is_shown t [] m now.machine cpus (a_boot_is_shown t m cpus boot) same) taken

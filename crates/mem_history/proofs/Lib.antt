@@ -1,11 +1,9 @@
 pub mod Seeing
-pub mod Staying
-pub mod Together
+pub mod Along
+pub mod Agreeing
 pub mod Wholes
 pub mod Fast
-pub mod Deciding
 pub mod Booting
 pub mod Leading
-pub mod Agreeing
 pub mod Currents
 pub mod Promised

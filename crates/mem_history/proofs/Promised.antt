@@ -1,7 +1,7 @@
 -- The promise holds of what the machine and the parts show. Serves `the_whole_is_promised`.
-use Rattle.std.proofs.Common.{if◌then◌else◌, ◌≡◌, ℕ, ◌+◌, ◌-◌, ◌≤◌, ◌==◌, Bool, true, false, None, List, [], ◌∷◌, length, map, refl, sym, ◌∙◌, ap, subst, arith, inl, inr, zero, suc, eq-eqb}
+use Rattle.std.proofs.Common.{if◌then◌else◌, ◌≡◌, ℕ, ◌+◌, ◌-◌, ◌≤◌, ◌<◌, ◌==◌, Bool, true, false, None, Some, List, [], ◌∷◌, length, map, refl, sym, ◌∙◌, ap, subst, arith, inl, inr, zero, suc, eq-eqb}
 use Rattle.std.specs.Prelude.{nat_le}
-use Rattle.std.specs.List.{range_with_len, slice_index_or}
+use Rattle.std.specs.List.{range_with_len, slice_get, slice_index_or}
 use Rattle.std.specs.Option.{option_map_or}
 use Rattle.std.proofs.lemmas.Bool.{cases_lt, cases_Bool, true≢false, and_from, and_left, and_right, le-leb, leb-true, cond-true, cond-false}
 use Rattle.std.proofs.lemmas.Option.{slice_get_past}
@@ -39,8 +39,13 @@ use Rattle.mem_machine.specs.Machines.{KnownMachine, IsConsistent, left_by, part
 use Rattle.mem_machine.specs.Interleaving.{zone_of}
 use Rattle.mem_history.specs.Whole.{ShowsAll}
 use Rattle.mem_history.specs.Kept.{TheWholeIsPromised, list_by, fresh_frames_by, keeper_by, stock_by, shown_of}
-use Rattle.mem_history.proofs.Together.{there}
 use Rattle.mem_history.proofs.Currents.{current_is}
+
+-- an entry of a list that is long enough
+there : {X : Type 0} (xs : List X) (k : ℕ) → k < length xs → (x : X) × (slice_get xs k ≡ Some x)
+there [] k h = absurd (omega arith)
+there (x ∷ xs) zero h = (x, refl)
+there (x ∷ xs) (suc k) h = there xs k (omega arith)
 
 -- a list that has no frame is empty
 none_stands : (xs : List ℕ) → ((f : ℕ) → times f xs ≡ 0) → xs ≡ []

@@ -10,33 +10,33 @@ use Rattle.cpu_part.specs.Cpus.{KnownCpu}
 use Rattle.cpu_part.specs.Known.{HasOwn}
 use Rattle.cpu_part.proofs.Owning.{own_same, own_unseen}
 use Rattle.step_rules.specs.declared.phase.Hold.TheVariants.{Unheld, HeldBy}
-use Rattle.step_rules.specs.declared.step.Action.{Action}
+use Rattle.step_rules.specs.declared.step.Step.{Step}
 use Rattle.step_rules.specs.declared.step.Action.TheVariants.{Lock, Unlock}
-use Rattle.step_rules.specs.declared.step.Answer.{Answer}
 use Rattle.step_rules.specs.declared.step.Answer.TheVariants.{Done}
 use Rattle.step_rules.specs.State.{Zone, State, is_cpu, is_unheld}
-use Rattle.step_rules.specs.Legal.{IsCounted, is_legal}
+use Rattle.step_rules.specs.Legal.{is_legal}
 use Rattle.step_rules.specs.After.{Run, after, state_of, IsLegalRun}
 use Rattle.step_rules.specs.Views.{seen_by}
 use Rattle.step_rules.specs.Laws.{ShowsLocal, pushed}
-use Rattle.step_rules.specs.Seen.{IsFreeAfter}
 use Rattle.step_rules.specs.Reaches.{IsLocalRun}
-use Rattle.step_rules.specs.Invariant.{KeepsInvariant}
-use Rattle.step_rules.proofs.Runs.{sound_run, state_more}
+use Rattle.step_rules.proofs.Runs.{state_more}
 use Rattle.step_rules.proofs.Freeing.{zone_of_run}
+use Rattle.step_rules.proofs.Interleaving.{local_runs_interleave}
 use Rattle.step_rules.proofs.Seeing.{the_lock_is_passed_on}
 use Rattle.boot_words.specs.Hidden.{hide}
 use Rattle.boot_words.specs.Runs.{HasNoStepOf}
 use Rattle.boot_words.proofs.Owning.{lists_are_own}
+use Rattle.mem_machine.specs.Agreeing.{AgreesWithRun}
 use Rattle.mem_machine.specs.Machines.{KnownMachine, VisitState, left_by}
 use Rattle.mem_machine.specs.Local.{lock_holder, local_of}
-use Rattle.mem_machine.specs.Interleaving.{zone_of, Shows}
+use Rattle.mem_machine.specs.Interleaving.{IsInterleaving, zone_of, Shows}
 use Rattle.mem_machine.specs.Steps.{cpu_makes}
 use Rattle.mem_machine.proofs.Sight.{hide_seen, left_seen}
-use Rattle.mem_history.specs.Whole.{HasTakenLock, IsDecided, IsPartAt, LeavesState, LinesFollow, ShowsAll, TheHolderIsShown, TheSameIsShown, seen_together, under_lock}
+use Rattle.mem_machine.proofs.Tells.{ledgers_agree}
+use Rattle.mem_history.specs.Whole.{HasTakenLock, IsPartAt, LeavesState, LinesFollow, ShowsAll, TheHolderIsShown, TheSameIsShown, under_lock}
+use Rattle.mem_history.proofs.Agreeing.{tells_still}
+use Rattle.mem_history.proofs.Along.{interleaved, legal_front, own_all}
 use Rattle.mem_history.proofs.Seeing.{leaves, sees_whole}
-use Rattle.mem_history.proofs.Staying.{Stays, run_on}
-use Rattle.mem_history.proofs.Together.{HasPart, counts}
 
 -- ---- lists of parts
 
@@ -73,34 +73,15 @@ module _ (t : KnownTable) (run : Run) (m : KnownMachine) (cpus : List KnownCpu) 
   pub not_zone : c.number ≡ 0 → ⊥
   not_zone e = let named = part_number in absurd (omega arith)
 
-  pub whole_sound : KeepsInvariant whole
-  whole_sound = sound_run zone run shows.legal
-
   -- each has its lists and pins
   pub has_own : (j : ℕ) (d : KnownCpu) → slice_get cpus j ≡ Some d → HasOwn whole d
   has_own j d at = (shows.each j d at).own
-
-  -- what the others have
-  pub others_have : (j : ℕ) (d : KnownCpu) → slice_get cpus j ≡ Some d → HasPart whole j d
-  others_have j d at =
-      let seen = shows.each j d at in
-      record {
-        references = λ f. ap (λ (q : ℕ). whole.references q f) (sym seen.number) ∙ seen.own.references f;
-        fresh = ap (λ (q : ℕ). (whole.parts q).fresh) (sym seen.number) ∙ seen.own.fresh;
-      }
 
   abbrev pub locked : Run
   locked = pushed run (record { seat = c.number; action = Lock }) Done
 
   pub locked_is : state_of zone locked ≡ record whole { hold = HeldBy c.number }
   locked_is = state_more zone run (record { seat = c.number; action = Lock }) Done
-
-  -- what the parts decide together, the state counts
-  pub decided_count : (s : State) → s.zone ≡ whole.zone → Stays c.number whole s → (seat : ℕ) → (action : Action) → (answer : Answer) →
-      is_legal s seat action ≡ true → IsDecided (seen_together cpus c.number (seen_by c.number s)) seat action answer → IsCounted s action answer
-  decided_count s zoned stays =
-      let sized : length cpus ≡ s.zone.cpus = shows.count ∙ ap (λ (z : Zone). z.cpus) (sym (zoned ∙ zone_of_run zone run)) in
-      counts cpus c.number whole s sized others_have stays
 
   -- others' parts are what they were after steps that are none of theirs
   pub others_keep : (rest : Run) → ((q : ℕ) → (q ≡ 0 → ⊥) → (q ≡ c.number → ⊥) → HasNoStepOf q rest) → (j : ℕ) (e : KnownCpu)
@@ -179,47 +160,52 @@ parts_after s cpus k c d is_part number own others j e at = elim (cases_eq j k) 
 ]
 
 pub lines_follow : LinesFollow
-lines_follow t run cpus k before steps later shows serves =
+lines_follow t run cpus k before steps later shows serves legal =
     let zone = zone_of t in
-    let m = before.machine in
-    let n = later.machine in
-    let c = before.cpu in
-    let d = later.cpu in
+    let m = before.machine in let n = later.machine in
+    let c = before.cpu in let d = later.cpu in
     let p = c.number in
     let is_part = serves.taken.is_part in
-    let whole = state_of zone run in
     let lock = locked t run m cpus k c shows is_part in
     let lock_is = locked_is t run m cpus k c shows is_part in
     let took = takes t run cpus k before shows serves.taken in
-    let start : Stays p whole (state_of zone lock) =
-    subst (Stays p whole) (sym lock_is) (record { references = λ q ne other f. refl; lists = λ q ne other. refl }) in
-    let leads : IsLocalRun p (local_of t m) steps (local_of t n) =
-    subst (λ (q : ℕ). IsLocalRun q (local_of t m) steps (local_of t n)) serves.taken.holds.who serves.leads.leads in
-    let goes = run_on zone p whole (λ x seat action answer. IsDecided (seen_together cpus p x) seat action answer)
-    (λ s seat action answer zoned stays legal decided. decided_count t run m cpus k c shows is_part s zoned stays seat action answer legal decided)
-    lock (local_of t m) steps (local_of t n) (took, start) (λ r. zone_of_run zone r ∙ sym (zone_of_run zone run)) leads serves.decided in
+    let a = local_of t m in let b = local_of t n in
+    let leads : IsLocalRun p a steps b = subst (λ (q : ℕ). IsLocalRun q a steps b) serves.taken.holds.who serves.leads.leads in
     let made : Run = lock ++ steps in
-    let last = state_of zone made in
-    let number : d.number ≡ p = sym serves.holds.who ∙ serves.leads.holder ∙ serves.taken.holds.who in
-    let done : Run = pushed made (record { seat = p; action = Unlock }) Done in
-    let free : IsFreeAfter zone done = the_lock_is_passed_on.given_back zone made p (local_of t n) goes.0
-    (subst (λ (q : ℕ). is_legal (local_of t n) q Unlock ≡ true) number serves.may_release) in
-    let done_is : state_of zone done ≡ record last { hold = Unheld } = state_more zone made (record { seat = p; action = Unlock }) Done in
-    let left : left_by t n.run.past ≡ hide last = left_seen t n.run.past serves.holds.held ∙ ap hide goes.0.sees ∙ hide_seen p last in
-    let own = own_unseen last d (subst (λ (s : State). HasOwn s d) (goes.0.sees ∙ ap (λ (q : ℕ). seen_by q last) (sym number)) serves.holds.own) in
-    let own_done : HasOwn (state_of zone done) d = subst (λ (s : State). HasOwn s d) (sym done_is)
-    (record { list = own.list; fresh = own.fresh; back = own.back; references = own.references }) in
+    let unlock : Step = record { seat = p; action = Unlock } in
+    let done : Run = pushed made unlock Done in
     let joined : done ≡ run ++ under_lock p steps =
     append_assoc (run ++ cpu_makes p Lock Done ∷ []) steps (cpu_makes p Unlock Done ∷ [])
     ∙ append_assoc run (cpu_makes p Lock Done ∷ []) (steps ++ cpu_makes p Unlock Done ∷ []) in
+    let done_legal : IsLegalRun zone done = subst (IsLegalRun zone) (sym joined) legal in
+    let mine = own_all p a steps b leads in
+    let follows = interleaved zone p lock a steps b leads (legal_front zone made (cpu_makes p Unlock Done ∷ []) done_legal) in
+    let goes : ShowsLocal zone made p b = local_runs_interleave zone lock p a steps b took (subst (λ (r : Run). IsLocalRun p a r b) (sym mine) leads) follows in
+    let last = state_of zone made in
+    let number : d.number ≡ p = sym serves.holds.who ∙ serves.leads.holder ∙ serves.taken.holds.who in
+    let done_is : state_of zone done ≡ record last { hold = Unheld } = state_more zone made unlock Done in
+    let left : left_by t n.run.past ≡ hide last = left_seen t n.run.past serves.holds.held ∙ ap hide goes.sees ∙ hide_seen p last in
+    let own = own_unseen last d (subst (λ (s : State). HasOwn s d) (goes.sees ∙ ap (λ (q : ℕ). seen_by q last) (sym number)) serves.holds.own) in
+    let own_done : HasOwn (state_of zone done) d = subst (λ (s : State). HasOwn s d) (sym done_is)
+    (record { list = own.list; fresh = own.fresh; back = own.back; references = own.references }) in
     let none : (q : ℕ) → (q ≡ 0 → ⊥) → (q ≡ p → ⊥) → HasNoStepOf q (under_lock p steps) = λ q some far.
-    (λ is. far (sym is), none_both q steps (cpu_makes p Unlock Done ∷ []) (none_of p (local_of t m) steps (local_of t n) leads q some far) (λ is. far (sym is), tt)) in
+    (λ is. far (sym is), none_both q steps (cpu_makes p Unlock Done ∷ []) (none_of p a steps b leads q some far) (λ is. far (sym is), tt)) in
     let number_is : d.number ≡ suc k = number ∙ part_number t run m cpus k c shows is_part in
     record {
-      legal = subst (IsLegalRun zone) joined free.legal;
-      free = subst (λ (r : Run). is_unheld (state_of zone r).hold ≡ true) joined free.free;
-      left = subst (λ (r : Run). LeavesState t n (state_of zone r)) joined (subst (LeavesState t n) (sym done_is) (leaves t n last Unheld left));
-      count = length-set cpus k d ∙ shows.count;
-      each = parts_after (state_of zone (run ++ under_lock p steps)) cpus k c d is_part number_is (subst (λ (r : Run). HasOwn (state_of zone r) d) joined own_done)
-          (λ j e at ne. others_keep t run m cpus k c shows is_part (under_lock p steps) none j e at ne);
+      shows = record {
+        legal = legal;
+        free = subst (λ (r : Run). is_unheld (state_of zone r).hold ≡ true) joined (ap (λ (s : State). is_unheld s.hold) done_is);
+        left = subst (λ (r : Run). LeavesState t n (state_of zone r)) joined (subst (LeavesState t n) (sym done_is) (leaves t n last Unheld left));
+        count = length-set cpus k d ∙ shows.count;
+        each = parts_after (state_of zone (run ++ under_lock p steps)) cpus k c d is_part number_is
+            (subst (λ (r : Run). HasOwn (state_of zone r) d) joined own_done)
+            (λ j e at ne. others_keep t run m cpus k c shows is_part (under_lock p steps) none j e at ne);
+      };
+      agrees = λ told.
+          let told_lock = tells_still t run m.ledger (record { seat = p; action = Lock }) Done shows.legal took.legal refl (ap (λ (s : State). s.groups) lock_is) told in
+          let mixes : IsInterleaving t lock (lock_holder m) steps steps =
+          subst (λ (q : ℕ). IsInterleaving t lock q steps steps) (sym serves.taken.holds.who) (record { own = mine; follows = follows }) in
+          let told_made = ledgers_agree t lock steps steps m n (the_holder_is_shown t run cpus k before shows serves.taken) told_lock serves.leads mixes in
+          subst (λ (r : Run). AgreesWithRun t r n.ledger) joined
+          (tells_still t made n.ledger unlock Done goes.legal done_legal refl (ap (λ (s : State). s.groups) done_is) told_made);
     }

@@ -1,11 +1,9 @@
 -- How the whole begins, and what holds whenever a run shows it.
-use Rattle.std.specs.Prelude.{◌≡◌, ℕ, ◌+◌, ◌-◌, nat_le, zero, suc, Option, Some, None, List, [], ◌∷◌, length, slice_get, if◌then◌else◌}
+use Rattle.std.specs.Prelude.{◌≡◌, ℕ, ◌+◌, ◌-◌, nat_le, zero, suc, Option, Some, None, List, [], length, slice_get, if◌then◌else◌}
 use Rattle.std.specs.Option.{option_map_or}
 use Rattle.frame_word.specs.Seats.{KnownTable}
 use Rattle.group_charge.specs.Charges.{AreCharges, current_of}
 use Rattle.cpu_part.specs.Cpus.{KnownCpu, first_cpu}
-use Rattle.step_rules.specs.declared.step.Action.TheVariants.{Lock}
-use Rattle.step_rules.specs.declared.step.Answer.TheVariants.{Done}
 use Rattle.step_rules.specs.State.{Stock, times}
 use Rattle.step_rules.specs.Usage.{frames_kept, pages_prepaid}
 use Rattle.step_rules.specs.After.{Run, state_of}
@@ -13,10 +11,10 @@ use Rattle.step_rules.specs.Promise.{Shown, Promise}
 use Rattle.mem_machine.specs.declared.frame_state.FrameState.{FrameState}
 use Rattle.mem_machine.specs.declared.frame_state.FrameState.TheVariants.{Free, Lent, Head, Tail}
 use Rattle.mem_machine.specs.FrameStates.{frame_state_at}
-use Rattle.mem_machine.specs.Machines.{KnownMachine, VisitState, IsConsistent, IsFirst, part_at, stock_group}
-use Rattle.mem_machine.specs.Interleaving.{zone_of, Shows}
-use Rattle.mem_machine.specs.Steps.{cpu_makes}
-use Rattle.mem_history.specs.Whole.{ShowsAll, HasTakenLock, LeaveTheSame}
+use Rattle.mem_machine.specs.Agreeing.{AgreesWithRun}
+use Rattle.mem_machine.specs.Machines.{KnownMachine, IsConsistent, IsFirst, part_at, stock_group}
+use Rattle.mem_machine.specs.Interleaving.{zone_of}
+use Rattle.mem_history.specs.Whole.{ShowsAll}
 
 -- ---- a new boot
 
@@ -31,11 +29,10 @@ abbrev pub ABootIsShown : Type 0
 ABootIsShown = (table : KnownTable) (first : KnownMachine) (cpus : List KnownCpu) → IsNewBoot table first cpus
     → ShowsAll table [] first cpus
 
--- after a new boot, the run of one Lock shows the machine to the CPU that takes the lock first
-abbrev pub TheFirstHolderIsShown : Type 0
-TheFirstHolderIsShown = (table : KnownTable) (first : KnownMachine) (cpus : List KnownCpu) (index : ℕ)
-    (now : VisitState) → IsNewBoot table first cpus → LeaveTheSame table first now.machine
-    → HasTakenLock table cpus index now → Shows table (cpu_makes now.cpu.number Lock Done ∷ []) now.machine
+-- the peaks and event counts of a new boot are those of the run without steps
+abbrev pub ABootAgrees : Type 0
+ABootAgrees = (table : KnownTable) (machine : KnownMachine) → IsFirst table machine
+    → AgreesWithRun table [] machine.ledger
 
 -- ---- memory.current
 

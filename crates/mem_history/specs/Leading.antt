@@ -1,5 +1,5 @@
 -- Which step a call without the lock is, if it changes a list or a reference.
-use Rattle.std.specs.Prelude.{◌≡◌, ℕ, ◌+◌, ◌<◌, ◌≤◌, Some, List, length, slice_get}
+use Rattle.std.specs.Prelude.{◌≡◌, ℕ, Some, List, slice_get}
 use Rattle.frame_word.specs.Seats.{KnownTable}
 use Rattle.frame_word.specs.declared.answers.Get.TheVariants as get
 use Rattle.frame_word.specs.declared.answers.Put.{Put as Putted}
@@ -7,12 +7,11 @@ use Rattle.frame_word.specs.declared.answers.Put.TheVariants as put
 use Rattle.stock_word.specs.declared.view.Stock.{Stock}
 use Rattle.cpu_part.specs.declared.answers.Fast.TheVariants.{Got}
 use Rattle.cpu_part.specs.declared.answers.Dropped.TheVariants.{Listed}
-use Rattle.cpu_part.specs.Cpus.{KnownCpu, most_pins}
+use Rattle.cpu_part.specs.Cpus.{KnownCpu}
 use Rattle.cpu_part.specs.Calls.{FastAnswers, DropAnswers, PinAnswers, UnpinAnswers}
 use Rattle.step_rules.specs.declared.step.Action.TheVariants.{Get, Put, Consume, Credit}
 use Rattle.step_rules.specs.declared.step.Answer.{Answer}
 use Rattle.step_rules.specs.declared.step.Answer.TheVariants.{Held, Left, Last, Took, Stocked}
-use Rattle.step_rules.specs.State.{times}
 use Rattle.step_rules.specs.After.{Run, state_of}
 use Rattle.mem_machine.specs.Machines.{KnownMachine}
 use Rattle.mem_machine.specs.Interleaving.{zone_of}
@@ -29,13 +28,13 @@ pub record IsPart (table : KnownTable) (run : Run) (machine : KnownMachine) (cpu
   pub shows : ShowsAll table run machine cpus
   pub is_part : slice_get cpus index ≡ Some cpu
 
--- If a run shows the whole, a fast call of a CPU is one step of it after the run. A get answered Held is a Get, and a put
--- is a Put. A fast allocation that gets a frame is a Consume, and a drop that lists a fresh frame again is a Credit.
+-- If a run shows the whole, a fast call of a CPU makes its part what one step after the run makes it. A get answered
+-- Held is a Get, and a put is a Put. A fast allocation that gets a frame is a Consume, and a drop that lists a fresh frame
+-- again is a Credit.
 pub record FastCallsLead : Type 0 where
   pub held : (table : KnownTable) (run : Run) (machine : KnownMachine) (cpus : List KnownCpu) (index : ℕ)
       (cpu later : KnownCpu) → IsPart table run machine cpus index cpu → (frame : ℕ)
-      → frame < table.frames → length cpu.back + length cpu.pins < most_pins → PinAnswers frame get.Held cpu later
-      → IsOwnStep (state_of (zone_of table) run) cpu (Get frame) Held later
+      → PinAnswers frame get.Held cpu later → IsOwnStep (state_of (zone_of table) run) cpu (Get frame) Held later
   pub is_put : (table : KnownTable) (run : Run) (machine : KnownMachine) (cpus : List KnownCpu) (index : ℕ)
       (cpu later : KnownCpu) → IsPart table run machine cpus index cpu → (frame : ℕ)
       (answer : Putted) → UnpinAnswers frame answer cpu later
@@ -46,5 +45,5 @@ pub record FastCallsLead : Type 0 where
       → IsOwnStep (state_of (zone_of table) run) cpu (Consume group) Took later
   pub listed : (table : KnownTable) (run : Run) (machine : KnownMachine) (cpus : List KnownCpu) (index : ℕ)
       (cpu later : KnownCpu) → IsPart table run machine cpus index cpu → (frame : ℕ) (last saw : Stock)
-      → 1 ≤ times frame cpu.fresh → DropAnswers frame Listed last cpu saw later
+      → DropAnswers frame Listed last cpu saw later
       → IsOwnStep (state_of (zone_of table) run) cpu (Credit frame) Stocked later

@@ -1,5 +1,3 @@
 pub mod Whole
 pub mod Kept
 pub mod Leading
-pub mod Agreeing
-pub mod Decided

@@ -1,14 +1,17 @@
 //! Laws: each function's `ensures` clause is a statement about all runs, machines and CPU parts.
 
 ghost use Rattle.mem_history.specs.Whole.{LinesFollow, FastLinesFollow, TheHolderIsShown, TheSameIsShown};
-ghost use Rattle.mem_history.specs.Decided.{LegalLinesAreDecided, LegalFastStepsAreDecided};
-ghost use Rattle.mem_history.specs.Kept.{ABootIsShown, CurrentIsKept, TheFirstHolderIsShown, TheWholeIsPromised};
+ghost use Rattle.mem_history.specs.Kept.{ABootAgrees, ABootIsShown, CurrentIsKept, TheWholeIsPromised};
 ghost use Rattle.mem_history.specs.Leading.{FastCallsLead};
-ghost use Rattle.mem_history.specs.Agreeing.{ABootAgrees, LinesAgree, FastLinesAgree};
 
 /// The run without steps shows a new boot.
 pub fn a_boot_is_shown()
     ensures { ABootIsShown }
+{}
+
+/// The ledger of a new boot agrees with the run without steps: the root's peak is 0, and so is each count.
+pub fn a_boot_agrees()
+    ensures { ABootAgrees }
 {}
 
 /// If a run shows the machine and all parts, it still does if only the lock was taken or released since, or if the
@@ -23,14 +26,9 @@ pub fn the_holder_is_shown()
     ensures { TheHolderIsShown }
 {}
 
-/// After a new boot, the run of one Lock shows the machine to the CPU that takes it. So `calls_interleave` can begin.
-pub fn the_first_holder_is_shown()
-    ensures { TheFirstHolderIsShown }
-{}
-
-/// Suppose a run shows the machine and all parts, and a line is served under the lock. Each of its answers that other
-/// CPUs' words decide must be the one that all parts together decide. Then the run with Lock, the line's steps and
-/// Unlock is legal. It shows the machine and all parts after the line.
+/// Suppose a run shows the machine and all parts, and a line is served under the lock. If the run with Lock, the line's
+/// steps and Unlock is legal, it shows the machine and all parts after the line. If the peaks and event counts of the
+/// ledger were those of the run, they are those of the longer run then.
 pub fn lines_follow()
     ensures { LinesFollow }
 {}
@@ -38,6 +36,13 @@ pub fn lines_follow()
 /// The same holds for a step that takes no lock.
 pub fn fast_lines_follow()
     ensures { FastLinesFollow }
+{}
+
+/// Suppose a run shows the machine and all parts. Then a fast call that changes a list or a reference makes its CPU's part
+/// what one step after the run makes it. These calls are: a get answered Held, a put, an allocation that gets a fresh
+/// frame, and a drop that lists one again.
+pub fn fast_calls_lead()
+    ensures { FastCallsLead }
 {}
 
 /// If a run shows the machine and all parts, then the ledger's usage of each group is the frames that the group and
@@ -49,38 +54,4 @@ pub fn current_is_kept()
 /// If a run shows the machine and all parts, then the promise holds of what these show.
 pub fn the_whole_is_promised()
     ensures { TheWholeIsPromised }
-{}
-
-/// Suppose a run shows the machine and all parts. Then a fast call that changes a list or a reference is one legal step
-/// of its CPU after the run. These calls are: a get answered Held, a put, an allocation that gets a fresh frame, and a
-/// drop that lists one again.
-pub fn fast_calls_lead()
-    ensures { FastCallsLead }
-{}
-
-/// The ledger of a new boot agrees with the run without steps: the root's peak is 0, and so is each count.
-pub fn a_boot_agrees()
-    ensures { ABootAgrees }
-{}
-
-/// If the peaks and event counts of the ledger are those of the run that shows the whole, they still are after a line
-/// under the lock.
-pub fn lines_agree()
-    ensures { LinesAgree }
-{}
-
-/// They also still are after a step that takes no lock.
-pub fn fast_lines_agree()
-    ensures { FastLinesAgree }
-{}
-
-/// If the run that continues with a line under the lock is legal, then each answer in the line is what all parts
-/// together decide.
-pub fn legal_lines_are_decided()
-    ensures { LegalLinesAreDecided }
-{}
-
-/// The same holds for the answer of a step that takes no lock.
-pub fn legal_fast_steps_are_decided()
-    ensures { LegalFastStepsAreDecided }
 {}

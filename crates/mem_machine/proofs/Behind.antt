@@ -1,4 +1,4 @@
--- Behind which run a step under the lock was made, and so what holds of an answer that others' steps decide. Serves
+-- After which run a step under the lock was made, and so what holds of an answer that others' steps decide. Serves
 -- `drain_stock`, `evict`, `release` and `put_zone_reference`.
 use Rattle.std.proofs.Common.{◌≡◌, ℕ, ◌≤◌, ◌==◌, Bool, true, false, Some, None, [], ◌∷◌, ◌++◌, length, cond, refl, ap, sym, ◌∙◌, subst, arith}
 use Rattle.std.proofs.lemmas.List.{append_cancel_left, append_cancel_right}

@@ -210,7 +210,7 @@ evicted_all t m now same ok f i inside is kept_now held_now links lists leaves s
       },
     )) all
 
--- behind the freeze the unit may be returned
+-- after the freeze the unit may be returned
 pub evict_returns : (t : KnownTable) (m now : KnownMachine) → m ≡ now → IsConsistent t m → (f i : ℕ) → f < t.frames → i ≡ f → home_of now.links f ≢ None → IsHeld t now.run.past
     → (unit : ChargedUnit) → frame_state_at m.frame_states i ≡ Head unit → is_legal (after (local_by_pasts t m.run.past) 0 (Freeze f 1) answer.Done) 0 (Return f) ≡ true
 evict_returns t m now same ok f i inside is kept held unit head =

@@ -25,7 +25,7 @@ use Rattle.step_rules.specs.Reaches.{IsLocalRun}
 use Rattle.step_rules.proofs.Basics.{at_other, at_same}
 use Rattle.boot_words.specs.Composed.{AreLegal, MakesInTurn}
 use Rattle.boot_words.specs.Hidden.{hide, hide_phase}
-use Rattle.boot_words.specs.Pasts.{KnownPasts, IsHeld, MakesStep}
+use Rattle.boot_words.specs.Pasts.{KnownPasts, IsHeld}
 use Rattle.cpu_part.specs.Cpus.{KnownCpu}
 use Rattle.cpu_part.proofs.CallerLemmas.{makes_each}
 use Rattle.step_watch.specs.Watched.{KnownWatch, Watches}
@@ -38,13 +38,13 @@ use Rattle.mem_machine.specs.Lending.{LendsFrame, LendsNone, LendsOne}
 use Rattle.mem_machine.specs.Local.{Visits, local_of, visit_state}
 use Rattle.mem_machine.specs.Machines.{KnownMachine, VisitState, FitsFrameState, IsConsistent, IsShownBy, home_of, left_by, pages_booked}
 use Rattle.mem_machine.specs.Noted.{AreLocal, KnownRun, Notes, after_made}
-use Rattle.mem_machine.specs.Steps.{cpu_makes, lend_steps, zone_makes}
+use Rattle.mem_machine.specs.Steps.{lend_steps}
 use Rattle.mem_machine.proofs.Followed.{are_still, follows_same}
 use Rattle.mem_machine.proofs.HandOvers.{IsVisited}
 use Rattle.mem_machine.proofs.Hiding.{is_free_seen}
 use Rattle.mem_machine.proofs.Made.{visits_here, zone_seen}
 use Rattle.mem_machine.proofs.Moved.{AllMoved, books_stay, is_visited, left_moved, makes_moved, number_range, own_moved, owners_moved, shown_moved, sums_moved, visit_moved}
-use Rattle.mem_machine.proofs.Noted.{local_legal, notes_both, notes_one}
+use Rattle.mem_machine.proofs.Noted.{all_grow, local_legal}
 use Rattle.mem_machine.proofs.Reaching.{cpu_step, zone_step}
 use Rattle.mem_machine.proofs.Records.{charges_stay, covers_one, free_at, free_inside, free_is, free_taken, units_stay}
 use Rattle.mem_machine.proofs.Sight.{left_seen, shown_seen}
@@ -226,18 +226,13 @@ pub number_low : (t : KnownTable) (m now : KnownMachine) → m ≡ now → (c : 
 number_low t m now same c visit = (number_range t m c (visits_here t m now same c visit)).1
 
 -- the steps were made, and the watch took them
-pub lent_notes : (t : KnownTable) (run : KnownRun) (p f i q : ℕ) → i ≡ f → q ≡ p → (later : KnownPasts) (mid watch : KnownWatch) → IsHeld t run.past
-    → MakesInTurn t run.past (lend_steps p f) later → Watches run.watch (zone_makes (PassOut i q) Done ∷ []) mid
-    → Watches mid (cpu_makes q (TakeIn i) Done ∷ []) watch → Notes t run (lend_steps p f) (record { past = later; watch = watch })
-lent_notes t run p f i q index number later mid watch held turn saw saw_too =
-    let all = makes_each t run.past (lend_steps p f) later held turn in
-    notes_both t run (zone_makes (PassOut f p) Done ∷ []) (record { past = all.0; watch = mid }) (cpu_makes p (TakeIn f) Done ∷ [])
-    (record { past = later; watch = watch })
-    (notes_one t run (zone_makes (PassOut f p) Done) (record { past = all.0; watch = mid }) all.1
-    (subst (λ (x : ℕ × ℕ). Watches run.watch (zone_makes (PassOut x.0 x.1) Done ∷ []) mid) (λ j. (index j, number j)) saw))
-    (notes_one t (record { past = all.0; watch = mid }) (cpu_makes p (TakeIn f) Done) (record { past = later; watch = watch })
-    (subst (MakesStep t all.0 p (TakeIn f) Done) (sym all.2.2) all.2.1)
-    (subst (λ (x : ℕ × ℕ). Watches mid (cpu_makes x.1 (TakeIn x.0) Done ∷ []) watch) (λ j. (index j, number j)) saw_too))
+pub lent_notes : (t : KnownTable) (run : KnownRun) (p f i q : ℕ) → i ≡ f → q ≡ p → (later : KnownPasts) (watch : KnownWatch) → IsHeld t run.past
+    → MakesInTurn t run.past (lend_steps p f) later → Watches run.watch (lend_steps q i) watch
+    → Notes t run (lend_steps p f) (record { past = later; watch = watch })
+lent_notes t run p f i q index number later watch held turn saw = record {
+  grew = all_grow t run.past (lend_steps p f) later (makes_each t run.past (lend_steps p f) later held turn);
+  watched = subst (λ (x : ℕ × ℕ). Watches run.watch (lend_steps x.1 x.0) watch) (λ j. (index j, number j)) saw;
+}
 
 -- ---- the first of the free frames
 

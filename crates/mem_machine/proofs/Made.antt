@@ -73,7 +73,7 @@ pub makes_as : (t : KnownTable) (m n : KnownMachine) (p : ℕ) (steps : Run) →
 makes_as t m n p steps is who noted leads follows counts =
     makes t m n steps is noted (subst (λ (k : ℕ). IsLocalRun k (local_of t m) steps (fold after_made (local_of t m) steps)) (sym who) leads) follows counts
 
--- one step leads behind itself
+-- one step leads to the state after it
 pub one_leads : (p : ℕ) (s : State) (e : Step × Answer) → IsLocalStep s p e.0.seat e.0.action e.1 → IsLocalRun p s (e ∷ []) (fold after_made s (e ∷ []))
 one_leads p s e step = (step, refl)
 

@@ -13,8 +13,9 @@ use Rattle.step_rules.specs.Reaches.{IsLocalRun}
 use Rattle.boot_words.specs.Pasts.{KnownPasts, MakesStep, cpu_past, local_by_pasts, own_past}
 use Rattle.boot_words.proofs.Grown.{all_grew_both}
 use Rattle.boot_words.specs.Composed.{AreLegal}
+use Rattle.boot_words.specs.Steps.{IsPlain}
 use Rattle.cpu_part.specs.Made.{MakesAll}
-use Rattle.step_watch.specs.Watched.{Watches}
+use Rattle.step_watch.specs.Watched.{Builds, Watches}
 use Rattle.step_watch.proofs.Watching.{watches_none, watches_both}
 use Rattle.mem_machine.specs.Noted.{AreLocal, PastsGrowBy, KnownRun, MayTake, MayTakeAll, Notes, after_made}
 
@@ -91,7 +92,7 @@ may_all t past p a (e ∷ rest) who at all = (
   λ later made. may_all t later p (after_made a e) rest (made.cpu_grew.number ∙ who) (made.local_is ∙ ap (λ (s : State). after_made s e) at) all.1,
 )
 
--- behind the first of two lists the second may be taken
+-- after the first of two lists the second may be taken
 pub may_behind : (t : KnownTable) (past : KnownPasts) (first second : Run) (later : KnownPasts) → MayTakeAll t past (first ++ second) → MakesAll t past first later
     → MayTakeAll t later second
 may_behind t past [] second later all is = subst (λ (s : KnownPasts). MayTakeAll t s second) (sym is) all
@@ -101,3 +102,10 @@ may_behind t past (e ∷ rest) second later all made = may_behind t made.0 rest 
 pub local_legal : (p : ℕ) (a : State) (first second : Run) → AreLocal p a (first ++ second) → AreLegal a first
 local_legal p a [] second all = tt
 local_legal p a (e ∷ rest) second all = (all.0.legal, local_legal p (after_made a e) rest second all.1)
+
+-- ---- what a step's maker asks
+
+-- the closure builds this step, which may be made
+pub legal_step : (May : Action → Answer → Type 0) (built : Action × Answer → Type 0) (action : Action) (answer : Answer) → May action answer → IsPlain action
+    → Builds built action answer → (a : Action) × (b : Answer) × May a b × IsPlain a × Builds built a b
+legal_step May built action answer may plain builds = (action, answer, may, plain, builds)

@@ -163,7 +163,7 @@ module _ (t : KnownTable) (m : KnownMachine) (c : KnownCpu) (ok : IsConsistent t
             references = refl;
           }
 
-      -- the grant may be taken, and behind it the fill
+      -- the grant may be taken, and after it the fill
       pub fill_may : MayTakeAll t m.run.past (fill_steps c.number g k)
       fill_may = may_all t m.run.past c.number (local_of t m) (fill_steps c.number g k) visit.who refl
           (run_steps c.number (local_of t m) (fill_steps c.number g k) (fill_state (local_of t m) c.number g k) fill_leads)

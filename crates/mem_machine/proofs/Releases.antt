@@ -248,7 +248,7 @@ notes_back t a b f i is action answered first d second =
     notes_both t a (zone_makes (action f) answered ∷ []) b (zone_makes (Return f) answer.Done ∷ []) d first
     (subst (λ (x : ℕ). Notes t b (zone_makes (Return x) answer.Done ∷ []) d) is second)
 
--- the return may be made behind that step
+-- the return may be made after that step
 pub return_may : (t : KnownTable) (past later : KnownPasts) (f i : ℕ) → i ≡ f → (action : Action) (answered : Answer) → MakesStep t past 0 action answered later
     → is_legal (after (local_by_pasts t past) 0 action answered) 0 (Return f) ≡ true → MayTake t later (zone_makes (Return i) answer.Done)
 return_may t past later f i is action answered made legal =
@@ -277,7 +277,7 @@ pub put_may : (t : KnownTable) (m now : KnownMachine) → m ≡ now → IsConsis
     → MayMake t m.run.past 0 (Put f)
 put_may t m now same ok f inside kept held = may_put t m ok (held_here t m now same held) f inside (kept_here m now same f kept)
 
--- behind the last put the unit may be returned
+-- after the last put the unit may be returned
 pub put_returns : (t : KnownTable) (m now : KnownMachine) → m ≡ now → IsConsistent t m → (f i : ℕ) → f < t.frames → i ≡ f → home_of now.links f ≢ None → IsHeld t now.run.past
     → (unit : ChargedUnit) → frame_state_at m.frame_states i ≡ Head unit → is_legal (after (local_by_pasts t m.run.past) 0 (Put f) answer.Last) 0 (Return f) ≡ true
 put_returns t m now same ok f i inside is kept held unit head =

@@ -21,7 +21,7 @@ abbrev pub after_made : State → Step × Answer → State
 after_made s made = after s made.0.seat made.0.action made.1
 
 -- The pasts have grown by these steps: if a CPU held the lock, it still does, and sees what the steps make of what it saw.
--- Then both pasts, the zone's and the CPU's, have these steps behind what they had, in this order.
+-- Then both pasts, the zone's and the CPU's, have these steps after what they had, in this order.
 pub record PastsGrowBy (table : KnownTable) (before : KnownPasts) (steps : Run) (later : KnownPasts) : Type 0 where
   pub held : IsHeld table before → IsHeld table later
   pub holder : IsHeld table before → (cpu_past later).number ≡ (cpu_past before).number
@@ -34,7 +34,7 @@ pub record Notes (table : KnownTable) (before : KnownRun) (steps : Run) (later :
   pub grew : PastsGrowBy table before.past steps later.past
   pub watched : Watches before.watch steps later.watch
 
--- each step of the list is a local step of this CPU behind those before it
+-- each step of the list is a local step of this CPU after those before it
 abbrev pub AreLocal : ℕ → State → Run → Type 0
 AreLocal cpu state [] = ⊤
 AreLocal cpu state (made ∷ rest) =

@@ -9,12 +9,13 @@ use crate::frame_state::FrameState;
 use crate::lists::join_list;
 use crate::machine::Machine;
 use crate::proving::prove_charges;
-use crate::stepping;
+use crate::stepping::make_step;
 use cpu_part::{BootName, Cpu, Tables};
 use frame_word::Frame;
 use group_charge::charges::Over;
 use group_tree::group::GroupId;
 use step_rules::phase::ChargedUnit;
+use step_rules::step::{Action, Answer};
 use zone_blocks::block::Block;
 use zone_blocks::order::Order;
 
@@ -68,26 +69,42 @@ impl<N: BootName> Machine<N> {
         prove_charges(&self.charges);
         if let Err(over) = self.charges.try_charge(group, pages) {
             let full = over.group;
-            stepping::refuse(tables, &mut self.past, &mut self.watch, group, pages, full);
+            make_step(tables, &mut self.past, &mut self.watch, || {
+                (Action::Grant { group, pages }, Answer::Over(full))
+            });
             return Err(TakeFault::Over(over));
         }
-        stepping::grant(tables, &mut self.past, &mut self.watch, group, pages);
+        make_step(tables, &mut self.past, &mut self.watch, || {
+            (Action::Grant { group, pages }, Answer::Granted)
+        });
         let Some(block) = self.zone.take(order) else {
-            stepping::find_no_block(tables, &mut self.past, &mut self.watch, group, order);
+            make_step(tables, &mut self.past, &mut self.watch, || {
+                (Action::PlaceBlock { group, order }, Answer::NoFreeBlock)
+            });
             self.charges.uncharge(group, pages);
-            stepping::ungrant(tables, &mut self.past, &mut self.watch, group, pages);
+            make_step(tables, &mut self.past, &mut self.watch, || {
+                (Action::Ungrant { group, pages }, Answer::Done)
+            });
             return Err(TakeFault::NoBlock);
         };
         let Some(head) = tables.words.frame(block.at) else {
             unreachable!()
         };
-        let at = head.number();
+        let frame = head.number();
         place_unit(&mut self.frame_states, block, group);
-        stepping::place(tables, &mut self.past, &mut self.watch, group, order, at);
+        make_step(tables, &mut self.past, &mut self.watch, || {
+            (
+                Action::PlaceBlock { group, order },
+                Answer::Placed(Block { at: frame, order }),
+            )
+        });
         tables.words.unfreeze(&mut self.past, head, 1);
-        self.watch.unfroze(at, 1);
-        join_list(&mut self.links, &mut self.lists, group, at);
-        stepping::publish(tables, &mut self.past, &mut self.watch, at);
+        self.watch
+            .take(0, || (Action::Unfreeze { frame, count: 1 }, Answer::Done));
+        join_list(&mut self.links, &mut self.lists, group, frame);
+        make_step(tables, &mut self.past, &mut self.watch, || {
+            (Action::Publish { frame }, Answer::Done)
+        });
         Ok(head)
     }
 }

@@ -10,9 +10,10 @@ use crate::frame_state::FrameState;
 use crate::freed::free_unit;
 use crate::lists::leave_list;
 use crate::machine::Machine;
-use crate::stepping;
+use crate::stepping::make_step;
 use cpu_part::{BootName, Tables};
 use frame_word::Frame;
+use step_rules::step::{Action, Answer};
 
 impl<N: BootName> Machine<N> {
     /// Tries to take a kept unit out of use. If the zone's reference is the only one, nobody can get the unit any more:
@@ -26,30 +27,34 @@ impl<N: BootName> Machine<N> {
         ensures visit { StaysVisited N.frames self.old self.new }
         ensures steps { Makes N.frames self.old (evict_steps head result) self.new }
     {
-        let at = head.number();
+        let frame = head.number();
         if !tables.words.freeze(&mut self.past, head, 1) {
-            self.watch.missed(at, 1);
+            self.watch
+                .take(0, || (Action::Freeze { frame, count: 1 }, Answer::Missed));
             self.counts = self.counts.with_miss();
             return None;
         }
-        self.watch.froze(at, 1);
-        let FrameState::Head(unit) = self.frame_states[at as usize] else {
+        self.watch
+            .take(0, || (Action::Freeze { frame, count: 1 }, Answer::Done));
+        let FrameState::Head(unit) = self.frame_states[frame as usize] else {
             unreachable!()
         };
         let group = unit.group;
         let order = unit.order;
-        leave_list(&mut self.links, &mut self.lists, at);
+        leave_list(&mut self.links, &mut self.lists, frame);
         free_unit(
             &mut self.zone,
             &mut self.frame_states,
             &mut self.charges,
-            at,
+            frame,
             unit,
         );
-        stepping::return_unit(tables, &mut self.past, &mut self.watch, at);
+        make_step(tables, &mut self.past, &mut self.watch, || {
+            (Action::Return { frame }, Answer::Done)
+        });
         self.counts = self.counts.with_freeze();
         let pages = order.frames();
-        self.notes.note_unit(group, at, pages);
+        self.notes.note_unit(group, frame, pages);
         Some(pages)
     }
 }

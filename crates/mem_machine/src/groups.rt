@@ -38,13 +38,9 @@ impl<N: BootName> Machine<N> {
         ensures steps { Makes N.frames self.old (note_steps key group) self.new }
     {
         self.charges.note(key.event(), group);
-        make_step(
-            tables,
-            &mut self.past,
-            &mut self.watch,
-            Action::Note { key, group },
-            Answer::Done,
-        );
+        make_step(tables, &mut self.past, &mut self.watch, || {
+            (Action::Note { key, group }, Answer::Done)
+        });
     }
 
     /// Kills a group that isn't killed: nothing can be charged to it until it is removed. That is one more `oom_kill`
@@ -65,13 +61,9 @@ impl<N: BootName> Machine<N> {
     {
         self.charges.note(EventKey::OomKill, group);
         self.killed[group.number() as usize] = true;
-        make_step(
-            tables,
-            &mut self.past,
-            &mut self.watch,
-            Action::Kill { group },
-            Answer::Done,
-        );
+        make_step(tables, &mut self.past, &mut self.watch, || {
+            (Action::Kill { group }, Answer::Done)
+        });
     }
 
     /// Notes that a group other than the root was killed as a whole, with all groups below it. That is one more
@@ -89,13 +81,9 @@ impl<N: BootName> Machine<N> {
         ensures steps { Makes N.frames self.old (note_group_kill_steps group) self.new }
     {
         self.charges.note(EventKey::OomGroupKill, group);
-        make_step(
-            tables,
-            &mut self.past,
-            &mut self.watch,
-            Action::NoteGroupKill { group },
-            Answer::Done,
-        );
+        make_step(tables, &mut self.past, &mut self.watch, || {
+            (Action::NoteGroupKill { group }, Answer::Done)
+        });
     }
 
     /// Makes a group, as `Tree::make` does. It has no pages, peak 0 and all counts 0, and isn't killed.
@@ -114,13 +102,9 @@ impl<N: BootName> Machine<N> {
         let Some(path) = PathText::of(path) else {
             unreachable!()
         };
-        make_step(
-            tables,
-            &mut self.past,
-            &mut self.watch,
-            Action::Make { path },
-            Answer::Number(group),
-        );
+        make_step(tables, &mut self.past, &mut self.watch, || {
+            (Action::Make { path }, Answer::Number(group))
+        });
         Ok(group)
     }
 
@@ -140,13 +124,9 @@ impl<N: BootName> Machine<N> {
     {
         prove_charges(&self.charges);
         self.charges.remove(group);
-        make_step(
-            tables,
-            &mut self.past,
-            &mut self.watch,
-            Action::Remove { group },
-            Answer::Done,
-        );
+        make_step(tables, &mut self.past, &mut self.watch, || {
+            (Action::Remove { group }, Answer::Done)
+        });
     }
 
     /// Gives a group other than the root another limit, in pages; None means no limit. Only later charges obey it.
@@ -162,13 +142,9 @@ impl<N: BootName> Machine<N> {
         ensures steps { Makes N.frames self.old (set_max_steps group limit) self.new }
     {
         self.charges.set_max(group, limit);
-        make_step(
-            tables,
-            &mut self.past,
-            &mut self.watch,
-            Action::SetMax { group, limit },
-            Answer::Done,
-        );
+        make_step(tables, &mut self.past, &mut self.watch, || {
+            (Action::SetMax { group, limit }, Answer::Done)
+        });
     }
 
     /// Sets whether a group other than the root is killed as a whole (memory.oom.group). Only later kills read it.
@@ -184,13 +160,9 @@ impl<N: BootName> Machine<N> {
         ensures steps { Makes N.frames self.old (set_oom_group_steps group oom_group) self.new }
     {
         self.charges.set_oom_group(group, oom_group);
-        make_step(
-            tables,
-            &mut self.past,
-            &mut self.watch,
-            Action::SetFlag { group, oom_group },
-            Answer::Done,
-        );
+        make_step(tables, &mut self.past, &mut self.watch, || {
+            (Action::SetFlag { group, oom_group }, Answer::Done)
+        });
     }
 
     /// Sets memory.high, memory.low and memory.min of a group. This is no step: no rule reads them.

@@ -8,13 +8,24 @@ ghost use Rattle.mem_machine.specs.Lending.{HasListRoom, LendsIfFree, LendsFrame
 ghost use Rattle.mem_machine.specs.Lending.{UnlistsIfListed, UnlistsMany, unlist_front_steps};
 ghost use Rattle.mem_machine.specs.Local.{VisitMakes, Visits, visit_state};
 ghost use Rattle.mem_machine.specs.Steps.{lend_steps};
+ghost use Rattle.step_watch.specs.Watched.{Watches};
 
 use crate::frame_state::{FrameState, single_order};
 use crate::machine::Machine;
 use crate::proving::prove_sizes;
 use cpu_part::{BootName, Cpu, Tables};
 use frame_word::Frame;
+use step_rules::step::{Action, Answer};
+use step_watch::Watch;
 use zone_blocks::block::Block;
+
+// The watch takes the steps by which the zone lent the CPU a frame.
+fn watch_lent(watch: &mut Watch, cpu: u32, frame: u32)
+    ensures { Watches watch.old (lend_steps cpu frame) watch.new }
+{
+    watch.take(0, || (Action::PassOut { frame, cpu }, Answer::Done));
+    watch.take(cpu, || (Action::TakeIn { frame }, Answer::Done));
+}
 
 impl<N: BootName> Machine<N> {
     // Lends one free frame to the CPU, if there is one, at the end of its list.
@@ -34,8 +45,7 @@ impl<N: BootName> Machine<N> {
         };
         let at = frame.number();
         cpu.borrow(tables, &mut self.past, frame);
-        self.watch.passed_out(at, cpu_number);
-        self.watch.took_in(cpu_number, at);
+        watch_lent(&mut self.watch, cpu_number, at);
         self.frame_states[at as usize] = FrameState::Lent(cpu_number as u8);
         true
     }
@@ -75,8 +85,7 @@ impl<N: BootName> Machine<N> {
         let given = frame.number();
         self.zone.take_frame(given);
         cpu.borrow(tables, &mut self.past, frame);
-        self.watch.passed_out(given, cpu_number);
-        self.watch.took_in(cpu_number, given);
+        watch_lent(&mut self.watch, cpu_number, given);
         self.frame_states[given as usize] = FrameState::Lent(cpu_number as u8);
     }
 
@@ -92,9 +101,21 @@ impl<N: BootName> Machine<N> {
             return false;
         };
         let at = frame.number();
-        self.watch.passed_back(cpu_number, at);
+        self.watch.take(
+            cpu_number,
+            || (Action::PassBack { frame: at }, Answer::Done),
+        );
         tables.words.collect(&mut self.past, cpu_number, frame);
-        self.watch.collected(at, cpu_number);
+        self.watch.take(
+            0,
+            || (
+                Action::Collect {
+                    frame: at,
+                    cpu: cpu_number,
+                },
+                Answer::Done,
+            ),
+        );
         self.frame_states[at as usize] = FrameState::Free;
         self.zone.give(Block {
             at,

@@ -50,7 +50,7 @@ pub struct Machine<N: BootName> {
     pub(crate) notes: Notes,
     // The zone's past, which has that of the lock's holder too while the lock is held.
     pub(crate) past: PastSeat,
-    // Takes each step of the zone's seat and of the CPU that holds the lock, right behind the step.
+    // Takes each step of the zone's seat and of the CPU that holds the lock, right after the step.
     pub(crate) watch: Watch,
     // The boot whose words these are.
     pub(crate) of: PhantomData<N>,

@@ -11,6 +11,7 @@ use crate::proving::prove_charges;
 use cpu_part::{BootName, Cpu, Tables};
 use frame_word::Frame;
 use group_tree::group::GroupId;
+use step_rules::step::{Action, Answer};
 use stock_word::Stock;
 
 impl<N: BootName> Machine<N> {
@@ -48,7 +49,8 @@ impl<N: BootName> Machine<N> {
     {
         let cpu_number = cpu.number();
         let frame = cpu.take_front(tables, &mut self.past, group.number());
-        self.watch.consumed(cpu_number, group);
+        self.watch
+            .take(cpu_number, || (Action::Consume { group }, Answer::Took));
         frame
     }
 }

@@ -10,9 +10,10 @@ use crate::frame_state::FrameState;
 use crate::freed::free_unit;
 use crate::lists::leave_list;
 use crate::machine::Machine;
-use crate::stepping;
+use crate::stepping::make_step;
 use cpu_part::{BootName, Cpu, Tables};
 use frame_word::{Frame, Put};
+use step_rules::step::{Action, Answer};
 
 /// What a release left.
 #[derive(Clone, Copy)]
@@ -39,11 +40,14 @@ impl<N: BootName> Machine<N> {
         leave_list(&mut self.links, &mut self.lists, at);
         match tables.words.put_held(&mut self.past, 0, head) {
             Put::Left(left) => {
-                self.watch.put_left(at, left as u32);
+                let still = left as u32;
+                self.watch
+                    .take(0, || (Action::Put { frame: at }, Answer::Left(still)));
                 Released::Left(left)
             }
             Put::Last => {
-                self.watch.put_last(at);
+                self.watch
+                    .take(0, || (Action::Put { frame: at }, Answer::Last));
                 let FrameState::Head(unit) = self.frame_states[at as usize] else {
                     unreachable!()
                 };
@@ -54,7 +58,9 @@ impl<N: BootName> Machine<N> {
                     at,
                     unit,
                 );
-                stepping::return_unit(tables, &mut self.past, &mut self.watch, at);
+                make_step(tables, &mut self.past, &mut self.watch, || {
+                    (Action::Return { frame: at }, Answer::Done)
+                });
                 self.counts = self.counts.with_last_put();
                 Released::Returned
             }

@@ -17,22 +17,23 @@ use crate::frame_state::{FrameState, single_order};
 use crate::freed::free_unit;
 use crate::lists::join_list;
 use crate::machine::Machine;
-use crate::stepping;
+use crate::stepping::make_step;
 use boot_words::PastSeat;
 use cpu_part::{BootName, Cpu, Tables};
 use frame_word::Frame;
 use group_tree::group::{GroupId, MAX_GROUPS};
 use step_rules::phase::ChargedUnit;
+use step_rules::step::{Action, Answer};
 use step_watch::Watch;
 
 // The watch takes the steps by which the zone took over a fresh frame of the CPU.
 fn watch_collected(watch: &mut Watch, cpu: u32, frame: u32)
     ensures { Watches watch.old (collect_steps cpu frame) watch.new }
 {
-    watch.passed_back(cpu, frame);
-    watch.reported(cpu, 1);
-    watch.collected(frame, cpu);
-    watch.absorbed(cpu, 1);
+    watch.take(cpu, || (Action::PassBack { frame }, Answer::Done));
+    watch.take(cpu, || (Action::Report { pages: 1 }, Answer::Done));
+    watch.take(0, || (Action::Collect { frame, cpu }, Answer::Done));
+    watch.take(0, || (Action::Absorb { cpu }, Answer::Pages(1)));
 }
 
 // Moves the oldest fresh frame of the visited CPU into the zone's hand. Its page is no longer booked to the CPU's stock,
@@ -79,7 +80,7 @@ impl<N: BootName> Machine<N> {
         ensures steps { VisitMakes N.frames (visit_state self.old cpu.old)
             (keep_steps cpu.old.number result) (visit_state self.new cpu.new) }
     {
-        let frame = collect_fresh(
+        let head = collect_fresh(
             tables,
             cpu,
             &mut self.past,
@@ -87,14 +88,17 @@ impl<N: BootName> Machine<N> {
             &mut self.sums,
             group,
         );
-        let at = frame.number();
-        tables.words.unfreeze(&mut self.past, frame, 1);
-        self.watch.unfroze(at, 1);
+        let frame = head.number();
+        tables.words.unfreeze(&mut self.past, head, 1);
+        self.watch
+            .take(0, || (Action::Unfreeze { frame, count: 1 }, Answer::Done));
         let order = single_order();
-        self.frame_states[at as usize] = FrameState::Head(ChargedUnit { group, order });
-        join_list(&mut self.links, &mut self.lists, group, at);
-        stepping::publish(tables, &mut self.past, &mut self.watch, at);
-        frame
+        self.frame_states[frame as usize] = FrameState::Head(ChargedUnit { group, order });
+        join_list(&mut self.links, &mut self.lists, group, frame);
+        make_step(tables, &mut self.past, &mut self.watch, || {
+            (Action::Publish { frame }, Answer::Done)
+        });
+        head
     }
 
     // Frees the oldest fresh frame, whose group is killed, and uncharges its page from the group.
@@ -126,7 +130,9 @@ impl<N: BootName> Machine<N> {
             at,
             unit,
         );
-        stepping::return_unit(tables, &mut self.past, &mut self.watch, at);
+        make_step(tables, &mut self.past, &mut self.watch, || {
+            (Action::Return { frame: at }, Answer::Done)
+        });
         self.counts = self.counts.with_killed_fresh();
         frame
     }
@@ -143,9 +149,21 @@ impl<N: BootName> Machine<N> {
             return None;
         };
         let at = frame.number();
-        self.watch.passed_back(cpu_number, at);
+        self.watch.take(
+            cpu_number,
+            || (Action::PassBack { frame: at }, Answer::Done),
+        );
         tables.words.collect(&mut self.past, cpu_number, frame);
-        self.watch.collected(at, cpu_number);
+        self.watch.take(
+            0,
+            || (
+                Action::Collect {
+                    frame: at,
+                    cpu: cpu_number,
+                },
+                Answer::Done,
+            ),
+        );
         let FrameState::Head(unit) = self.frame_states[at as usize] else {
             unreachable!()
         };
@@ -156,7 +174,9 @@ impl<N: BootName> Machine<N> {
             at,
             unit,
         );
-        stepping::return_unit(tables, &mut self.past, &mut self.watch, at);
+        make_step(tables, &mut self.past, &mut self.watch, || {
+            (Action::Return { frame: at }, Answer::Done)
+        });
         self.counts = self.counts.with_last_put();
         Some(frame)
     }

@@ -12,14 +12,16 @@ ghost use Rattle.mem_machine.specs.Stocks.{Fills, RefusesGrant};
 ghost use Rattle.mem_machine.specs.Paying.{MayCharge};
 ghost use Rattle.mem_machine.specs.Steps.{drain_steps, fill_steps};
 
+use crate::bit_set;
 use crate::machine::Machine;
 use crate::proving::{prove_charges, prove_sizes};
+use crate::stepping::make_step;
 use crate::subtrees::is_at_or_below;
-use crate::{bit_set, stepping};
 use cpu_part::{BootName, Cpu, Tables};
 use group_charge::charges::Over;
 use group_charge::note::Note;
 use group_tree::group::GroupId;
+use step_rules::step::{Action, Answer};
 
 impl<N: BootName> Machine<N> {
     /// Drains the stock of any CPU of the boot, and returns how many pages were in it. They are no longer booked to
@@ -33,14 +35,19 @@ impl<N: BootName> Machine<N> {
     {
         prove_charges(&self.charges);
         let pages = tables.words.drain(&mut self.past, cpu);
-        self.watch.drained(cpu, pages as u128);
+        self.watch.take(
+            0,
+            || (Action::DrainStock { cpu }, Answer::Pages(pages as u128)),
+        );
         if pages > 0 {
             let Some(group) = self.owners.group(cpu as usize - 1) else {
                 unreachable!()
             };
             self.sums[group.number() as usize] -= pages;
             self.charges.uncharge(group, pages);
-            stepping::ungrant(tables, &mut self.past, &mut self.watch, group, pages);
+            make_step(tables, &mut self.past, &mut self.watch, || {
+                (Action::Ungrant { group, pages }, Answer::Done)
+            });
         }
         pages
     }
@@ -144,13 +151,27 @@ impl<N: BootName> Machine<N> {
         prove_charges(&self.charges);
         if let Err(over) = self.charges.try_charge(group, pages) {
             let full = over.group;
-            stepping::refuse(tables, &mut self.past, &mut self.watch, group, pages, full);
+            make_step(tables, &mut self.past, &mut self.watch, || {
+                (Action::Grant { group, pages }, Answer::Over(full))
+            });
             return Err(over);
         }
-        stepping::grant(tables, &mut self.past, &mut self.watch, group, pages);
+        make_step(tables, &mut self.past, &mut self.watch, || {
+            (Action::Grant { group, pages }, Answer::Granted)
+        });
         let owner = group.number();
         tables.words.fill(&mut self.past, cpu_number, owner, pages);
-        self.watch.filled(cpu_number, group, pages);
+        self.watch.take(
+            0,
+            || (
+                Action::Fill {
+                    cpu: cpu_number,
+                    group,
+                    pages,
+                },
+                Answer::Done,
+            ),
+        );
         self.sums[owner as usize] += pages;
         self.owners.set(cpu_number as usize - 1, group);
         Ok(())

@@ -7,6 +7,7 @@ ghost use Rattle.mem_machine.specs.Steps.{open_steps, shut_steps};
 
 use crate::machine::Machine;
 use cpu_part::{BootName, Cpu, Tables};
+use step_rules::step::{Action, Answer};
 
 impl<N: BootName> Machine<N> {
     /// Opens the visit of the CPU, which is shut. Frames are handed over and pages reported only inside a visit.
@@ -19,7 +20,7 @@ impl<N: BootName> Machine<N> {
     {
         let cpu_number = cpu.number();
         tables.words.open_visit(&mut self.past, cpu_number);
-        self.watch.visit_opened(cpu_number);
+        self.watch.take(0, || (Action::OpenVisit { cpu: cpu_number }, Answer::Done));
     }
 
     /// Shuts the visit of the CPU. No frame is in transit between it and the zone.
@@ -32,6 +33,6 @@ impl<N: BootName> Machine<N> {
     {
         let cpu_number = cpu.number();
         tables.words.shut_visit(&mut self.past, cpu_number);
-        self.watch.visit_shut(cpu_number);
+        self.watch.take(0, || (Action::ShutVisit { cpu: cpu_number }, Answer::Done));
     }
 }

@@ -8,7 +8,7 @@ ghost use Rattle.mem_machine.specs.Steps.{cpu_makes};
 use crate::machine::Machine;
 use cpu_part::BootName;
 use std::mem;
-use step_rules::step::{Action, Answer, Step};
+use step_rules::step::{Action, Answer};
 use step_watch::Watch;
 
 impl<N: BootName> Machine<N> {
@@ -34,6 +34,6 @@ impl<N: BootName> Machine<N> {
         ensures machine { self.new ≡ with_watch self.old self.new.run.watch }
         ensures watched { Watches self.old.run.watch (cpu_makes cpu action answer ∷ []) self.new.run.watch }
     {
-        self.watch.take(&Step { seat: cpu, action }, &answer);
+        self.watch.take(cpu, || (action, answer));
     }
 }

@@ -64,6 +64,6 @@ module _ (t : KnownTable) (m : KnownMachine) (steps : Run) (n : KnownMachine) (r
       ap (λ (s : State). s.parts cpu) (left_then t m steps n.run held runs.noted) ∙ ap other_part_seen same
       ∙ sym (ap (λ (s : State). s.parts cpu) (left_seen t m.run.past held))
 
--- behind a note
+-- after a note
 pub held_noted : (t : KnownTable) (m n : KnownMachine) (note : Note) → n ≡ with_note m note → IsHeld t m.run.past → IsHeld t n.run.past
 held_noted t m n note is held = subst (λ (x : KnownMachine). IsHeld t x.run.past) (sym is) held

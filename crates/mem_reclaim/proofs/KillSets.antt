@@ -95,7 +95,7 @@ pub record KilledSo (t : KnownTable) (groups : List ℕ) (Kills : KnownMachine �
   pub none_kept : All (λ g. HasNoKeptUnit g n) groups
   pub keeps : OnlyReleases t m n
 
--- ---- one group, and the note behind its kill
+-- ---- one group, and the note after its kill
 
 -- a note changes nothing that a kill keeps
 pub lets_before_note : (t : KnownTable) (m b : KnownMachine) (last : Note) → OnlyReleases t m b → OnlyReleases t m (with_note b last)

@@ -29,7 +29,7 @@ fn missing(charges: &Charges, group: GroupId, need: u32, limit: u32) -> u64
 }
 
 /// Makes the round of this number, from 1, for a group, in which `want` pages are wanted. It is noted with what it
-/// tried, behind the units that it freed, if these are noted. If it frees fewer pages, each clean unit that the subtree
+/// tried, after the units that it freed, if these are noted. If it frees fewer pages, each clean unit that the subtree
 /// still keeps was tried and missed.
 pub fn reclaim_round<N: BootName>(
     machine: &mut Machine<N>,

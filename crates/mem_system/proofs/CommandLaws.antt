@@ -59,7 +59,7 @@ only_reclaim_falls_short path file value why call served = elim served.executes.
   | inr short ↦ inr (short.is_file.named ∙ ap name_of_file short.falls.file_is, short.falls.fault_is)
 ]
 
--- ---- the list behind a Release
+-- ---- the list after a Release
 
 same_within : (sizes : Config) (c d : KnownCpu) → d ≡ c → ListStaysWithin sizes c d
 same_within sizes c d same within = let long = ap (λ (e : KnownCpu). length e.list) same in omega (arith, long, within)

@@ -49,7 +49,7 @@ locked_visit t Does m m0 m1 n1 n2 n c d p named locks found lock holds visit lef
           (subst (λ (x : KnownPasts). Unlocks t x n.run.past seat'.seat) (ap (λ (k : KnownMachine). k.run.past) left) gives);
     }
 
--- what the CPU sees, behind a step that the watch takes
+-- what the CPU sees, after a step that the watch takes
 pub holds_seen : (t : KnownTable) (m n : KnownMachine) (c : KnownCpu) → n ≡ with_watch m n.run.watch → Holds t (visit_state m c) → Holds t (visit_state n c)
 holds_seen t m n c is holds = subst (λ (k : KnownMachine). Holds t (visit_state k c)) (sym is) (record { held = holds.held; who = holds.who; own = holds.own })
 
@@ -58,7 +58,7 @@ pub same_holder : (t : KnownTable) (Does : Transition VisitState → Type 0) (m 
     → Holds t (visit_state m c) → Holds t (visit_state n d) → d.number ≡ c.number
 same_holder t Does m n c d visit first last = sym last.who ∙ visit.makes.holder ∙ first.who
 
--- ---- the parts of the run, behind a lock and its release
+-- ---- the parts of the run, after a lock and its release
 
 pub part_locked : (t : KnownTable) (zone cpu held : KnownPasts) → Locks t zone cpu held → (q : ℕ) → (left_by t held).parts q ≡ (left_by t zone).parts q
 part_locked t zone cpu held locks q = ap (λ (s : State). s.parts q) locks.found

@@ -1,4 +1,4 @@
--- A past that grew by steps, each behind steps of other seats. Serves what the machine counts.
+-- A past that grew by steps, each after steps of other seats. Serves what the machine counts.
 use Rattle.std.proofs.Common.{◌≡◌, ◌≢◌, ◌∙◌, ◌≤◌, ℕ, ◌+◌, ◌==◌, ◌||◌, Bool, true, false, [], ◌∷◌, ◌++◌, cond, refl, ap, sym, subst, arith, append_assoc, inl, inr}
 use Rattle.std.specs.Prelude.{◌⊎◌}
 use Rattle.std.proofs.lemmas.Bool.{eq-eqb, ne_eqb}
@@ -13,7 +13,7 @@ use Rattle.boot_words.specs.Runs.{HasNoStepOf}
 use Rattle.boot_words.specs.declared.past.Past.{Past}
 use Rattle.boot_words.proofs.Holding.{append_none}
 
--- the run is these steps, each behind steps of other seats
+-- the run is these steps, each after steps of other seats
 abbrev pub AreBehindOthers : ℕ → (steps run : Run) → Type 0
 AreBehindOthers seat [] run = run ≡ []
 AreBehindOthers seat (e ∷ steps) run = (gap : Run) × (rest : Run) × HasNoStepOf seat gap × (run ≡ gap ++ e ∷ rest) × AreBehindOthers seat steps rest
@@ -73,7 +73,7 @@ has_none seat [] none = tt
 has_none seat (e ∷ run) none =
     (λ same. absurd (let one = own_one seat e same in omega (arith, one, none)), has_none seat run (omega (arith, none)))
 
--- steps behind those of others: no more of the seat, and no fewer of any other
+-- steps after those of others: no more of the seat, and no fewer of any other
 pub as_many : (seat : ℕ) (steps run : Run) → AreBehindOthers seat steps run → steps_of seat run ≡ steps_of seat steps
 as_many seat [] run e = ap (steps_of seat) e
 as_many seat (e ∷ steps) run h =

@@ -1,6 +1,6 @@
 -- The pins of CPUs, put one after the other, and what follows of a CPU's steps at the end.
-use Rattle.std.proofs.Common.{◌≡◌, ℕ, zero, suc, ◌+◌, ◌<◌, ◌≤◌, List, [], ◌∷◌, ◌++◌, ◌∙◌, length, take, get_or, refl, sym, ap, subst, arith, append_assoc, append-nil}
-use Rattle.std.specs.Prelude.{IsPermutation, slice_set}
+use Rattle.std.proofs.Common.{◌≡◌, ℕ, zero, suc, ◌+◌, ◌<◌, ◌≤◌, Option, Some, None, List, [], ◌∷◌, ◌++◌, ◌∙◌, length, take, get_or, refl, sym, ap, subst, arith, append_assoc, append-nil}
+use Rattle.std.specs.Prelude.{IfSome, IsPermutation, MatchOption, slice_set}
 use Rattle.std.proofs.lemmas.List.{map-append, nil_from_length, take_all, take_more_set}
 use Rattle.std.proofs.lemmas.List.Sorted.{IsPermutation-append_right, IsPermutation-refl, IsPermutation-trans}
 use Rattle.std.proofs.lemmas.List.Sums.{sum_by-append, sum_by-cons}
@@ -8,6 +8,8 @@ use Rattle.frame_word.specs.Seats.{KnownTable}
 use Rattle.frame_word.specs.declared.answers.Put.{Put}
 use Rattle.frame_word.specs.declared.answers.Put.TheVariants.{Left, Last}
 use Rattle.step_rules.specs.After.{Run}
+use Rattle.step_rules.specs.State.{times}
+use Rattle.boot_words.specs.Cpus.{KnownCpuSeat}
 use Rattle.boot_words.specs.Growth.{GrewByAll}
 use Rattle.boot_words.specs.Pasts.{own_past}
 use Rattle.boot_words.specs.Rule.{AllOf, BeginsRun}
@@ -17,7 +19,9 @@ use Rattle.boot_words.proofs.Grown.{all_grew_both}
 use Rattle.cpu_part.specs.Cpus.{KnownCpu}
 use Rattle.cpu_part.specs.Calls.{UnpinAnswers}
 use Rattle.cpu_part.specs.Told.{steps_of_put}
+use Rattle.cpu_part.specs.Known.{KnowsItsPart}
 use Rattle.cpu_part.proofs.Counts.{one_shorter}
+use Rattle.cpu_part.proofs.Knowing.{pinned_inside}
 use Rattle.mem_machine.specs.Local.{VisitState}
 use Rattle.mem_machine.specs.Machines.{KnownMachine}
 use Rattle.mem_system.specs.Cpus.{CpuInRun, between_locks, parts_of, pasts_of}
@@ -29,6 +33,12 @@ use Rattle.mem_system.specs.Ending.{EndsCpu, PutsAndEnds}
 use Rattle.mem_system.specs.Puts.{EachPuts, MadePut, PutsPins, frames_put, unpin_steps}
 
 -- ---- one CPU
+
+-- a frame that the CPU has pinned is one of the table
+pub pin_in_table : (t : KnownTable) (k : KnownCpuSeat) (c : KnownCpu) → KnowsItsPart t k c → (found : Option ℕ)
+    → MatchOption found (c.pins ≡ []) (λ f. 1 ≤ times f c.pins) → IfSome found (λ f. f < t.frames)
+pin_in_table t k c knows None none = tt
+pin_in_table t k c knows (Some f) pinned = pinned_inside t k c knows f pinned
 
 parted : (f : ℕ) (answer : Put) (c d : KnownCpu) → UnpinAnswers f answer c d → IsPermutation c.pins (f ∷ d.pins)
 parted f (Left n) c d one = one.0

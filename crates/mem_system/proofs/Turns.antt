@@ -24,7 +24,7 @@ use Rattle.mem_system.specs.Ends.{SettlesInVisit, Empties, LendsAndFillsNone}
 use Rattle.mem_system.proofs.Listing.{left_over}
 use Rattle.mem_machine.proofs.Followed.{makes_both}
 
--- ---- a settle behind the begin of the visit
+-- ---- a settle after the begin of the visit
 
 -- the same frames are settled by the same steps, whether the visit is open
 pub same_settle : (t : KnownTable) (m entered : KnownMachine) (c : KnownCpu) → entered ≡ with_run m entered.run → IsHeld t m.run.past → Makes t m (open_steps c.number) entered

@@ -33,7 +33,7 @@ pub record EndsCpu (table : KnownTable) (run : Run) (cpu : CpuInRun) : Type 0 wh
 
 -- The CPUs put all pins that they had, and the boot ended, with this behind its lock. One legal run leads to the words of
 -- the table (`ends.closes`). The past of each CPU is a beginning of it (`each`). So is the zone's past, which led to what
--- is behind the lock (`sound.quiet.rests`): behind it the zone's seat makes only the steps of the last visits, each after
+-- is behind the lock (`sound.quiet.rests`): after it the zone's seat makes only the steps of the last visits, each after
 -- steps of CPUs.
 pub record PutsAndEnds (table : KnownTable) (locked : KnownLocked)
     (cpus : List CpuInRun) (ended : SystemEnd) : Type 0 where

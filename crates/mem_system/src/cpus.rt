@@ -1,6 +1,7 @@
 //! A CPU as callers have it: its part, and its own past of the run.
 
-ghost use Rattle.std.specs.Prelude.{◌≡◌, ◌≢◌, ◌+◌, ◌<◌, ◌≤◌, ◌↔◌, [], length, Ok, IfOk, IsTrue, MatchOption, MatchResult};
+ghost use Rattle.std.specs.Prelude.{◌≡◌, ◌≢◌, ◌+◌, ◌<◌, ◌≤◌, ◌↔◌, [], length, Ok, IfOk, IfSome, IsTrue, MatchOption};
+ghost use Rattle.std.specs.Prelude.{MatchResult};
 ghost use Rattle.frame_word.specs.declared.answers.Get.TheVariants.{Zero};
 ghost use Rattle.boot_words.specs.Growth.{GrewByAll};
 ghost use Rattle.boot_words.specs.Calls.{RacesAt};
@@ -157,8 +158,8 @@ impl<N: BootName> Cpu<N> {
 
     /// A frame that is pinned, if there is one.
     pub fn first_pin(&self) -> Option<Frame>
-        ensures { MatchOption result (self.now.part.pins ≡ [])
-            (λ f. 1 ≤ times f self.now.part.pins) }
+        ensures pin { MatchOption result (self.now.part.pins ≡ []) (λ f. 1 ≤ times f self.now.part.pins) }
+        ensures frame { IfSome result (λ f. f < N.frames.frames) }
     {
         self.part.first_pin()
     }

@@ -22,7 +22,7 @@ makes path text = bytes_eq (word_behind 1 text) (codes "mkdir") && pointwise nat
 abbrev pub is_made : List (List ℕ) → List ℕ → Bool
 is_made texts path = list_any (makes path) texts
 
--- Behind these texts no group has the path. After a `go` the lines of the CPUs have no order, so nothing is known.
+-- After these texts no group has the path. After a `go` the lines of the CPUs have no order, so nothing is known.
 abbrev pub lacks_group : List (List ℕ) → List ℕ → Bool
 lacks_group texts path = not (has_go texts) && (not (is_root path) && not (is_made texts path))
 

@@ -1,11 +1,9 @@
 -- A line carries the whole on. Serves `replay`.
-use Rattle.std.proofs.Common.{Bool, true, ◌≡◌, ◌≢◌, ℕ, ◌++◌, Some, List, [], ◌∷◌, refl, sym, ◌∙◌, ap, subst, inl, inr, zero}
+use Rattle.std.proofs.Common.{Bool, ◌≡◌, ◌≢◌, ℕ, ◌++◌, Some, List, [], ◌∷◌, refl, sym, ◌∙◌, ap, subst, inl, inr, zero}
 use Rattle.std.specs.Prelude.{slice_set}
 use Rattle.std.specs.List.{slice_get}
 use Rattle.std.proofs.lemmas.List.{append-nil, length-set}
 use Rattle.frame_word.specs.declared.answers.Get.TheVariants.{Held}
-use Rattle.frame_word.specs.declared.answers.Put.{Put as Putted}
-use Rattle.frame_word.specs.declared.answers.Put.TheVariants as put
 use Rattle.frame_word.specs.Seats.{KnownTable}
 use Rattle.stock_word.specs.declared.view.Stock.{Stock}
 use Rattle.group_charge.specs.Charges.{Ledger}
@@ -24,19 +22,17 @@ use Rattle.step_rules.specs.State.{State}
 use Rattle.step_rules.specs.After.{Run, state_of, IsLegalRun}
 use Rattle.step_watch.specs.Watched.{KnownWatch}
 use Rattle.boot_words.specs.Pasts.{own_past}
+use Rattle.boot_words.specs.Runs.{IsFast}
 use Rattle.mem_machine.specs.Local.{VisitState, visit_state}
-use Rattle.mem_machine.specs.Machines.{KnownMachine, IsConsistent, IsShownBy, left_by, with_run, with_watch}
-use Rattle.mem_machine.specs.Noted.{KnownRun}
+use Rattle.mem_machine.specs.Machines.{KnownMachine, left_by, with_run, with_watch}
 use Rattle.mem_machine.specs.Interleaving.{zone_of}
 use Rattle.mem_machine.specs.Steps.{cpu_makes}
 use Rattle.mem_machine.specs.Agreeing.{AgreesWithRun}
-use Rattle.mem_machine.proofs.Locks.{may_unlock, unlocked_found}
-use Rattle.mem_history.specs.Whole.{HasTakenLock, IsOwnStep, LeaveTheSame, ServesAt, ServesFast, ShowsAll, under_lock, is_fast}
+use Rattle.mem_machine.proofs.Locks.{unlocked_found}
+use Rattle.mem_history.specs.Whole.{GoesOnTo, HasTakenLock, IsOwnStep, LeaveTheSame, ServesFast, ShowsAll, under_lock}
 use Rattle.mem_history.specs.Leading.{IsPart, put_answer}
 use Rattle.mem_history.proofs.Wholes.{lines_follow, parts_after, the_same_is_shown}
 use Rattle.mem_history.proofs.Fast.{fast_lines_follow}
-use Rattle.mem_history.proofs.Deciding.{legal_lines_are_decided, legal_fast_steps_are_decided}
-use Rattle.mem_history.proofs.Agreeing.{lines_agree, fast_lines_agree}
 use Rattle.mem_history.proofs.Leading.{fast_calls_lead}
 use Rattle.mem_system.specs.declared.command.Cmd.{Cmd}
 use Rattle.mem_system.specs.declared.command.Reply.{Reply}
@@ -49,9 +45,8 @@ use Rattle.reply_texts.specs.declared.steps.UnlockedAnswer.{UnlockedAnswer}
 use Rattle.reply_texts.specs.declared.steps.UnlockedAnswer.TheVariants as unlocked
 use Rattle.script_lines.specs.declared.line.Command.{Command}
 use Rattle.script_lines.specs.declared.line.Command.TheVariants as command
-use Rattle.script_replay.specs.Answers.{AnswersAlone, AnswersCommand, AnswersUnlocked, CanNotList, IsServedUnderLock, IsTriedInVain, OnlySaw, OnlyWatched, WritesCommand}
+use Rattle.script_replay.specs.Answers.{AnswersAlone, AnswersCommand, AnswersUnlocked, CanNotList, IsServedUnderLock, IsTriedInVain, OnlySaw, OnlyWatched}
 use Rattle.script_replay.specs.Answers.{steps_alone}
-use Rattle.script_replay.specs.Ranges.{CommandInRange}
 use Rattle.script_replay.proofs.Gaining.{saw_none}
 
 -- ---- what is tried in vain
@@ -92,29 +87,6 @@ pub shows_watched : (t : KnownTable) (run : Run) (m : KnownMachine) (cpus : List
     → ShowsAll t run (with_watch m watch) cpus
 shows_watched t run m cpus watch shows = the_same_is_shown t run m (with_watch m watch) cpus shows (leave_same t m (with_watch m watch) refl)
 
--- a run that leaves the same shows a consistent machine
-consistent_at : (t : KnownTable) (m : KnownMachine) (run : KnownRun) (hold : Hold) → IsConsistent t m
-    → left_by t m.run.past ≡ record (left_by t run.past) { hold = hold } → IsConsistent t (with_run m run)
-consistent_at t m run hold ok left =
-    let shown : IsShownBy t m (record (left_by t run.past) { hold = hold }) = subst (IsShownBy t m) left ok.shown in record {
-      sizes = record { frame_states = ok.sizes.frame_states; links = ok.sizes.links; lists = ok.sizes.lists; killed = ok.sizes.killed };
-      areas = ok.areas;
-      frame_states = ok.frame_states;
-      units = ok.units;
-      lists = ok.lists;
-      balances = ok.balances;
-      shown = record {
-        groups = shown.groups;
-        killed = shown.killed;
-        phases = shown.phases;
-        references = shown.references;
-        settled = shown.settled;
-        absorbed = shown.absorbed;
-        bounded = shown.bounded;
-        charged = shown.charged;
-      };
-    }
-
 -- nothing was taken if nothing changed
 not_watched : (t : KnownTable) (before after : KnownLocked) → after ≡ before → OnlySaw t [] before after
 not_watched t before after same = subst (OnlySaw t [] before) (sym same) (saw_none t before)
@@ -134,8 +106,7 @@ module _ (t : KnownTable) (run : Run) (locked : KnownLocked) (cpus : List KnownC
 
   -- these steps lead the whole to this holder, and its ledger has their peaks and event counts
   abbrev Follows : Run → LockedState → Type 0
-  Follows steps after = ShowsAll t (run ++ steps) after.locked.machine (slice_set cpus k after.cpu.part)
-      × (AgreesWithRun t run m.ledger → AgreesWithRun t (run ++ steps) after.locked.machine.ledger)
+  Follows steps after = GoesOnTo t run m (run ++ steps) after.locked.machine (slice_set cpus k after.cpu.part)
 
   -- the run that goes on with these steps is legal
   abbrev IsLegalOn : Run → Type 0
@@ -153,17 +124,17 @@ module _ (t : KnownTable) (run : Run) (locked : KnownLocked) (cpus : List KnownC
         left = here.left;
         count = length-set cpus k c.part ∙ here.count;
         each = parts_after (state_of (zone_of t) run) cpus k c.part c.part is_part was.number was.own (λ j e at ne. shows.each j e at);
-      } in (
-        subst (λ (x : Run × KnownCpu). ShowsAll t x.0 n (slice_set cpus k x.1)) (λ i. (sym (append-nil run) i, sym same i)) still,
-        λ told. subst (λ (x : Run × Ledger). AgreesWithRun t x.0 x.1)
-            (λ i. (sym (append-nil run) i, ap (λ (l : KnownLocked). l.machine.ledger) (sym kept.locked) i)) told,
-      )
+      } in record {
+        shows = subst (λ (x : Run × KnownCpu). ShowsAll t x.0 n (slice_set cpus k x.1)) (λ i. (sym (append-nil run) i, sym same i)) still;
+        agrees = λ told. subst (λ (x : Run × Ledger). AgreesWithRun t x.0 x.1)
+            (λ i. (sym (append-nil run) i, ap (λ (l : KnownLocked). l.machine.ledger) (sym kept.locked) i)) told;
+      }
 
   -- served under the lock, by a CPU with this part, which found behind the lock what the run shows
   served_follows : (seen : CpuInRun) → seen.part ≡ c.part → (found : KnownLocked) → left_by t found.machine.run.past ≡ left_by t m.run.past
       → found.machine.ledger ≡ m.ledger → (cmd : Cmd) (reply : Reply) (after : LockedState) → (is : IsServed t cmd reply (locked_state found seen) after)
-      → IsConsistent t after.locked.machine → IsLegalOn (under_lock seen.part.number is.steps) → Follows (under_lock seen.part.number is.steps) after
-  served_follows seen same found left ledger cmd reply after is ok legal =
+      → IsLegalOn (under_lock seen.part.number is.steps) → Follows (under_lock seen.part.number is.steps) after
+  served_follows seen same found left ledger cmd reply after is legal =
       let n = after.locked.machine in
       let d = after.cpu.part in
       let first : VisitState = visit_state (with_run found.machine is.found) seen.part in
@@ -175,46 +146,35 @@ module _ (t : KnownTable) (run : Run) (locked : KnownLocked) (cpus : List KnownC
       let taken : HasTakenLock t cpus k first = record { is_part = is_part ∙ ap Some (sym same); holds = is.taken.holds; shut = is.taken.shut } in
       let frees : left_by t n.run.past ≡ record (left_by t is.left.past) { hold = Unheld } =
       unlocked_found t last.machine d n.run.past (seat_of after.cpu) is.released.holds is.released.unlocks in
-      let serves : ServesAt t cpus k first is.steps last = record {
-        taken = taken;
-        leads = is.makes;
-        decided = legal_lines_are_decided t run cpus k first is.steps last.machine shown taken is.makes legal;
-        holds = is.released.holds;
-        may_release = may_unlock t last.machine d (consistent_at t n is.left Unheld ok frees) is.released.holds is.released.shut;
-      } in (
-        the_same_is_shown t (run ++ under_lock seen.part.number is.steps) last.machine n (slice_set cpus k d)
-            (lines_follow t run cpus k first is.steps last shown serves) (held_same (left_by t n.run.past) (left_by t is.left.past) Unheld frees),
-        λ told. lines_agree t run cpus k first is.steps last shown serves (subst (AgreesWithRun t run) (sym ledger) told),
-      )
+      let goes = lines_follow t run cpus k first is.steps last shown (record { taken = taken; leads = is.makes; holds = is.released.holds }) legal in record {
+        shows = the_same_is_shown t (run ++ under_lock seen.part.number is.steps) last.machine n (slice_set cpus k d) goes.shows
+            (held_same (left_by t n.run.past) (left_by t is.left.past) Unheld frees);
+        agrees = λ told. goes.agrees (subst (AgreesWithRun t run) (sym ledger) told);
+      }
 
   -- the same, after the watch took more steps
   watched_follows : (steps more : Run) (left : KnownLocked) (after : LockedState) → OnlyWatched more left after.locked
       → Follows steps (locked_state left after.cpu) → Follows steps after
   watched_follows steps more left after only follows =
-      let n = after.locked.machine in (
-        the_same_is_shown t (run ++ steps) left.machine n (slice_set cpus k after.cpu.part) follows.0
-            (leave_same t left.machine n (ap (λ (l : KnownLocked). left_by t l.machine.run.past) only.locked)),
-        λ told. subst (AgreesWithRun t (run ++ steps)) (sym (ap (λ (l : KnownLocked). l.machine.ledger) only.locked)) (follows.1 told),
-      )
+      let n = after.locked.machine in record {
+        shows = the_same_is_shown t (run ++ steps) left.machine n (slice_set cpus k after.cpu.part) follows.shows
+            (leave_same t left.machine n (ap (λ (l : KnownLocked). left_by t l.machine.run.past) only.locked));
+        agrees = λ told. subst (AgreesWithRun t (run ++ steps)) (sym (ap (λ (l : KnownLocked). l.machine.ledger) only.locked)) (follows.agrees told);
+      }
 
   -- a step without the lock
   step_follows : (action : Action) (answer : StepAnswer) (after : LockedState) → OnlySaw t (cpu_makes p action answer ∷ []) locked after.locked
-      → is_fast action ≡ true → answer ≢ step_answer.Illegal → IsOwnStep (state_of (zone_of t) run) c.part action answer after.cpu.part
+      → IsFast action → IsOwnStep (state_of (zone_of t) run) c.part action answer after.cpu.part
       → IsLegalOn (cpu_makes p action answer ∷ []) → Follows (cpu_makes p action answer ∷ []) after
-  step_follows action answer after kept quick made leads legal =
-      let from : VisitState = visit_state m c.part in
+  step_follows action answer after kept fast leads legal =
       let to : VisitState = visit_state after.locked.machine after.cpu.part in
-      let serves : ServesFast t run cpus k from action answer to = record {
+      fast_lines_follow t run cpus k (visit_state m c.part) action answer to shows (record {
         is_part = is_part;
-        fast = quick;
+        fast = fast;
         machine = ap (λ (l : KnownLocked). l.machine) kept.locked;
         left = leave_same t m to.machine kept.left;
         leads = leads;
-        decided = legal_fast_steps_are_decided t run cpus k m c.part action answer shows is_part quick made legal;
-      } in (
-        fast_lines_follow t run cpus k from action answer to shows serves,
-        λ told. fast_lines_agree t run cpus k from action answer to shows serves told,
-      )
+      }) legal
 
   this_part : IsPart t run m cpus k c.part
   this_part = record { shows = shows; is_part = is_part }
@@ -227,70 +187,55 @@ module _ (t : KnownTable) (run : Run) (locked : KnownLocked) (cpus : List KnownC
       → OnlySaw t (cpu_makes p (step.Consume g) step_answer.Took ∷ []) locked after.locked
       → IsLegalOn (cpu_makes p (step.Consume g) step_answer.Took ∷ []) → Follows (cpu_makes p (step.Consume g) step_answer.Took ∷ []) after
   got_follows g f after is kept legal =
-      step_follows (step.Consume g) step_answer.Took after kept refl (λ e. cc)
+      step_follows (step.Consume g) step_answer.Took after kept tt
       (fast_calls_lead.got t run m cpus k c.part after.cpu.part this_part g f c.last after.cpu.last is) legal
 
   -- without the lock
-  alone_follows : (command : Command) (said : UnlockedAnswer) (after : LockedState) → CommandInRange t.frames command → AnswersAlone command c after.cpu said
+  alone_follows : (command : Command) (said : UnlockedAnswer) (after : LockedState) → AnswersAlone command c after.cpu said
       → OnlySaw t (steps_alone p command said) locked after.locked → IsLegalOn (steps_alone p command said) → Follows (steps_alone p command said) after
-  alone_follows (command.Fast g) (unlocked.Fast (Got f)) after names is kept legal = got_follows g f after is kept legal
-  alone_follows (command.Fast g) (unlocked.Fast fast) after names is kept legal =
+  alone_follows (command.Fast g) (unlocked.Fast (Got f)) after is kept legal = got_follows g f after is kept legal
+  alone_follows (command.Fast g) (unlocked.Fast fast) after is kept legal =
       unseen_follows after kept (fast_same g fast c.last c.part after.cpu.last after.cpu.part is (λ f e. cc))
-  alone_follows (command.Get f) (unlocked.Got Held) after inside is kept legal =
-      step_follows (step.Get f) step_answer.Held after kept refl (λ e. cc)
-      (fast_calls_lead.held t run m cpus k c.part after.cpu.part this_part f inside is.0 is.1) legal
-  alone_follows (command.Get f) (unlocked.Got got) after inside is kept legal = unseen_follows after kept is.1
-  alone_follows (command.Get f) (unlocked.Refused PinsFull) after inside is kept legal = unseen_follows after kept is.1.1
-  alone_follows (command.Put f) (unlocked.Put putted) after inside is kept legal =
-      step_follows (step.Put f) (put_answer putted) after kept refl (put_made putted)
-      (fast_calls_lead.is_put t run m cpus k c.part after.cpu.part this_part f putted is.1) legal
-    where
-      put_made : (x : Putted) → put_answer x ≢ step_answer.Illegal
-      put_made (put.Left n) = λ e. cc
-      put_made put.Last = λ e. cc
-  alone_follows (command.Put f) (unlocked.Refused NotPinned) after inside is kept legal = unseen_follows after kept is.1.1
-  alone_follows (command.Release f) unlocked.Listed after inside is kept legal =
-      step_follows (step.Credit f) step_answer.Stocked after kept refl (λ e. cc)
-      (fast_calls_lead.listed t run m cpus k c.part after.cpu.part this_part f c.last after.cpu.last is.fresh is.listed) legal
-  alone_follows command said after names is kept legal = absurd is
+  alone_follows (command.Get f) (unlocked.Got Held) after is kept legal =
+      step_follows (step.Get f) step_answer.Held after kept tt (fast_calls_lead.held t run m cpus k c.part after.cpu.part this_part f is.1) legal
+  alone_follows (command.Get f) (unlocked.Got got) after is kept legal = unseen_follows after kept is.1
+  alone_follows (command.Get f) (unlocked.Refused PinsFull) after is kept legal = unseen_follows after kept is.1.1
+  alone_follows (command.Put f) (unlocked.Put putted) after is kept legal =
+      step_follows (step.Put f) (put_answer putted) after kept tt (fast_calls_lead.is_put t run m cpus k c.part after.cpu.part this_part f putted is.1) legal
+  alone_follows (command.Put f) (unlocked.Refused NotPinned) after is kept legal = unseen_follows after kept is.1.1
+  alone_follows (command.Release f) unlocked.Listed after is kept legal =
+      step_follows (step.Credit f) step_answer.Stocked after kept tt
+      (fast_calls_lead.listed t run m cpus k c.part after.cpu.part this_part f c.last after.cpu.last is.listed) legal
+  alone_follows command said after is kept legal = absurd is
 
-  unlocked_follows : (command : Command) (steps : Run) (after : LockedState) (said : UnlockedAnswer) → CommandInRange t.frames command
+  unlocked_follows : (command : Command) (steps : Run) (after : LockedState) (said : UnlockedAnswer)
       → AnswersUnlocked command (transition t before steps after) said → IsLegalOn steps → Follows steps after
-  unlocked_follows (command.Alloc path zero) steps after (unlocked.Fast (Got f)) names is legal =
+  unlocked_follows (command.Alloc path zero) steps after (unlocked.Fast (Got f)) is legal =
       as_made steps _ after is.alone.steps_are (λ all. got_follows is.gets.group f after is.gets.got is.alone.locked all) legal
-  unlocked_follows (command.Alloc path zero) steps after (unlocked.Refused NoGroup) names none legal =
+  unlocked_follows (command.Alloc path zero) steps after (unlocked.Refused NoGroup) none legal =
       as_made steps [] after none.1 (λ all. unseen_follows after (not_watched t locked after.locked none.0.same_locked)
       (ap (λ (x : CpuInRun). x.part) none.0.same_cpu)) legal
-  unlocked_follows (command.Alloc path zero) steps after said names is legal = absurd is.0
-  unlocked_follows command steps after said names is legal =
-      as_made steps (steps_alone p command said) after is.1.steps_are (λ all. alone_follows command said after names is.0 is.1.locked all) legal
+  unlocked_follows (command.Alloc path zero) steps after said is legal = absurd is.0
+  unlocked_follows command steps after said is legal =
+      as_made steps (steps_alone p command said) after is.1.steps_are (λ all. alone_follows command said after is.0 is.1.locked all) legal
 
   -- served under the lock
   locked_follows : (is_explained : Bool) (seen : LockedState) → OnlySaw t [] locked seen.locked → seen.cpu.part ≡ c.part → (command : Command)
       (answer : LineAnswer) (steps : Run) (after : LockedState) → IsServedUnderLock is_explained command answer (transition t seen steps after)
-      → IsConsistent t after.locked.machine → IsLegalOn steps → Follows steps after
-  locked_follows is_explained seen saw same command answer steps after is ok legal =
+      → IsLegalOn steps → Follows steps after
+  locked_follows is_explained seen saw same command answer steps after is legal =
       let served = is.answers.served in
-      let left = is.left.machine in
-      let watched : IsConsistent t (with_watch left after.locked.machine.run.watch) = subst (λ (l : KnownLocked). IsConsistent t l.machine) is.unlock.locked ok in
-      let left_ok : IsConsistent t left =
-      consistent_at t (with_watch left after.locked.machine.run.watch) left.run (left_by t left.run.past).hold watched refl in
       as_made steps (under_lock seen.cpu.part.number served.steps) after is.steps_are
       (λ all. watched_follows (under_lock seen.cpu.part.number served.steps) (cpu_makes seen.cpu.part.number step.Unlock step_answer.Done ∷ []) is.left after is.unlock
       (served_follows seen.cpu same is.found
       (ap (λ (l : KnownLocked). left_by t l.machine.run.past) is.lock.locked ∙ saw.left)
       (ap (λ (l : KnownLocked). l.machine.ledger) is.lock.locked ∙ ap (λ (l : KnownLocked). l.machine.ledger) saw.locked)
-      is.answers.asked is.answers.reply (locked_state is.left after.cpu) served left_ok all)) legal
+      is.answers.asked is.answers.reply (locked_state is.left after.cpu) served all)) legal
 
-  answer_follows : (is_explained : Bool) (command : Command) (steps : Run) (after : LockedState) (answer : LineAnswer) → CommandInRange t.frames command
-      → AnswersCommand is_explained command (transition t before steps after) answer → IsConsistent t after.locked.machine → IsLegalOn steps → Follows steps after
-  answer_follows is_explained command steps after (answer.Served reply) names is ok legal =
-      locked_follows is_explained is.seen is.only_saw (vain_same command before is.seen.cpu is.tried) command (answer.Served reply) steps after is.served ok legal
-  answer_follows is_explained command steps after answer.Settled names is ok legal =
-      locked_follows is_explained before (saw_none t locked) refl command answer.Settled steps after is ok legal
-  answer_follows is_explained command steps after (answer.Unlocked said) names is ok legal = unlocked_follows command steps after said names is legal
-
-  pub command_follows : (is_explained : Bool) (command : Command) (steps : Run) (after : LockedState) (text : List ℕ) → CommandInRange t.frames command
-      → WritesCommand is_explained command (transition t before steps after) text → IsConsistent t after.locked.machine → IsLegalOn steps → Follows steps after
-  command_follows is_explained command steps after text names is ok legal =
-      answer_follows is_explained command steps after is.answer names is.answered ok legal
+  pub answer_follows : (is_explained : Bool) (command : Command) (steps : Run) (after : LockedState) (answer : LineAnswer)
+      → AnswersCommand is_explained command (transition t before steps after) answer → IsLegalOn steps → Follows steps after
+  answer_follows is_explained command steps after (answer.Served reply) is legal =
+      locked_follows is_explained is.seen is.only_saw (vain_same command before is.seen.cpu is.tried) command (answer.Served reply) steps after is.served legal
+  answer_follows is_explained command steps after answer.Settled is legal =
+      locked_follows is_explained before (saw_none t locked) refl command answer.Settled steps after is legal
+  answer_follows is_explained command steps after (answer.Unlocked said) is legal = unlocked_follows command steps after said is legal

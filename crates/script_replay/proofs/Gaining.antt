@@ -1,6 +1,6 @@
 -- What the zone's past and a CPU's past gain by a command, and how the run so far goes on. Serves `try_unlocked`,
 -- `try_in_order`, `alloc_in_order`, and what is told of each line.
-use Rattle.std.proofs.Common.{◌≡◌, ◌≢◌, ◌∙◌, ℕ, Bool, true, false, Option, Some, None, List, [], ◌++◌, append-nil, ap, inl, inr, refl, subst, sym}
+use Rattle.std.proofs.Common.{◌≡◌, ◌≢◌, ◌∙◌, ℕ, Bool, true, false, Option, Some, None, List, [], ◌∷◌, ◌++◌, append_assoc, append-nil, ap, inl, inr, refl, subst, sym}
 use Rattle.std.specs.Prelude.{IfNone, IfSome, slice_set, if◌then◌else◌}
 use Rattle.std.specs.Option.{option_map}
 use Rattle.std.specs.List.{slice_get}
@@ -37,7 +37,7 @@ use Rattle.reply_texts.specs.declared.steps.UnlockedAnswer.TheVariants as unlock
 use Rattle.script_lines.specs.declared.line.Command.TheVariants as command
 use Rattle.script_lines.specs.declared.line.Command.{Command}
 use Rattle.script_replay.specs.Answers.{AnswersAlone, Gains, MakesAlone, NeedsLock, OnlySaw, OnlyWatched, locked_with_run, steps_alone}
-use Rattle.script_replay.specs.Lines.{RunGoesOn, HasRun, SystemState, system_state}
+use Rattle.script_replay.specs.Lines.{AllLinesGoOn, RunGoesOn, HasRun, SystemState, steps_of_served, system_state}
 
 -- ---- the steps of a call without the lock
 
@@ -183,3 +183,13 @@ part_goes_on l m cpus k c d steps is_part gains earlier has =
     subst (IsRunSoFar (earlier ++ steps) (own_past m.machine.run.past)) (sym (map-set past_of cpus k d))
     (gains_go_on earlier steps (own_past l.machine.run.past) (own_past m.machine.run.past) (pasts_of cpus) k (own_past c.past) (own_past d.past) has
     (slice_get-map past_of cpus k ∙ ap (option_map past_of) is_part) gains)
+
+-- lines go on by their steps
+pub all_lines_go_on : AllLinesGoOn
+all_lines_go_on on [] s e text served earlier has =
+    subst (λ (x : Run × SystemState). HasRun x.0 x.1) (λ i. (sym (append-nil earlier) i, sym served.1 i)) has
+all_lines_go_on on (line ∷ lines) s e text served earlier has =
+    let one = served.serves_first.steps in
+    let more = steps_of_served on lines served.between e served.rest served.serves_rest in
+    subst (λ (r : Run). HasRun r e) (append_assoc earlier one more)
+    (all_lines_go_on on lines served.between e served.rest served.serves_rest (earlier ++ one) (served.serves_first.goes_on earlier has))

@@ -27,7 +27,7 @@ sees_both a b c one two = record {
   seen = two.seen ∙ ap (λ (r : Run). r ++ two.between) one.seen ∙ append_assoc a.seen one.between two.between;
 }
 
--- steps behind those of others
+-- steps after those of others
 sees_grew : (a b : Past) (steps : Run) (c : Past) → SeesMore a b → GrewByAll b steps c → (last : Past) × GrewByAll a steps last × SeesMore last c
 sees_grew a b [] c more grew = (a, refl, subst (SeesMore a) (sym grew) more)
 sees_grew a b (made ∷ rest) c more grew =

@@ -5,7 +5,7 @@ use Rattle.std.proofs.lemmas.List.{take_more, take_all}
 use Rattle.script_lines.specs.declared.line.Line.{Line}
 use Rattle.script_replay.specs.Lines.{InOrder}
 
--- another line behind them
+-- another line after them
 pub in_order_more : {S : Type 0} (serves : Line → S → S → List ℕ → Type 0) (s m e : S) (lines : List Line) (line : Line) (text more : List ℕ)
     → InOrder serves lines s m text → serves line m e more → InOrder serves (lines ++ line ∷ []) s e (text ++ more)
 in_order_more serves s m e [] line text more all one = record {

@@ -9,6 +9,7 @@ pub mod Saying
 pub mod Serving
 pub mod Telling
 pub mod Following
+pub mod Keeping
 pub mod Seeing
 pub mod UnderLock
 pub mod Visiting

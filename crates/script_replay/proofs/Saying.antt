@@ -15,13 +15,11 @@ use Rattle.script_lines.specs.declared.line.Command.TheVariants.{Settle, Blocks,
 use Rattle.script_lines.specs.declared.line.Line.TheVariants.{At}
 use Rattle.script_replay.specs.Answers.{AnswersCommand, IsAnswerText, IsSettledText, ServesAnswer, WritesCommand}
 use Rattle.script_replay.specs.Commands.{HasValueAnswer, OnlySettles}
-use Rattle.script_replay.specs.History.{ServesAndKeeps}
-use Rattle.script_replay.specs.Lines.{SystemState, system_state}
+use Rattle.script_replay.specs.Lines.{ServesLine, SystemState, system_state}
 use Rattle.script_replay.specs.Ranges.{CpuCommandInRange}
 use Rattle.script_replay.specs.Terms.{Terms, terms}
 use Rattle.script_replay.specs.ValueAnswers.{SaysCommand}
 use Rattle.script_replay.proofs.Gaining.{part_goes_on}
-use Rattle.script_replay.proofs.Going.{all_replayed}
 
 -- ---- the text of what is said
 
@@ -47,7 +45,7 @@ as_text command call answer has so = record { answer = answer; answered = so; to
 -- ---- a command at its part
 
 module _ (table : KnownTable) (l m : KnownLocked) (cpus : List CpuInRun) (cpu : ℕ) (command : Command) (c d : CpuInRun) (answer : LineAnswer)
-    (there : CpuCommandInRange table.frames (length cpus) cpu command) (has : HasValueAnswer command) (is_part : slice_get cpus (cpu - 1) ≡ Some c)
+    (has : HasValueAnswer command) (is_part : slice_get cpus (cpu - 1) ≡ Some c)
     (says : ServesAnswer (terms table false) command (locked_state l c) (locked_state m d) answer)
     (sound : IsSound table m) where
   abbrev on : Terms
@@ -59,38 +57,35 @@ module _ (table : KnownTable) (l m : KnownLocked) (cpus : List CpuInRun) (cpu : 
   abbrev after : SystemState
   after = system_state m (slice_set cpus (cpu - 1) d)
 
-  one_line : (number : ℕ) → ServesAndKeeps on (At number cpu command) before after (answer_text answer)
+  one_line : (number : ℕ) → ServesLine on (At number cpu command) before after (answer_text answer)
   one_line number = record {
-    there = there;
-    serves = record {
-      steps = says.steps;
-      tells = record {
-        plain = answer_text answer;
-        so = record {
-          part = c;
-          left = d;
-          is_part = is_part;
-          done = as_text command (transition table (locked_state l c) says.steps (locked_state m d)) answer has says.answered;
-          cpus = refl;
-        };
-        text_is = refl;
+    steps = says.steps;
+    tells = record {
+      plain = answer_text answer;
+      so = record {
+        part = c;
+        left = d;
+        is_part = is_part;
+        done = as_text command (transition table (locked_state l c) says.steps (locked_state m d)) answer has says.answered;
+        cpus = refl;
       };
-      goes_on = part_goes_on l m cpus (cpu - 1) c d says.steps is_part says.gains;
+      text_is = refl;
     };
+    goes_on = part_goes_on l m cpus (cpu - 1) c d says.steps is_part says.gains;
     sound = sound;
   }
 
   pub command_said : SaysCommand table cpu command before after answer
   command_said = record {
     says = record { part = c; left = d; is_part = is_part; done = says; cpus = refl };
-    replays = λ number. all_replayed on (At number cpu command ∷ []) before after (answer_text answer) (record {
+    replays = λ number. record {
       first = answer_text answer;
       rest = [];
       between = after;
       serves_first = one_line number;
       serves_rest = (refl, refl);
       text_is = sym (append-nil (answer_text answer));
-    });
+    };
   }
 
 -- the part of a CPU that is there

@@ -1,18 +1,15 @@
--- The watch took the steps of each line, and so of all lines. Serves `replay`, `replay_checked`.
-use Rattle.std.proofs.Common.{◌≡◌, ◌∙◌, ◌++◌, ℕ, zero, Bool, true, List, [], ◌∷◌, refl, sym, ap, subst}
-use Rattle.std.proofs.lemmas.List.{append_assoc, append-nil}
+-- The watch took the steps of each line, and so of all lines. Serves `replay_checked`, and `log_line` of `line_server`.
+use Rattle.std.proofs.Common.{◌≡◌, ◌++◌, ℕ, zero, Bool, true, List, [], ◌∷◌, refl, sym, ap, subst}
 use Rattle.frame_word.specs.Seats.{KnownTable}
 use Rattle.cpu_part.specs.declared.answers.Fast.TheVariants.{Got}
 use Rattle.group_tree.specs.declared.fault.Fault.TheVariants.{NoGroup}
 use Rattle.step_rules.specs.declared.step.Action.TheVariants as step
 use Rattle.step_rules.specs.declared.step.Answer.TheVariants as step_answer
-use Rattle.step_rules.specs.After.{Run, IsLegalRun}
-use Rattle.step_watch.specs.Watched.{KnownWatch, Watches, IsNewWatch, SawRun, has_legal_steps}
+use Rattle.step_rules.specs.After.{Run}
+use Rattle.step_watch.specs.Watched.{KnownWatch, Watches, SawRun, has_legal_steps}
 use Rattle.step_watch.proofs.Watching.{watches_none, watches_both, watched_runs_are_legal}
 use Rattle.mem_machine.specs.Interleaving.{zone_of}
 use Rattle.mem_machine.specs.Steps.{cpu_makes}
-use Rattle.mem_machine.specs.Agreeing.{AgreesWithRun}
-use Rattle.mem_history.proofs.Deciding.{legal_front}
 use Rattle.mem_system.specs.Locked.{KnownLocked}
 use Rattle.mem_system.specs.Visits.{transition, LockedState}
 use Rattle.reply_texts.specs.LineAnswer.{LineAnswer}
@@ -25,9 +22,10 @@ use Rattle.script_lines.specs.declared.line.Line.{Line}
 use Rattle.script_lines.specs.declared.line.Line.TheVariants.{Go, At}
 use Rattle.script_replay.specs.Answers.{AnswersCommand, AnswersUnlocked, IsServedUnderLock, OnlySaw, WritesCommand}
 use Rattle.script_replay.proofs.Gaining.{saw_none}
-use Rattle.script_replay.specs.History.{Past, past, past_line, steps_of, KeepsHistory, HasHistory, HasLegalHistory, AllLinesGoOn, LegalHistoriesKeepIt}
-use Rattle.script_replay.specs.Lines.{SystemState, HasRun, WritesLine}
+use Rattle.script_replay.specs.History.{ReplaysLegally}
+use Rattle.script_replay.specs.Lines.{SystemState, ServesAll, WritesLine, steps_of_served}
 use Rattle.script_replay.specs.Terms.{Terms}
+use Rattle.script_replay.proofs.Keeping.{legal_lines_keep_it}
 
 -- ---- one command
 
@@ -88,64 +86,24 @@ line_seen t is_explained Go before steps after text is =
 line_seen t is_explained (At number cpu command) before steps after text is =
     command_seen t _ steps _ is_explained command text is.done
 
--- the watch took the steps of all lines of a history
-all_seen : (on : Terms) (lines : List Line) (begins : Past) (end : SystemState) (text : List ℕ) → (tells : HasHistory on lines begins end text)
-    → Watches begins.now.locked.machine.run.watch (steps_of on lines begins end text tells) end.locked.machine.run.watch
-all_seen on [] begins end text tells = stays_seen [] begins.now.locked end.locked refl (ap (λ (s : SystemState). s.locked) tells.1)
-all_seen on (line ∷ lines) begins end text tells =
-    let next : Past = past_line begins tells.steps tells.between in
-    watches_both begins.now.locked.machine.run.watch tells.steps tells.between.locked.machine.run.watch
-    (steps_of on lines next end tells.rest tells.tells) end.locked.machine.run.watch tells.watched (all_seen on lines next end tells.rest tells.tells)
-
--- the run so far goes on by the steps of all lines
-pub all_lines_go_on : AllLinesGoOn
-all_lines_go_on on [] begins end text tells earlier has =
-    subst (λ (r : Run). HasRun r end) (sym (append-nil earlier)) (subst (HasRun earlier) (sym tells.1) has)
-all_lines_go_on on (line ∷ lines) begins end text tells earlier has =
-    let next : Past = past_line begins tells.steps tells.between in
-    subst (λ (r : Run). HasRun r end) (append_assoc earlier tells.steps (steps_of on lines next end tells.rest tells.tells))
-    (all_lines_go_on on lines next end tells.rest tells.tells (earlier ++ tells.steps) (tells.goes_on earlier has))
-
--- if the run of all steps is legal, the promise holds after each line
-all_kept : (on : Terms) (lines : List Line) (begins : Past) (end : SystemState) (text : List ℕ) → (tells : HasHistory on lines begins end text)
-    → (whole : Run) → whole ≡ begins.run ++ steps_of on lines begins end text tells → IsLegalRun (zone_of on.frames) whole
-    → AgreesWithRun on.frames begins.run begins.now.locked.machine.ledger → KeepsHistory on lines begins (past whole end) text
-all_kept on [] begins end text tells whole is legal told = (
-  tells.0,
-  λ i. past ((is ∙ append-nil begins.run) i) (tells.1 i),
-)
-all_kept on (line ∷ lines) begins end text tells whole is legal told =
-    let next : Past = past_line begins tells.steps tells.between in
-    let more : Run = steps_of on lines next end tells.rest tells.tells in
-    let parts : whole ≡ next.run ++ more = is ∙ sym (append_assoc begins.run tells.steps more) in
-    let here : IsLegalRun (zone_of on.frames) next.run =
-    legal_front (zone_of on.frames) next.run more (subst (IsLegalRun (zone_of on.frames)) parts legal) in
-    let holds = tells.kept_where_legal here in record {
-      first = tells.first;
-      rest = tells.rest;
-      between = tells.between;
-      steps = tells.steps;
-      writes_first = tells.writes_first;
-      goes_on = tells.goes_on;
-      kept = record { promise = holds.promise; tells = holds.tells told };
-      keeps = all_kept on lines next end tells.rest tells.tells whole parts legal (holds.tells told);
-      text_is = tells.text_is;
-    }
-
-pub legal_histories_keep_it : LegalHistoriesKeepIt
-legal_histories_keep_it on lines begins end text tells legal told =
-    all_kept on lines begins end text tells (begins.run ++ steps_of on lines begins end text tells) refl legal told
+all_seen : (on : Terms) (lines : List Line) (s e : SystemState) (text : List ℕ) (served : ServesAll on lines s e text)
+    → Sees (steps_of_served on lines s e text served) s.locked e.locked
+all_seen on [] s e text served = stays_seen [] s.locked e.locked refl (ap (λ (x : SystemState). x.locked) served.1)
+all_seen on (line ∷ lines) s e text served =
+    let one = served.serves_first in
+    let mid = served.between in
+    watches_both s.locked.machine.run.watch one.steps mid.locked.machine.run.watch (steps_of_served on lines mid e served.rest served.serves_rest)
+    e.locked.machine.run.watch (line_seen on.frames on.is_explained line s one.steps mid one.tells.plain one.tells.so)
+    (all_seen on lines mid e served.rest served.serves_rest)
 
 -- if the watch was new before the lines and allowed all steps, the lines have a legal history
-pub legal_history : (on : Terms) (lines : List Line) (before after : SystemState) (text : List ℕ) → HasHistory on lines (past [] before) after text
-    → AgreesWithRun on.frames [] before.locked.machine.ledger → IsNewWatch (zone_of on.frames) before.locked.machine.run.watch
-    → has_legal_steps after.locked.machine.run.watch ≡ true → HasLegalHistory on lines before after text
-legal_history on lines before after text tells told new allowed =
-    let steps = steps_of on lines (past [] before) after text tells in
-    let saw : SawRun (zone_of on.frames) steps after.locked.machine.run.watch =
-    watched_runs_are_legal (zone_of on.frames) before.locked.machine.run.watch steps after.locked.machine.run.watch new
-    (all_seen on lines (past [] before) after text tells) allowed in record {
-      run = steps;
-      saw = saw;
-      history = all_kept on lines (past [] before) after text tells steps refl saw.legal told;
-    }
+pub replayed_legally : (on : Terms) (lines : List Line) (s e : SystemState) (text : List ℕ) → ServesAll on lines s e text
+    → has_legal_steps e.locked.machine.run.watch ≡ true → ReplaysLegally on lines s e text
+replayed_legally on lines s e text served allowed = record {
+  served = served;
+  history = λ shows told new.
+      let steps = steps_of_served on lines s e text served in
+      let saw : SawRun (zone_of on.frames) steps e.locked.machine.run.watch =
+      watched_runs_are_legal (zone_of on.frames) s.locked.machine.run.watch steps e.locked.machine.run.watch new (all_seen on lines s e text served) allowed in
+      record { run = steps; saw = saw; history = legal_lines_keep_it on lines s e text served [] shows saw.legal told };
+}

@@ -5,7 +5,7 @@ use Rattle.boot_words.specs.Pasts.{own_past}
 use Rattle.boot_words.specs.Growth.{IsRunSoFar}
 use Rattle.step_rules.specs.After.{Run}
 use Rattle.mem_system.specs.Cpus.{CpuInRun, pasts_of}
-use Rattle.mem_system.specs.Locked.{KnownLocked}
+use Rattle.mem_system.specs.Locked.{IsSound, KnownLocked}
 use Rattle.mem_system.specs.Visits.{Transition, transition, locked_state}
 use Rattle.script_lines.specs.declared.line.Line.{Line}
 use Rattle.script_lines.specs.declared.line.Line.TheVariants.{Go, At}
@@ -63,11 +63,12 @@ abbrev pub WritesLineOnTerms : Terms → Line → Transition SystemState → (te
 WritesLineOnTerms terms line call text =
     SaysNumbered terms.is_numbered (number_in_script line) (WritesLine terms.is_explained line call) text
 
--- the answer of a line, as text, by some steps
+-- the answer of a line, as text, by some steps; what is left behind the lock is sound
 pub record ServesLine (terms : Terms) (line : Line) (before after : SystemState) (text : List ℕ) : Type 0 where
   pub steps : Run
   pub tells : WritesLineOnTerms terms line (transition terms.frames before steps after) text
   pub goes_on : RunGoesOn steps before after
+  pub sound : IsSound terms.frames after.locked
 
 -- the first line leads to a state between, the other lines lead on from there, and the text is that of the first line
 -- followed by that of the rest
@@ -90,6 +91,19 @@ InOrder serves (line ∷ lines) before after text =
 -- the answers of lines, served by value of what lies behind the lock
 abbrev pub ServesAll : Terms → List Line → (before after : SystemState) (text : List ℕ) → Type 0
 ServesAll terms lines before after text = InOrder (ServesLine terms) lines before after text
+
+-- the steps by which lines were served, one line after the other
+abbrev pub steps_of_served : (terms : Terms) (lines : List Line) (before after : SystemState) (text : List ℕ)
+    → ServesAll terms lines before after text → Run
+steps_of_served terms [] before after text served = []
+steps_of_served terms (line ∷ lines) before after text served =
+    served.serves_first.steps ++ steps_of_served terms lines served.between after served.rest served.serves_rest
+
+-- whatever the run so far was, it goes on by the steps of all lines that were served
+abbrev pub AllLinesGoOn : Type 0
+AllLinesGoOn = (terms : Terms) (lines : List Line) (before after : SystemState) (text : List ℕ)
+    (served : ServesAll terms lines before after text)
+    → RunGoesOn (steps_of_served terms lines before after text served) before after
 
 -- Memory ran out for the text of the line of this number. The lines up to and including it were served, once each, and
 -- no line after it was. Nobody gets their texts, its own included.

@@ -25,7 +25,7 @@ pub record ToldCpu : Type 0 where
 abbrev pub told_cpu : CpuInRun → Run → ToldCpu
 told_cpu cpu told = record { cpu = cpu; told = told }
 
--- the command is answered with this text, and its steps are told behind those before
+-- the command is answered with this text, and its steps are told after those before
 pub record TellsCommand (tables : KnownSystem) (command : Command) (before after : ToldCpu) (text : List ℕ)
     : Type 0 where
   pub steps : Run

@@ -12,8 +12,7 @@ use Rattle.script_lines.specs.declared.line.Line.TheVariants.{At}
 use Rattle.script_replay.specs.declared.answer_value.AnswerValue.{AnswerValue}
 use Rattle.script_replay.specs.declared.answer_value.AnswerValue.TheVariants as value
 use Rattle.script_replay.specs.Answers.{ServesAnswer}
-use Rattle.script_replay.specs.History.{Replays}
-use Rattle.script_replay.specs.Lines.{AtPart, SystemState}
+use Rattle.script_replay.specs.Lines.{AtPart, ServesAll, SystemState}
 use Rattle.script_replay.specs.Terms.{terms}
 
 -- the answer that is this value, with the texts that the ledger after the command gives it
@@ -33,5 +32,5 @@ pub record SaysCommand (table : KnownTable) (cpu : ℕ) (command : Command)
     (before after : SystemState) (answer : LineAnswer) : Type 0 where
   pub says : AtPart cpu (λ part left. ServesAnswer (terms table false) command
       (locked_state before.locked part) (locked_state after.locked left) answer) before.cpus after.cpus
-  pub replays : (number : ℕ) → Replays (terms table false) (At number cpu command ∷ [])
+  pub replays : (number : ℕ) → ServesAll (terms table false) (At number cpu command ∷ [])
       before after (answer_text answer)

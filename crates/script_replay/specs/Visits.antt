@@ -28,7 +28,7 @@ use Rattle.script_replay.specs.Answers.{IsAnswerText, NeedsLock, steps_alone}
 use Rattle.script_replay.specs.Commands.{OnlySettles}
 use Rattle.script_replay.specs.Lines.{AtPart, InOrder}
 
--- A past has grown by these steps, and by steps that change nothing. Behind the last of them it may have seen steps of
+-- A past has grown by these steps, and by steps that change nothing. After the last of them it may have seen steps of
 -- others.
 pub record GrewByChanges (before : KnownPasts) (steps : Run) (after : KnownPasts) : Type 0 where
   pub made : Run

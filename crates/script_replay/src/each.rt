@@ -22,7 +22,7 @@ use std::thread::{Threads, join_mut};
 /// number of its line if `is_numbered` is true.
 ///
 /// The gate is called around each line, with the line's number in the script, and inside each visit of a command. If a
-/// thread can't be started, a thread that runs serves the lines of its CPU, behind those of its own CPU. `AllocError`:
+/// thread can't be started, a thread that runs serves the lines of its CPU, after those of its own CPU. `AllocError`:
 /// memory ran out for the answers. All threads that were started have ended when this returns.
 pub fn run_each<N: BootName + Send + Sync, R: Threads + Wait + Sync, G: Gate + Sync>(
     rt: &R,

@@ -1,13 +1,19 @@
-//! Laws: each function's `ensures` clause is a statement about all histories of lines.
+//! Laws: each function's `ensures` clause is a statement about all lines that were served.
 
-ghost use Rattle.script_replay.specs.History.{AllLinesGoOn, LegalHistoriesKeepIt};
+ghost use Rattle.script_replay.specs.History.{LegalLinesAreShown, LegalLinesKeepIt};
+ghost use Rattle.script_replay.specs.Lines.{AllLinesGoOn};
 
-/// Whatever the run so far was before lines that have a history, it goes on by the steps of all of them, in their order.
+/// Whatever the run so far was before lines that were served, it goes on by the steps of all of them, in their order.
 pub fn all_lines_go_on()
     ensures { AllLinesGoOn }
 {}
 
-/// If the run of all steps so far is legal at the end of a history, the promise holds after each of its lines.
-pub fn legal_histories_keep_it()
-    ensures { LegalHistoriesKeepIt }
+/// If a run shows the state before lines and goes on legally with their steps, it shows the state after them.
+pub fn legal_lines_are_shown()
+    ensures { LegalLinesAreShown }
+{}
+
+/// If the ledger has the peaks and event counts of that run besides, the promise holds after each of the lines.
+pub fn legal_lines_keep_it()
+    ensures { LegalLinesKeepIt }
 {}

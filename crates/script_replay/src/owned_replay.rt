@@ -6,8 +6,8 @@ ghost use Rattle.mem_system.specs.Visits.{locked_state};
 ghost use Rattle.step_watch.specs.Watched.{has_legal_steps};
 ghost use Rattle.script_replay.specs.declared.owned_replay.Stopped.TheVariants.{NoMemory};
 ghost use Rattle.script_replay.specs.Answers.{AddsText, ServesCommand};
-ghost use Rattle.script_replay.specs.History.{ReplaysCheckedOrStops, ReplaysOrStops, ServesAndKeeps};
-ghost use Rattle.script_replay.specs.Lines.{number_in_script, system_state};
+ghost use Rattle.script_replay.specs.History.{ReplaysCheckedOrStops, ReplaysOrStops};
+ghost use Rattle.script_replay.specs.Lines.{ServesLine, number_in_script, system_state};
 ghost use Rattle.script_replay.specs.Ranges.{CommandInRange, LineInRange};
 ghost use Rattle.script_replay.specs.Terms.{form_terms, numbered_terms, terms};
 
@@ -106,7 +106,7 @@ fn serve_in_form<N: BootName>(
 ) -> Result<(), AllocError>
     requires there { LineInRange N.frames.frames (length cpus.old) line.now }
     ensures served { AddsText result answers.old answers.new
-        (ServesAndKeeps (form_terms N.frames form) line.now
+        (ServesLine (form_terms N.frames form) line.now
         (system_state locked.old cpus.old) (system_state locked.new cpus.new)) }
 {
     if form.is_numbered {
@@ -136,7 +136,7 @@ fn serve_numbered<N: BootName>(
 ) -> Result<(), AllocError>
     requires there { LineInRange N.frames.frames (length cpus.old) line.now }
     ensures served { AddsText result answers.old answers.new
-        (ServesAndKeeps (numbered_terms N.frames is_explained true) line.now
+        (ServesLine (numbered_terms N.frames is_explained true) line.now
         (system_state locked.old cpus.old) (system_state locked.new cpus.new)) }
 {
     let mut plain = String::new(alloc);
@@ -157,7 +157,7 @@ pub fn serve_line<N: BootName>(
 ) -> Result<(), AllocError>
     requires there { LineInRange N.frames.frames (length cpus.old) line.now }
     ensures served { AddsText result answers.old answers.new
-        (ServesAndKeeps (terms N.frames is_explained) line.now
+        (ServesLine (terms N.frames is_explained) line.now
         (system_state locked.old cpus.old) (system_state locked.new cpus.new)) }
 {
     match line {

@@ -52,6 +52,10 @@ zone_makes action answer = (record { seat = 0; action = action }, answer)
 abbrev pub cpu_makes : ℕ → Action → Answer → Step × Answer
 cpu_makes cpu action answer = (record { seat = cpu; action = action }, answer)
 
+-- what is built is this action with this answer, and nothing else
+abbrev pub Builds : (Action × Answer → Type 0) → Action → Answer → Type 0
+Builds built action answer = (made : Action × Answer) → built made → made ≡ (action, answer)
+
 -- how many steps a checker took
 abbrev pub steps_taken : Option CoreState → ℕ
 steps_taken None = 0

@@ -4,8 +4,6 @@
 #![tactic(auto)]
 
 pub mod laws;
-mod made_steps;
-mod taken_steps;
 mod watch;
 
 pub use watch::Watch;

@@ -4,15 +4,17 @@ ghost use Rattle.std.specs.Prelude.{◌≡◌, ◌∷◌, [], ◌+◌, ◌++◌,
 ghost use Rattle.log_lines.specs.Line.{entry_text};
 ghost use Rattle.mem_core.specs.Shown.{state_shown, zone_of_config};
 ghost use Rattle.mem_core.specs.Checked.{Leads};
-ghost use Rattle.step_watch.specs.Watched.{Accepts, Adds, IsNewLog, IsNewWatch, Watches, has_legal_steps};
-ghost use Rattle.step_watch.specs.Watched.{has_whole_log, known_log, log_text, steps_seen, watch_off};
+ghost use Rattle.step_rules.specs.declared.step.Action.{Action};
+ghost use Rattle.step_rules.specs.declared.step.Answer.{Answer};
+ghost use Rattle.step_watch.specs.Watched.{Accepts, Adds, Builds, IsNewLog, IsNewWatch, Watches, cpu_makes};
+ghost use Rattle.step_watch.specs.Watched.{has_legal_steps, has_whole_log, known_log, log_text, steps_seen, watch_off};
 ghost use Rattle.zone_blocks.specs.Config.{IsValidConfig};
 
 use log_lines::write_entry;
 use mem_core::checker::Checker;
 use std::alloc::{AllocError, Global};
 use std::marker::Model;
-use step_rules::step::{Answer, Step};
+use step_rules::step::{Action, Answer, Step};
 use zone_blocks::config::Config;
 
 /// Takes steps where they are made, if it is on. It stops at the first step that the rules don't allow, or for whose
@@ -155,13 +157,30 @@ impl Watch {
         }
     }
 
-    /// Takes a step with its answer. A watch that is off, or has stopped, does nothing.
-    pub fn take(&mut self, step: &Step, answer: &Answer)
-        ensures { Watches self.old ((step.now, answer.now) ∷ []) self.new }
+    /// Takes the step of this seat that `made` builds, with its answer. A watch that is off, or has stopped, does
+    /// nothing, and doesn't call `made`: an action has room for a path, so building one costs.
+    #[inline(always)]
+    pub fn take<F: FnOnce() -> (Action, Answer)>(&mut self, seat: u32, made: F)
+        requires { F.IsAlwaysCallable made }
+        ensures { (action : Action) (answer : Answer) → Builds (F.post made) action answer
+            → Watches self.old (cpu_makes seat action answer ∷ []) self.new }
     {
-        if !self.is_on {
-            return;
+        if self.is_on {
+            self.take_made(seat, made);
         }
-        self.is_on = check(&mut self.checker, step, answer) && write(&mut self.log, step, answer);
+    }
+
+    // Takes the step: the watch is on.
+    #[cold]
+    #[inline(never)]
+    fn take_made<F: FnOnce() -> (Action, Answer)>(&mut self, seat: u32, made: F)
+        requires on { IsTrue self.old.is_on }
+        requires callable { F.IsAlwaysCallable made }
+        ensures { (it : Action × Answer) × F.post made it × Watches self.old (cpu_makes seat it.0 it.1 ∷ []) self.new }
+    {
+        let (action, answer) = made();
+        let step = Step { seat, action };
+        self.is_on = check(&mut self.checker, &step, &answer)
+            && write(&mut self.log, &step, &answer);
     }
 }

@@ -12,9 +12,9 @@ use Rattle.mem_core.proofs.Keeping.{always_keeps}
 use Rattle.reply_texts.specs.Answers.{answer_text}
 use Rattle.script_lines.specs.declared.line.Line.{Line}
 use Rattle.script_lines.specs.declared.line.Line.TheVariants.{At}
-use Rattle.script_replay.specs.Lines.{HasRun, RunGoesOn, ServesAll, SystemState}
+use Rattle.script_replay.specs.Lines.{HasRun, RunGoesOn, SystemState}
 use Rattle.script_replay.specs.Terms.{Terms, terms}
-use Rattle.script_replay.proofs.Gaining.{goes_on_none}
+use Rattle.script_replay.proofs.Gaining.{all_lines_go_on, goes_on_none}
 use Rattle.load_run.specs.Ending.{last_words}
 use Rattle.load_run.proofs.Whole.{whole_run}
 use Rattle.tempolemon_c.specs.Commands.{StopsText}
@@ -22,25 +22,14 @@ use Rattle.tempolemon_c.specs.Handles.{LiveBoot, OnBoot, ended_of, live_boot}
 use Rattle.tempolemon_c.specs.Known.{KnownLive}
 use Rattle.tempolemon_c.specs.Lives.{AreCalls, CallOnHandle, LivesAreLegalRuns, TypedCallsAreCalls}
 use Rattle.tempolemon_c.specs.Lives.{Answered, Fetched, Nothing, RanOut, Refused, Stored, Typed}
-use Rattle.tempolemon_c.specs.Lives.{steps_before_stop, steps_of_call, steps_of_calls, steps_of_life, steps_of_served}
+use Rattle.tempolemon_c.specs.Lives.{steps_before_stop, steps_of_call, steps_of_calls, steps_of_life}
 use Rattle.tempolemon_c.specs.Statuses.{most_refusal}
-
--- lines go on by their steps
-served_go_on : (on : Terms) (lines : List Line) (s e : SystemState) (text : List ℕ) (served : ServesAll on lines s e text)
-    → RunGoesOn (steps_of_served on lines s e text served) s e
-served_go_on on [] s e text served earlier has =
-    subst (λ (x : Run × SystemState). HasRun x.0 x.1) (λ i. (sym (append-nil earlier) i, sym served.1 i)) has
-served_go_on on (line ∷ lines) s e text served earlier has =
-    let one = served.serves_first.steps in
-    let more = steps_of_served on lines served.between e served.rest served.serves_rest in
-    subst (λ (r : Run). HasRun r e) (append_assoc earlier one more)
-    (served_go_on on lines served.between e served.rest served.serves_rest (earlier ++ one) (served.serves_first.goes_on earlier has))
 
 stop_goes_on : (on : Terms) (sizes : Config) (text : List ℕ) (s e : SystemState) (stop : (e ≡ s) ⊎ StopsText on sizes text s e)
     → RunGoesOn (steps_before_stop on sizes text s e stop) s e
 stop_goes_on on sizes text s e (inl stays) = subst (RunGoesOn [] s) (sym stays) (goes_on_none s)
 stop_goes_on on sizes text s e (inr stop) =
-    served_go_on on (take stop.stops.number stop.lines) s e stop.stops.text stop.stops.served.served
+    all_lines_go_on on (take stop.stops.number stop.lines) s e stop.stops.text stop.stops.served
 
 -- the handle has a boot of the same table after the call, and the run goes on by these steps
 record GoesOn (boot : LiveBoot) (steps : Run) (after : Option LiveBoot) : Type 0 where
@@ -81,17 +70,17 @@ call_goes_on : (before after : Option LiveBoot) (call : CallOnHandle before afte
 call_goes_on before after (Nothing stays) boot was = stays_so boot after (stays ∙ was)
 call_goes_on before after (Typed cpu asked answer does) boot was =
     by_steps before after does boot (steps_of_call before after (Typed cpu asked answer does)) was
-    (served_go_on (terms does.frames false) (At 0 cpu does.done.command ∷ []) does.from.state does.to.state (answer_text answer)
-    (does.done.serves.says.replays 0).served)
+    (all_lines_go_on (terms does.frames false) (At 0 cpu does.done.command ∷ []) does.from.state does.to.state (answer_text answer)
+    (does.done.serves.says.replays 0))
 call_goes_on before after (Answered text is_explained answers does) boot was =
     by_steps before after does boot (steps_of_call before after (Answered text is_explained answers does)) was
-    (served_go_on (terms does.frames is_explained) does.done.replays.lines does.from.state does.to.state answers does.done.replays.replays.served)
+    (all_lines_go_on (terms does.frames is_explained) does.done.replays.lines does.from.state does.to.state answers does.done.replays.served)
 call_goes_on before after (Stored text is_explained answers does) boot was =
     let on = does.lines in
     let steps = steps_of_call before after (Stored text is_explained answers does) in
     without_steps does.between after does.stores boot steps
     (by_steps before does.between on boot steps was
-    (served_go_on (terms on.frames is_explained) on.done.replays.lines on.from.state on.to.state answers on.done.replays.replays.served))
+    (all_lines_go_on (terms on.frames is_explained) on.done.replays.lines on.from.state on.to.state answers on.done.replays.served))
     (ap (λ (l : KnownLive). l.state) does.stores.done)
 call_goes_on before after (Refused text number does) boot was =
     without_steps before after does boot [] (stays_so boot before was) (ap (λ (l : KnownLive). l.state) does.done.stays)

@@ -6,8 +6,7 @@ use Rattle.script_lines.specs.declared.line.Line.{Line}
 use Rattle.script_lines.specs.declared.fault.ScriptFault.{ScriptFault}
 use Rattle.script_lines.specs.declared.fault.ScriptFault.TheVariants.{BadLine, NoMemory}
 use Rattle.script_lines.specs.Script.{IsFirstBadLine, IsScript}
-use Rattle.script_replay.specs.History.{Replays}
-use Rattle.script_replay.specs.Lines.{StopsAt, SystemState}
+use Rattle.script_replay.specs.Lines.{ServesAll, StopsAt, SystemState}
 use Rattle.script_replay.specs.Terms.{Terms, terms}
 use Rattle.tempolemon_c.specs.Known.{KnownLive}
 
@@ -17,13 +16,13 @@ pub record ReplaysText (terms : Terms) (sizes : Config) (text : List ℕ) (befor
     (answers : List ℕ) : Type 0 where
   pub lines : List Line
   pub script : IsScript sizes text lines
-  pub replays : Replays terms lines before after answers
+  pub served : ServesAll terms lines before after answers
 
 -- the text is a script for these sizes, and memory ran out for the answer of one of its lines
 pub record StopsText (terms : Terms) (sizes : Config) (text : List ℕ) (before after : SystemState) : Type 0 where
   pub lines : List Line
   pub script : IsScript sizes text lines
-  pub stops : StopsAt (Replays terms) lines before after
+  pub stops : StopsAt (ServesAll terms) lines before after
 
 -- Why a script has no answers, and what was done. A bad line changes nothing. If memory runs out, either nothing is
 -- changed, or the lines up to one were served.

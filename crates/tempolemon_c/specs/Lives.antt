@@ -10,7 +10,7 @@ use Rattle.reply_texts.specs.Answers.{answer_text}
 use Rattle.reply_texts.specs.LineAnswer.{LineAnswer}
 use Rattle.script_lines.specs.declared.line.Line.{Line}
 use Rattle.script_lines.specs.declared.line.Line.TheVariants.{At}
-use Rattle.script_replay.specs.Lines.{ServesAll, SystemState}
+use Rattle.script_replay.specs.Lines.{SystemState, steps_of_served}
 use Rattle.script_replay.specs.Terms.{Terms, terms}
 use Rattle.load_run.specs.Ending.{last_words}
 use Rattle.tempolemon_c.specs.Calls.{AnswersBehind, CallsInto}
@@ -37,32 +37,25 @@ pub data CallOnHandle (before after : Option LiveBoot) : Type 0 where
       → CallOnHandle before after
   Fetched : (answer : List ℕ) → TakesUnread before after answer → CallOnHandle before after
 
--- the steps by which lines were served, one line after the other
-abbrev pub steps_of_served : (terms : Terms) (lines : List Line) (before after : SystemState) (text : List ℕ)
-    → ServesAll terms lines before after text → Run
-steps_of_served terms [] before after text served = []
-steps_of_served terms (line ∷ lines) before after text served =
-    served.serves_first.steps ++ steps_of_served terms lines served.between after served.rest served.serves_rest
-
 -- the steps of the lines that were served when memory ran out, if any were
 abbrev pub steps_before_stop : (terms : Terms) (sizes : Config) (text : List ℕ) (before after : SystemState)
     → (after ≡ before) ⊎ StopsText terms sizes text before after → Run
 steps_before_stop terms sizes text before after (inl stays) = []
 steps_before_stop terms sizes text before after (inr stop) =
-    steps_of_served terms (take stop.stops.number stop.lines) before after stop.stops.text stop.stops.served.served
+    steps_of_served terms (take stop.stops.number stop.lines) before after stop.stops.text stop.stops.served
 
 -- the steps of a call: those that its contract names
 abbrev pub steps_of_call : (before after : Option LiveBoot) → CallOnHandle before after → Run
 steps_of_call before after (Nothing stays) = []
 steps_of_call before after (Typed cpu asked answer does) =
     steps_of_served (terms does.frames false) (At 0 cpu does.done.command ∷ []) does.from.state
-    does.to.state (answer_text answer) (does.done.serves.says.replays 0).served
+    does.to.state (answer_text answer) (does.done.serves.says.replays 0)
 steps_of_call before after (Answered text is_explained answers does) =
     steps_of_served (terms does.frames is_explained) does.done.replays.lines does.from.state
-    does.to.state answers does.done.replays.replays.served
+    does.to.state answers does.done.replays.served
 steps_of_call before after (Stored text is_explained answers does) =
     steps_of_served (terms does.lines.frames is_explained) does.lines.done.replays.lines
-    does.lines.from.state does.lines.to.state answers does.lines.done.replays.replays.served
+    does.lines.from.state does.lines.to.state answers does.lines.done.replays.served
 steps_of_call before after (Refused text number does) = []
 steps_of_call before after (RanOut text is_explained does) =
     steps_before_stop (terms does.frames is_explained) does.from.sizes text does.from.state does.to.state

@@ -2,11 +2,11 @@ use Rattle.std.proofs.Common.{◌∙◌, ◌++◌, List, [], ap, length, refl, s
 use Rattle.mem_system.specs.Cpus.{CpuInRun}
 use Rattle.step_rules.specs.After.{Run}
 use Rattle.mem_machine.specs.Interleaving.{zone_of}
-use Rattle.mem_history.proofs.Deciding.{legal_front}
-use Rattle.script_replay.specs.History.{past, steps_of}
-use Rattle.script_replay.specs.Lines.{HasRun, SystemState, system_state}
+use Rattle.mem_history.proofs.Along.{legal_front}
+use Rattle.script_replay.specs.Lines.{HasRun, SystemState, steps_of_served, system_state}
 use Rattle.script_replay.specs.Terms.{form_terms}
-use Rattle.script_replay.proofs.Seeing.{all_lines_go_on, legal_histories_keep_it}
+use Rattle.script_replay.proofs.Gaining.{all_lines_go_on}
+use Rattle.script_replay.proofs.Keeping.{legal_lines_keep_it}
 use Rattle.load_run.specs.Ending.{EndsHeld, boot_end_text}
 use Rattle.std.proofs.lemmas.Result.{IfOk-at_ok, IfOk-weaker}
 use Rattle.load_run.proofs.Starting.{boot_agrees, boot_shown, given_back, lent_parts, lent_so_far, lines_there, new_state}
@@ -32,14 +32,13 @@ returns g c =
     let start : SystemState = system_state c.in_ok-locked.locked c.deref_mut.result.now in
     let new = new_state _ _ t _ c.deref_mut.result.now refl booted.sized booted.machine booted.sizes
     (lent_parts _ _ c.deref_mut.ensures.value booted.cpus) (lent_so_far _ _ _ c.deref_mut.ensures.value booted.so_far) in
-    let replays = IfOk-at_ok _ c.in_ok-answers.was c.replay-answers.ensures.outcome.replayed in
+    let served = IfOk-at_ok _ c.in_ok-answers.was c.replay-answers.ensures.outcome.replayed in
     let end : SystemState = system_state left.locked left.cpus in
     let answers = c.in_ok-answers.field-0.items in
     let on = form_terms t c.args.form in
     let lines = c.args.lines.now in
-    let history = replays.history [] (boot_shown _ _ _ new) in
-    let run : Run = steps_of on lines (past [] start) end answers history in
-    let has : HasRun run end = all_lines_go_on on lines (past [] start) end answers history [] new.so_far in
+    let run : Run = steps_of_served on lines start end answers served in
+    let has : HasRun run end = all_lines_go_on on lines start end answers served [] new.so_far in
     let told = c.end_boot-ended.result in
     let ends = subst (λ (cpus : List CpuInRun). EndsHeld t (system_state left.locked cpus) told)
     (given_back _ _ _ _ c.deref_mut.ensures.value c.deref_mut.ensures.len c.replay-answers.auto.cpus) c.end_boot-ended.ensures.ends in
@@ -54,8 +53,8 @@ returns g c =
         answers = answers;
         ending = boot_end_text c.args.is_audited told;
         first = new;
-        served = replays.served;
-        history = legal_histories_keep_it on lines (past [] start) end answers history legal (boot_agrees _ _ _ new);
+        served = served;
+        history = legal_lines_keep_it on lines start end answers served [] (boot_shown _ _ _ new) legal (boot_agrees _ _ _ new);
         agrees = boot_agrees _ _ _ new;
         ends = record { ended = told; ends = ends; text_is = refl };
         whole = run ++ ends.leaves.steps;

@@ -5,8 +5,7 @@ use Rattle.std.proofs.lemmas.Result.{IfOk-at_ok, IfOk-weaker}
 use Rattle.zone_blocks.specs.declared.config.Config.{Config}
 use Rattle.mem_system.specs.Cpus.{CpuInRun}
 use Rattle.mem_system.specs.Locked.{KnownLocked}
-use Rattle.script_replay.specs.History.{Replays}
-use Rattle.script_replay.specs.Lines.{SystemState, system_state}
+use Rattle.script_replay.specs.Lines.{ServesAll, SystemState, system_state}
 use Rattle.script_replay.specs.Terms.{boot_tables, numbered_terms}
 use Rattle.script_replay.specs.Each.{AreAllAnswers, workers_from}
 use Rattle.script_replay.proofs.Running.{go_least}
@@ -97,8 +96,8 @@ returns g c =
     let ended = c.end_boot-ended.result in
     let new = new_state _ _ t _ c.deref_mut.result.now refl booted.sized booted.machine booted.sizes (lent_parts _ _ shown booted.cpus)
     (lent_so_far _ _ _ shown booted.so_far) in
-    let replays : Replays (numbered_terms t false is_numbered) c.split_at.result.0.now start replayed early =
-    IfOk-at_ok (λ v. Replays (numbered_terms t false is_numbered) c.split_at.result.0.now start replayed v.items) c.in_ok-answers.was
+    let served : ServesAll (numbered_terms t false is_numbered) c.split_at.result.0.now start replayed early =
+    IfOk-at_ok (λ v. ServesAll (numbered_terms t false is_numbered) c.split_at.result.0.now start replayed v.items) c.in_ok-answers.was
     c.replay-first.ensures.outcome.replayed in
     let sees = subst (λ (cpus : List CpuInRun). SeesAllPasts t (system_state c.replay-first.new.locked cpus) at_go) met c.survey.ensures.sees in
     let all = IfOk-at_ok _ c.in_ok-told.was c.serve_later-told.ensures.told in
@@ -115,7 +114,7 @@ returns g c =
       answers = IfOk-weaker c.with_end.result _ _ (λ text is.
           are_answers sizes is_numbered c.args.is_audited t lines c.split_at.result.0.now c.split_at.result.1.now start replayed at_go end at_end early later text.items
           all.0 ended new (c.split_at.ensures.front ∙ ap (λ (n : ℕ). take n lines) c.before_go.ensures)
-          (c.split_at.ensures.back ∙ ap (λ (n : ℕ). drop n lines) c.before_go.ensures) replays sees tells
+          (c.split_at.ensures.back ∙ ap (λ (n : ℕ). drop n lines) c.before_go.ensures) served sees tells
           (record { quiet = c.into_parts-locked.ensures.quiet; count = long }) sees_end ends
           (is ∙ ap (λ (l : List ℕ). l ++ boot_end_text c.args.is_audited ended) joined)) c.with_end.ensures.told;
     }

@@ -1,7 +1,8 @@
 -- Four steps, one after another.
+use Rattle.std.proofs.Common.{rules}
 use Rattle.step_watch.proofs.Watching.{watches_both}
 use Rattle.mem_machine.proofs.settling.watch_collected.Goals as goal
 
 pub returns : goal.returns
-returns c = watches_both _ _ _ _ _ c.passed_back.ensures
-    (watches_both _ _ _ _ _ c.reported.ensures (watches_both _ _ _ _ _ c.collected.ensures c.absorbed.ensures))
+returns c = watches_both _ _ _ _ _ (c.take.ensures _ _ (search rules))
+    (watches_both _ _ _ _ _ (c.take-2.ensures _ _ (search rules)) (watches_both _ _ _ _ _ (c.take-3.ensures _ _ (search rules)) (c.take-4.ensures _ _ (search rules))))

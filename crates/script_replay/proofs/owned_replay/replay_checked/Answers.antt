@@ -1,16 +1,16 @@
 use Rattle.std.proofs.Common.{ap, rules}
 use Rattle.std.specs.String.{string_bytes}
 use Rattle.std.proofs.lemmas.Result.{err_from_is_err_and}
-use Rattle.script_replay.specs.History.{ServesAndKeeps}
-use Rattle.script_replay.specs.Lines.{SystemState, system_state}
+use Rattle.script_replay.specs.Lines.{ServesAll, ServesLine, SystemState, system_state}
 use Rattle.script_replay.specs.Terms.{form_terms}
-use Rattle.script_replay.proofs.Going.{ServesAllAndKeeps, all_replayed_legally, keeps_stop, stops_illegal}
+use Rattle.script_replay.proofs.Going.{keeps_stop, stops_illegal}
 use Rattle.script_replay.proofs.InOrder.{in_order_end, in_order_line}
+use Rattle.script_replay.proofs.Seeing.{replayed_legally}
 use Rattle.script_replay.proofs.owned_replay.replay_checked.Goals as goal
 
 pub loop-next-preserved : goal.loop-next-preserved
 loop-next-preserved g c = (
-  in_order_line (ServesAndKeeps (form_terms g.N.BootName.frames c.args.form)) (system_state c.args.locked.now c.args.cpus.now)
+  in_order_line (ServesLine (form_terms g.N.BootName.frames c.args.form)) (system_state c.args.locked.now c.args.cpus.now)
       (system_state c.loop-next.locked c.loop-next.cpus) (system_state c.serve_in_form.new.locked c.serve_in_form.new.cpus)
       c.args.lines.now c.loop-next.next-index _ (string_bytes c.loop-next.answers) (string_bytes c.serve_in_form.new.answers) c.loop-next-test.true
       c.loop-next.invariant.0 c.in_ok-serve_in_form.ensures.served.text c.in_ok-serve_in_form.ensures.served.so c.in_ok-serve_in_form.ensures.served.added,
@@ -51,11 +51,11 @@ returns g c =
     let on = form_terms g.N.BootName.frames c.args.form in
     let first : SystemState = system_state c.args.locked.now c.args.cpus.now in
     let last : SystemState = system_state c.loop-next.locked c.loop-next.cpus in
-    let all : ServesAllAndKeeps on c.args.lines.now first last c.into_bytes.result.items =
-    in_order_end (ServesAndKeeps on) first last c.args.lines.now c.loop-next.next-index (string_bytes c.loop-next.answers)
+    let all : ServesAll on c.args.lines.now first last c.into_bytes.result.items =
+    in_order_end (ServesLine on) first last c.args.lines.now c.loop-next.next-index (string_bytes c.loop-next.answers)
     c.into_bytes.result.items c.loop-next-test.false c.loop-next.invariant.0 (ap (λ v. v.items) c.into_bytes.ensures.value) in record {
       outcome = record {
-        replayed = all_replayed_legally on c.args.lines.now first last c.into_bytes.result.items all c.loop-next.invariant.1;
+        replayed = replayed_legally on c.args.lines.now first last c.into_bytes.result.items all c.loop-next.invariant.1;
         stopped = tt;
       };
     }

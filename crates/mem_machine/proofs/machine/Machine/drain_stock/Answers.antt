@@ -1,4 +1,4 @@
-use Rattle.std.proofs.Common.{◌≡◌, ℕ, ◌<◌, ◌≤◌, Some, None, refl, sym, ap, ◌∙◌, arith, rules}
+use Rattle.std.proofs.Common.{◌≡◌, Some, None, refl, sym, ap, ◌∙◌, arith, rules}
 use Rattle.step_rules.specs.declared.step.Action.TheVariants.{DrainStock}
 use Rattle.mem_machine.specs.Kept.{machine_of}
 use Rattle.mem_machine.specs.Machines.{stock_group}
@@ -6,6 +6,7 @@ use Rattle.mem_machine.proofs.AtTable.{made_at, may_at}
 use Rattle.mem_machine.proofs.Drained.{drained_now, drained_sound, emptied_sound, knows_drain, no_group_none, noted_none, noted_some, sum_within, there_now, ungrant_may}
 use Rattle.mem_machine.proofs.Draining.{drain_may, drained_none}
 use Rattle.mem_machine.proofs.Made.{held_here}
+use Rattle.mem_machine.proofs.Noted.{legal_step}
 use Rattle.mem_machine.proofs.Owning.{owner_at}
 use Rattle.mem_machine.proofs.machine.Machine.drain_stock.Goals as goal
 
@@ -44,14 +45,14 @@ uncharge-requires g c =
     let both = there_now t m c.self.invariant.consistent c.args.cpu _ knows c.in-Some.group owner c.if-pages-gt0.true in
     record { there = both.0; charged = both.1 }
 
-pub ungrant-requires-clause-legal : goal.ungrant-requires-clause-legal
-ungrant-requires-clause-legal g c =
+pub make_step-requires-clause-legal : goal.make_step-requires-clause-legal
+make_step-requires-clause-legal g c =
     let t = g.N.BootName.frames in
     let m = machine_of c.self.inside in
     let knows = knows_drain t _ c.args.tables.now.frames_are m _ c.self.view_is c.requires.held c.args.cpu _ c.requires.cpu _ c.drain-pages.ensures in
     let owner : stock_group t m c.args.cpu ≡ Some c.in-Some.group = owner_at t.cpus _ _ c.self.invariant.owners c.args.cpu c.requires.cpu.0 c.requires.cpu.1 ∙ sym c.group.ensures ∙ c.in-Some.is in
-    ungrant_may t m c.self.invariant.consistent c.args.cpu _ knows c.in-Some.group owner c.if-pages-gt0.true _
-    (made_at _ _ c.args.tables.now.frames_are 0 refl _ _ _ _ c.drain-pages.ensures)
+    legal_step _ _ _ _ (ungrant_may t m c.self.invariant.consistent c.args.cpu _ knows c.in-Some.group owner c.if-pages-gt0.true _
+    (made_at _ _ c.args.tables.now.frames_are 0 refl _ _ _ _ c.drain-pages.ensures)) tt (search rules)
 
 pub invariant_of-self : goal.invariant_of-self
 invariant_of-self g c =
@@ -59,7 +60,7 @@ invariant_of-self g c =
     let m = machine_of c.self.inside in
     let knows = knows_drain t _ c.args.tables.now.frames_are m _ c.self.view_is c.requires.held c.args.cpu _ c.requires.cpu _ c.drain-pages.ensures in
     let owner : stock_group t m c.args.cpu ≡ Some c.in-Some.group = owner_at t.cpus _ _ c.self.invariant.owners c.args.cpu c.requires.cpu.0 c.requires.cpu.1 ∙ sym c.group.ensures ∙ c.in-Some.is in
-    let noted = noted_some t _ c.args.tables.now.frames_are m.run c.args.cpu _ c.in-Some.group c.if-pages-gt0.true _ _ c.drain-pages.ensures c.drained.ensures _ c.ungrant.ensures.notes in
+    let noted = noted_some t _ c.args.tables.now.frames_are m.run c.args.cpu _ c.in-Some.group c.if-pages-gt0.true _ _ c.drain-pages.ensures (c.take.ensures _ _ (search rules)) _ (c.make_step.ensures.notes _ _ (search rules)) in
     drained_sound t c.self.inside c.self.invariant c.args.cpu _ knows c.in-Some.group owner c.number.result c.number.ensures.value c.number.ensures.below _ noted _ c.uncharge.ensures.uncharged
 
 pub invariant_of-self-else-pages-gt0 : goal.invariant_of-self-else-pages-gt0
@@ -69,7 +70,7 @@ invariant_of-self-else-pages-gt0 g c =
     let knows = knows_drain t _ c.args.tables.now.frames_are m _ c.self.view_is c.requires.held c.args.cpu _ c.requires.cpu _ c.drain-pages.ensures in
     let none : c.drain-pages.result ≡ 0 = search rules in
     emptied_sound t c.self.inside c.self.invariant c.args.cpu _ knows none _
-    (noted_none t _ c.args.tables.now.frames_are m.run c.args.cpu _ (stock_group t m c.args.cpu) none _ _ c.drain-pages.ensures c.drained.ensures)
+    (noted_none t _ c.args.tables.now.frames_are m.run c.args.cpu _ (stock_group t m c.args.cpu) none _ _ c.drain-pages.ensures (c.take.ensures _ _ (search rules)))
 
 pub returns-in-Some : goal.returns-in-Some
 returns-in-Some g c =
@@ -77,7 +78,7 @@ returns-in-Some g c =
     let m = machine_of c.self.inside in
     let knows = knows_drain t _ c.args.tables.now.frames_are m _ c.self.view_is c.requires.held c.args.cpu _ c.requires.cpu _ c.drain-pages.ensures in
     let owner : stock_group t m c.args.cpu ≡ Some c.in-Some.group = owner_at t.cpus _ _ c.self.invariant.owners c.args.cpu c.requires.cpu.0 c.requires.cpu.1 ∙ sym c.group.ensures ∙ c.in-Some.is in
-    let noted = noted_some t _ c.args.tables.now.frames_are m.run c.args.cpu _ c.in-Some.group c.if-pages-gt0.true _ _ c.drain-pages.ensures c.drained.ensures _ c.ungrant.ensures.notes in
+    let noted = noted_some t _ c.args.tables.now.frames_are m.run c.args.cpu _ c.in-Some.group c.if-pages-gt0.true _ _ c.drain-pages.ensures (c.take.ensures _ _ (search rules)) _ (c.make_step.ensures.notes _ _ (search rules)) in
     let all = drained_now t m c.self.invariant.consistent c.args.cpu _ knows (Some c.in-Some.group) owner _ noted _ c.self.view_is _ c.uncharge.ensures.uncharged in
     record { drains = all.drains; steps = all.steps; visit = all.visit }
 
@@ -88,6 +89,6 @@ returns-else-pages-gt0 g c =
     let knows = knows_drain t _ c.args.tables.now.frames_are m _ c.self.view_is c.requires.held c.args.cpu _ c.requires.cpu _ c.drain-pages.ensures in
     let none : c.drain-pages.result ≡ 0 = search rules in
     let o = stock_group t m c.args.cpu in
-    let noted = noted_none t _ c.args.tables.now.frames_are m.run c.args.cpu _ o none _ _ c.drain-pages.ensures c.drained.ensures in
+    let noted = noted_none t _ c.args.tables.now.frames_are m.run c.args.cpu _ o none _ _ c.drain-pages.ensures (c.take.ensures _ _ (search rules)) in
     let all = drained_now t m c.self.invariant.consistent c.args.cpu _ knows o refl _ noted _ c.self.view_is _ (drained_none c.self.inside.charges o _ none) in
     record { drains = all.drains; steps = all.steps; visit = all.visit }

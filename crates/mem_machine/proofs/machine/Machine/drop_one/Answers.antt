@@ -2,6 +2,7 @@ use Rattle.std.proofs.Common.{◌<◌, rules, sym}
 use Rattle.mem_machine.specs.Kept.{machine_of}
 use Rattle.mem_machine.proofs.Fresh.{collect_legal, drop_all, drop_charged, drop_in_use, dropped_notes, may_return, none_reported_here, sum_some, unit_inside}
 use Rattle.mem_machine.proofs.Made.{visits_here}
+use Rattle.mem_machine.proofs.Noted.{legal_step}
 use Rattle.mem_machine.proofs.machine.Machine.drop_one.Goals as goal
 
 pub collect_fresh-frame-requires : goal.collect_fresh-frame-requires
@@ -35,11 +36,11 @@ free_unit-requires g c =
           c.collect_fresh-frame.result _ front _ one;
     }
 
-pub return_unit-requires-clause-legal : goal.return_unit-requires-clause-legal
-return_unit-requires-clause-legal g c =
+pub make_step-requires-clause-legal : goal.make_step-requires-clause-legal
+make_step-requires-clause-legal g c =
     let e = c.collect_fresh-frame.ensures in
-    may_return g.N.BootName.frames (machine_of c.self.inside) _ c.self.view_is c.args.cpu.now c.requires.visit c.self.invariant.consistent c.args.group c.requires.group
-    c.collect_fresh-frame.result _ e.cpu.front _ e.notes c.requires.killed _ c.number-at.ensures
+    legal_step _ _ _ _ (may_return g.N.BootName.frames (machine_of c.self.inside) _ c.self.view_is c.args.cpu.now c.requires.visit c.self.invariant.consistent c.args.group c.requires.group
+    c.collect_fresh-frame.result _ e.cpu.front _ e.notes c.requires.killed _ c.number-at.ensures) tt (search rules)
 
 pub invariant_of-self : goal.invariant_of-self
 invariant_of-self g c =
@@ -48,7 +49,7 @@ invariant_of-self g c =
     let e = c.collect_fresh-frame.ensures in
     let u = c.free_unit.ensures in
     let notes = dropped_notes t (machine_of c.self.inside) _ c.self.view_is c.args.cpu.now c.requires.visit c.self.invariant.consistent c.args.group c.requires.group
-    c.collect_fresh-frame.result _ e.cpu.front _ e.notes _ _ c.number-at.ensures c.return_unit.ensures.notes in
+    c.collect_fresh-frame.result _ e.cpu.front _ e.notes _ _ c.number-at.ensures (c.make_step.ensures.notes _ _ (search rules)) in
     let all = drop_all t (machine_of c.self.inside) _ c.self.view_is c.args.cpu.now c.requires.visit c.self.invariant.consistent c.args.group c.requires.group
     c.collect_fresh-frame.result _ e.cpu.front _ _ _ _ _ c.self.invariant.free c.self.invariant.sums c.self.invariant.owners fits c.requires.killed _ e.cpu e.sums _ _
     c.number-at.ensures c.single_order-order.ensures _ u.frame_states _ u.frames u.areas _ u.charges _ c.with_killed_fresh-self-inside.ensures _ notes in
@@ -61,7 +62,7 @@ returns g c =
     let e = c.collect_fresh-frame.ensures in
     let u = c.free_unit.ensures in
     let notes = dropped_notes t (machine_of c.self.inside) _ c.self.view_is c.args.cpu.now c.requires.visit c.self.invariant.consistent c.args.group c.requires.group
-    c.collect_fresh-frame.result _ e.cpu.front _ e.notes _ _ c.number-at.ensures c.return_unit.ensures.notes in
+    c.collect_fresh-frame.result _ e.cpu.front _ e.notes _ _ c.number-at.ensures (c.make_step.ensures.notes _ _ (search rules)) in
     let all = drop_all t (machine_of c.self.inside) _ c.self.view_is c.args.cpu.now c.requires.visit c.self.invariant.consistent c.args.group c.requires.group
     c.collect_fresh-frame.result _ e.cpu.front _ _ _ _ _ c.self.invariant.free c.self.invariant.sums c.self.invariant.owners fits c.requires.killed _ e.cpu e.sums _ _
     c.number-at.ensures c.single_order-order.ensures _ u.frame_states _ u.frames u.areas _ u.charges _ c.with_killed_fresh-self-inside.ensures _ notes in

@@ -1,9 +1,10 @@
-use Rattle.std.proofs.Common.{Some, None, refl, arith}
+use Rattle.std.proofs.Common.{Some, None, refl, arith, rules}
 use Rattle.step_rules.specs.declared.step.Action.TheVariants.{Freeze}
 use Rattle.step_rules.specs.declared.step.Answer.TheVariants.{Done, Missed}
 use Rattle.mem_machine.specs.Evicting.{evict_steps}
 use Rattle.mem_machine.specs.Kept.{machine_of}
 use Rattle.mem_machine.proofs.Freeing.{unit_in_use, unit_charged}
+use Rattle.mem_machine.proofs.Noted.{legal_step}
 use Rattle.mem_machine.proofs.Releases.{notes_back, notes_of_zone, read_head, return_may}
 use Rattle.mem_machine.proofs.Evicts.{evict_returns, evicted_all, freeze_may, missed_all}
 use Rattle.mem_machine.proofs.AtTable.{made_at, may_at}
@@ -20,8 +21,8 @@ pub invariant_of-self : goal.invariant_of-self
 invariant_of-self g c =
     let t = g.N.BootName.frames in
     let m = machine_of c.self.inside in
-    let noted = notes_of_zone t m.run _ c.args.head _ c.number-at.ensures (λ x. Freeze x 1) Missed
-    (made_at _ _ c.args.tables.now.frames_are 0 refl _ _ _ _ c.if-not-freeze.ensures) c.missed.ensures in
+    let noted = notes_of_zone t m.run _ c.args.head _ c.number-frame.ensures (λ x. Freeze x 1) Missed
+    (made_at _ _ c.args.tables.now.frames_are 0 refl _ _ _ _ c.if-not-freeze.ensures) (c.take.ensures _ _ (search rules)) in
     let held = held_here t m _ c.self.view_is c.requires.held in
     record {
       consistent = (missed_all t m _ c.self.view_is c.self.invariant.consistent c.args.head c.requires.frame c.requires.kept c.requires.held _
@@ -36,38 +37,38 @@ returns-then-not-freeze g c =
     let t = g.N.BootName.frames in
     let m = machine_of c.self.inside in
     let all = missed_all t m _ c.self.view_is c.self.invariant.consistent c.args.head c.requires.frame c.requires.kept c.requires.held _ c.with_miss-self-inside.ensures _
-    (notes_of_zone t m.run _ c.args.head _ c.number-at.ensures (λ x. Freeze x 1) Missed
-    (made_at _ _ c.args.tables.now.frames_are 0 refl _ _ _ _ c.if-not-freeze.ensures) c.missed.ensures) in
+    (notes_of_zone t m.run _ c.args.head _ c.number-frame.ensures (λ x. Freeze x 1) Missed
+    (made_at _ _ c.args.tables.now.frames_are 0 refl _ _ _ _ c.if-not-freeze.ensures) (c.take.ensures _ _ (search rules))) in
     record { evicts = all.misses; visit = all.visit; steps = all.steps }
 
 pub free_unit-requires : goal.free_unit-requires
 free_unit-requires g c =
     let t = g.N.BootName.frames in
     let m = machine_of c.self.inside in
-    let head = read_head t m c.self.invariant.consistent c.args.head _ c.requires.frame c.number-at.ensures _ c.in-Head.unit c.index.ensures c.in-Head.is in
+    let head = read_head t m c.self.invariant.consistent c.args.head _ c.requires.frame c.number-frame.ensures _ c.in-Head.unit c.index.ensures c.in-Head.is in
     record {
       in_use = unit_in_use _ _ _ c.in-Head.unit c.self.invariant.free c.self.invariant.consistent.units head;
       inside = (c.self.invariant.consistent.units.heads _ c.in-Head.unit head).block.inside;
       charged = unit_charged t m c.self.invariant.consistent _ c.in-Head.unit head;
     }
 
-pub return_unit-requires-clause-legal : goal.return_unit-requires-clause-legal
-return_unit-requires-clause-legal g c =
+pub make_step-requires-clause-legal : goal.make_step-requires-clause-legal
+make_step-requires-clause-legal g c =
     let t = g.N.BootName.frames in
     let m = machine_of c.self.inside in
-    let head = read_head t m c.self.invariant.consistent c.args.head _ c.requires.frame c.number-at.ensures _ c.in-Head.unit c.index.ensures c.in-Head.is in
-    return_may t m.run.past _ c.args.head _ c.number-at.ensures (Freeze c.args.head 1) Done (made_at _ _ c.args.tables.now.frames_are 0 refl _ _ _ _ c.if-not-freeze.ensures)
-    (evict_returns t m _ c.self.view_is c.self.invariant.consistent c.args.head _ c.requires.frame c.number-at.ensures c.requires.kept c.requires.held c.in-Head.unit head)
+    let head = read_head t m c.self.invariant.consistent c.args.head _ c.requires.frame c.number-frame.ensures _ c.in-Head.unit c.index.ensures c.in-Head.is in
+    legal_step _ _ _ _ (return_may t m.run.past _ c.args.head _ c.number-frame.ensures (Freeze c.args.head 1) Done (made_at _ _ c.args.tables.now.frames_are 0 refl _ _ _ _ c.if-not-freeze.ensures)
+    (evict_returns t m _ c.self.view_is c.self.invariant.consistent c.args.head _ c.requires.frame c.number-frame.ensures c.requires.kept c.requires.held c.in-Head.unit head)) tt (search rules)
 
 pub invariant_of-self-2 : goal.invariant_of-self-2
 invariant_of-self-2 g c =
     let t = g.N.BootName.frames in
     let m = machine_of c.self.inside in
-    let head = read_head t m c.self.invariant.consistent c.args.head _ c.requires.frame c.number-at.ensures _ c.in-Head.unit c.index.ensures c.in-Head.is in
-    let noted = notes_back t m.run _ c.args.head _ c.number-at.ensures (λ x. Freeze x 1) Done
-    (notes_of_zone t m.run _ c.args.head _ c.number-at.ensures (λ x. Freeze x 1) Done
-    (made_at _ _ c.args.tables.now.frames_are 0 refl _ _ _ _ c.if-not-freeze.ensures) c.froze.ensures) _ c.return_unit.ensures.notes in
-    let all = evicted_all t m _ c.self.view_is c.self.invariant.consistent c.args.head _ c.requires.frame c.number-at.ensures c.requires.kept c.requires.held _ _
+    let head = read_head t m c.self.invariant.consistent c.args.head _ c.requires.frame c.number-frame.ensures _ c.in-Head.unit c.index.ensures c.in-Head.is in
+    let noted = notes_back t m.run _ c.args.head _ c.number-frame.ensures (λ x. Freeze x 1) Done
+    (notes_of_zone t m.run _ c.args.head _ c.number-frame.ensures (λ x. Freeze x 1) Done
+    (made_at _ _ c.args.tables.now.frames_are 0 refl _ _ _ _ c.if-not-freeze.ensures) (c.take-2.ensures _ _ (search rules))) _ (c.make_step.ensures.notes _ _ (search rules)) in
+    let all = evicted_all t m _ c.self.view_is c.self.invariant.consistent c.args.head _ c.requires.frame c.number-frame.ensures c.requires.kept c.requires.held _ _
     c.leave_list.ensures.leaves c.leave_list.ensures.lists.stand c.leave_list.ensures.frames c.leave_list.ensures.lists.groups c.in-Head.unit head _ _ _ _ _ _ _ _
     c.note_unit.ensures c.self.invariant.free c.free_unit.ensures.frame_states c.free_unit.ensures.frames c.free_unit.ensures.areas c.free_unit.ensures.charges
     c.free_unit.ensures.usage c.with_freeze-self-inside.ensures c.frames-pages.ensures.frames _ noted in
@@ -83,15 +84,15 @@ pub returns : goal.returns
 returns g c =
     let t = g.N.BootName.frames in
     let m = machine_of c.self.inside in
-    let head = read_head t m c.self.invariant.consistent c.args.head _ c.requires.frame c.number-at.ensures _ c.in-Head.unit c.index.ensures c.in-Head.is in
-    let noted = notes_back t m.run _ c.args.head _ c.number-at.ensures (λ x. Freeze x 1) Done
-    (notes_of_zone t m.run _ c.args.head _ c.number-at.ensures (λ x. Freeze x 1) Done
-    (made_at _ _ c.args.tables.now.frames_are 0 refl _ _ _ _ c.if-not-freeze.ensures) c.froze.ensures) _ c.return_unit.ensures.notes in
-    let all = evicted_all t m _ c.self.view_is c.self.invariant.consistent c.args.head _ c.requires.frame c.number-at.ensures c.requires.kept c.requires.held _ _
+    let head = read_head t m c.self.invariant.consistent c.args.head _ c.requires.frame c.number-frame.ensures _ c.in-Head.unit c.index.ensures c.in-Head.is in
+    let noted = notes_back t m.run _ c.args.head _ c.number-frame.ensures (λ x. Freeze x 1) Done
+    (notes_of_zone t m.run _ c.args.head _ c.number-frame.ensures (λ x. Freeze x 1) Done
+    (made_at _ _ c.args.tables.now.frames_are 0 refl _ _ _ _ c.if-not-freeze.ensures) (c.take-2.ensures _ _ (search rules))) _ (c.make_step.ensures.notes _ _ (search rules)) in
+    let all = evicted_all t m _ c.self.view_is c.self.invariant.consistent c.args.head _ c.requires.frame c.number-frame.ensures c.requires.kept c.requires.held _ _
     c.leave_list.ensures.leaves c.leave_list.ensures.lists.stand c.leave_list.ensures.frames c.leave_list.ensures.lists.groups c.in-Head.unit head _ _ _ _ _ _ _ _
     c.note_unit.ensures c.self.invariant.free c.free_unit.ensures.frame_states c.free_unit.ensures.frames c.free_unit.ensures.areas c.free_unit.ensures.charges
     c.free_unit.ensures.usage c.with_freeze-self-inside.ensures c.frames-pages.ensures.frames _ noted in
     record { evicts = all.evicts; visit = all.visit; steps = all.steps }
 
 pub index-requires : goal.index-requires
-index-requires g c = omega (arith, c.requires.frame, c.number-at.ensures, c.self.invariant.consistent.sizes.frame_states)
+index-requires g c = omega (arith, c.requires.frame, c.number-frame.ensures, c.self.invariant.consistent.sizes.frame_states)

@@ -1,4 +1,4 @@
-use Rattle.std.proofs.Common.{◌≡◌, ℕ, ◌+◌, ◌-◌, ◌<◌, ◌≤◌, ◌^◌, [], ◌∷◌, IsTrue, refl, sym, ap, ◌∙◌, subst, arith}
+use Rattle.std.proofs.Common.{◌≡◌, ℕ, ◌+◌, ◌<◌, ◌^◌, IsTrue, refl, sym, ap, ◌∙◌, subst, arith, rules}
 use Rattle.frame_word.specs.Seats.{KnownTable}
 use Rattle.group_tree.specs.Groups.{has_group}
 use Rattle.group_charge.specs.Charges.{current_of}
@@ -10,7 +10,7 @@ use Rattle.step_rules.specs.Laws.{IsLocalStep}
 use Rattle.mem_machine.specs.Kept.{machine_of}
 use Rattle.mem_machine.specs.Local.{local_of}
 use Rattle.mem_machine.specs.Machines.{KnownMachine}
-use Rattle.mem_machine.specs.Noted.{KnownRun}
+use Rattle.mem_machine.proofs.Noted.{legal_step}
 use Rattle.mem_machine.proofs.Prepaying.{fill_fits, fill_leads, fill_may, fill_noted, filled_now, filled_sound, filler_is, knows_fill, nothing_booked, refused_may, refused_now, refused_sound, refused_visits}
 use Rattle.mem_machine.proofs.machine.Machine.fill_stock.Goals as goal
 
@@ -22,15 +22,15 @@ try_charge-requires-clause-fits g c = subst (λ (m : KnownMachine). current_of m
 
 -- ---- a limit has no room
 
-pub refuse-requires-clause-legal : goal.refuse-requires-clause-legal
-refuse-requires-clause-legal g c =
+pub make_step-requires-clause-legal : goal.make_step-requires-clause-legal
+make_step-requires-clause-legal g c =
     let t = g.N.BootName.frames in
     let m = machine_of c.self.inside in
     let cpu = c.args.cpu.now in
     let knows = knows_fill t m _ c.self.view_is cpu c.args.group c.args.pages c.requires.visit c.requires.charges c.requires.drained in
     let ok = c.self.invariant.consistent in
     let facts = c.prove_charges.ensures.legal in
-    refused_may t m ok facts knows.visit.held c.args.group c.args.pages c.in-Err.over.group knows.there knows.alive c.in-Err.ensures.over
+    legal_step _ _ _ _ (refused_may t m ok facts knows.visit.held c.args.group c.args.pages c.in-Err.over.group knows.there knows.alive c.in-Err.ensures.over) tt (search rules)
 
 pub invariant_of-self : goal.invariant_of-self
 invariant_of-self g c =
@@ -40,7 +40,7 @@ invariant_of-self g c =
     let knows = knows_fill t m _ c.self.view_is cpu c.args.group c.args.pages c.requires.visit c.requires.charges c.requires.drained in
     let ok = c.self.invariant.consistent in
     let facts = c.prove_charges.ensures.legal in
-    refused_sound t c.self.inside c.self.invariant cpu c.args.group c.args.pages c.in-Err.over.group facts knows c.in-Err.ensures.over _ c.refuse.ensures.notes _ c.in-Err.ensures.unchanged
+    refused_sound t c.self.inside c.self.invariant cpu c.args.group c.args.pages c.in-Err.over.group facts knows c.in-Err.ensures.over _ (c.make_step.ensures.notes _ _ (search rules)) _ c.in-Err.ensures.unchanged
 
 pub returns-in-Err-clause-refused : goal.returns-in-Err-clause-refused
 returns-in-Err-clause-refused g c =
@@ -50,7 +50,7 @@ returns-in-Err-clause-refused g c =
     let knows = knows_fill t m _ c.self.view_is cpu c.args.group c.args.pages c.requires.visit c.requires.charges c.requires.drained in
     let ok = c.self.invariant.consistent in
     let facts = c.prove_charges.ensures.legal in
-    refused_now t c.self.inside c.self.invariant cpu c.args.group c.args.pages c.in-Err.over.group facts knows c.in-Err.ensures.over _ c.refuse.ensures.notes _ c.in-Err.ensures.unchanged
+    refused_now t c.self.inside c.self.invariant cpu c.args.group c.args.pages c.in-Err.over.group facts knows c.in-Err.ensures.over _ (c.make_step.ensures.notes _ _ (search rules)) _ c.in-Err.ensures.unchanged
     _ c.self.view_is
 
 pub returns-in-Err-clause-visit : goal.returns-in-Err-clause-visit
@@ -61,20 +61,20 @@ returns-in-Err-clause-visit g c =
     let knows = knows_fill t m _ c.self.view_is cpu c.args.group c.args.pages c.requires.visit c.requires.charges c.requires.drained in
     let ok = c.self.invariant.consistent in
     let facts = c.prove_charges.ensures.legal in
-    refused_visits t c.self.inside c.self.invariant cpu c.args.group c.args.pages c.in-Err.over.group facts knows c.in-Err.ensures.over _ c.refuse.ensures.notes _ c.in-Err.ensures.unchanged
+    refused_visits t c.self.inside c.self.invariant cpu c.args.group c.args.pages c.in-Err.over.group facts knows c.in-Err.ensures.over _ (c.make_step.ensures.notes _ _ (search rules)) _ c.in-Err.ensures.unchanged
 
 -- ---- the pages are granted, and fill the stock
 
-pub grant-requires-clause-legal : goal.grant-requires-clause-legal
-grant-requires-clause-legal g c =
+pub make_step-requires-2-clause-legal : goal.make_step-requires-2-clause-legal
+make_step-requires-2-clause-legal g c =
     let t = g.N.BootName.frames in
     let m = machine_of c.self.inside in
     let cpu = c.args.cpu.now in
     let knows = knows_fill t m _ c.self.view_is cpu c.args.group c.args.pages c.requires.visit c.requires.charges c.requires.drained in
     let ok = c.self.invariant.consistent in
     let facts = c.prove_charges.ensures.legal in
-    subst (λ (n : ℕ). IsLocalStep (local_of t m) n 0 (Grant c.args.group c.args.pages) Granted) (sym knows.visit.who)
-    (fill_leads t m cpu ok facts knows.visit c.requires.none_fresh knows.drained c.args.group c.args.pages knows.there knows.alive (c.in_default.ensures.granted.0 refl)).0
+    legal_step _ _ _ _ (subst (λ (n : ℕ). IsLocalStep (local_of t m) n 0 (Grant c.args.group c.args.pages) Granted) (sym knows.visit.who)
+    (fill_leads t m cpu ok facts knows.visit c.requires.none_fresh knows.drained c.args.group c.args.pages knows.there knows.alive (c.in_default.ensures.granted.0 refl)).0) tt (search rules)
 
 pub fill-requires-clause-cpu : goal.fill-requires-clause-cpu
 fill-requires-clause-cpu g c =
@@ -96,9 +96,9 @@ fill-requires-clause-nothing g c =
     let knows = knows_fill t m _ c.self.view_is cpu c.args.group c.args.pages c.requires.visit c.requires.charges c.requires.drained in
     let ok = c.self.invariant.consistent in
     let facts = c.prove_charges.ensures.legal in
-    subst (λ (x : KnownTable × ℕ). ((local_by_pasts x.0 c.grant.new.past).parts x.1).book ≡ 0)
+    subst (λ (x : KnownTable × ℕ). ((local_by_pasts x.0 c.make_step-2.new.past).parts x.1).book ≡ 0)
     (λ i. (sym c.args.tables.now.frames_are i, sym c.number-cpu_number.ensures.number i))
-    (ap (λ (s : State). (s.parts cpu.number).book) c.grant.ensures.run.local_is
+    (ap (λ (s : State). (s.parts cpu.number).book) (c.make_step-2.ensures.run (Grant c.args.group c.args.pages) Granted (search rules)).local_is
     ∙ nothing_booked t m cpu ok facts knows.visit c.requires.none_fresh knows.drained)
 
 -- the fill is the second step, legal because nothing is booked for the CPU
@@ -110,10 +110,10 @@ fill-requires-clause-legal g c =
     let knows = knows_fill t m _ c.self.view_is cpu c.args.group c.args.pages c.requires.visit c.requires.charges c.requires.drained in
     let ok = c.self.invariant.consistent in
     let facts = c.prove_charges.ensures.legal in
-    subst (λ (x : KnownTable × ℕ × ℕ). MayMake x.0 c.grant.new.past 0 (Fill x.1 x.2 c.args.pages))
+    subst (λ (x : KnownTable × ℕ × ℕ). MayMake x.0 c.make_step-2.new.past 0 (Fill x.1 x.2 c.args.pages))
     (λ i. (sym c.args.tables.now.frames_are i, sym c.number-cpu_number.ensures.number i, sym c.number-owner.ensures.value i))
     ((fill_may t m cpu ok facts knows.visit c.requires.none_fresh knows.drained c.args.group c.args.pages knows.there knows.alive (c.in_default.ensures.granted.0 refl)).1
-    _ c.grant.ensures.run).0.legal
+    _ (c.make_step-2.ensures.run _ _ (search rules))).0.legal
 
 pub overflow_add-self : goal.overflow_add-self
 overflow_add-self g c =
@@ -148,7 +148,7 @@ invariant_of-self-2 g c =
     let ok = c.self.invariant.consistent in
     let facts = c.prove_charges.ensures.legal in
     let noted = fill_noted t _ c.args.tables.now.frames_are m.run cpu.number c.args.group c.args.pages _ _ c.number-cpu_number.ensures.number c.number-owner.ensures.value _
-    c.grant.ensures.notes _ _ c.fill.ensures c.filled.ensures in
+    (c.make_step-2.ensures.notes _ _ (search rules)) _ _ c.fill.ensures (c.take.ensures _ _ (search rules)) in
     filled_sound t c.self.inside c.self.invariant cpu c.args.group c.args.pages facts knows c.requires.none_fresh (c.in_default.ensures.granted.0 refl) _ noted c.requires.pages.1
     c.number-owner.result c.number-owner.ensures.value c.number-owner.ensures.below _ c.number-cpu_number.ensures.number _ c.in_default.ensures.charged _ c.set.ensures
 
@@ -161,7 +161,7 @@ returns-clause-fills g c =
     let ok = c.self.invariant.consistent in
     let facts = c.prove_charges.ensures.legal in
     let noted = fill_noted t _ c.args.tables.now.frames_are m.run cpu.number c.args.group c.args.pages _ _ c.number-cpu_number.ensures.number c.number-owner.ensures.value _
-    c.grant.ensures.notes _ _ c.fill.ensures c.filled.ensures in
+    (c.make_step-2.ensures.notes _ _ (search rules)) _ _ c.fill.ensures (c.take.ensures _ _ (search rules)) in
     (filled_now t m _ c.self.view_is cpu c.args.group c.args.pages ok facts knows c.requires.none_fresh (c.in_default.ensures.granted.0 refl) _ noted _ c.in_default.ensures.charged).fills
 
 pub returns-clause-steps : goal.returns-clause-steps
@@ -173,7 +173,7 @@ returns-clause-steps g c =
     let ok = c.self.invariant.consistent in
     let facts = c.prove_charges.ensures.legal in
     let noted = fill_noted t _ c.args.tables.now.frames_are m.run cpu.number c.args.group c.args.pages _ _ c.number-cpu_number.ensures.number c.number-owner.ensures.value _
-    c.grant.ensures.notes _ _ c.fill.ensures c.filled.ensures in
+    (c.make_step-2.ensures.notes _ _ (search rules)) _ _ c.fill.ensures (c.take.ensures _ _ (search rules)) in
     (filled_now t m _ c.self.view_is cpu c.args.group c.args.pages ok facts knows c.requires.none_fresh (c.in_default.ensures.granted.0 refl) _ noted _ c.in_default.ensures.charged).steps
 
 pub returns-clause-visit : goal.returns-clause-visit
@@ -185,5 +185,5 @@ returns-clause-visit g c =
     let ok = c.self.invariant.consistent in
     let facts = c.prove_charges.ensures.legal in
     let noted = fill_noted t _ c.args.tables.now.frames_are m.run cpu.number c.args.group c.args.pages _ _ c.number-cpu_number.ensures.number c.number-owner.ensures.value _
-    c.grant.ensures.notes _ _ c.fill.ensures c.filled.ensures in
+    (c.make_step-2.ensures.notes _ _ (search rules)) _ _ c.fill.ensures (c.take.ensures _ _ (search rules)) in
     (filled_now t m _ c.self.view_is cpu c.args.group c.args.pages ok facts knows c.requires.none_fresh (c.in_default.ensures.granted.0 refl) _ noted _ c.in_default.ensures.charged).visit

@@ -2,10 +2,11 @@ use Rattle.std.proofs.Common.{◌<◌, rules, sym, arith}
 use Rattle.mem_machine.specs.Kept.{machine_of}
 use Rattle.mem_machine.proofs.Fresh.{away_here, collect_legal, keep_all, kept_notes, may_publish, may_unfreeze, none_reported_here, sum_some, unfrozen_notes, within_here}
 use Rattle.mem_machine.proofs.Made.{visits_here}
+use Rattle.mem_machine.proofs.Noted.{legal_step}
 use Rattle.mem_machine.proofs.machine.Machine.keep_one.Goals as goal
 
-pub collect_fresh-frame-requires : goal.collect_fresh-frame-requires
-collect_fresh-frame-requires g c =
+pub collect_fresh-head-requires : goal.collect_fresh-head-requires
+collect_fresh-head-requires g c =
     let t = g.N.BootName.frames in
     let m = machine_of c.self.inside in
     let fits : c.args.group < 64 = search rules in
@@ -22,46 +23,46 @@ collect_fresh-frame-requires g c =
 
 pub unfreeze-requires-clause-legal : goal.unfreeze-requires-clause-legal
 unfreeze-requires-clause-legal g c =
-    let e = c.collect_fresh-frame.ensures in
+    let e = c.collect_fresh-head.ensures in
     may_unfreeze g.N.BootName.frames (machine_of c.self.inside) _ c.self.view_is c.args.cpu.now c.requires.visit c.self.invariant.consistent c.args.group c.requires.group
-    c.collect_fresh-frame.result _ e.cpu.front _ e.notes _ c.args.tables.now.frames_are
+    c.collect_fresh-head.result _ e.cpu.front _ e.notes _ c.args.tables.now.frames_are
 
 pub index_mut-requires : goal.index_mut-requires
 index_mut-requires g c =
     let inside = within_here g.N.BootName.frames (machine_of c.self.inside) _ c.self.view_is c.args.cpu.now c.requires.visit c.self.invariant.consistent c.args.group
-    c.requires.group c.collect_fresh-frame.result _ c.collect_fresh-frame.ensures.cpu.front _ c.number-at.ensures in
+    c.requires.group c.collect_fresh-head.result _ c.collect_fresh-head.ensures.cpu.front _ c.number-frame.ensures in
     omega (arith, inside)
 
 pub join_list-requires-clause-frame : goal.join_list-requires-clause-frame
 join_list-requires-clause-frame g c =
     let inside = within_here g.N.BootName.frames (machine_of c.self.inside) _ c.self.view_is c.args.cpu.now c.requires.visit c.self.invariant.consistent c.args.group
-    c.requires.group c.collect_fresh-frame.result _ c.collect_fresh-frame.ensures.cpu.front _ c.number-at.ensures in
+    c.requires.group c.collect_fresh-head.result _ c.collect_fresh-head.ensures.cpu.front _ c.number-frame.ensures in
     let sizes = c.self.invariant.consistent.sizes in
     omega (arith, inside, sizes.frame_states, sizes.links)
 
 pub join_list-requires-clause-away : goal.join_list-requires-clause-away
 join_list-requires-clause-away g c =
     away_here g.N.BootName.frames (machine_of c.self.inside) _ c.self.view_is c.args.cpu.now c.requires.visit c.self.invariant.consistent c.args.group c.requires.group
-    c.collect_fresh-frame.result _ c.collect_fresh-frame.ensures.cpu.front _ c.number-at.ensures
+    c.collect_fresh-head.result _ c.collect_fresh-head.ensures.cpu.front _ c.number-frame.ensures
 
-pub publish-requires-clause-legal : goal.publish-requires-clause-legal
-publish-requires-clause-legal g c =
-    let e = c.collect_fresh-frame.ensures in
-    may_publish g.N.BootName.frames (machine_of c.self.inside) _ c.self.view_is c.args.cpu.now c.requires.visit c.self.invariant.consistent c.args.group c.requires.group
-    c.collect_fresh-frame.result _ e.cpu.front _ e.notes (record { past = c.unfreeze.new.held; watch = c.unfroze.new.self })
-    (unfrozen_notes g.N.BootName.frames _ c.args.tables.now.frames_are _ _ _ _ c.number-at.ensures c.unfreeze.ensures c.unfroze.ensures) _ c.number-at.ensures
+pub make_step-requires-clause-legal : goal.make_step-requires-clause-legal
+make_step-requires-clause-legal g c =
+    let e = c.collect_fresh-head.ensures in
+    legal_step _ _ _ _ (may_publish g.N.BootName.frames (machine_of c.self.inside) _ c.self.view_is c.args.cpu.now c.requires.visit c.self.invariant.consistent c.args.group c.requires.group
+    c.collect_fresh-head.result _ e.cpu.front _ e.notes (record { past = c.unfreeze.new.held; watch = c.take.new.self })
+    (unfrozen_notes g.N.BootName.frames _ c.args.tables.now.frames_are _ _ _ _ c.number-frame.ensures c.unfreeze.ensures (c.take.ensures _ _ (search rules))) _ c.number-frame.ensures) tt (search rules)
 
 pub invariant_of-self : goal.invariant_of-self
 invariant_of-self g c =
     let t = g.N.BootName.frames in
     let fits : c.args.group < 64 = search rules in
-    let e = c.collect_fresh-frame.ensures in
+    let e = c.collect_fresh-head.ensures in
     let a = c.join_list.ensures in
     let notes = kept_notes t (machine_of c.self.inside) _ c.self.view_is c.args.cpu.now c.requires.visit c.self.invariant.consistent c.args.group c.requires.group
-    c.collect_fresh-frame.result _ e.cpu.front _ e.notes (record { past = c.unfreeze.new.held; watch = c.unfroze.new.self })
-    (unfrozen_notes t _ c.args.tables.now.frames_are _ _ _ _ c.number-at.ensures c.unfreeze.ensures c.unfroze.ensures) _ _ c.number-at.ensures c.publish.ensures.notes in
+    c.collect_fresh-head.result _ e.cpu.front _ e.notes (record { past = c.unfreeze.new.held; watch = c.take.new.self })
+    (unfrozen_notes t _ c.args.tables.now.frames_are _ _ _ _ c.number-frame.ensures c.unfreeze.ensures (c.take.ensures _ _ (search rules))) _ _ c.number-frame.ensures (c.make_step.ensures.notes _ _ (search rules)) in
     let all = keep_all t (machine_of c.self.inside) _ c.self.view_is c.args.cpu.now c.requires.visit c.self.invariant.consistent c.args.group c.requires.group
-    c.collect_fresh-frame.result _ e.cpu.front _ _ _ _ c.self.invariant.free c.self.invariant.sums c.self.invariant.owners fits _ e.cpu e.sums _ _ c.number-at.ensures
+    c.collect_fresh-head.result _ e.cpu.front _ _ _ _ c.self.invariant.free c.self.invariant.sums c.self.invariant.owners fits _ e.cpu e.sums _ _ c.number-frame.ensures
     c.single_order-order.ensures _ _ (record { joins = a.joins; stand = a.lists.stand; frames = a.frames; groups = a.lists.groups }) _ notes in
     record { consistent = all.consistent; free = all.free_is; sums = all.sums_are; owners = all.owners_are }
 
@@ -69,12 +70,12 @@ pub returns : goal.returns
 returns g c =
     let t = g.N.BootName.frames in
     let fits : c.args.group < 64 = search rules in
-    let e = c.collect_fresh-frame.ensures in
+    let e = c.collect_fresh-head.ensures in
     let a = c.join_list.ensures in
     let notes = kept_notes t (machine_of c.self.inside) _ c.self.view_is c.args.cpu.now c.requires.visit c.self.invariant.consistent c.args.group c.requires.group
-    c.collect_fresh-frame.result _ e.cpu.front _ e.notes (record { past = c.unfreeze.new.held; watch = c.unfroze.new.self })
-    (unfrozen_notes t _ c.args.tables.now.frames_are _ _ _ _ c.number-at.ensures c.unfreeze.ensures c.unfroze.ensures) _ _ c.number-at.ensures c.publish.ensures.notes in
+    c.collect_fresh-head.result _ e.cpu.front _ e.notes (record { past = c.unfreeze.new.held; watch = c.take.new.self })
+    (unfrozen_notes t _ c.args.tables.now.frames_are _ _ _ _ c.number-frame.ensures c.unfreeze.ensures (c.take.ensures _ _ (search rules))) _ _ c.number-frame.ensures (c.make_step.ensures.notes _ _ (search rules)) in
     let all = keep_all t (machine_of c.self.inside) _ c.self.view_is c.args.cpu.now c.requires.visit c.self.invariant.consistent c.args.group c.requires.group
-    c.collect_fresh-frame.result _ e.cpu.front _ _ _ _ c.self.invariant.free c.self.invariant.sums c.self.invariant.owners fits _ e.cpu e.sums _ _ c.number-at.ensures
+    c.collect_fresh-head.result _ e.cpu.front _ _ _ _ c.self.invariant.free c.self.invariant.sums c.self.invariant.owners fits _ e.cpu e.sums _ _ c.number-frame.ensures
     c.single_order-order.ensures _ _ (record { joins = a.joins; stand = a.lists.stand; frames = a.frames; groups = a.lists.groups }) _ notes in
     record { keeps = all.does; visit = all.visit; steps = all.makes }

@@ -34,8 +34,8 @@ invariant_of-self g c =
     let t = g.N.BootName.frames in
     let m = machine_of c.self.inside in
     let visit = visits_here t m _ c.self.view_is c.args.cpu.now c.requires.visit in
-    let noted = lent_notes t (machine_of c.self.inside).run c.args.cpu.now.number c.args.frame _ _ c.number-given.ensures c.number-cpu_number.ensures.number _ _ _ visit.held
-    c.borrow.ensures.run c.passed_out.ensures c.took_in.ensures in
+    let noted = lent_notes t (machine_of c.self.inside).run c.args.cpu.now.number c.args.frame _ _ c.number-given.ensures c.number-cpu_number.ensures.number _ _ visit.held
+    c.borrow.ensures.run c.watch_lent.ensures in
     let all = lent_all t (machine_of c.self.inside) _ c.self.view_is c.args.cpu.now c.requires.visit c.self.invariant.consistent c.args.frame c.requires.frame c.requires.free
     _ _ _ _ _ _ _ _ c.self.invariant.free c.self.invariant.sums c.self.invariant.owners c.take_frame.ensures.frames c.take_frame.ensures.areas c.number-given.ensures
     c.number-cpu_number.ensures.number c.borrow.ensures.cpu _ noted in
@@ -46,8 +46,8 @@ returns g c =
     let t = g.N.BootName.frames in
     let m = machine_of c.self.inside in
     let visit = visits_here t m _ c.self.view_is c.args.cpu.now c.requires.visit in
-    let noted = lent_notes t (machine_of c.self.inside).run c.args.cpu.now.number c.args.frame _ _ c.number-given.ensures c.number-cpu_number.ensures.number _ _ _ visit.held
-    c.borrow.ensures.run c.passed_out.ensures c.took_in.ensures in
+    let noted = lent_notes t (machine_of c.self.inside).run c.args.cpu.now.number c.args.frame _ _ c.number-given.ensures c.number-cpu_number.ensures.number _ _ visit.held
+    c.borrow.ensures.run c.watch_lent.ensures in
     let all = lent_all t (machine_of c.self.inside) _ c.self.view_is c.args.cpu.now c.requires.visit c.self.invariant.consistent c.args.frame c.requires.frame c.requires.free
     _ _ _ _ _ _ _ _ c.self.invariant.free c.self.invariant.sums c.self.invariant.owners c.take_frame.ensures.frames c.take_frame.ensures.areas c.number-given.ensures
     c.number-cpu_number.ensures.number c.borrow.ensures.cpu _ noted in

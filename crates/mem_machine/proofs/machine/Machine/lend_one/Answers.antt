@@ -36,8 +36,8 @@ invariant_of-self-2 g c =
     let t = g.N.BootName.frames in
     let m = machine_of c.self.inside in
     let visit = visits_here t m _ c.self.view_is c.args.cpu.now c.requires.visit in
-    let noted = lent_notes t (machine_of c.self.inside).run c.args.cpu.now.number c.in-Some-frame.frame _ _ c.number-at.ensures c.number-cpu_number.ensures.number _ _ _ visit.held
-    c.borrow.ensures.run c.passed_out.ensures c.took_in.ensures in
+    let noted = lent_notes t (machine_of c.self.inside).run c.args.cpu.now.number c.in-Some-frame.frame _ _ c.number-at.ensures c.number-cpu_number.ensures.number _ _ visit.held
+    c.borrow.ensures.run c.watch_lent.ensures in
     let all = first_lent t (machine_of c.self.inside) _ c.self.view_is c.args.cpu.now c.requires.visit c.self.invariant.consistent
     _ _ c.single_order.result c.in-Some.block c.in-Some-frame.frame c.self.invariant.free c.single_order.ensures c.in-Some.ensures.taken c.in-Some.ensures.frames c.in-Some-frame.ensures.0
     _ _ _ _ _ _ c.self.invariant.sums c.self.invariant.owners c.in-Some.ensures.areas c.number-at.ensures c.number-cpu_number.ensures.number c.borrow.ensures.cpu _ noted in
@@ -48,8 +48,8 @@ returns g c =
     let t = g.N.BootName.frames in
     let m = machine_of c.self.inside in
     let visit = visits_here t m _ c.self.view_is c.args.cpu.now c.requires.visit in
-    let noted = lent_notes t (machine_of c.self.inside).run c.args.cpu.now.number c.in-Some-frame.frame _ _ c.number-at.ensures c.number-cpu_number.ensures.number _ _ _ visit.held
-    c.borrow.ensures.run c.passed_out.ensures c.took_in.ensures in
+    let noted = lent_notes t (machine_of c.self.inside).run c.args.cpu.now.number c.in-Some-frame.frame _ _ c.number-at.ensures c.number-cpu_number.ensures.number _ _ visit.held
+    c.borrow.ensures.run c.watch_lent.ensures in
     let all = first_lent t (machine_of c.self.inside) _ c.self.view_is c.args.cpu.now c.requires.visit c.self.invariant.consistent
     _ _ c.single_order.result c.in-Some.block c.in-Some-frame.frame c.self.invariant.free c.single_order.ensures c.in-Some.ensures.taken c.in-Some.ensures.frames c.in-Some-frame.ensures.0
     _ _ _ _ _ _ c.self.invariant.sums c.self.invariant.owners c.in-Some.ensures.areas c.number-at.ensures c.number-cpu_number.ensures.number c.borrow.ensures.cpu _ noted in

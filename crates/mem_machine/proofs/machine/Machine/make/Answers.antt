@@ -9,6 +9,7 @@ use Rattle.mem_machine.specs.Noted.{MayTake, Notes}
 use Rattle.mem_machine.specs.Steps.{zone_makes}
 use Rattle.mem_machine.proofs.GroupSteps.{adds, grouped, makes_group}
 use Rattle.mem_machine.proofs.Made.{held_here}
+use Rattle.mem_machine.proofs.Noted.{legal_step}
 use Rattle.mem_machine.proofs.machine.Machine.make.Goals as goal
 
 pub make_step-requires-clause-held : goal.make_step-requires-clause-held
@@ -20,9 +21,9 @@ make_step-requires-clause-legal g c =
     let below = c.number-number.ensures.below in
     let sized = c.self.invariant.consistent.sizes.killed in
     let inside : c.in_ok-group.group < length c.self.inside.killed.items = omega (arith, value, below, sized) in
-    subst (λ (path : List ℕ). MayTake g.N.BootName.frames c.self.inside.past (zone_makes (Make path) (Number c.in_ok-group.group))) (sym c.in-Some.ensures.1)
+    legal_step _ _ _ _ (subst (λ (path : List ℕ). MayTake g.N.BootName.frames c.self.inside.past (zone_makes (Make path) (Number c.in_ok-group.group))) (sym c.in-Some.ensures.1)
     (makes_group g.N.BootName.frames (machine_of c.self.inside) _ c.self.view_is c.self.invariant.consistent c.requires.held c.in_ok-group.group c.args.path.now inside c.in_ok-group.ensures.refused
-    c.prove_charges.ensures.legal c.in_ok-group.ensures.least _ c.in_ok-group.ensures.made _ (ap (λ (n : ℕ). slice_set c.self.inside.killed.items n false) value)).step
+    c.prove_charges.ensures.legal c.in_ok-group.ensures.least _ c.in_ok-group.ensures.made _ (ap (λ (n : ℕ). slice_set c.self.inside.killed.items n false) value)).step) tt (search rules)
 
 pub invariant_of-self-2 : goal.invariant_of-self-2
 invariant_of-self-2 g c =
@@ -34,7 +35,7 @@ invariant_of-self-2 g c =
     (makes_group g.N.BootName.frames (machine_of c.self.inside) _ c.self.view_is c.self.invariant.consistent c.requires.held c.in_ok-group.group c.args.path.now inside c.in_ok-group.ensures.refused
     c.prove_charges.ensures.legal c.in_ok-group.ensures.least _ c.in_ok-group.ensures.made _ (ap (λ (n : ℕ). slice_set c.self.inside.killed.items n false) value))
     c.in_ok-group.ensures.pages (length-set c.self.inside.killed.items c.number-number.result false ∙ sized) _ (subst (λ (path : List ℕ). Notes g.N.BootName.frames (machine_of c.self.inside).run (zone_makes (Make path) (Number c.in_ok-group.group) ∷ [])
-    (record { past = c.make_step.new.past; watch = c.make_step.new.watch })) c.in-Some.ensures.1 c.make_step.ensures.notes) _ refl in
+    (record { past = c.make_step.new.past; watch = c.make_step.new.watch })) c.in-Some.ensures.1 (c.make_step.ensures.notes _ _ (search rules))) _ refl in
     record { consistent = all.consistent; free = c.self.invariant.free; sums = all.sums _ c.self.invariant.sums; owners = all.owners _ c.self.invariant.owners }
 
 pub returns-clause-steps : goal.returns-clause-steps
@@ -47,7 +48,7 @@ returns-clause-steps g c =
     (makes_group g.N.BootName.frames (machine_of c.self.inside) _ c.self.view_is c.self.invariant.consistent c.requires.held c.in_ok-group.group c.args.path.now inside c.in_ok-group.ensures.refused
     c.prove_charges.ensures.legal c.in_ok-group.ensures.least _ c.in_ok-group.ensures.made _ (ap (λ (n : ℕ). slice_set c.self.inside.killed.items n false) value))
     c.in_ok-group.ensures.pages (length-set c.self.inside.killed.items c.number-number.result false ∙ sized) _ (subst (λ (path : List ℕ). Notes g.N.BootName.frames (machine_of c.self.inside).run (zone_makes (Make path) (Number c.in_ok-group.group) ∷ [])
-    (record { past = c.make_step.new.past; watch = c.make_step.new.watch })) c.in-Some.ensures.1 c.make_step.ensures.notes) _ c.self.view_is).steps
+    (record { past = c.make_step.new.past; watch = c.make_step.new.watch })) c.in-Some.ensures.1 (c.make_step.ensures.notes _ _ (search rules))) _ c.self.view_is).steps
 
 pub returns-clause-visit : goal.returns-clause-visit
 returns-clause-visit g c =
@@ -59,7 +60,7 @@ returns-clause-visit g c =
     (makes_group g.N.BootName.frames (machine_of c.self.inside) _ c.self.view_is c.self.invariant.consistent c.requires.held c.in_ok-group.group c.args.path.now inside c.in_ok-group.ensures.refused
     c.prove_charges.ensures.legal c.in_ok-group.ensures.least _ c.in_ok-group.ensures.made _ (ap (λ (n : ℕ). slice_set c.self.inside.killed.items n false) value))
     c.in_ok-group.ensures.pages (length-set c.self.inside.killed.items c.number-number.result false ∙ sized) _ (subst (λ (path : List ℕ). Notes g.N.BootName.frames (machine_of c.self.inside).run (zone_makes (Make path) (Number c.in_ok-group.group) ∷ [])
-    (record { past = c.make_step.new.past; watch = c.make_step.new.watch })) c.in-Some.ensures.1 c.make_step.ensures.notes) _ c.self.view_is).visit
+    (record { past = c.make_step.new.past; watch = c.make_step.new.watch })) c.in-Some.ensures.1 (c.make_step.ensures.notes _ _ (search rules))) _ c.self.view_is).visit
 
 pub unreachable-requires : goal.unreachable-requires
 unreachable-requires g c = c.in_default.ensures (can_make _ _ (sym c.in_ok-group.ensures.refused)).short

@@ -1,4 +1,4 @@
-use Rattle.std.proofs.Common.{ℕ, ◌<◌, ◌∙◌, IsTrue, true, length, arith, ap, refl, sym, subst}
+use Rattle.std.proofs.Common.{ℕ, ◌<◌, ◌∙◌, IsTrue, true, length, arith, ap, refl, sym, subst, rules}
 use Rattle.std.specs.Prelude.{slice_set}
 use Rattle.std.proofs.lemmas.List.{length-set}
 use Rattle.group_tree.specs.Groups.{has_group}
@@ -7,6 +7,7 @@ use Rattle.mem_machine.specs.Kept.{machine_of}
 use Rattle.mem_machine.specs.Machines.{KnownMachine}
 use Rattle.mem_machine.proofs.GroupSteps.{grouped, kills}
 use Rattle.mem_machine.proofs.Made.{held_here}
+use Rattle.mem_machine.proofs.Noted.{legal_step}
 use Rattle.mem_machine.proofs.machine.Machine.mark_killed.Goals as goal
 
 pub make_step-requires-clause-held : goal.make_step-requires-clause-held
@@ -18,8 +19,8 @@ make_step-requires-clause-legal g c =
     let below = c.number.ensures.below in
     let sized = c.self.invariant.consistent.sizes.killed in
     let inside : c.args.group < length c.self.inside.killed.items = omega (arith, value, below, sized) in
-    (kills g.N.BootName.frames (machine_of c.self.inside) _ c.self.view_is c.self.invariant.consistent c.requires.held c.args.group c.requires.there inside c.requires.alive _
-    c.note.ensures.only.groups c.note.ensures.only.counts c.note.ensures.only.peaks _ (ap (λ (n : ℕ). slice_set c.self.inside.killed.items n true) value)).step
+    legal_step _ _ _ _ (kills g.N.BootName.frames (machine_of c.self.inside) _ c.self.view_is c.self.invariant.consistent c.requires.held c.args.group c.requires.there inside c.requires.alive _
+    c.note.ensures.only.groups c.note.ensures.only.counts c.note.ensures.only.peaks _ (ap (λ (n : ℕ). slice_set c.self.inside.killed.items n true) value)).step tt (search rules)
 
 pub invariant_of-self : goal.invariant_of-self
 invariant_of-self g c =
@@ -30,7 +31,7 @@ invariant_of-self g c =
     let all = grouped g.N.BootName.frames (machine_of c.self.inside) c.self.invariant.consistent (held_here g.N.BootName.frames (machine_of c.self.inside) _ c.self.view_is c.requires.held) _ _ _
     (kills g.N.BootName.frames (machine_of c.self.inside) _ c.self.view_is c.self.invariant.consistent c.requires.held c.args.group c.requires.there inside c.requires.alive _
     c.note.ensures.only.groups c.note.ensures.only.counts c.note.ensures.only.peaks _ (ap (λ (n : ℕ). slice_set c.self.inside.killed.items n true) value))
-    c.note.ensures.only.pages (length-set c.self.inside.killed.items c.number.result true ∙ sized) _ c.make_step.ensures.notes _ refl in
+    c.note.ensures.only.pages (length-set c.self.inside.killed.items c.number.result true ∙ sized) _ (c.make_step.ensures.notes _ _ (search rules)) _ refl in
     record { consistent = all.consistent; free = c.self.invariant.free; sums = all.sums _ c.self.invariant.sums; owners = all.owners _ c.self.invariant.owners }
 
 pub returns-clause-steps : goal.returns-clause-steps
@@ -42,7 +43,7 @@ returns-clause-steps g c =
     (grouped g.N.BootName.frames (machine_of c.self.inside) c.self.invariant.consistent (held_here g.N.BootName.frames (machine_of c.self.inside) _ c.self.view_is c.requires.held) _ _ _
     (kills g.N.BootName.frames (machine_of c.self.inside) _ c.self.view_is c.self.invariant.consistent c.requires.held c.args.group c.requires.there inside c.requires.alive _
     c.note.ensures.only.groups c.note.ensures.only.counts c.note.ensures.only.peaks _ (ap (λ (n : ℕ). slice_set c.self.inside.killed.items n true) value))
-    c.note.ensures.only.pages (length-set c.self.inside.killed.items c.number.result true ∙ sized) _ c.make_step.ensures.notes _ c.self.view_is).steps
+    c.note.ensures.only.pages (length-set c.self.inside.killed.items c.number.result true ∙ sized) _ (c.make_step.ensures.notes _ _ (search rules)) _ c.self.view_is).steps
 
 pub returns-clause-visit : goal.returns-clause-visit
 returns-clause-visit g c =
@@ -53,7 +54,7 @@ returns-clause-visit g c =
     (grouped g.N.BootName.frames (machine_of c.self.inside) c.self.invariant.consistent (held_here g.N.BootName.frames (machine_of c.self.inside) _ c.self.view_is c.requires.held) _ _ _
     (kills g.N.BootName.frames (machine_of c.self.inside) _ c.self.view_is c.self.invariant.consistent c.requires.held c.args.group c.requires.there inside c.requires.alive _
     c.note.ensures.only.groups c.note.ensures.only.counts c.note.ensures.only.peaks _ (ap (λ (n : ℕ). slice_set c.self.inside.killed.items n true) value))
-    c.note.ensures.only.pages (length-set c.self.inside.killed.items c.number.result true ∙ sized) _ c.make_step.ensures.notes _ c.self.view_is).visit
+    c.note.ensures.only.pages (length-set c.self.inside.killed.items c.number.result true ∙ sized) _ (c.make_step.ensures.notes _ _ (search rules)) _ c.self.view_is).visit
 
 pub note-requires : goal.note-requires
 note-requires g c = subst (λ (m : KnownMachine). IsTrue (has_group m.ledger.groups c.args.group)) (sym c.self.view_is) c.requires.there

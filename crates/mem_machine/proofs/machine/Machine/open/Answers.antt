@@ -1,4 +1,4 @@
-use Rattle.std.proofs.Common.{◌≡◌, ◌∙◌, ℕ, ap, eq-eqb, refl, sym, subst}
+use Rattle.std.proofs.Common.{◌∙◌, ℕ, ap, eq-eqb, refl, sym, subst, rules}
 use Rattle.frame_word.specs.Seats.{KnownTable}
 use Rattle.step_rules.specs.declared.phase.Hold.TheVariants.{Visiting}
 use Rattle.step_rules.specs.declared.step.Action.TheVariants.{OpenVisit}
@@ -38,9 +38,9 @@ pub invariant_of-self : goal.invariant_of-self
 invariant_of-self g c =
     let holds = holds_here g.N.BootName.frames (machine_of c.self.inside) _ c.self.view_is c.args.cpu.now c.requires.holds in
     let made = made_at g.N.BootName.frames _ c.args.tables.now.frames_are 0 refl c.self.inside.past (OpenVisit c.number-cpu_number.result) Done c.open_visit.new.held c.open_visit.ensures in
-    let noted = notes_one g.N.BootName.frames (machine_of c.self.inside).run (zone_makes (OpenVisit c.args.cpu.now.number) Done) (record { past = c.open_visit.new.held; watch = c.visit_opened.new.self })
+    let noted = notes_one g.N.BootName.frames (machine_of c.self.inside).run (zone_makes (OpenVisit c.args.cpu.now.number) Done) (record { past = c.open_visit.new.held; watch = c.take.new.self })
     (subst (λ (n : ℕ). MakesStep g.N.BootName.frames c.self.inside.past 0 (OpenVisit n) Done c.open_visit.new.held) c.number-cpu_number.ensures.number made)
-    (subst (λ (n : ℕ). Watches c.self.inside.watch (open_steps n) c.visit_opened.new.self) c.number-cpu_number.ensures.number c.visit_opened.ensures) in
+    (subst (λ (n : ℕ). Watches c.self.inside.watch (open_steps n) c.take.new.self) c.number-cpu_number.ensures.number (c.take.ensures _ _ (search rules))) in
     sound_held g.N.BootName.frames c.self.inside c.self.invariant c.args.cpu.now holds (zone_makes (OpenVisit c.args.cpu.now.number) Done) (Visiting c.args.cpu.now.number) refl _ noted
 
 pub returns-clause-steps : goal.returns-clause-steps
@@ -49,19 +49,19 @@ returns-clause-steps g c =
     let legal = may_open g.N.BootName.frames c.self.inside c.self.invariant c.args.cpu.now holds
     (subst (λ (k : KnownMachine). IsShut g.N.BootName.frames k c.args.cpu.now.number) (sym c.self.view_is) c.requires.shut) in
     let made = made_at g.N.BootName.frames _ c.args.tables.now.frames_are 0 refl c.self.inside.past (OpenVisit c.number-cpu_number.result) Done c.open_visit.new.held c.open_visit.ensures in
-    let noted = notes_one g.N.BootName.frames (machine_of c.self.inside).run (zone_makes (OpenVisit c.args.cpu.now.number) Done) (record { past = c.open_visit.new.held; watch = c.visit_opened.new.self })
+    let noted = notes_one g.N.BootName.frames (machine_of c.self.inside).run (zone_makes (OpenVisit c.args.cpu.now.number) Done) (record { past = c.open_visit.new.held; watch = c.take.new.self })
     (subst (λ (n : ℕ). MakesStep g.N.BootName.frames c.self.inside.past 0 (OpenVisit n) Done c.open_visit.new.held) c.number-cpu_number.ensures.number made)
-    (subst (λ (n : ℕ). Watches c.self.inside.watch (open_steps n) c.visit_opened.new.self) c.number-cpu_number.ensures.number c.visit_opened.ensures) in
+    (subst (λ (n : ℕ). Watches c.self.inside.watch (open_steps n) c.take.new.self) c.number-cpu_number.ensures.number (c.take.ensures _ _ (search rules))) in
     subst (λ (k : KnownMachine). Makes g.N.BootName.frames k (open_steps c.args.cpu.now.number)
-    (with_run (machine_of c.self.inside) (record { past = c.open_visit.new.held; watch = c.visit_opened.new.self }))) c.self.view_is (makes_then g.N.BootName.frames c.self.inside c.self.invariant c.args.cpu.now holds (zone_makes (OpenVisit c.args.cpu.now.number) Done) (Visiting c.args.cpu.now.number) refl _ noted legal refl refl)
+    (with_run (machine_of c.self.inside) (record { past = c.open_visit.new.held; watch = c.take.new.self }))) c.self.view_is (makes_then g.N.BootName.frames c.self.inside c.self.invariant c.args.cpu.now holds (zone_makes (OpenVisit c.args.cpu.now.number) Done) (Visiting c.args.cpu.now.number) refl _ noted legal refl refl)
 
 pub returns-clause-visits : goal.returns-clause-visits
 returns-clause-visits g c =
     let holds = holds_here g.N.BootName.frames (machine_of c.self.inside) _ c.self.view_is c.args.cpu.now c.requires.holds in
     let made = made_at g.N.BootName.frames _ c.args.tables.now.frames_are 0 refl c.self.inside.past (OpenVisit c.number-cpu_number.result) Done c.open_visit.new.held c.open_visit.ensures in
-    let noted = notes_one g.N.BootName.frames (machine_of c.self.inside).run (zone_makes (OpenVisit c.args.cpu.now.number) Done) (record { past = c.open_visit.new.held; watch = c.visit_opened.new.self })
+    let noted = notes_one g.N.BootName.frames (machine_of c.self.inside).run (zone_makes (OpenVisit c.args.cpu.now.number) Done) (record { past = c.open_visit.new.held; watch = c.take.new.self })
     (subst (λ (n : ℕ). MakesStep g.N.BootName.frames c.self.inside.past 0 (OpenVisit n) Done c.open_visit.new.held) c.number-cpu_number.ensures.number made)
-    (subst (λ (n : ℕ). Watches c.self.inside.watch (open_steps n) c.visit_opened.new.self) c.number-cpu_number.ensures.number c.visit_opened.ensures) in
+    (subst (λ (n : ℕ). Watches c.self.inside.watch (open_steps n) c.take.new.self) c.number-cpu_number.ensures.number (c.take.ensures _ _ (search rules))) in
     let after = holds_then g.N.BootName.frames c.self.inside c.self.invariant c.args.cpu.now holds (zone_makes (OpenVisit c.args.cpu.now.number) Done) (Visiting c.args.cpu.now.number) refl _ noted in
     record {
       held = after.held;

@@ -1,10 +1,11 @@
-use Rattle.std.proofs.Common.{refl, arith}
+use Rattle.std.proofs.Common.{refl, arith, rules}
 use Rattle.step_rules.specs.declared.step.Action.TheVariants.{Put}
 use Rattle.step_rules.specs.declared.step.Answer.TheVariants as answer
 use Rattle.mem_machine.specs.declared.releasing.Released.TheVariants.{Left, Returned}
 use Rattle.mem_machine.specs.Kept.{machine_of}
 use Rattle.mem_machine.specs.Releasing.{release_steps}
 use Rattle.mem_machine.proofs.Freeing.{unit_in_use, unit_charged}
+use Rattle.mem_machine.proofs.Noted.{legal_step}
 use Rattle.mem_machine.proofs.Releases.{left_all, left_few, notes_back, notes_of_zone, put_may, put_returns, read_head, return_may, returned_all}
 use Rattle.mem_machine.proofs.AtTable.{made_at, may_at}
 use Rattle.mem_machine.proofs.Made.{held_here}
@@ -16,8 +17,8 @@ pub put_held-requires-clause-legal : goal.put_held-requires-clause-legal
 put_held-requires-clause-legal g c = may_at _ _ c.args.tables.now.frames_are 0 refl c.self.inside.past (Put c.args.head)
     (put_may g.N.BootName.frames (machine_of c.self.inside) _ c.self.view_is c.self.invariant.consistent c.args.head c.requires.frame c.requires.kept c.requires.held)
 
-pub overflow_cast-left : goal.overflow_cast-left
-overflow_cast-left g c =
+pub overflow_cast-still : goal.overflow_cast-still
+overflow_cast-still g c =
     let few = left_few g.N.BootName.frames (machine_of c.self.inside).run.past _ c.args.head _
     (held_here g.N.BootName.frames (machine_of c.self.inside) _ c.self.view_is c.requires.held)
     (made_at _ _ c.args.tables.now.frames_are 0 refl _ _ _ _ c.in-Left.ensures) in
@@ -30,7 +31,7 @@ invariant_of-self g c =
     let m = machine_of c.self.inside in
     let held = held_here t m _ c.self.view_is c.requires.held in
     let made = made_at _ _ c.args.tables.now.frames_are 0 refl _ _ _ _ c.in-Left.ensures in
-    let noted = notes_of_zone t m.run _ c.args.head _ c.number-at.ensures (λ x. Put x) (answer.Left c.in-Left.left) made c.put_left.ensures in
+    let noted = notes_of_zone t m.run _ c.args.head _ c.number-at.ensures (λ x. Put x) (answer.Left c.in-Left.left) made (c.take.ensures _ _ (search rules)) in
     let all = left_all t m _ c.self.view_is c.self.invariant.consistent c.args.head _ c.requires.frame c.number-at.ensures c.requires.kept c.requires.held _ _
     c.leave_list.ensures.leaves c.leave_list.ensures.lists.stand c.leave_list.ensures.frames c.leave_list.ensures.lists.groups c.in-Left.left
     (left_few t m.run.past _ c.args.head _ held made).0 _ noted _ c.self.invariant.free in
@@ -47,7 +48,7 @@ returns-in-Left g c =
     let m = machine_of c.self.inside in
     let held = held_here t m _ c.self.view_is c.requires.held in
     let made = made_at _ _ c.args.tables.now.frames_are 0 refl _ _ _ _ c.in-Left.ensures in
-    let noted = notes_of_zone t m.run _ c.args.head _ c.number-at.ensures (λ x. Put x) (answer.Left c.in-Left.left) made c.put_left.ensures in
+    let noted = notes_of_zone t m.run _ c.args.head _ c.number-at.ensures (λ x. Put x) (answer.Left c.in-Left.left) made (c.take.ensures _ _ (search rules)) in
     let all = left_all t m _ c.self.view_is c.self.invariant.consistent c.args.head _ c.requires.frame c.number-at.ensures c.requires.kept c.requires.held _ _
     c.leave_list.ensures.leaves c.leave_list.ensures.lists.stand c.leave_list.ensures.frames c.leave_list.ensures.lists.groups c.in-Left.left
     (left_few t m.run.past _ c.args.head _ held made).0 _ noted _ c.self.invariant.free in
@@ -64,13 +65,13 @@ free_unit-requires g c =
       charged = unit_charged t m c.self.invariant.consistent _ c.in-Head.unit head;
     }
 
-pub return_unit-requires-clause-legal : goal.return_unit-requires-clause-legal
-return_unit-requires-clause-legal g c =
+pub make_step-requires-clause-legal : goal.make_step-requires-clause-legal
+make_step-requires-clause-legal g c =
     let t = g.N.BootName.frames in
     let m = machine_of c.self.inside in
     let head = read_head t m c.self.invariant.consistent c.args.head _ c.requires.frame c.number-at.ensures _ c.in-Head.unit c.index.ensures c.in-Head.is in
-    return_may t m.run.past _ c.args.head _ c.number-at.ensures (Put c.args.head) answer.Last (made_at _ _ c.args.tables.now.frames_are 0 refl _ _ _ _ c.in-Last.ensures)
-    (put_returns t m _ c.self.view_is c.self.invariant.consistent c.args.head _ c.requires.frame c.number-at.ensures c.requires.kept c.requires.held c.in-Head.unit head)
+    legal_step _ _ _ _ (return_may t m.run.past _ c.args.head _ c.number-at.ensures (Put c.args.head) answer.Last (made_at _ _ c.args.tables.now.frames_are 0 refl _ _ _ _ c.in-Last.ensures)
+    (put_returns t m _ c.self.view_is c.self.invariant.consistent c.args.head _ c.requires.frame c.number-at.ensures c.requires.kept c.requires.held c.in-Head.unit head)) tt (search rules)
 
 pub invariant_of-self-in-Last : goal.invariant_of-self-in-Last
 invariant_of-self-in-Last g c =
@@ -79,7 +80,7 @@ invariant_of-self-in-Last g c =
     let head = read_head t m c.self.invariant.consistent c.args.head _ c.requires.frame c.number-at.ensures _ c.in-Head.unit c.index.ensures c.in-Head.is in
     let noted = notes_back t m.run _ c.args.head _ c.number-at.ensures (λ x. Put x) answer.Last
     (notes_of_zone t m.run _ c.args.head _ c.number-at.ensures (λ x. Put x) answer.Last
-    (made_at _ _ c.args.tables.now.frames_are 0 refl _ _ _ _ c.in-Last.ensures) c.put_last.ensures) _ c.return_unit.ensures.notes in
+    (made_at _ _ c.args.tables.now.frames_are 0 refl _ _ _ _ c.in-Last.ensures) (c.take-in-Last.ensures _ _ (search rules))) _ (c.make_step.ensures.notes _ _ (search rules)) in
     let all = returned_all t m _ c.self.view_is c.self.invariant.consistent c.args.head _ c.requires.frame c.number-at.ensures c.requires.kept c.requires.held _ _
     c.leave_list.ensures.leaves c.leave_list.ensures.lists.stand c.leave_list.ensures.frames c.leave_list.ensures.lists.groups c.in-Head.unit head _ _ _ _ _ _
     c.self.invariant.free c.free_unit.ensures.frame_states c.free_unit.ensures.frames c.free_unit.ensures.areas c.free_unit.ensures.charges
@@ -99,7 +100,7 @@ returns-in-Head g c =
     let head = read_head t m c.self.invariant.consistent c.args.head _ c.requires.frame c.number-at.ensures _ c.in-Head.unit c.index.ensures c.in-Head.is in
     let noted = notes_back t m.run _ c.args.head _ c.number-at.ensures (λ x. Put x) answer.Last
     (notes_of_zone t m.run _ c.args.head _ c.number-at.ensures (λ x. Put x) answer.Last
-    (made_at _ _ c.args.tables.now.frames_are 0 refl _ _ _ _ c.in-Last.ensures) c.put_last.ensures) _ c.return_unit.ensures.notes in
+    (made_at _ _ c.args.tables.now.frames_are 0 refl _ _ _ _ c.in-Last.ensures) (c.take-in-Last.ensures _ _ (search rules))) _ (c.make_step.ensures.notes _ _ (search rules)) in
     let all = returned_all t m _ c.self.view_is c.self.invariant.consistent c.args.head _ c.requires.frame c.number-at.ensures c.requires.kept c.requires.held _ _
     c.leave_list.ensures.leaves c.leave_list.ensures.lists.stand c.leave_list.ensures.frames c.leave_list.ensures.lists.groups c.in-Head.unit head _ _ _ _ _ _
     c.self.invariant.free c.free_unit.ensures.frame_states c.free_unit.ensures.frames c.free_unit.ensures.areas c.free_unit.ensures.charges

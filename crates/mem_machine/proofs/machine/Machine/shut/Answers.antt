@@ -1,4 +1,4 @@
-use Rattle.std.proofs.Common.{◌≡◌, ◌∙◌, ℕ, ap, eq-eqb, refl, sym, subst}
+use Rattle.std.proofs.Common.{◌∙◌, ℕ, refl, sym, subst, rules}
 use Rattle.frame_word.specs.Seats.{KnownTable}
 use Rattle.step_rules.specs.declared.phase.Hold.TheVariants.{HeldBy}
 use Rattle.step_rules.specs.declared.step.Action.TheVariants.{ShutVisit}
@@ -37,9 +37,9 @@ pub invariant_of-self : goal.invariant_of-self
 invariant_of-self g c =
     let holds = holds_here g.N.BootName.frames (machine_of c.self.inside) _ c.self.view_is c.args.cpu.now (visit_holds g.N.BootName.frames _ c.args.cpu.now c.requires) in
     let made = made_at g.N.BootName.frames _ c.args.tables.now.frames_are 0 refl c.self.inside.past (ShutVisit c.number-cpu_number.result) Done c.shut_visit.new.held c.shut_visit.ensures in
-    let noted = notes_one g.N.BootName.frames (machine_of c.self.inside).run (zone_makes (ShutVisit c.args.cpu.now.number) Done) (record { past = c.shut_visit.new.held; watch = c.visit_shut.new.self })
+    let noted = notes_one g.N.BootName.frames (machine_of c.self.inside).run (zone_makes (ShutVisit c.args.cpu.now.number) Done) (record { past = c.shut_visit.new.held; watch = c.take.new.self })
     (subst (λ (n : ℕ). MakesStep g.N.BootName.frames c.self.inside.past 0 (ShutVisit n) Done c.shut_visit.new.held) c.number-cpu_number.ensures.number made)
-    (subst (λ (n : ℕ). Watches c.self.inside.watch (shut_steps n) c.visit_shut.new.self) c.number-cpu_number.ensures.number c.visit_shut.ensures) in
+    (subst (λ (n : ℕ). Watches c.self.inside.watch (shut_steps n) c.take.new.self) c.number-cpu_number.ensures.number (c.take.ensures _ _ (search rules))) in
     sound_held g.N.BootName.frames c.self.inside c.self.invariant c.args.cpu.now holds (zone_makes (ShutVisit c.args.cpu.now.number) Done) (HeldBy c.args.cpu.now.number) refl _ noted
 
 pub returns-clause-steps : goal.returns-clause-steps
@@ -48,26 +48,26 @@ returns-clause-steps g c =
     let legal = may_shut g.N.BootName.frames c.self.inside c.self.invariant c.args.cpu.now holds
     (subst (λ (k : KnownMachine). IsOpen g.N.BootName.frames k c.args.cpu.now.number) (sym c.self.view_is) c.requires.is_open) in
     let made = made_at g.N.BootName.frames _ c.args.tables.now.frames_are 0 refl c.self.inside.past (ShutVisit c.number-cpu_number.result) Done c.shut_visit.new.held c.shut_visit.ensures in
-    let noted = notes_one g.N.BootName.frames (machine_of c.self.inside).run (zone_makes (ShutVisit c.args.cpu.now.number) Done) (record { past = c.shut_visit.new.held; watch = c.visit_shut.new.self })
+    let noted = notes_one g.N.BootName.frames (machine_of c.self.inside).run (zone_makes (ShutVisit c.args.cpu.now.number) Done) (record { past = c.shut_visit.new.held; watch = c.take.new.self })
     (subst (λ (n : ℕ). MakesStep g.N.BootName.frames c.self.inside.past 0 (ShutVisit n) Done c.shut_visit.new.held) c.number-cpu_number.ensures.number made)
-    (subst (λ (n : ℕ). Watches c.self.inside.watch (shut_steps n) c.visit_shut.new.self) c.number-cpu_number.ensures.number c.visit_shut.ensures) in
+    (subst (λ (n : ℕ). Watches c.self.inside.watch (shut_steps n) c.take.new.self) c.number-cpu_number.ensures.number (c.take.ensures _ _ (search rules))) in
     subst (λ (k : KnownMachine). Makes g.N.BootName.frames k (shut_steps c.args.cpu.now.number)
-    (with_run (machine_of c.self.inside) (record { past = c.shut_visit.new.held; watch = c.visit_shut.new.self }))) c.self.view_is (makes_then g.N.BootName.frames c.self.inside c.self.invariant c.args.cpu.now holds (zone_makes (ShutVisit c.args.cpu.now.number) Done) (HeldBy c.args.cpu.now.number) refl _ noted legal refl refl)
+    (with_run (machine_of c.self.inside) (record { past = c.shut_visit.new.held; watch = c.take.new.self }))) c.self.view_is (makes_then g.N.BootName.frames c.self.inside c.self.invariant c.args.cpu.now holds (zone_makes (ShutVisit c.args.cpu.now.number) Done) (HeldBy c.args.cpu.now.number) refl _ noted legal refl refl)
 
 pub returns-clause-holds : goal.returns-clause-holds
 returns-clause-holds g c =
     let holds = holds_here g.N.BootName.frames (machine_of c.self.inside) _ c.self.view_is c.args.cpu.now (visit_holds g.N.BootName.frames _ c.args.cpu.now c.requires) in
     let made = made_at g.N.BootName.frames _ c.args.tables.now.frames_are 0 refl c.self.inside.past (ShutVisit c.number-cpu_number.result) Done c.shut_visit.new.held c.shut_visit.ensures in
-    let noted = notes_one g.N.BootName.frames (machine_of c.self.inside).run (zone_makes (ShutVisit c.args.cpu.now.number) Done) (record { past = c.shut_visit.new.held; watch = c.visit_shut.new.self })
+    let noted = notes_one g.N.BootName.frames (machine_of c.self.inside).run (zone_makes (ShutVisit c.args.cpu.now.number) Done) (record { past = c.shut_visit.new.held; watch = c.take.new.self })
     (subst (λ (n : ℕ). MakesStep g.N.BootName.frames c.self.inside.past 0 (ShutVisit n) Done c.shut_visit.new.held) c.number-cpu_number.ensures.number made)
-    (subst (λ (n : ℕ). Watches c.self.inside.watch (shut_steps n) c.visit_shut.new.self) c.number-cpu_number.ensures.number c.visit_shut.ensures) in
+    (subst (λ (n : ℕ). Watches c.self.inside.watch (shut_steps n) c.take.new.self) c.number-cpu_number.ensures.number (c.take.ensures _ _ (search rules))) in
     holds_then g.N.BootName.frames c.self.inside c.self.invariant c.args.cpu.now holds (zone_makes (ShutVisit c.args.cpu.now.number) Done) (HeldBy c.args.cpu.now.number) refl _ noted
 
 pub returns-clause-shut : goal.returns-clause-shut
 returns-clause-shut g c =
     let holds = holds_here g.N.BootName.frames (machine_of c.self.inside) _ c.self.view_is c.args.cpu.now (visit_holds g.N.BootName.frames _ c.args.cpu.now c.requires) in
     let made = made_at g.N.BootName.frames _ c.args.tables.now.frames_are 0 refl c.self.inside.past (ShutVisit c.number-cpu_number.result) Done c.shut_visit.new.held c.shut_visit.ensures in
-    let noted = notes_one g.N.BootName.frames (machine_of c.self.inside).run (zone_makes (ShutVisit c.args.cpu.now.number) Done) (record { past = c.shut_visit.new.held; watch = c.visit_shut.new.self })
+    let noted = notes_one g.N.BootName.frames (machine_of c.self.inside).run (zone_makes (ShutVisit c.args.cpu.now.number) Done) (record { past = c.shut_visit.new.held; watch = c.take.new.self })
     (subst (λ (n : ℕ). MakesStep g.N.BootName.frames c.self.inside.past 0 (ShutVisit n) Done c.shut_visit.new.held) c.number-cpu_number.ensures.number made)
-    (subst (λ (n : ℕ). Watches c.self.inside.watch (shut_steps n) c.visit_shut.new.self) c.number-cpu_number.ensures.number c.visit_shut.ensures) in
+    (subst (λ (n : ℕ). Watches c.self.inside.watch (shut_steps n) c.take.new.self) c.number-cpu_number.ensures.number (c.take.ensures _ _ (search rules))) in
     hold_then g.N.BootName.frames c.self.inside c.self.invariant c.args.cpu.now holds (zone_makes (ShutVisit c.args.cpu.now.number) Done) (HeldBy c.args.cpu.now.number) refl _ noted

@@ -14,6 +14,7 @@ use Rattle.mem_machine.specs.Blocks.{taken_steps, unplaced_steps}
 use Rattle.mem_machine.proofs.AtTable.{made_at, may_at}
 use Rattle.mem_machine.proofs.GroupSteps.{may_group}
 use Rattle.mem_machine.proofs.Made.{held_here}
+use Rattle.mem_machine.proofs.Noted.{legal_step}
 use Rattle.mem_machine.proofs.Staying.{owners_stay, sums_stay}
 use Rattle.mem_machine.proofs.TakesBlocks.{granted_may, head_inside, none_all, refused_all, refused_step, taken_all, taken_inside, taken_may, taken_notes, unplaced_may, unplaced_notes, was_away}
 use Rattle.mem_machine.proofs.ZoneSteps.{same_books}
@@ -21,20 +22,20 @@ use Rattle.mem_machine.proofs.machine.Machine.take_block.Goals as goal
 
 -- ---- a limit has no room
 
-pub refuse-requires-clause-legal : goal.refuse-requires-clause-legal
-refuse-requires-clause-legal g c =
+pub make_step-requires-clause-legal : goal.make_step-requires-clause-legal
+make_step-requires-clause-legal g c =
     let t = g.N.BootName.frames in
     let m = machine_of c.self.inside in
-    may_group t m (zone_makes (Grant c.args.group c.frames-pages.result) (Over c.in-Err.over.group)) c.self.inside.charges c.self.inside.killed.items
+    legal_step _ _ _ _ (may_group t m (zone_makes (Grant c.args.group c.frames-pages.result) (Over c.in-Err.over.group)) c.self.inside.charges c.self.inside.killed.items
     (refused_step t m _ c.self.view_is c.self.invariant.consistent c.prove_charges.ensures.legal c.requires.visit.held c.args.group _ c.frames-pages.result
-    c.in-Err.over.group c.requires.charges c.in-Err.ensures.over c.self.inside.charges refl)
+    c.in-Err.over.group c.requires.charges c.in-Err.ensures.over c.self.inside.charges refl)) tt (search rules)
 
 pub invariant_of-self : goal.invariant_of-self
 invariant_of-self g c =
     let t = g.N.BootName.frames in
     let m = machine_of c.self.inside in
     let all = refused_all t m _ c.self.view_is c.self.invariant.consistent c.prove_charges.ensures.legal c.requires.visit.held c.args.group _ c.frames-pages.result
-    c.in-Err.over.group c.requires.charges c.in-Err.ensures.over _ c.in-Err.ensures.unchanged _ c.refuse.ensures.notes in
+    c.in-Err.over.group c.requires.charges c.in-Err.ensures.over _ c.in-Err.ensures.unchanged _ (c.make_step.ensures.notes _ _ (search rules)) in
     record { consistent = all.consistent; free = c.self.invariant.free; sums = all.sums _ c.self.invariant.sums; owners = all.owners _ c.self.invariant.owners }
 
 pub returns-in-Err-clause-steps : goal.returns-in-Err-clause-steps
@@ -45,40 +46,40 @@ returns-in-Err-clause-steps g c =
     c.in-Err.over.group c.requires.charges
     (subst (λ (n : ℕ). IsLowestOver m.ledger.groups (current_of m.ledger) c.args.group n c.in-Err.over.group) c.frames-pages.ensures.frames c.in-Err.ensures.over) _
     c.in-Err.ensures.unchanged _
-    (subst (λ (n : ℕ). Notes t m.run (over_steps c.args.group n c.in-Err.over.group) (record { past = c.refuse.new.past; watch = c.refuse.new.watch }))
-    c.frames-pages.ensures.frames c.refuse.ensures.notes)).steps
+    (subst (λ (n : ℕ). Notes t m.run (over_steps c.args.group n c.in-Err.over.group) (record { past = c.make_step.new.past; watch = c.make_step.new.watch }))
+    c.frames-pages.ensures.frames (c.make_step.ensures.notes _ _ (search rules)))).steps
 
 pub returns-in-Err-clause-visit : goal.returns-in-Err-clause-visit
 returns-in-Err-clause-visit g c =
     let t = g.N.BootName.frames in
     let m = machine_of c.self.inside in
     (refused_all t m _ c.self.view_is c.self.invariant.consistent c.prove_charges.ensures.legal c.requires.visit.held c.args.group _ c.frames-pages.result
-    c.in-Err.over.group c.requires.charges c.in-Err.ensures.over _ c.in-Err.ensures.unchanged _ c.refuse.ensures.notes).visit _ c.requires.visit
+    c.in-Err.over.group c.requires.charges c.in-Err.ensures.over _ c.in-Err.ensures.unchanged _ (c.make_step.ensures.notes _ _ (search rules))).visit _ c.requires.visit
 
 -- ---- no block
 
-pub grant-requires-clause-legal : goal.grant-requires-clause-legal
-grant-requires-clause-legal g c =
-    (granted_may g.N.BootName.frames (machine_of c.self.inside) _ c.self.view_is c.self.invariant.consistent c.prove_charges.ensures.legal c.requires.visit.held c.args.group
-    c.args.order c.frames-pages.result c.requires.charges (c.in_default.ensures.granted.0 refl)).0
+pub make_step-requires-2-clause-legal : goal.make_step-requires-2-clause-legal
+make_step-requires-2-clause-legal g c =
+    legal_step _ _ _ _ (granted_may g.N.BootName.frames (machine_of c.self.inside) _ c.self.view_is c.self.invariant.consistent c.prove_charges.ensures.legal c.requires.visit.held c.args.group
+    c.args.order c.frames-pages.result c.requires.charges (c.in_default.ensures.granted.0 refl)).0 tt (search rules)
 
-pub find_no_block-requires-clause-legal : goal.find_no_block-requires-clause-legal
-find_no_block-requires-clause-legal g c =
+pub make_step-requires-in_default-take-clause-legal : goal.make_step-requires-in_default-take-clause-legal
+make_step-requires-in_default-take-clause-legal g c =
     let may = unplaced_may g.N.BootName.frames (machine_of c.self.inside) _ c.self.view_is c.self.invariant.consistent c.prove_charges.ensures.legal c.requires.visit.held c.args.group
     c.args.order _ c.frames-pages.ensures.frames c.requires.charges (c.in_default.ensures.granted.0 refl) c.in_default-take.ensures.taken in
-    (may.1 _ c.grant.ensures.run).0
+    legal_step _ _ _ _ (may.1 _ (c.make_step-2.ensures.run _ _ (search rules))).0 tt (search rules)
 
-pub ungrant-requires-clause-legal : goal.ungrant-requires-clause-legal
-ungrant-requires-clause-legal g c =
+pub make_step-requires-in_default-take-2-clause-legal : goal.make_step-requires-in_default-take-2-clause-legal
+make_step-requires-in_default-take-2-clause-legal g c =
     let may = unplaced_may g.N.BootName.frames (machine_of c.self.inside) _ c.self.view_is c.self.invariant.consistent c.prove_charges.ensures.legal c.requires.visit.held c.args.group
     c.args.order _ c.frames-pages.ensures.frames c.requires.charges (c.in_default.ensures.granted.0 refl) c.in_default-take.ensures.taken in
-    ((may.1 _ c.grant.ensures.run).1 _ c.find_no_block.ensures.run).0
+    legal_step _ _ _ _ ((may.1 _ (c.make_step-2.ensures.run _ _ (search rules))).1 _ (c.make_step-in_default-take.ensures.run _ _ (search rules))).0 tt (search rules)
 
 pub invariant_of-self-in_default-take : goal.invariant_of-self-in_default-take
 invariant_of-self-in_default-take g c =
     let t = g.N.BootName.frames in
     let m = machine_of c.self.inside in
-    let noted = unplaced_notes t _ _ _ _ c.args.group c.args.order _ c.frames-pages.ensures.frames c.grant.ensures.notes c.find_no_block.ensures.notes c.ungrant.ensures.notes in
+    let noted = unplaced_notes t _ _ _ _ c.args.group c.args.order _ c.frames-pages.ensures.frames (c.make_step-2.ensures.notes _ _ (search rules)) (c.make_step-in_default-take.ensures.notes _ _ (search rules)) (c.make_step-in_default-take-2.ensures.notes _ _ (search rules)) in
     let held = held_here t m _ c.self.view_is c.requires.visit.held in
     record {
       consistent = (none_all t m _ c.self.view_is c.self.invariant.consistent c.prove_charges.ensures.legal c.requires.visit.held c.args.group c.args.order _
@@ -96,7 +97,7 @@ returns-in_default-take g c =
     let all = none_all t m _ c.self.view_is c.self.invariant.consistent c.prove_charges.ensures.legal c.requires.visit.held c.args.group c.args.order _
     c.frames-pages.ensures.frames c.requires.charges (c.in_default.ensures.granted.0 refl) _ _ c.in_default.ensures.charged c.in_default.ensures.pages
     c.uncharge.ensures.uncharged _ (ap (λ (z : BuddyZone). z.blocks) c.in_default-take.ensures.none) c.in_default-take.ensures.taken _
-    (unplaced_notes t _ _ _ _ c.args.group c.args.order _ c.frames-pages.ensures.frames c.grant.ensures.notes c.find_no_block.ensures.notes c.ungrant.ensures.notes) in
+    (unplaced_notes t _ _ _ _ c.args.group c.args.order _ c.frames-pages.ensures.frames (c.make_step-2.ensures.notes _ _ (search rules)) (c.make_step-in_default-take.ensures.notes _ _ (search rules)) (c.make_step-in_default-take-2.ensures.notes _ _ (search rules))) in
     record { takes = search rules; refuses = all.none; cpu = search rules; visit = all.visit _ c.requires.visit; steps = all.steps }
 
 -- ---- a block
@@ -115,32 +116,32 @@ place_unit-requires g c =
 pub join_list-requires-clause-away : goal.join_list-requires-clause-away
 join_list-requires-clause-away g c =
     was_away g.N.BootName.frames (machine_of c.self.inside) c.self.invariant.consistent _ _ c.in-Some.block c.self.invariant.free _ c.in-Some.ensures.taken
-    c.in-Some.ensures.frames c.in-Some-frame.head _ c.in-Some-frame.ensures.0 c.number-at.ensures
+    c.in-Some.ensures.frames c.in-Some-frame.head _ c.in-Some-frame.ensures.0 c.number-frame.ensures
 
-pub place-requires-clause-legal : goal.place-requires-clause-legal
-place-requires-clause-legal g c =
+pub make_step-requires-3-clause-legal : goal.make_step-requires-3-clause-legal
+make_step-requires-3-clause-legal g c =
     let may = taken_may g.N.BootName.frames (machine_of c.self.inside) _ c.self.view_is c.self.invariant.consistent c.prove_charges.ensures.legal c.requires.visit.held c.args.group
     c.args.order _ c.frames-pages.ensures.frames c.requires.charges (c.in_default.ensures.granted.0 refl) _ _ c.in-Some.block c.self.invariant.free
-    c.in-Some.ensures.taken c.in-Some.ensures.frames c.in-Some-frame.head _ c.in-Some-frame.ensures.0 c.number-at.ensures in
-    (may.1 _ c.grant.ensures.run).0
+    c.in-Some.ensures.taken c.in-Some.ensures.frames c.in-Some-frame.head _ c.in-Some-frame.ensures.0 c.number-frame.ensures in
+    legal_step _ _ _ _ (may.1 _ (c.make_step-2.ensures.run _ _ (search rules))).0 tt (search rules)
 
 pub unfreeze-requires-clause-legal : goal.unfreeze-requires-clause-legal
 unfreeze-requires-clause-legal g c =
     let may = taken_may g.N.BootName.frames (machine_of c.self.inside) _ c.self.view_is c.self.invariant.consistent c.prove_charges.ensures.legal c.requires.visit.held c.args.group
     c.args.order _ c.frames-pages.ensures.frames c.requires.charges (c.in_default.ensures.granted.0 refl) _ _ c.in-Some.block c.self.invariant.free
-    c.in-Some.ensures.taken c.in-Some.ensures.frames c.in-Some-frame.head _ c.in-Some-frame.ensures.0 c.number-at.ensures in
-    may_at _ _ c.args.tables.now.frames_are 0 refl c.place.new.past (Unfreeze c.in-Some-frame.head 1)
-    (subst (λ (x : ℕ). MayTake g.N.BootName.frames c.place.new.past (zone_makes (Unfreeze x 1) Done)) c.number-at.ensures
-    ((may.1 _ c.grant.ensures.run).1 _ c.place.ensures.run).0).legal
+    c.in-Some.ensures.taken c.in-Some.ensures.frames c.in-Some-frame.head _ c.in-Some-frame.ensures.0 c.number-frame.ensures in
+    may_at _ _ c.args.tables.now.frames_are 0 refl c.make_step-3.new.past (Unfreeze c.in-Some-frame.head 1)
+    (subst (λ (x : ℕ). MayTake g.N.BootName.frames c.make_step-3.new.past (zone_makes (Unfreeze x 1) Done)) c.number-frame.ensures
+    ((may.1 _ (c.make_step-2.ensures.run _ _ (search rules))).1 _ (c.make_step-3.ensures.run _ _ (search rules))).0).legal
 
-pub publish-requires-clause-legal : goal.publish-requires-clause-legal
-publish-requires-clause-legal g c =
+pub make_step-requires-4-clause-legal : goal.make_step-requires-4-clause-legal
+make_step-requires-4-clause-legal g c =
     let may = taken_may g.N.BootName.frames (machine_of c.self.inside) _ c.self.view_is c.self.invariant.consistent c.prove_charges.ensures.legal c.requires.visit.held c.args.group
     c.args.order _ c.frames-pages.ensures.frames c.requires.charges (c.in_default.ensures.granted.0 refl) _ _ c.in-Some.block c.self.invariant.free
-    c.in-Some.ensures.taken c.in-Some.ensures.frames c.in-Some-frame.head _ c.in-Some-frame.ensures.0 c.number-at.ensures in
-    (((may.1 _ c.grant.ensures.run).1 _ c.place.ensures.run).1 _
-    (subst (λ (x : ℕ). MakesStep g.N.BootName.frames c.place.new.past 0 (Unfreeze x 1) Done c.unfreeze.new.held) (sym c.number-at.ensures)
-    (made_at _ _ c.args.tables.now.frames_are 0 refl _ _ _ _ c.unfreeze.ensures))).0
+    c.in-Some.ensures.taken c.in-Some.ensures.frames c.in-Some-frame.head _ c.in-Some-frame.ensures.0 c.number-frame.ensures in
+    legal_step _ _ _ _ (((may.1 _ (c.make_step-2.ensures.run _ _ (search rules))).1 _ (c.make_step-3.ensures.run _ _ (search rules))).1 _
+    (subst (λ (x : ℕ). MakesStep g.N.BootName.frames c.make_step-3.new.past 0 (Unfreeze x 1) Done c.unfreeze.new.held) (sym c.number-frame.ensures)
+    (made_at _ _ c.args.tables.now.frames_are 0 refl _ _ _ _ c.unfreeze.ensures))).0 tt (search rules)
 
 pub invariant_of-self-2 : goal.invariant_of-self-2
 invariant_of-self-2 g c =
@@ -148,12 +149,12 @@ invariant_of-self-2 g c =
     let m = machine_of c.self.inside in
     let fits : c.args.group < 64 = search rules in
     let j = c.join_list.ensures in
-    let noted = taken_notes t _ _ _ _ _ c.args.group c.args.order _ c.in-Some-frame.head _ c.frames-pages.ensures.frames c.number-at.ensures
-    c.grant.ensures.notes c.place.ensures.notes (made_at _ _ c.args.tables.now.frames_are 0 refl _ _ _ _ c.unfreeze.ensures) c.unfroze.ensures c.publish.ensures.notes in
+    let noted = taken_notes t _ _ _ _ _ c.args.group c.args.order _ c.in-Some-frame.head _ c.frames-pages.ensures.frames c.number-frame.ensures
+    (c.make_step-2.ensures.notes _ _ (search rules)) (c.make_step-3.ensures.notes _ _ (search rules)) (made_at _ _ c.args.tables.now.frames_are 0 refl _ _ _ _ c.unfreeze.ensures) (c.take-2.ensures _ _ (search rules)) (c.make_step-4.ensures.notes _ _ (search rules)) in
     let all = taken_all t m _ c.self.view_is c.self.invariant.consistent c.prove_charges.ensures.legal c.requires.visit.held c.args.group fits c.args.order _
     c.frames-pages.ensures.frames c.requires.charges (c.in_default.ensures.granted.0 refl) _ c.in_default.ensures.charged c.in_default.ensures.pages _ _ c.in-Some.block _
     c.self.invariant.free c.in-Some.ensures.taken c.in-Some.ensures.frames c.in-Some.ensures.areas _ c.place_unit.ensures c.in-Some-frame.head _ c.in-Some-frame.ensures.0
-    c.number-at.ensures _ _ (record { joins = j.joins; stand = j.lists.stand; frames = j.frames; groups = j.lists.groups }) _ noted in
+    c.number-frame.ensures _ _ (record { joins = j.joins; stand = j.lists.stand; frames = j.frames; groups = j.lists.groups }) _ noted in
     let held = held_here t m _ c.self.view_is c.requires.visit.held in
     record {
       consistent = all.consistent;
@@ -171,9 +172,9 @@ returns g c =
     let all = taken_all t m _ c.self.view_is c.self.invariant.consistent c.prove_charges.ensures.legal c.requires.visit.held c.args.group fits c.args.order _
     c.frames-pages.ensures.frames c.requires.charges (c.in_default.ensures.granted.0 refl) _ c.in_default.ensures.charged c.in_default.ensures.pages _ _ c.in-Some.block _
     c.self.invariant.free c.in-Some.ensures.taken c.in-Some.ensures.frames c.in-Some.ensures.areas _ c.place_unit.ensures c.in-Some-frame.head _ c.in-Some-frame.ensures.0
-    c.number-at.ensures _ _ (record { joins = j.joins; stand = j.lists.stand; frames = j.frames; groups = j.lists.groups }) _
-    (taken_notes t _ _ _ _ _ c.args.group c.args.order _ c.in-Some-frame.head _ c.frames-pages.ensures.frames c.number-at.ensures
-    c.grant.ensures.notes c.place.ensures.notes (made_at _ _ c.args.tables.now.frames_are 0 refl _ _ _ _ c.unfreeze.ensures) c.unfroze.ensures c.publish.ensures.notes) in
+    c.number-frame.ensures _ _ (record { joins = j.joins; stand = j.lists.stand; frames = j.frames; groups = j.lists.groups }) _
+    (taken_notes t _ _ _ _ _ c.args.group c.args.order _ c.in-Some-frame.head _ c.frames-pages.ensures.frames c.number-frame.ensures
+    (c.make_step-2.ensures.notes _ _ (search rules)) (c.make_step-3.ensures.notes _ _ (search rules)) (made_at _ _ c.args.tables.now.frames_are 0 refl _ _ _ _ c.unfreeze.ensures) (c.take-2.ensures _ _ (search rules)) (c.make_step-4.ensures.notes _ _ (search rules))) in
     record { takes = all.takes; refuses = search rules; cpu = search rules; visit = all.visit _ c.requires.visit; steps = all.steps }
 
 -- ---- what the calls ask for

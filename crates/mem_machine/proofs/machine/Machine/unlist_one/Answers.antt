@@ -40,7 +40,7 @@ invariant_of-self-2 g c =
     let t = g.N.BootName.frames in
     let made = made_at g.N.BootName.frames _ c.args.tables.now.frames_are 0 refl _ (Collect c.in-Some.frame c.number-cpu_number.result) Done _ c.collect.ensures in
     let noted = taken_notes t (machine_of c.self.inside) _ c.self.view_is c.args.cpu.now c.requires c.self.invariant.consistent c.in-Some.frame _ c.number-cpu_number.result _ c.number-at.ensures c.number-cpu_number.ensures.number
-    c.number-cpu_number.ensures.number _ _ _ _ c.in-Some.ensures.run made c.passed_back.ensures c.collected.ensures in
+    c.number-cpu_number.ensures.number _ _ _ _ c.in-Some.ensures.run made (c.take.ensures _ _ (search rules)) (c.take-2.ensures _ _ (search rules)) in
     let all = unlisted_all t (machine_of c.self.inside) _ c.self.view_is c.args.cpu.now c.requires c.self.invariant.consistent c.in-Some.frame _ c.in-Some.ensures.answer _ _ c.single_order.result _ _ _ _ c.self.invariant.free
     c.self.invariant.sums c.self.invariant.owners c.single_order.ensures c.give.ensures.frames c.give.ensures.areas c.number-at.ensures _ noted in
     record { consistent = all.consistent; free = all.free_is; sums = all.sums_are; owners = all.owners_are }
@@ -50,7 +50,7 @@ returns g c =
     let t = g.N.BootName.frames in
     let made = made_at g.N.BootName.frames _ c.args.tables.now.frames_are 0 refl _ (Collect c.in-Some.frame c.number-cpu_number.result) Done _ c.collect.ensures in
     let noted = taken_notes t (machine_of c.self.inside) _ c.self.view_is c.args.cpu.now c.requires c.self.invariant.consistent c.in-Some.frame _ c.number-cpu_number.result _ c.number-at.ensures c.number-cpu_number.ensures.number
-    c.number-cpu_number.ensures.number _ _ _ _ c.in-Some.ensures.run made c.passed_back.ensures c.collected.ensures in
+    c.number-cpu_number.ensures.number _ _ _ _ c.in-Some.ensures.run made (c.take.ensures _ _ (search rules)) (c.take-2.ensures _ _ (search rules)) in
     let all = unlisted_all t (machine_of c.self.inside) _ c.self.view_is c.args.cpu.now c.requires c.self.invariant.consistent c.in-Some.frame _ c.in-Some.ensures.answer _ _ c.single_order.result _ _ _ _ c.self.invariant.free
     c.self.invariant.sums c.self.invariant.owners c.single_order.ensures c.give.ensures.frames c.give.ensures.areas c.number-at.ensures _ noted in
     record { takes = record { frame = c.in-Some.frame; takes = all.does; steps = all.makes }; visit = all.visit }

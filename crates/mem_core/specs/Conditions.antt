@@ -11,20 +11,20 @@ use Rattle.step_rules.specs.declared.step.Action.{Action}
 use Rattle.step_rules.specs.declared.step.Action.TheVariants.{Lock, Unlock, OpenVisit, ShutVisit, Get, Put, Freeze}
 use Rattle.step_rules.specs.declared.step.Action.TheVariants.{Unfreeze, PassOut, TakeIn, PassBack, Collect, Consume}
 use Rattle.step_rules.specs.declared.step.Action.TheVariants.{Credit, Report, Absorb, Fill, DrainStock, Grant, Ungrant}
-use Rattle.step_rules.specs.declared.step.Action.TheVariants.{PlaceBlock, Publish, Return, NoteMax, NoteOom}
+use Rattle.step_rules.specs.declared.step.Action.TheVariants.{PlaceBlock, Publish, Return, Note}
 use Rattle.step_rules.specs.declared.step.Action.TheVariants.{NoteGroupKill, SetMax, SetFlag, Make, Remove, Kill}
-use Rattle.log_check.specs.declared.reason.Quantity.{Quantity}
-use Rattle.log_check.specs.declared.reason.Quantity.TheVariants.{Own, References, Pins, Listed, Fresh, Unreported, Reported}
-use Rattle.log_check.specs.declared.reason.Quantity.TheVariants.{InStock, Pending, Usage}
-use Rattle.log_check.specs.declared.conditions.PlaceTest.{PlaceTest}
-use Rattle.log_check.specs.declared.conditions.PlaceTest.TheVariants.{Free, OutTo, Passable, BackFrom, FreshAt, InHand}
-use Rattle.log_check.specs.declared.conditions.PlaceTest.TheVariants.{Head, Returnable}
-use Rattle.log_check.specs.declared.conditions.Condition.{Condition}
-use Rattle.log_check.specs.declared.conditions.Condition.TheVariants.{Cpu, ZoneSeat, AnySeat, Locked, Unlocked, HeldBy}
-use Rattle.log_check.specs.declared.conditions.Condition.TheVariants.{Visited, Frame, Group, NonePending, NonePassing}
-use Rattle.log_check.specs.declared.conditions.Condition.TheVariants.{NonePassingAt, AtLeast, Below, IsZero, OneUp}
-use Rattle.log_check.specs.declared.conditions.Condition.TheVariants.{UpTo255, InPlace, TakesFill, NotKilled, NotRoot}
-use Rattle.log_check.specs.declared.conditions.Condition.TheVariants.{NoChild, Makeable}
+use Rattle.mem_core.specs.declared.quantity.Quantity.{Quantity}
+use Rattle.mem_core.specs.declared.quantity.Quantity.TheVariants.{Own, References, Pins, Listed, Fresh, Unreported, Reported}
+use Rattle.mem_core.specs.declared.quantity.Quantity.TheVariants.{InStock, Pending, Usage}
+use Rattle.mem_core.specs.declared.conditions.PlaceTest.{PlaceTest}
+use Rattle.mem_core.specs.declared.conditions.PlaceTest.TheVariants.{Free, OutTo, Passable, BackFrom, FreshAt, InHand}
+use Rattle.mem_core.specs.declared.conditions.PlaceTest.TheVariants.{Head, Returnable}
+use Rattle.mem_core.specs.declared.conditions.Condition.{Condition}
+use Rattle.mem_core.specs.declared.conditions.Condition.TheVariants.{Cpu, ZoneSeat, AnySeat, Locked, Unlocked, HeldBy}
+use Rattle.mem_core.specs.declared.conditions.Condition.TheVariants.{Visited, Frame, Group, NonePending, NonePassing}
+use Rattle.mem_core.specs.declared.conditions.Condition.TheVariants.{NonePassingAt, AtLeast, Below, IsZero, OneUp}
+use Rattle.mem_core.specs.declared.conditions.Condition.TheVariants.{UpTo255, InPlace, TakesFill, NotKilled, NotRoot}
+use Rattle.mem_core.specs.declared.conditions.Condition.TheVariants.{NoChild, Makeable}
 
 -- the number in a state
 abbrev pub quantity_in : State → Quantity → ℕ
@@ -76,44 +76,43 @@ is_met s (NotRoot g) = not (g == 0)
 is_met s (NoChild g) = not (has_child s.groups g)
 is_met s (Makeable path) = is_none (make_fault s.groups path)
 
--- the conditions that a step by seat 0 has to meet: these come first
-abbrev pub by_zone : ℕ → List Condition → List Condition
-by_zone seat conditions = ZoneSeat seat ∷ Locked ∷ conditions
+-- the conditions of a step by seat 0, after the two that each such step has
+abbrev pub zone_conditions : Action → List Condition
+zone_conditions (OpenVisit cpu) = HeldBy cpu ∷ []
+zone_conditions (ShutVisit cpu) = Visited cpu ∷ NonePassingAt cpu ∷ IsZero (Unreported cpu) ∷ IsZero (Reported cpu) ∷ []
+zone_conditions (Freeze f n) = Frame f ∷ OneUp n ∷ AtLeast (Own 0 f) n ∷ []
+zone_conditions (Unfreeze f n) = Frame f ∷ InPlace f InHand ∷ OneUp n ∷ UpTo255 n ∷ []
+zone_conditions (PassOut f cpu) = Frame f ∷ Visited cpu ∷ InPlace f Free ∷ []
+zone_conditions (Collect f cpu) = Frame f ∷ Cpu cpu ∷ InPlace f (BackFrom cpu) ∷ []
+zone_conditions (Absorb cpu) = Visited cpu ∷ []
+zone_conditions (Fill cpu g n) = Visited cpu ∷ Group g ∷ TakesFill cpu g ∷ AtLeast (Pending g) n ∷ []
+zone_conditions (DrainStock cpu) = Cpu cpu ∷ []
+zone_conditions (Grant g n) = Group g ∷ NotKilled g ∷ []
+zone_conditions (Ungrant g n) = Group g ∷ AtLeast (Pending g) n ∷ []
+zone_conditions (PlaceBlock g k) = Group g ∷ AtLeast (Pending g) (2 ^ k) ∷ []
+zone_conditions (Publish f) = Frame f ∷ InPlace f Head ∷ AtLeast (Own 0 f) 1 ∷ []
+zone_conditions (Return f) = Frame f ∷ InPlace f Returnable ∷ []
+zone_conditions (Note key g) = Group g ∷ []
+zone_conditions (NoteGroupKill g) = Group g ∷ NotRoot g ∷ []
+zone_conditions (SetMax g limit) = Group g ∷ NotRoot g ∷ []
+zone_conditions (SetFlag g flag) = Group g ∷ NotRoot g ∷ []
+zone_conditions (Make path) = Makeable path ∷ []
+zone_conditions (Remove g) = Group g ∷ NotRoot g ∷ NoChild g ∷ IsZero (Usage g) ∷ []
+zone_conditions (Kill g) = Group g ∷ NotKilled g ∷ []
+zone_conditions action = []
 
 -- the conditions of a step, in the order in which a check looks at them
 abbrev pub conditions_of : ℕ → Action → List Condition
 conditions_of seat Lock = Cpu seat ∷ Unlocked ∷ []
 conditions_of seat Unlock = Cpu seat ∷ HeldBy seat ∷ NonePending ∷ NonePassing ∷ []
-conditions_of seat (OpenVisit cpu) = by_zone seat (HeldBy cpu ∷ [])
-conditions_of seat (ShutVisit cpu) =
-    by_zone seat (Visited cpu ∷ NonePassingAt cpu ∷ IsZero (Unreported cpu) ∷ IsZero (Reported cpu) ∷ [])
 conditions_of seat (Get f) = Cpu seat ∷ Frame f ∷ Below (Pins seat) 256 ∷ []
 conditions_of seat (Put f) = AnySeat seat ∷ Frame f ∷ AtLeast (Own seat f) 1 ∷ []
-conditions_of seat (Freeze f n) = by_zone seat (Frame f ∷ OneUp n ∷ AtLeast (Own 0 f) n ∷ [])
-conditions_of seat (Unfreeze f n) = by_zone seat (Frame f ∷ InPlace f InHand ∷ OneUp n ∷ UpTo255 n ∷ [])
-conditions_of seat (PassOut f cpu) = by_zone seat (Frame f ∷ Visited cpu ∷ InPlace f Free ∷ [])
 conditions_of seat (TakeIn f) = Cpu seat ∷ Frame f ∷ InPlace f (OutTo seat) ∷ []
 conditions_of seat (PassBack f) = Cpu seat ∷ Frame f ∷ Visited seat ∷ InPlace f (Passable seat) ∷ []
-conditions_of seat (Collect f cpu) = by_zone seat (Frame f ∷ Cpu cpu ∷ InPlace f (BackFrom cpu) ∷ [])
 conditions_of seat (Consume g) = Cpu seat ∷ AtLeast (Listed seat) 1 ∷ Below (Fresh seat) 32 ∷ []
 conditions_of seat (Credit f) = Cpu seat ∷ Frame f ∷ InPlace f (FreshAt seat) ∷ []
 conditions_of seat (Report n) = Cpu seat ∷ Visited seat ∷ AtLeast (Unreported seat) n ∷ []
-conditions_of seat (Absorb cpu) = by_zone seat (Visited cpu ∷ [])
-conditions_of seat (Fill cpu g n) = by_zone seat (Visited cpu ∷ Group g ∷ TakesFill cpu g ∷ AtLeast (Pending g) n ∷ [])
-conditions_of seat (DrainStock cpu) = by_zone seat (Cpu cpu ∷ [])
-conditions_of seat (Grant g n) = by_zone seat (Group g ∷ NotKilled g ∷ [])
-conditions_of seat (Ungrant g n) = by_zone seat (Group g ∷ AtLeast (Pending g) n ∷ [])
-conditions_of seat (PlaceBlock g k) = by_zone seat (Group g ∷ AtLeast (Pending g) (2 ^ k) ∷ [])
-conditions_of seat (Publish f) = by_zone seat (Frame f ∷ InPlace f Head ∷ AtLeast (Own 0 f) 1 ∷ [])
-conditions_of seat (Return f) = by_zone seat (Frame f ∷ InPlace f Returnable ∷ [])
-conditions_of seat (NoteMax g) = by_zone seat (Group g ∷ [])
-conditions_of seat (NoteOom g) = by_zone seat (Group g ∷ [])
-conditions_of seat (NoteGroupKill g) = by_zone seat (Group g ∷ NotRoot g ∷ [])
-conditions_of seat (SetMax g limit) = by_zone seat (Group g ∷ NotRoot g ∷ [])
-conditions_of seat (SetFlag g flag) = by_zone seat (Group g ∷ NotRoot g ∷ [])
-conditions_of seat (Make path) = by_zone seat (Makeable path ∷ [])
-conditions_of seat (Remove g) = by_zone seat (Group g ∷ NotRoot g ∷ NoChild g ∷ IsZero (Usage g) ∷ [])
-conditions_of seat (Kill g) = by_zone seat (Group g ∷ NotKilled g ∷ [])
+conditions_of seat action = ZoneSeat seat ∷ Locked ∷ zone_conditions action
 
 -- the first test holds, and each condition is met
 abbrev pub and_met : Bool → State → List Condition → Bool

@@ -4,18 +4,18 @@ ghost use Rattle.std.specs.Prelude.{◌≡◌};
 ghost use Rattle.group_tree.specs.Groups.{has_child};
 ghost use Rattle.mem_core.specs.Rows.{state_in};
 ghost use Rattle.mem_core.specs.Rooms.{FitsZone, IsBelowBounds};
-ghost use Rattle.log_check.specs.Conditions.{is_in_place, is_met, quantity_in};
+ghost use Rattle.mem_core.specs.Conditions.{is_in_place, is_met, quantity_in};
 
 use crate::conditions::{Condition, PlaceTest};
-use crate::reason::Quantity;
+use crate::holds::{is_held_by, is_unheld, may_zone_act, visits};
+use crate::legal::{is_passable, is_returnable, takes_fill};
+use crate::phases::{is_free, is_fresh_at, is_head, is_head_in_hand, passes_back, passes_out};
+use crate::quantity::Quantity;
+use crate::rows::Rows;
 use group_tree::group::GroupId;
-use mem_core::holds::{is_held_by, is_unheld, may_zone_act, visits};
-use mem_core::legal::{is_passable, is_returnable, takes_fill};
-use mem_core::phases::{is_free, is_fresh_at, is_head, is_head_in_hand, passes_back, passes_out};
-use mem_core::rows::Rows;
 
 /// The number in the state.
-pub(crate) fn quantity(rows: &Rows, what: &Quantity) -> u128
+pub fn quantity(rows: &Rows, what: &Quantity) -> u128
     requires fits { FitsZone rows.now }
     requires bounded { IsBelowBounds (state_in rows.now) }
     ensures { result ≡ quantity_in (state_in rows.now) what.now }
@@ -35,7 +35,8 @@ pub(crate) fn quantity(rows: &Rows, what: &Quantity) -> u128
 }
 
 /// Whether the condition is met.
-pub(crate) fn is_met(rows: &Rows, condition: &Condition) -> bool
+#[inline(always)]
+pub fn is_met(rows: &Rows, condition: &Condition<'_>) -> bool
     requires fits { FitsZone rows.now }
     requires bounded { IsBelowBounds (state_in rows.now) }
     ensures { result ≡ is_met (state_in rows.now) condition.now }
@@ -63,7 +64,7 @@ pub(crate) fn is_met(rows: &Rows, condition: &Condition) -> bool
         Condition::NotKilled(group) => !rows.is_killed(group),
         Condition::NotRoot(group) => group.number() != 0,
         Condition::NoChild(group) => !has_child(rows, group),
-        Condition::Makeable(path) => rows.tree.make_fault(path.as_bytes()).is_none(),
+        Condition::Makeable(ref path) => rows.tree.make_fault(path.text.as_bytes()).is_none(),
     }
 }
 
