@@ -1,6 +1,6 @@
--- A step may be made exactly if each of its conditions is met. Serves `unmet` and `is_legal`.
-use Rattle.std.proofs.Common.{◌≡◌, ◌∙◌, ℕ, ◌&&◌, ◌==◌, Bool, true, false, List, [], ◌∷◌, Option, None, Some, ap, cond, is_none, is_some, not, refl, subst, sym}
-use Rattle.std.proofs.lemmas.Bool.{and_parts, true≢false}
+-- A step may be made exactly if each of its conditions is met. Serves `first_unmet`.
+use Rattle.std.proofs.Common.{◌≡◌, ◌∙◌, ℕ, ◌&&◌, ◌==◌, Bool, true, false, List, [], ◌∷◌, None, Some, ap, cond, is_none, not, refl, subst, sym}
+use Rattle.std.proofs.lemmas.Bool.{and_parts}
 use Rattle.step_rules.specs.declared.step.Action.{Action}
 use Rattle.step_rules.specs.declared.step.Action.TheVariants.{Lock, Unlock, OpenVisit, ShutVisit, Get, Put, Freeze, Unfreeze, PassOut, TakeIn, PassBack, Collect, Consume, Credit}
 use Rattle.step_rules.specs.declared.step.Action.TheVariants.{Report, Absorb, Fill, DrainStock, Grant, Ungrant, PlaceBlock, Publish, Return, Note, NoteGroupKill, SetMax, SetFlag}
@@ -10,7 +10,16 @@ use Rattle.step_rules.specs.State.{State, may_zone_act}
 use Rattle.step_rules.specs.Usage.{usage_of}
 use Rattle.step_rules.specs.Legal.{is_legal}
 use Rattle.mem_core.specs.declared.conditions.Condition.{Condition}
-use Rattle.mem_core.specs.Conditions.{all_met, and_met, conditions_of, first_unmet, is_met}
+use Rattle.mem_core.specs.Conditions.{conditions_of, first_unmet, is_met}
+
+-- the first test holds, and each condition is met
+abbrev and_met : Bool → State → List Condition → Bool
+and_met so_far s [] = so_far
+and_met so_far s (condition ∷ rest) = and_met (so_far && is_met s condition) s rest
+
+-- each condition is met
+abbrev all_met : State → List Condition → Bool
+all_met s conditions = and_met true s conditions
 
 in_turn : (z a b c d : Bool) → (z && (a && b && c && d)) ≡ (z && a && b && c && d)
 in_turn true a b c d = refl
@@ -64,12 +73,6 @@ none_unmet s so_far (c ∷ cs) = by (is_met s c) (λ b. none_unmet s b cs)
     by : (met : Bool) → ((b : Bool) → and_met b s cs ≡ (b && is_none (first_unmet s cs))) → and_met (so_far && met) s cs ≡ (so_far && is_none (cond (not met) (Some c) (first_unmet s cs)))
     by true rest = ap (λ b. and_met b s cs) (and_true so_far) ∙ rest so_far
     by false rest = rest (so_far && false) ∙ gone so_far (is_none (first_unmet s cs))
-
-pub none_is : (o : Option Condition) (b : Bool) → is_some o ≡ not b → b ≡ is_none o
-none_is None true e = refl
-none_is None false e = absurd (true≢false (sym e))
-none_is (Some c) true e = absurd (true≢false e)
-none_is (Some c) false e = refl
 
 -- a step may be made exactly if it has no condition that isn't met
 pub legal_is : (s : State) (seat : ℕ) (action : Action) → is_legal s seat action ≡ is_none (first_unmet s (conditions_of seat action))

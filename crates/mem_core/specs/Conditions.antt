@@ -1,5 +1,5 @@
 -- The conditions of the table of rules, each as a test of a state.
-use Rattle.std.specs.Prelude.{ℕ, ◌+◌, ◌^◌, ◌==◌, ◌&&◌, ◌||◌, nat_le, nat_lt, not, Bool, true, List, [], ◌∷◌, Option, find, is_none, length}
+use Rattle.std.specs.Prelude.{ℕ, ◌+◌, ◌^◌, ◌==◌, ◌||◌, nat_le, nat_lt, not, Bool, List, [], ◌∷◌, Option, find, is_none, length}
 use Rattle.group_tree.specs.Groups.{has_group, has_child, make_fault}
 use Rattle.step_rules.specs.State.{State, is_cpu, is_frame, is_unheld, is_held_by, visits, may_zone_act}
 use Rattle.step_rules.specs.State.{live_references, pins_of}
@@ -113,15 +113,6 @@ conditions_of seat (Consume g) = Cpu seat ∷ AtLeast (Listed seat) 1 ∷ Below 
 conditions_of seat (Credit f) = Cpu seat ∷ Frame f ∷ InPlace f (FreshAt seat) ∷ []
 conditions_of seat (Report n) = Cpu seat ∷ Visited seat ∷ AtLeast (Unreported seat) n ∷ []
 conditions_of seat action = ZoneSeat seat ∷ Locked ∷ zone_conditions action
-
--- the first test holds, and each condition is met
-abbrev pub and_met : Bool → State → List Condition → Bool
-and_met so_far s [] = so_far
-and_met so_far s (condition ∷ rest) = and_met (so_far && is_met s condition) s rest
-
--- each condition is met
-abbrev pub all_met : State → List Condition → Bool
-all_met s conditions = and_met true s conditions
 
 -- the first condition that isn't met
 abbrev pub first_unmet : State → List Condition → Option Condition

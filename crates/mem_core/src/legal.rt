@@ -1,6 +1,6 @@
 //! Which steps may be made, exactly by the table of the rules, and what several conditions share.
 
-ghost use Rattle.std.specs.Prelude.{◌≡◌, ◌∷◌, []};
+ghost use Rattle.std.specs.Prelude.{◌≡◌, ◌∷◌, [], is_none};
 ghost use Rattle.step_rules.specs.Phases.{is_returnable};
 ghost use Rattle.step_rules.specs.Legal.{is_legal, is_passable, takes_fill};
 ghost use Rattle.mem_core.specs.Conditions.{conditions_of, first_unmet, zone_conditions};
@@ -54,8 +54,8 @@ pub fn is_returnable(rows: &Rows, frame: u32) -> bool
     }
 }
 
-// The first of these conditions that isn't met; `None` if each is. Inlined, as the test is: else each condition of the
-// whole table would have room in memory, which every look at the table clears.
+// The first of these conditions that isn't met; `None` if each is. These are inlined, as `is_met` is. Otherwise each
+// condition of the table would be a value in memory, and every step would clear all of them.
 #[inline(always)]
 fn one<'a>(rows: &Rows, a: Condition<'a>) -> Option<Condition<'a>>
     requires fits { FitsZone rows.now }
@@ -196,10 +196,12 @@ fn unmet_by_zone<'a>(rows: &Rows, action: &'a Action) -> Option<Condition<'a>>
 }
 
 /// The first condition of the step, in the order of the table of rules, that isn't met; `None` if each is.
+#[tactic(auto, using(crate::proofs::AllMet::legal_is))]
 pub fn first_unmet<'a>(rows: &Rows, step: &'a Step) -> Option<Condition<'a>>
     requires fits { FitsZone rows.now }
     requires bounded { IsBelowBounds (state_in rows.now) }
-    ensures { result ≡ first_unmet (state_in rows.now) (conditions_of step.now.seat step.now.action) }
+    ensures first { result ≡ first_unmet (state_in rows.now) (conditions_of step.now.seat step.now.action) }
+    ensures legal { is_none result ≡ is_legal (state_in rows.now) step.now.seat step.now.action }
 {
     let seat = step.seat;
     match step.action {
@@ -255,5 +257,5 @@ pub fn is_legal(rows: &Rows, step: &Step) -> bool
     requires bounded { IsBelowBounds (state_in rows.now) }
     ensures { result ≡ is_legal (state_in rows.now) step.now.seat step.now.action }
 {
-    first_unmet(rows, step).is_none()
+    matches!(first_unmet(rows, step), None)
 }

@@ -2,8 +2,8 @@
 //! rules of `step_rules` allow. Of the program only the checks run on it, of a log (`check`) and of a replay's own
 //! steps (`replay --check`).
 //!
-//! Its state is `Rows`, plain lists and numbers. Each action has a function that tests whether it may be made, one that
-//! answers it and one that makes it; some of these use a parameter, such as the seat, in their contract alone.
+//! Its state is `Rows`, plain lists and numbers. `legal` has the conditions of each action. Each action has a function
+//! that answers it and one that makes it; some of these use a parameter, such as the seat, in their contract alone.
 #![tactic(auto)]
 
 pub mod account;

@@ -9,7 +9,7 @@ pub returns : goal.returns
 returns c =
     let s = state_in c.args.rows.now in
     let step = c.args.step.now in
-    let first = sym c.first_unmet.ensures ∙ c.in-Some.is in
+    let first = sym c.first_unmet.ensures.first ∙ c.in-Some.is in
     record {
       condition = c.in-Some.condition;
       first = first;
@@ -21,4 +21,4 @@ pub show-requires-clause-unmet : goal.show-requires-clause-unmet
 show-requires-clause-unmet c =
     let step = c.args.step.now in
     found_unmet (state_in c.args.rows.now) (conditions_of step.seat step.action) c.in-Some.condition
-    (sym c.first_unmet.ensures ∙ c.in-Some.is)
+    (sym c.first_unmet.ensures.first ∙ c.in-Some.is)
