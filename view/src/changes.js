@@ -26,7 +26,7 @@ function changeWords(run, line) {
       if (run.position) said.push(`${path(group)} is new, and has no limit.`);
       continue;
     }
-    const counts = ["max", "oom", "kill", "group_kill"].filter(event => rows.has(`${event}_events`)).map(event => `${event} ${rows.get(`${event}_events`)} → ${run.row(group, `${event}_events`)}`);
+    const counts = ["low", "high", "max", "oom", "kill", "group_kill"].filter(event => rows.has(`${event}_events`)).map(event => `${event} ${rows.get(`${event}_events`)} → ${run.row(group, `${event}_events`)}`);
     if (rows.has("max")) said.push(`The limit of ${path(group)}: ${limitText(rows.get("max"))} → ${limitText(run.row(group, "max"))}.`);
     if (rows.has("oom_group")) said.push(`memory.oom.group of ${path(group)}: ${rows.get("oom_group")} → ${run.row(group, "oom_group")}.`);
     if (rows.has("killed") && run.row(group, "killed")) said.push(`${path(group)} is killed.`);

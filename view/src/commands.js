@@ -100,8 +100,8 @@ function unitsOf(state, group) {
   return lines.join("\n") || "none";
 }
 function readOf(group, file) {
-  const events = at => ["low 0", "high 0", ...[["max", "max"], ["oom", "oom"], ["oom_kill", "kill"], ["oom_group_kill", "group_kill"]]
-    .map(([key, event]) => `${key} ${group[`${event}_${at}`]}`)].join("\n");
+  const keys = [["low", "low"], ["high", "high"], ["max", "max"], ["oom", "oom"], ["oom_kill", "kill"], ["oom_group_kill", "group_kill"]];
+  const events = at => keys.map(([key, event]) => `${key} ${group[`${event}_${at}`]}`).join("\n");
   switch (file) {
     case "memory.current":
       return `${group.current * PAGE}`;

@@ -28,7 +28,7 @@ const [NOTHING, IN, LISTED, OUT, BARE, FRESH, FRESH_OUT, COLLECTED, IN_USE, LAST
 const DIRTY = 1, MARKED = 2;
 // The numbers of a group, as the page draws them.
 const ROW = ["number", "max", "current", "peak", "max_events", "oom_events", "kill_events", "max_local", "oom_local",
-  "kill_local", "killed", "oom_group", "group_kill_events", "group_kill_local"];
+  "kill_local", "killed", "oom_group", "group_kill_events", "group_kill_local", "low_events", "low_local", "high_events", "high_local"];
 
 /** The frames, CPUs and groups, as the steps made them. Nothing is written for the frames behind a unit's head. */
 class State {
