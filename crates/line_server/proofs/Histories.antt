@@ -1,6 +1,6 @@
 -- The turns of a session go on with one run, and keep the promise. Serves `legal_turns_keep_it`; `load_run` cites this of
 -- a session.
-use Rattle.std.proofs.Common.{◌≡◌, ℕ, ◌+◌, ◌++◌, true, List, [], ◌∷◌, Option, None, Some, ap, append-nil, append_assoc, refl, subst, sym}
+use Rattle.std.proofs.Common.{ℕ, ◌+◌, ◌++◌, true, List, [], ◌∷◌, Option, None, Some, append_assoc, refl, subst, sym}
 use Rattle.std.specs.Prelude.{IfSome}
 use Rattle.std.proofs.lemmas.Option.{none-some}
 use Rattle.zone_blocks.specs.declared.config.Config.{Config}
@@ -54,8 +54,8 @@ module _ (on : SessionTerms) where
   served_goes_on : (form : SessionForm) (text : List ℕ) (line : Line) (s e : SystemState) (answer : List ℕ)
       → (one : ServesInForm form on.frames text line s e answer) → RunGoesOn (steps_in_form form on.frames text line s e answer one) s e
   served_goes_on (Answers is_explained) text line s e answer one = one.goes_on
-  served_goes_on Steps text line s e answer logs earlier has =
-      logs.serves.goes_on earlier (subst (HasRun earlier) (sym logs.renews.begun_is) has)
+  served_goes_on Steps text line s e answer logs =
+      λ earlier has. logs.serves.goes_on earlier (subst (HasRun earlier) (sym logs.renews.begun_is) has)
 
   -- ---- a turn
 
@@ -92,7 +92,7 @@ legal_turns_keep_it on sizes number (turn ∷ turns) s e answers run shows legal
 pub turns_go_on : (on : SessionTerms) (sizes : Config) (number : ℕ) (turns : List Turn) (s e : SystemState)
     (answers : AnswersTurns on sizes number turns s e) → RunGoesOn (steps_of_turns on sizes number turns s e answers) s e
 turns_go_on on sizes number [] s e answers = subst (RunGoesOn [] s) (sym answers) (goes_on_none s)
-turns_go_on on sizes number (turn ∷ turns) s e answers earlier has =
+turns_go_on on sizes number (turn ∷ turns) s e answers = λ earlier has.
     let mid = answers.0 in
     let one = steps_of_turn on sizes number turn.text turn.served s mid turn.answer answers.1 in
     let more = steps_of_turns on sizes (number + 1) turns mid e answers.2 in

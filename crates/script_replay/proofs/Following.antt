@@ -29,7 +29,7 @@ use Rattle.mem_machine.specs.Interleaving.{zone_of}
 use Rattle.mem_machine.specs.Steps.{cpu_makes}
 use Rattle.mem_machine.specs.Agreeing.{AgreesWithRun}
 use Rattle.mem_machine.proofs.Locks.{unlocked_found}
-use Rattle.mem_history.specs.Whole.{GoesOnTo, HasTakenLock, IsOwnStep, LeaveTheSame, ServesFast, ShowsAll, under_lock}
+use Rattle.mem_history.specs.Whole.{GoesOnTo, HasTakenLock, IsOwnStep, LeaveTheSame, ShowsAll, under_lock}
 use Rattle.mem_history.specs.Leading.{IsPart, put_answer}
 use Rattle.mem_history.proofs.Wholes.{lines_follow, parts_after, the_same_is_shown}
 use Rattle.mem_history.proofs.Fast.{fast_lines_follow}

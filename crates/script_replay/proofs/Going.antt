@@ -1,5 +1,5 @@
 -- The lines that were served so far. Serves `serve_line`, `replay`, `replay_checked`.
-use Rattle.std.proofs.Common.{Result, IfOk, ◌≡◌, ℕ, Bool, ◌+◌, ◌-◌, ◌<◌, true, false, Some, List, [], ◌∷◌, ◌++◌, length, take, get_or, append-nil, ap, refl, sym, ◌∙◌, subst, arith}
+use Rattle.std.proofs.Common.{Result, IfOk, ◌≡◌, ℕ, Bool, ◌+◌, ◌-◌, ◌<◌, true, false, Some, List, [], ◌++◌, length, take, get_or, append-nil, ap, refl, sym, ◌∙◌, subst, arith}
 use Rattle.std.specs.Prelude.{slice_set}
 use Rattle.std.specs.List.{slice_get}
 use Rattle.std.specs.declared.string.String.{String}

@@ -1,5 +1,5 @@
 -- The calls on a handle go on with one run. Serves `lives_are_legal_runs`.
-use Rattle.std.proofs.Common.{◌≡◌, ◌∙◌, ℕ, zero, suc, Some, List, [], ◌∷◌, ◌++◌, ap, append-nil, append_assoc, inl, inr, refl, subst, sym}
+use Rattle.std.proofs.Common.{◌≡◌, ◌∙◌, ℕ, zero, suc, Some, List, [], ◌∷◌, ◌++◌, ap, append_assoc, inl, inr, refl, subst, sym}
 use Rattle.std.specs.Prelude.{◌⊎◌, Option, false, take}
 use Rattle.std.proofs.lemmas.Bool.{cases_lt}
 use Rattle.frame_word.specs.Seats.{KnownTable}
@@ -8,9 +8,7 @@ use Rattle.step_rules.specs.After.{Run}
 use Rattle.boot_words.specs.Seats.{zone_of_boot}
 use Rattle.boot_words.specs.Words.{IsRunOf}
 use Rattle.mem_core.specs.Promise.{AlwaysKeepsPromise}
-use Rattle.mem_core.proofs.Keeping.{always_keeps}
 use Rattle.reply_texts.specs.Answers.{answer_text}
-use Rattle.script_lines.specs.declared.line.Line.{Line}
 use Rattle.script_lines.specs.declared.line.Line.TheVariants.{At}
 use Rattle.script_replay.specs.Lines.{HasRun, RunGoesOn, SystemState}
 use Rattle.script_replay.specs.Terms.{Terms, terms}

@@ -8,7 +8,6 @@ use Rattle.boot_words.specs.Words.{IsRunOf}
 use Rattle.mem_core.specs.Promise.{AlwaysKeepsPromise}
 use Rattle.reply_texts.specs.Answers.{answer_text}
 use Rattle.reply_texts.specs.LineAnswer.{LineAnswer}
-use Rattle.script_lines.specs.declared.line.Line.{Line}
 use Rattle.script_lines.specs.declared.line.Line.TheVariants.{At}
 use Rattle.script_replay.specs.Lines.{SystemState, steps_of_served}
 use Rattle.script_replay.specs.Terms.{Terms, terms}
