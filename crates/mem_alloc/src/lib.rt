@@ -8,6 +8,7 @@ mod blocks;
 mod charging;
 mod faults;
 mod frames;
+mod high;
 mod kills;
 pub mod laws;
 mod reclaims;

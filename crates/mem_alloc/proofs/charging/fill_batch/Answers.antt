@@ -1,0 +1,32 @@
+-- DRAFT: the names of the goals are guesses; `rt check --start` writes them.
+use Rattle.std.proofs.Common.{true, inl, inr, refl, subst, sym, ◌∙◌}
+use Rattle.std.proofs.lemmas.Bool.{true≢false}
+use Rattle.mem_machine.specs.Machines.{KnownMachine}
+use Rattle.mem_machine.specs.Stocks.{HasDrained}
+use Rattle.step_rules.specs.State.{State}
+use Rattle.mem_machine.proofs.Followed.{makes_none}
+use Rattle.mem_alloc.proofs.charging.fill_batch.Goals as goal
+
+pub returns-then-not-path_has_high_room-clause-lacks : goal.returns-then-not-path_has_high_room-clause-lacks
+returns-then-not-path_has_high_room-clause-lacks g c _ = record {
+  steps = [];
+  does = inl (λ high. true≢false (sym (c.path_has_high_room.ensures.1 high) ∙ c.if-not-path_has_high_room.true), record { machine = refl; steps_are = refl });
+  makes = makes_none g.N.BootName.frames c.args.machine.now;
+}
+
+pub returns-in_default-clause-fills : goal.returns-in_default-clause-fills
+returns-in_default-clause-fills g c _ = record {
+  steps = _;
+  does = record { high = c.path_has_high_room.ensures.0 c.if-not-path_has_high_room.false; fills = record { fills = c.in_default.ensures.fills; cpu = refl; steps_are = refl } };
+  makes = c.in_default.ensures.steps;
+}
+
+pub returns-clause-lacks : goal.returns-clause-lacks
+returns-clause-lacks g c _ = record {
+  steps = _;
+  does = inr (record { over = c.in-Err._over.group; batch = c.in-Err.ensures.over; machine = c.in-Err.ensures.refused.machine; refuses = c.in-Err.ensures.refused.steps; steps_are = refl });
+  makes = c.in-Err.ensures.refused.steps;
+}
+
+pub returns-clause-drained : goal.returns-clause-drained
+returns-clause-drained g c _ = subst (λ (s : State). HasDrained (s.parts c.args.cpu.now.number)) (sym c.in-Err.ensures.refused.left) c.requires.drained
