@@ -3,7 +3,7 @@ use Rattle.std.proofs.Common.{◌≡◌, ◌≢◌, ◌⊎◌, ℕ, false, ◌+�
 use Rattle.group_tree.specs.declared.fault.Fault.{Fault}
 use Rattle.group_tree.specs.declared.fault.Fault.TheVariants.{Again, BadLimit, BadNumber}
 use Rattle.control_files.specs.declared.file.File.{File}
-use Rattle.control_files.specs.declared.file.File.TheVariants.{Current, Max, Peak, Events, EventsLocal, OomGroup, Reclaim}
+use Rattle.control_files.specs.declared.file.File.TheVariants.{Current, Max, High, Low, Min, Peak, Events, EventsLocal, OomGroup, Reclaim}
 use Rattle.control_files.specs.Files.{is_writable}
 use Rattle.control_files.specs.Flag.{IsNoFlagText}
 use Rattle.control_files.specs.Limit.{ReadsAmount, IsNoAmountText, IsNoLimitText, IsTooGreat}
@@ -71,14 +71,17 @@ written_at t path name value g file m n reply is made = record {
 }
 
 -- what isn't one of these three files isn't written
-pub read_only : (file : File) → file ≢ Max → file ≢ OomGroup → file ≢ Reclaim → is_writable file ≡ false
-read_only Current a b c = refl
-read_only Max a b c = absurd (a refl)
-read_only Peak a b c = refl
-read_only Events a b c = refl
-read_only EventsLocal a b c = refl
-read_only OomGroup a b c = absurd (b refl)
-read_only Reclaim a b c = absurd (c refl)
+pub read_only : (file : File) → file ≢ Max → file ≢ High → file ≢ Low → file ≢ Min → file ≢ OomGroup → file ≢ Reclaim → is_writable file ≡ false
+read_only Current a b c d e f = refl
+read_only Max a b c d e f = absurd (a refl)
+read_only High a b c d e f = absurd (b refl)
+read_only Low a b c d e f = absurd (c refl)
+read_only Min a b c d e f = absurd (d refl)
+read_only Peak a b c d e f = refl
+read_only Events a b c d e f = refl
+read_only EventsLocal a b c d e f = refl
+read_only OomGroup a b c d e f = absurd (e refl)
+read_only Reclaim a b c d e f = absurd (f refl)
 
 module _ (t : KnownTable) (value : List ℕ) (g asked freed : ℕ) (m n : KnownMachine) (reads : ReadsAmount value asked)
     (leads : FreesBySteps t freed m n (ReclaimsAmount g asked)) (missed : freed < asked → MissedAll g m n)

@@ -11,12 +11,13 @@ ghost use Rattle.control_files.specs.declared.file.File.{File};
 ghost use Rattle.control_files.specs.Limit.{ReadsAmount};
 
 use crate::outcome::Outcome;
-use crate::usage::keep_to_limit;
+use crate::usage::{keep_to_limit, lower_to_high};
 use control_files::file::{File, file_named};
 use control_files::flag::read_flag;
 use control_files::limit::{Limit, read_amount, read_limit};
 use cpu_part::{BootName, Tables};
 use group_charge::charges::Charges;
+use group_charge::settings::Settings;
 use group_tree::fault::Fault;
 use group_tree::group::GroupId;
 use mem_machine::Machine;
@@ -87,6 +88,59 @@ fn write_limit<N: BootName>(
         }
         Err(fault) => Outcome::Refused(fault),
     }
+}
+
+// What is set for a group after this limit was written to the file.
+fn with_written(file: File, limit: Limit, settings: Settings) -> Settings
+    ensures { result ≡ with_written file limit settings }
+{
+    let Settings { high, low, min } = settings;
+    match file {
+        File::High => Settings {
+            high: limit,
+            low,
+            min,
+        },
+        File::Low => Settings {
+            high,
+            low: limit,
+            min,
+        },
+        File::Min => Settings {
+            high,
+            low,
+            min: limit,
+        },
+        _ => settings,
+    }
+}
+
+// Gives memory.high, memory.low or memory.min of the group the limit that the value writes. If its usage is above a new
+// memory.high, lowers it as far as reclaim can. The value is refused if it is no limit.
+fn write_setting<N: BootName>(
+    machine: &mut Machine<N>,
+    tables: &Tables<N>,
+    group: GroupId,
+    file: File,
+    value: &[u8],
+) -> Outcome
+    requires there { IsTrue (has_group machine.old.ledger.groups group) }
+    requires setting { IsSetting file }
+    requires held { IsHeld N.frames machine.old.run.past }
+    ensures written { ComesToAlone N.frames result (WritesTo file value.now group) machine.old machine.new }
+    ensures groups { HasItsGroups machine.new.ledger result }
+    ensures visit { StaysVisited N.frames machine.old machine.new }
+{
+    let limit = match read_limit(value) {
+        Ok(limit) => limit,
+        Err(fault) => return Outcome::Refused(fault),
+    };
+    let settings = with_written(file, limit, machine.charges().settings(group));
+    machine.set_settings(group, settings);
+    if let (File::High, Some(high)) = (file, limit) {
+        lower_to_high(machine, tables, group, high);
+    }
+    Outcome::Done
 }
 
 // Sets whether the group is killed as a whole, as the value says. The value is refused if it is no flag.
@@ -171,6 +225,7 @@ pub(crate) fn write_file<N: BootName>(
     };
     match file {
         File::Max => write_limit(machine, tables, group, value),
+        File::High | File::Low | File::Min => write_setting(machine, tables, group, file, value),
         File::OomGroup => write_flag(machine, tables, group, value),
         File::Reclaim => write_reclaim(machine, tables, group, value),
         _ => Outcome::Refused(Fault::ReadOnly),
