@@ -6,8 +6,6 @@ use Rattle.std.specs.Prelude.{Result, Ok, Err, IsErr, IfErr, OnOk}
 use Rattle.std.proofs.lemmas.List.{append_assoc, append-nil}
 use Rattle.zone_blocks.specs.Areas.{HasNoneFrom}
 use Rattle.frame_word.specs.Seats.{KnownTable}
-use Rattle.group_tree.specs.Room.{IsLowestOver}
-use Rattle.group_charge.specs.Charges.{current_of}
 use Rattle.stock_word.specs.declared.view.Stock.TheVariants.{HeldBy}
 use Rattle.cpu_part.specs.Cpus.{KnownCpu}
 use Rattle.zone_blocks.specs.declared.config.Config.{Config}
@@ -21,7 +19,7 @@ use Rattle.mem_machine.specs.Lending.{LendsMany, Refills}
 use Rattle.mem_machine.specs.Paying.{HoldsPage, MayCharge, PaysForFront}
 use Rattle.mem_machine.specs.Showing.{stock_now}
 use Rattle.mem_machine.specs.Stocks.{Drains, Fills, stock_group}
-use Rattle.mem_machine.specs.Steps.{drain_steps, fill_steps, over_steps, refill_steps, take_front_steps}
+use Rattle.mem_machine.specs.Steps.{drain_steps, refill_steps, take_front_steps}
 use Rattle.mem_machine.proofs.StocksKept.{filled_stock, has_stock_step, stock_kept, stock_left}
 use Rattle.boot_words.specs.Words.{stock_in}
 use Rattle.mem_reclaim.specs.Staying.{Keeps}

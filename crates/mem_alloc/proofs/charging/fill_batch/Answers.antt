@@ -1,7 +1,6 @@
 -- DRAFT: the names of the goals are guesses; `rt check --start` writes them.
 use Rattle.std.proofs.Common.{true, inl, inr, refl, subst, sym, ◌∙◌}
 use Rattle.std.proofs.lemmas.Bool.{true≢false}
-use Rattle.mem_machine.specs.Machines.{KnownMachine}
 use Rattle.mem_machine.specs.Stocks.{HasDrained}
 use Rattle.step_rules.specs.State.{State}
 use Rattle.mem_machine.proofs.Followed.{makes_none}
