@@ -39,8 +39,8 @@ use Rattle.mem_system.specs.declared.command.Cmd.TheVariants.{Mkdir, Rmdir, Writ
 use Rattle.mem_system.specs.declared.command.Reply.{Reply}
 use Rattle.mem_system.specs.declared.command.Reply.TheVariants as reply
 use Rattle.mem_system.specs.Groups.{MakesGroup, Removes}
-use Rattle.mem_system.specs.Files.{IsFileOf, IsLimitFor, SetsFile, SetsLimit, Writes, with_limit_of}
-use Rattle.mem_system.specs.Usage.{LowersUsage, LowersAbove, LowersByKills, KeepsToLimit}
+use Rattle.mem_system.specs.Files.{IsFileOf, IsLimitFor, KeepsToSetting, SetsFile, SetsLimit, Writes, with_limit_of, with_setting_of}
+use Rattle.mem_system.specs.Usage.{LowersUsage, LowersAbove, LowersByKills, KeepsToLimit, with_high_told}
 use Rattle.mem_system.specs.Allocations.{Allocates, AllocatesFor}
 use Rattle.mem_system.specs.Releases.{CutsList, ListsFrame, ReleasesFrame, ReturnsFrames}
 use Rattle.mem_system.specs.Asks.{MayAskFor}
@@ -58,6 +58,13 @@ lowers_quiet : (g limit : ℕ) (call : Transition KnownMachine) → LowersUsage 
 lowers_quiet g limit call h =
     ap has_kill h.steps_are
     ∙ no_kill_both (drain_stocks_steps h.drains) h.reclaims.steps (quiet_drains h.drains).no_kill h.reclaims.moves.no_kill
+
+high_quiet : (g : ℕ) (of : Option ℕ) (call : Transition KnownMachine) → KeepsToSetting High g of call → has_kill call.steps ≡ false
+high_quiet g None call h = ap has_kill h.steps_are
+high_quiet g (Some high) call h = elim (cases_lt high (current_of call.before.ledger g)) [
+  | inl above ↦ lowers_quiet g high (transition call.table (with_high_told call.before g high) call.steps call.after) (h.above above)
+  | inr within ↦ ap has_kill (h.within within).steps_are
+]
 
 removes_quiet : (path : List ℕ) (said : Reply) (call : Transition KnownMachine) → Removes path said call → has_kill call.steps ≡ false
 removes_quiet path reply.Done call h =

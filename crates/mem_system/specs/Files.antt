@@ -77,6 +77,13 @@ pub record WritesLimit (value : List ℕ) (group : ℕ) (call : Transition Known
   pub reads : ReadsAs value limit
   pub sets : SetsLimit group limit call
 
+-- these files are set by no step, since no rule reads them
+abbrev pub IsSetting : File → Type 0
+IsSetting High = Unit {0}
+IsSetting Low = Unit {0}
+IsSetting Min = Unit {0}
+IsSetting file = ⊥
+
 -- what is set for a group after this limit was written to the file
 abbrev pub with_written : File → Option ℕ → Settings → Settings
 with_written High limit settings = record settings { high = limit }

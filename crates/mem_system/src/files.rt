@@ -6,7 +6,7 @@ ghost use Rattle.mem_system.specs.Outcomes.{ComesToAlone, HasItsGroups, reply_of
 ghost use Rattle.boot_words.specs.Pasts.{IsHeld};
 ghost use Rattle.mem_machine.specs.Local.{Makes, StaysVisited};
 ghost use Rattle.mem_machine.specs.Transitions.{BySteps};
-ghost use Rattle.mem_system.specs.Files.{IsFileOf, HasNoFile, Reads, SetsLimit, Writes, WritesTo};
+ghost use Rattle.mem_system.specs.Files.{IsFileOf, HasNoFile, IsSetting, Reads, SetsLimit, Writes, WritesTo, with_written};
 ghost use Rattle.control_files.specs.declared.file.File.{File};
 ghost use Rattle.control_files.specs.Limit.{ReadsAmount};
 
