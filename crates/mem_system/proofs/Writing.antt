@@ -18,12 +18,22 @@ use Rattle.mem_reclaim.specs.Staying.{Keeps, MissedAll}
 use Rattle.mem_machine.specs.Transitions.{BySteps, Transition, transition}
 use Rattle.mem_system.specs.declared.command.Reply.{Reply}
 use Rattle.mem_system.specs.declared.command.Reply.TheVariants.{Done, Refused}
-use Rattle.mem_system.specs.Files.{IsFileOf, RefusesValue, Writes, WritesTo}
+use Rattle.mem_system.specs.Files.{IsFileOf, IsSetting, RefusesValue, Writes, WritesTo}
 
 pub refused_limit : (value : List ℕ) (fault : Fault) → (fault ≡ BadNumber) ⊎ (fault ≡ BadLimit) → (fault ≡ BadNumber → IsTooGreat value)
     → (fault ≡ BadLimit → IsNoLimitText value) → RefusesValue Max value fault
 refused_limit value fault (inl number) great none = subst (λ (f : Fault). RefusesValue Max value f) (sym number) (great number)
 refused_limit value fault (inr limit) great none = subst (λ (f : Fault). RefusesValue Max value f) (sym limit) (none limit)
+
+pub refused_setting : (file : File) → IsSetting file → (value : List ℕ) (fault : Fault) → (fault ≡ BadNumber) ⊎ (fault ≡ BadLimit)
+    → (fault ≡ BadNumber → IsTooGreat value) → (fault ≡ BadLimit → IsNoLimitText value) → RefusesValue file value fault
+refused_setting High is value fault (inl number) great none = subst (λ (f : Fault). RefusesValue High value f) (sym number) (great number)
+refused_setting High is value fault (inr limit) great none = subst (λ (f : Fault). RefusesValue High value f) (sym limit) (none limit)
+refused_setting Low is value fault (inl number) great none = subst (λ (f : Fault). RefusesValue Low value f) (sym number) (great number)
+refused_setting Low is value fault (inr limit) great none = subst (λ (f : Fault). RefusesValue Low value f) (sym limit) (none limit)
+refused_setting Min is value fault (inl number) great none = subst (λ (f : Fault). RefusesValue Min value f) (sym number) (great number)
+refused_setting Min is value fault (inr limit) great none = subst (λ (f : Fault). RefusesValue Min value f) (sym limit) (none limit)
+refused_setting other is value fault why great none = absurd is
 
 pub refused_flag : (value : List ℕ) (fault : Fault) → fault ≡ BadLimit → (fault ≡ BadLimit → IsNoFlagText value) → RefusesValue OomGroup value fault
 refused_flag value fault limit none = subst (λ (f : Fault). RefusesValue OomGroup value f) (sym limit) (none limit)
