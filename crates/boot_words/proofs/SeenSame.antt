@@ -19,7 +19,7 @@ use Rattle.boot_words.specs.Sight.{HasSameLists}
 use Rattle.boot_words.specs.Words.{stock_in}
 use Rattle.boot_words.specs.declared.past.Past.{Past}
 use Rattle.boot_words.specs.Rule.{AllOf, BeginsRun}
-use Rattle.boot_words.specs.Pasts.{KnownPasts, IsCpuPast, IsZonePast, Locks, Meets, cpu_past, first_past, local_by_pasts, own_past, second_past}
+use Rattle.boot_words.specs.Pasts.{KnownPasts, IsCpuPast, IsParted, IsZonePast, Locks, Meets, cpu_past, first_past, local_by_pasts, own_past, second_past}
 use Rattle.boot_words.specs.Seats.{zone_of_boot, MayChange, first_alone, rest_of}
 use Rattle.boot_words.proofs.Away.{away_stays}
 use Rattle.boot_words.proofs.Holding.{take_length}
@@ -68,11 +68,11 @@ may_meet zone z c zone_is cpu free id s k homes at small =
       own = lists_are_own zone c.seen k.run c.number (not_none zone c.number cpu) goes;
     })
 
-pub meets : (t : KnownTable) (z c s : KnownPasts) → IsZonePast t z → IsCpuPast t c → LeavesFree (zone_of_boot t) (own_past z) → s.pasts ≡ z.pasts ++ c.pasts
-    → MayChange (zone_of_boot t) s.pasts Quiet (λ n. n) (SeeSame (zone_of_boot t) (own_past s) (cpu_past s))
-meets t z c s zone cpu free is =
+pub meets : (t : KnownTable) (z c : KnownPasts) → IsZonePast t z → IsCpuPast t c → LeavesFree (zone_of_boot t) (own_past z)
+    → MayChange (zone_of_boot t) (z.pasts ++ c.pasts) Quiet (λ n. n) (SeeSame (zone_of_boot t) (own_past z) (own_past c))
+meets t z c zone cpu free =
     let table = zone_of_boot t in
-    subst (λ (l : List Past). MayChange table l Quiet (λ n. n) (SeeSame table (first_past l) (second_past l))) (sym (is ∙ (λ i. zone.alone i ++ cpu.alone i)))
+    subst (λ (l : List Past). MayChange table l Quiet (λ n. n) (SeeSame table (own_past z) (own_past c))) (λ i. sym zone.alone i ++ sym cpu.alone i)
     (may_meet table (own_past z) (own_past c) zone.zone_is (in_range table (own_past c).number cpu.low cpu.high) free)
 
 pub met : (t : KnownTable) (z c z' c' : KnownPasts) (pasts : List Past) (found : ℕ) → IsZonePast t z → IsCpuPast t c → SeeSame (zone_of_boot t) (own_past z) (own_past c) found pasts
@@ -158,10 +158,9 @@ lock_last t z c s later found zone is joined table told =
     lock_finds t z c later is (locked t z c.seat later found table
     (subst (λ (l : List Past). Takes (zone_of_boot t) (first_past l) (second_past l) found later.pasts) (joined_pasts t z c.seat s zone is.past joined) told))
 
-pub meet_knows : (t : KnownTable) (z : KnownPasts) (c : KnownCpuSeat) (s c' : KnownPasts) (pasts : List Past) (found : ℕ) → IsZonePast t z → IsAwayCpu t c → s.pasts ≡ z.pasts ++ c.seat.pasts
-    → SeeSame (zone_of_boot t) (own_past s) (cpu_past s) found pasts → c' ≡ record { table = t.table; pasts = rest_of pasts }
-    → IsAwayCpu t (record { seat = c'; number = c.number; last = c.last })
-meet_knows t z c s c' pasts found zone is joined told cpu_is =
-    let m = met t z c.seat (record { table = t.table; pasts = first_alone pasts }) c' pasts found zone is.past
-    (subst (λ (l : List Past). SeeSame (zone_of_boot t) (first_past l) (second_past l) found pasts) (joined_pasts t z c.seat s zone is.past joined) told) refl cpu_is in
-    knows_since t c c' is m.cpu_is m.cpu_sees
+-- what the two meet by tells of both
+pub met_away : (t : KnownTable) (z z' : KnownPasts) (c : KnownCpuSeat) (c' : KnownPasts) (found : ℕ) → IsZonePast t z → IsAwayCpu t c
+    → IsParted (SeeSame (zone_of_boot t) (own_past z) (own_past c.seat)) t.table found z' c'
+    → Meets t z c.seat z' c' × IsAwayCpu t (record { seat = c'; number = c.number; last = c.last })
+met_away t z z' c c' found zone is parts =
+    let m = met t z c.seat z' c' parts.later found zone is.past parts.tells parts.seat_is parts.other_is in (m, knows_since t c c' is m.cpu_is m.cpu_sees)

@@ -22,7 +22,7 @@ use Rattle.boot_words.specs.Hidden.{hide}
 use Rattle.boot_words.specs.Sight.{HasSameLists}
 use Rattle.boot_words.specs.declared.past.Past.{Past}
 use Rattle.boot_words.specs.Runs.{no_past, GrewBy}
-use Rattle.boot_words.specs.Seats.{zone_of_boot}
+use Rattle.boot_words.specs.Seats.{zone_of_boot, first_alone, rest_of}
 use Rattle.boot_words.specs.Held.{HoldsLock, local_seen}
 use Rattle.boot_words.specs.Locks.{LeavesFree}
 use Rattle.boot_words.specs.Growth.{SeesMore}
@@ -36,6 +36,13 @@ pub record KnownPasts : Type 0 where
 abbrev pub first_past : List Past → Past
 first_past [] = no_past 0
 first_past (p ∷ pasts) = p
+
+-- the first of the later pasts went to one seat, and the rest to the other; the word that was found tells of them
+pub record IsParted (told : ℕ → List Past → Type 0) (table : TableId) (found : ℕ) (seat other : KnownPasts) : Type 0 where
+  pub later : List Past
+  pub tells : told found later
+  pub seat_is : seat ≡ record { table = table; pasts = first_alone later }
+  pub other_is : other ≡ record { table = table; pasts = rest_of later }
 
 -- the past of a seat that has one
 abbrev pub own_past : KnownPasts → Past

@@ -70,6 +70,15 @@ abbrev pub rest_of : List Past → List Past
 rest_of [] = []
 rest_of (p ∷ pasts) = pasts
 
+-- the place of a seat has one: a badge of one view
+abbrev pub IsSeated : List (List Past) → Type 0
+IsSeated views = (pasts : List Past) × (views ≡ pasts ∷ [])
+
+-- the pasts of the seat in this place
+abbrev pub pasts_of_views : List (List Past) → List Past
+pasts_of_views [] = []
+pasts_of_views (pasts ∷ views) = pasts
+
 -- A seat with these pasts may make this change of the word, in any state that keeps the rule. The fact told holds then of
 -- the word that was there and of the seat's new pasts.
 abbrev pub MayChange : Zone → List Past → Word → (ℕ → ℕ) → (ℕ → List Past → Type 0) → Type 0

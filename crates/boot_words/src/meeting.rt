@@ -22,8 +22,6 @@ impl BootWords {
         ensures cpu { IsAwayCpu self.now cpu.new }
         ensures same { (cpu.new.number ≡ cpu.old.number) × (cpu.new.last ≡ cpu.old.last) }
     {
-        self.join(zone, &mut cpu.past);
-        self.load::<Brand>(zone, Word::Quiet);
-        cpu.past = self.split_others(zone);
+        self.load_together::<Brand>(zone, &mut cpu.past, Word::Quiet);
     }
 }

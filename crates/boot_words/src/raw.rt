@@ -6,11 +6,12 @@ ghost use prog.Atomic.{either};
 ghost use Rattle.boot_words.specs.Rule.{word_count, run_rule};
 ghost use Rattle.boot_words.specs.Seats.{zone_of_boot};
 ghost use Rattle.boot_words.specs.Closed.{IsEndOfRun};
-ghost use Rattle.boot_words.specs.Seats.{all_pasts, first_alone, word_place, rest_of, IsInTable, MayChange};
+ghost use Rattle.boot_words.specs.Pasts.{IsParted};
+ghost use Rattle.boot_words.specs.Seats.{all_pasts, first_alone, pasts_of_views, word_place, rest_of, IsInTable, IsSeated, MayChange};
 
 use crate::past::Past;
 use crate::word::Word;
-use atomic_table::{Closed, Join, Play, Seat, Split, Table, TableRule};
+use atomic_table::{Badge, Closed, Join, Play, Seat, Split, Table, TableRule};
 use frame_word::Frame;
 use std::alloc::{AllocError, Global};
 use std::collections::LinkedList;
@@ -109,18 +110,28 @@ impl Model for BootWords {
 /// and the CPU's.
 #[derive(Drop)]
 pub struct PastSeat {
-    seat: Seat<(), Pasts>,
+    badge: Badge<Pasts>,
 }
 
 impl Model for PastSeat {
-    ghost use Rattle.std.specs.Prelude.{◌≡◌, []};
     ghost use Rattle.boot_words.specs.Pasts.{KnownPasts};
+    ghost use Rattle.boot_words.specs.Seats.{pasts_of_views, IsSeated};
 
     ghost Value = { KnownPasts };
 
-    ghost view = { λ s. record { table = s.seat.table_id; pasts = s.seat.me.0 } };
+    ghost view = { λ s. record { table = s.badge.table_id; pasts = pasts_of_views s.badge.views } };
 
-    ghost invariant = { λ s. s.seat.me.1 ≡ [] };
+    ghost invariant = { λ s. IsSeated s.badge.views };
+}
+
+// Takes the seat out of its place, where a badge without a seat stands meanwhile.
+#[inline(always)]
+fn take(place: &mut Badge<Pasts>) -> Seat<(), Pasts>
+    requires { IsSeated place.old.views }
+    ensures table { result.table_id ≡ place.old.table_id }
+    ensures pasts { result.me ≡ (pasts_of_views place.old.views, []) }
+{
+    mem::replace(place, Badge::blank()).into_seat()
 }
 
 impl BootWords {
@@ -175,7 +186,10 @@ impl BootWords {
         ensures told { M.told result seat.new.pasts }
     {
         let at = self.index(word);
-        self.table.shared.load::<Tells<M>>(&mut seat.seat, at)
+        let mut taken = take(&mut seat.badge);
+        let found = self.table.shared.load::<Tells<M>>(&mut taken, at);
+        seat.badge = taken.into_badge();
+        found
     }
 
     /// Stores a word.
@@ -188,7 +202,9 @@ impl BootWords {
         ensures told { M.told new seat.new.pasts }
     {
         let at = self.index(word);
-        self.table.shared.store::<Tells<M>>(&mut seat.seat, at, new);
+        let mut taken = take(&mut seat.badge);
+        self.table.shared.store::<Tells<M>>(&mut taken, at, new);
+        seat.badge = taken.into_badge();
     }
 
     /// Stores a word, and returns the one that was there.
@@ -201,7 +217,10 @@ impl BootWords {
         ensures told { M.told result seat.new.pasts }
     {
         let at = self.index(word);
-        self.table.shared.swap::<Tells<M>>(&mut seat.seat, at, new)
+        let mut taken = take(&mut seat.badge);
+        let found = self.table.shared.swap::<Tells<M>>(&mut taken, at, new);
+        seat.badge = taken.into_badge();
+        found
     }
 
     /// Stores `new` if `old` is there. Either way it returns the word that was there.
@@ -220,9 +239,13 @@ impl BootWords {
         ensures told { M.told result seat.new.pasts }
     {
         let at = self.index(word);
-        self.table
+        let mut taken = take(&mut seat.badge);
+        let found = self
+            .table
             .shared
-            .compare_exchange::<Tells<M>>(&mut seat.seat, at, old, new)
+            .compare_exchange::<Tells<M>>(&mut taken, at, old, new);
+        seat.badge = taken.into_badge();
+        found
     }
 
     /// Subtracts one, and returns the word that was there.
@@ -235,9 +258,10 @@ impl BootWords {
         ensures told { M.told result seat.new.pasts }
     {
         let at = self.index(word);
-        self.table
-            .shared
-            .fetch_sub::<Tells<M>>(&mut seat.seat, at, 1)
+        let mut taken = take(&mut seat.badge);
+        let found = self.table.shared.fetch_sub::<Tells<M>>(&mut taken, at, 1);
+        seat.badge = taken.into_badge();
+        found
     }
 
     /// Moves all pasts of `other` to `seat`.
@@ -247,11 +271,12 @@ impl BootWords {
         ensures seat { seat.new ≡ record { table = self.now.table; pasts = seat.old.pasts ++ other.old.pasts } }
         ensures other { other.new ≡ record { table = self.now.table; pasts = [] } }
     {
-        let empty = PastSeat {
-            seat: self.table.shared.split_seat::<Nothing>(&mut seat.seat),
-        };
-        let PastSeat { seat: taken } = mem::replace(other, empty);
-        self.table.shared.join_seat::<Both>(&mut seat.seat, taken);
+        let mut joined = take(&mut seat.badge);
+        let empty = self.table.shared.split_seat::<Nothing>(&mut joined);
+        let taken = take(&mut other.badge);
+        other.badge = empty.into_badge();
+        self.table.shared.join_seat::<Both>(&mut joined, taken);
+        seat.badge = joined.into_badge();
     }
 
     /// Moves all pasts of `seat` but the first to a new seat.
@@ -261,9 +286,40 @@ impl BootWords {
         ensures seat { seat.new ≡ record { table = self.now.table; pasts = first_alone seat.old.pasts } }
         ensures others { result ≡ record { table = self.now.table; pasts = rest_of seat.old.pasts } }
     {
+        let mut taken = take(&mut seat.badge);
+        let others = self.table.shared.split_seat::<Others>(&mut taken);
+        seat.badge = taken.into_badge();
         PastSeat {
-            seat: self.table.shared.split_seat::<Others>(&mut seat.seat),
+            badge: others.into_badge(),
         }
+    }
+
+    /// Loads a word by the seat that has the pasts of both. Each has a past of its own before and afterwards.
+    #[inline(always)]
+    pub(crate) fn load_together<M: Telling>(
+        &self,
+        seat: &mut PastSeat,
+        other: &mut PastSeat,
+        word: Word,
+    ) -> u64
+        requires tables { (seat.old.table ≡ self.now.table) × (other.old.table ≡ self.now.table) }
+        requires place { IsInTable (zone_of_boot self.now) word }
+        requires may { MayChange (zone_of_boot self.now) (seat.old.pasts ++ other.old.pasts) word (λ n. n) M.told }
+        ensures { IsParted M.told self.now.table result seat.new other.new }
+    {
+        let at = self.index(word);
+        let mut joined = take(&mut seat.badge);
+        self.table
+            .shared
+            .join_seat::<Both>(&mut joined, take(&mut other.badge));
+        let found = self.table.shared.load::<Tells<M>>(&mut joined, at);
+        other.badge = self
+            .table
+            .shared
+            .split_seat::<Others>(&mut joined)
+            .into_badge();
+        seat.badge = joined.into_badge();
+        found
     }
 
     /// A table of zeros, and one seat that has all pasts.
@@ -286,7 +342,8 @@ impl BootWords {
             frames,
             cpus,
         };
-        Ok((words, PastSeat { seat }))
+        let badge = seat.into_badge();
+        Ok((words, PastSeat { badge }))
     }
 
     /// Ends the table, of which `seat` is one seat.
@@ -301,7 +358,7 @@ impl BootWords {
             frames: _,
             cpus: _,
         } = self;
-        let PastSeat { seat } = seat;
-        table.close_with(seat)
+        let PastSeat { badge } = seat;
+        table.close_with(badge.into_seat())
     }
 }

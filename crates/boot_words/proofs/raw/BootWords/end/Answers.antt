@@ -1,8 +1,8 @@
-use Rattle.std.proofs.Common.{◌≡◌, ◌∙◌, ap, subst, List}
+use Rattle.std.proofs.Common.{◌≡◌, ◌∙◌, ap, sym, subst, List}
 use Rattle.std.specs.Slots.{slots_items}
 use Rattle.step_rules.specs.State.{Zone}
 use Rattle.boot_words.specs.declared.past.Past.{Past}
-use Rattle.boot_words.specs.Seats.{zone_of_boot}
+use Rattle.boot_words.specs.Seats.{pasts_of_views, zone_of_boot}
 use Rattle.boot_words.specs.Closed.{IsEndOfRun}
 use Rattle.boot_words.proofs.Closing.{end_of_run}
 use Rattle.boot_words.proofs.raw.BootWords.end.Goals as goal
@@ -13,4 +13,4 @@ returns-clause-end c =
     let laid = c.self.invariant in
     let zone : record { frames = c.self.inside.table.shared.key.frames; cpus = c.self.inside.table.shared.key.cpus } ≡ zone_of_boot c.args.self
     = λ i. record { frames = (laid.frames_are ∙ ap (λ t. t.frames) c.self.view_is) i; cpus = (laid.cpus_are ∙ ap (λ t. t.cpus) c.self.view_is) i } in
-    subst (λ (y : Zone × List Past). IsEndOfRun y.0 (slots_items c.close_with.result.words) y.1) (λ i. (zone i, ap (λ r. r.pasts) c.seat.view_is i)) (end_of_run _ _ _ _ _ final)
+    subst (λ (y : Zone × List Past). IsEndOfRun y.0 (slots_items c.close_with.result.words) y.1) (λ i. (zone i, (sym (ap pasts_of_views c.into_seat.ensures.2) ∙ ap (λ r. r.pasts) c.seat.view_is) i)) (end_of_run _ _ _ _ _ final)

@@ -1,18 +1,25 @@
-use Rattle.std.proofs.Common.{◌++◌, ap, sym, ◌∙◌, subst}
-use Rattle.boot_words.specs.Pasts.{KnownPasts}
-use Rattle.boot_words.specs.Cpus.{IsAwayCpu}
-use Rattle.boot_words.proofs.SeenSame.{meet_knows, meets}
+use Rattle.std.proofs.Common.{ap, sym, subst}
+use Rattle.boot_words.specs.Pasts.{KnownPasts, Meets}
+use Rattle.boot_words.specs.Cpus.{IsAwayCpu, KnownCpuSeat}
+use Rattle.boot_words.proofs.SeenSame.{meets, met_away}
 use Rattle.boot_words.proofs.raw.BootWords.meet.Goals as goal
 
-pub load-requires-clause-may : goal.load-requires-clause-may
-load-requires-clause-may c =
-    let seat = ap (λ k. k.seat) c.cpu.view_is in
-    meets c.args.self.now c.args.zone.now c.args.cpu.now.seat c.join.new.seat c.requires.zone c.requires.cpu.past c.requires.free
-    (ap (λ s. s.pasts) c.join.ensures.seat ∙ ap (λ (s : KnownPasts). c.args.zone.now.pasts ++ s.pasts) seat)
+pub load_together-requires-clause-may : goal.load_together-requires-clause-may
+load_together-requires-clause-may c =
+    meets c.args.self.now c.args.zone.now c.cpu.inside.past c.requires.zone (subst (IsAwayCpu c.args.self.now) (sym c.cpu.view_is) c.requires.cpu).past c.requires.free
+
+pub returns-clause-run : goal.returns-clause-run
+returns-clause-run c =
+    let t = c.args.self.now in
+    let zone = c.load_together.new.seat in
+    let cpu = c.load_together.new.other in
+    let inside : KnownCpuSeat = record { seat = c.cpu.inside.past; number = c.cpu.inside.number; last = c.cpu.inside.last } in
+    subst (λ (k : KnownCpuSeat). Meets t c.args.zone.now k.seat zone cpu) c.cpu.view_is
+    (met_away t c.args.zone.now zone inside cpu c.load_together.result c.requires.zone (subst (IsAwayCpu t) (sym c.cpu.view_is) c.requires.cpu) c.load_together.ensures).0
 
 pub returns-clause-cpu : goal.returns-clause-cpu
 returns-clause-cpu c =
     let t = c.args.self.now in
-    let is : IsAwayCpu t (record { seat = c.cpu.inside.past; number = c.cpu.inside.number; last = c.cpu.inside.last }) = subst (IsAwayCpu t) (sym c.cpu.view_is) c.requires.cpu in
-    meet_knows t c.args.zone.now (record { seat = c.cpu.inside.past; number = c.cpu.inside.number; last = c.cpu.inside.last }) c.join.new.seat c.split_others.result c.load.new.seat.pasts c.load.result
-    c.requires.zone is (ap (λ s. s.pasts) c.join.ensures.seat) c.load.ensures.told c.split_others.ensures.others
+    let inside : KnownCpuSeat = record { seat = c.cpu.inside.past; number = c.cpu.inside.number; last = c.cpu.inside.last } in
+    (met_away t c.args.zone.now c.load_together.new.seat inside c.load_together.new.other c.load_together.result c.requires.zone
+    (subst (IsAwayCpu t) (sym c.cpu.view_is) c.requires.cpu) c.load_together.ensures).1
