@@ -18,7 +18,7 @@ static void ask(uint8_t status, const char *what) {
 int main(void) {
     const tempolemon_sizes sizes = {.frames = 64, .cpus = 2, .batch = 4, .high = 8, .stock = 4};
     tempolemon_report report;
-    uint8_t status, text[160];
+    uint8_t status, text[256];
 
     ask(tempolemon_boot(&sizes, &host), "boot");
     ask(tempolemon_mkdir(&host, 1, BYTES("/web"), &result), "mkdir");

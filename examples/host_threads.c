@@ -179,7 +179,7 @@ int main(int count, char **words) {
     for (uint32_t number = 1; number <= threads; number++) begin(number, seed);
 
     /* the administrator: lowers a limit, and reads what is used */
-    char text[160];
+    char text[256];
     need(tempolemon_on_write(&control, "/t1", 3, "memory.max", 10, "512K", 4, &result), "write");
     need(tempolemon_on_read(&control, "/t1", 3, "memory.current", 14, text, sizeof text, &result), "read");
     if (tempolemon_zone_end(&zone, &report) != TEMPOLEMON_CPUS_OUT) return EXIT_FAILURE; /* nothing was done */

@@ -192,7 +192,7 @@ uint8_t tempolemon_write(tempolemon_handle *handle, uint32_t cpu, const uint8_t 
 /* Reads a file of the group of this path: TEXT with the length of the text, which is written at the start of the buffer. The
  * text doesn't end with a null byte.
  *
- *   SMALL_BUFFER  `room` is below 160, the most that a file's text has; this is tested before all else, and nothing was done
+ *   SMALL_BUFFER  `room` is below 256, the most that a file's text has; this is tested before all else, and nothing was done
  *
  * Unless the kind is TEXT, the buffer is unchanged.
  */

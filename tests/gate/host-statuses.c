@@ -41,13 +41,13 @@ static void live(void) {
     tempolemon_handle host = {0};
     tempolemon_result result;
     tempolemon_report report;
-    uint8_t buffer[160] = {0};
+    uint8_t buffer[256] = {0};
     size_t written = 77, first_bad;
     low_high.high = 3;
 
     is("an end of none", tempolemon_end(&host, &report), TEMPOLEMON_NOT_LIVE);
     is("a call of none", tempolemon_get(&host, 1, 0, &result), TEMPOLEMON_NOT_LIVE);
-    is("an answer of none", tempolemon_answer(&host, buffer, 160, &written), TEMPOLEMON_NOT_LIVE);
+    is("an answer of none", tempolemon_answer(&host, buffer, 256, &written), TEMPOLEMON_NOT_LIVE);
     is("its length", written != 0, 0);
     is("a short buffer of none", tempolemon_read(&host, 1, BYTES("/a"), BYTES("memory.max"), buffer, 10, &result),
        TEMPOLEMON_SMALL_BUFFER);
@@ -62,12 +62,12 @@ static void live(void) {
     is("group 64", tempolemon_alloc(&host, 1, 64, 0, &result), TEMPOLEMON_BAD_GROUP);
     is("CPU 3 and frame 16", tempolemon_get(&host, 3, 16, &result), TEMPOLEMON_BAD_CPU);
     is("CPU 3 and group 64", tempolemon_alloc(&host, 3, 64, 0, &result), TEMPOLEMON_BAD_CPU);
-    for (size_t room = 0; room < 160; room++)
+    for (size_t room = 0; room < 256; room++)
         is("a short buffer", tempolemon_read(&host, 1, BYTES("/a"), BYTES("memory.max"), buffer, room, &result),
            TEMPOLEMON_SMALL_BUFFER);
     is("a refusal", tempolemon_put(&host, 1, 0, &result), 21);
     is("its kind", result.kind, TEMPOLEMON_REFUSED);
-    is("a bad line", tempolemon_command(&host, false, BYTES("3 settle\n"), buffer, 160, &written, &first_bad),
+    is("a bad line", tempolemon_command(&host, false, BYTES("3 settle\n"), buffer, 256, &written, &first_bad),
        TEMPOLEMON_BAD_LINE);
     is("an unread answer", tempolemon_command(&host, false, BYTES("1 mkdir /a\n"), buffer, 7, &written, &first_bad),
        TEMPOLEMON_SMALL_BUFFER);

@@ -18,7 +18,7 @@ static void is(const char *what, unsigned long given, unsigned long wanted) {
 
 /* Each typed call on the CPU handle returns this. */
 static void all_are(const char *what, tempolemon_cpu *cpu, uint8_t wanted) {
-    char text[200];
+    char text[300];
     size_t written;
     const uint8_t given[] = {
         tempolemon_on_get(cpu, 0, &result), tempolemon_on_put(cpu, 0, &result),
@@ -88,7 +88,7 @@ static void refusals(void) {
 
     is("mkdir", tempolemon_on_mkdir(&one, "/a", 2, &result), TEMPOLEMON_DONE);
     const uint32_t group = (uint32_t)result.number;
-    is("a read of memory.reclaim", tempolemon_on_read(&one, "/a", 2, "memory.reclaim", 14, text, 160, &result), 22);
+    is("a read of memory.reclaim", tempolemon_on_read(&one, "/a", 2, "memory.reclaim", 14, text, 256, &result), 22);
     is("its kind", result.kind, TEMPOLEMON_REFUSED);
     is("a short text", tempolemon_on_show(&one, text, 3, &written), TEMPOLEMON_SMALL_BUFFER);
     const size_t needed = written;
@@ -167,9 +167,9 @@ static void free_lock(void) {
         FREE_AFTER(tempolemon_try_write(&one.part, (const uint8_t *)"/a", 2, (const uint8_t *)"memory.max", 10,
                                         (const uint8_t *)"64K", 3, &result));
         FREE_AFTER(tempolemon_try_read(&one.part, (const uint8_t *)"/a", 2, (const uint8_t *)"memory.max", 10,
-                                       (uint8_t *)text, 160, &result));
+                                       (uint8_t *)text, 256, &result));
         FREE_AFTER(tempolemon_try_read(&one.part, (const uint8_t *)"/b", 2, (const uint8_t *)"memory.max", 10,
-                                       (uint8_t *)text, 160, &result));
+                                       (uint8_t *)text, 256, &result));
         FREE_AFTER(tempolemon_try_touch(&one.part, frame, &result));
         FREE_AFTER(tempolemon_try_dirty(&one.part, frame, &result));
         FREE_AFTER(tempolemon_try_clean(&one.part, frame, &result));

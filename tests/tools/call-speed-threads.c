@@ -200,9 +200,9 @@ int main(int count, char **words) {
         measure("alloc and release", alloc_and_release, threads, rounds);
     for (int threads = 1; threads <= 4; threads *= 4)
         measure("alloc and release, old handle under a mutex", old_alloc_and_release, threads, rounds);
-    for (int threads = 1; threads <= 4; threads *= 4) measure("malloc and free", malloc_and_free, threads, rounds);
-    for (int threads = 1; threads <= 4; threads *= 4) measure("64 pages", many_pages, threads, rounds / 64);
-    for (int threads = 1; threads <= 4; threads *= 4) measure("64 mallocs", malloc_many, threads, rounds / 64);
+    for (int threads = 1; threads <= 4; threads *= 2) measure("malloc and free", malloc_and_free, threads, rounds);
+    for (int threads = 1; threads <= 4; threads *= 2) measure("64 pages", many_pages, threads, rounds / 64);
+    for (int threads = 1; threads <= 4; threads *= 2) measure("64 mallocs", malloc_many, threads, rounds / 64);
     for (int threads = 1; threads <= MOST_THREADS; threads *= 2) measure("settle", settle, threads, rounds);
     for (int threads = 1; threads <= MOST_THREADS; threads *= 2)
         measure("alloc, settle and release", alloc_settle_and_release, threads, rounds);

@@ -46,7 +46,7 @@ static void write_limit(void) {
 }
 
 static void read_usage(void) {
-    uint8_t text[160];
+    uint8_t text[256];
     ask(tempolemon_read(&host, 1, BYTES("/a"), BYTES("memory.current"), text, sizeof text, &result), "read");
 }
 

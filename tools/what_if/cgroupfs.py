@@ -48,8 +48,9 @@ def read(path, _):
             kinds = values_of({key: int(word) for key, word in stat.items() if word.isdigit()},
                               int(current) if current and current.isdigit() else None)
             limit = files.get("memory.max", files.get("memory.limit_in_bytes", "max"))
+            bounds = {"limit": limit, "high": files.get("memory.high", "max")} if kinds else {}
             lacking |= {group} if "usage" in kinds else set()
-            for kind, value in [*kinds.items(), *([("limit", int(limit))] if limit.isdigit() and kinds else [])]:
+            for kind, value in [*kinds.items(), *((kind, int(word)) for kind, word in bounds.items() if word.isdigit())]:
                 yield Series(kind, {"path": group}, [(seconds, value)])
     if lacking:
         note(f"{len(lacking)} groups have no memory.stat, {min(lacking)} first: memory.current is counted as anonymous")

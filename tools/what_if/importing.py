@@ -5,7 +5,7 @@ from . import cgroupfs, grafana, prometheus, rows
 from .amounts import Fault, note, read_amount
 from .prepare import filled, not_cumulative, read_names, renamed
 from .series import KIND_NAMES, usage_of
-from .usage import HEADER
+from .usage import HEADER, HIGH_HEADER
 
 # The reader of each format, and whether a value counts all groups below.
 FORMATS = {"prometheus": (prometheus.read, True), "grafana": (grafana.read, True), "cgroupfs": (cgroupfs.read, True),
@@ -20,12 +20,14 @@ def split_kind(word):
 
 def usage_lines(usage):
     """The lines of a usage."""
-    yield ",".join(HEADER)
-    for seconds, amounts, limits in usage.samples:
+    has_high = any(high is not None for sample in usage.samples for high in sample.highs.values())
+    yield ",".join(HIGH_HEADER if has_high else HEADER)
+    for seconds, amounts, limits, highs in usage.samples:
         found = {**amounts, **({"/": amounts.get("/", (0, 0))} if usage.host else {})}
         for group, (anon, file) in sorted(found.items()):
             limit = usage.host if group == "/" else limits.get(group)
-            yield f"{seconds:.3f},{group},{anon},{file},{'max' if limit is None else limit}"
+            bounds = [limit, highs.get(group)] if has_high else [limit]
+            yield ",".join([f"{seconds:.3f},{group},{anon},{file}", *("max" if one is None else str(one) for one in bounds)])
 
 
 def import_lines(options):

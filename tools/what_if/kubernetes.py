@@ -1,14 +1,17 @@
-"""Pods as `kubectl get pods -o json` writes them: their limits, and the names that long ids stand for."""
+"""Pods as `kubectl get pods -o json` writes them: their limits, memory.high, and the names that long ids stand for."""
 import decimal
 import json
 import re
 import shlex
 
-from .amounts import Fault
+from .amounts import Fault, read_amount
 from .files import read_json
 
 POWERS = {"": 1, "m": decimal.Decimal("0.001"), **{unit: 1000 ** power for power, unit in enumerate("kMGTPE", 1)},
           **{f"{unit}i": 1024 ** power for power, unit in enumerate("KMGTPE", 1)}}
+PAGE = 4096
+HIGH_HEAD = ("# memory.high in bytes by the formula of MemoryQoS in Kubernetes 1.27: request + 0.9 * (limit - request),"
+             f" rounded down to pages of {PAGE}")
 
 
 def quantity(word):
@@ -43,7 +46,21 @@ def pod_limit(spec):
     return max([sum(limits), *init]) + quantity(spec.get("overhead", {}).get("memory", "0"))
 
 
-def limits_of(pod):
+def high_lines(group, limit, request, node):
+    """The line of a container's memory.high, or the comment why it has none. A Guaranteed one has neither."""
+    lacks = ("it has no request and no limit" if limit is None and request is None else
+             "it has no limit, and --node isn't given" if limit is None and node is None else
+             "its request isn't below --node" if limit is None and request >= node else None)
+    if lacks:
+        return [f"# left out, since {lacks}: memory.high of {group}"]
+    # Kubernetes gives a container that has a limit alone that limit as its request.
+    request = limit if request is None else request
+    limit = node if limit is None else limit
+    high = (10 * request + 9 * (limit - request)) // (10 * PAGE) * PAGE
+    return [f"{group} high {high}"] if high > request else []
+
+
+def limits_of(pod, has_high, node):
     """The lines of limits.txt for the groups of a pod. What the program lacks is a comment."""
     name, lacks = pod["metadata"]["name"], []
     whole = pod_limit(pod["spec"])
@@ -52,16 +69,20 @@ def limits_of(pod):
     for container in pod["spec"]["containers"]:
         limit, request = (memory_of(container, kind) for kind in ("limits", "requests"))
         yield f"/{name}/{container['name']} {'max' if limit is None else limit}"
+        yield from high_lines(f"/{name}/{container['name']}", limit, request, node) if has_high else []
         lacks += [] if request is None else [f"{container['name']} {request}"]
     if lacks:
-        yield f"# left out, since memcg has no memory.min and no memory.high: requests of /{name}: {', '.join(lacks)}"
+        yield f"# left out, since memcg has no memory.min: requests of /{name}: {', '.join(lacks)}"
 
 
-def limit_lines(path):
-    """The lines of limits.txt for all pods, whose groups are /POD/CONTAINER."""
+def limit_lines(path, has_high, node):
+    """The lines of limits.txt for all pods, whose groups are /POD/CONTAINER; with memory.high if that is wanted."""
+    if node is not None and not has_high:
+        raise Fault("--node goes with --memory-qos")
+    node = None if node is None else read_amount(node)
     pods = pods_of(path, read_json(path))
     try:
-        return [line for pod in pods for line in limits_of(pod)]
+        return [HIGH_HEAD] * has_high + [line for pod in pods for line in limits_of(pod, has_high, node)]
     except (KeyError, TypeError, AttributeError) as fault:
         raise Fault(f"{path}: a pod isn't as kubectl writes it: {fault}") from None
 

@@ -7,7 +7,7 @@ import signal
 import time
 
 from .amounts import Fault, amount_text, note
-from .usage import HEADER
+from .usage import HEADER, HIGH_HEADER
 
 MOUNT = "/sys/fs/cgroup"
 
@@ -47,6 +47,8 @@ def check_folder(folder):
 class Groups:
     """The groups of cgroup v2 at some folders and below them."""
 
+    header = HIGH_HEADER
+
     def __init__(self, folders):
         for folder in folders:
             check_folder(folder)
@@ -61,7 +63,7 @@ class Groups:
         return "/" if names == ["."] else "/" + "/".join(map(name_of, names))
 
     def sample(self):
-        """Of each group what it has of its own, (anon, file, limit)."""
+        """Of each group what it has of its own, (anon, file, limit, high)."""
         rows = {}
         for folder in self.folders:
             whole = {}  # of each group with all below it
@@ -74,7 +76,7 @@ class Groups:
                 whole[place] = anon + shared, file - shared
                 below = [whole[f"{place}/{name}"] for name in names if f"{place}/{name}" in whole]
                 own = [max(0, of_all - sum(of)) for of_all, of in zip(whole[place], zip(*below, (0, 0)))]
-                rows[path] = (*own, (text_of(f"{place}/memory.max") or "max").strip())
+                rows[path] = (*own, *((text_of(f"{place}/memory.{name}") or "max").strip() for name in ("max", "high")))
                 self.see(path, place)
             current = int(text_of(f"{folder}/memory.current") or 0)
             self.most_other = max(self.most_other, current - sum(whole.get(folder, (current,))))
@@ -91,13 +93,15 @@ class Groups:
             yield (f"at most {amount_text(self.most_other)} of memory.current was neither anon nor file, and isn't "
                    "recorded")
         for path, (first, last) in sorted(self.events.items()):
-            more = {key: last.get(key, 0) - first.get(key, 0) for key in ("max", "oom_kill")}
+            more = {key: last.get(key, 0) - first.get(key, 0) for key in ("high", "max", "oom_kill")}
             if any(more.values()):
-                yield f"{path}: max {more['max']}, oom_kill {more['oom_kill']} while it was recorded"
+                yield f"{path}: high {more['high']}, max {more['max']}, oom_kill {more['oom_kill']} while it was recorded"
 
 
 class Processes:
     """Processes and all that descend from them."""
+
+    header = HEADER
 
     def __init__(self, pids):
         self.tops = {}
@@ -147,14 +151,13 @@ def rows_text(seconds, rows):
 
 def sample_until(source, file, every, last):
     """Writes samples until nothing is left, the time is over, or Ctrl-C. Returns their number, and the groups."""
-    host = {"/": (0, 0, numbers_of("/proc/meminfo")["MemTotal"] * 1024)}
+    bounds = numbers_of("/proc/meminfo")["MemTotal"] * 1024, *["max"] * (source.header == HIGH_HEADER)
     begin, count, groups = time.monotonic(), 0, set()
     try:
         rows = source.sample()
         while rows:
             seconds = time.monotonic() - begin
-            host["/"] = (*rows.get("/", (0, 0))[:2], host["/"][2])
-            file.write(rows_text(seconds, {**rows, **host}))
+            file.write(rows_text(seconds, {**rows, "/": (*rows.get("/", (0, 0))[:2], *bounds)}))
             count += 1
             groups |= set(rows)
             if last is not None and seconds + every > last:
@@ -179,7 +182,7 @@ def record(options):
     signal.signal(signal.SIGTERM, interrupt)
     try:
         with open(options.out, "wb", buffering=0) as file:
-            file.write(",".join(HEADER).encode() + b"\n")
+            file.write(",".join(source.header).encode() + b"\n")
             count, groups = sample_until(source, file, options.every / 1000, options.seconds)
     except OSError as fault:
         raise Fault(f"{options.out}: {fault.strerror}") from None

@@ -18,13 +18,20 @@ class Group:
     def __init__(self, path):
         self.path, self.node = path, to_node(path)
         self.anon, self.file = [], []
-        self.limit, self.death = None, None
+        self.limit, self.high, self.death = None, None, None
         self.times_without_room, self.first_without_room = 0, None
+        # How many charges would have exceeded memory.high, when first, and for how long the usage was above it.
+        self.times_over, self.first_over, self.seconds_above = 0, None, 0.0
         self.kills = self.times_away = 0
         # Which file pages were touched last, and how often without a reclaim since.
         self.touched, self.touches = [], 0
         # With all groups below: what is used, at most was used, was reclaimed, and was read of files.
         self.usage = self.peak = self.reclaimed = self.read = 0
+
+
+def bounds_of(group):
+    """The limit of a group and its memory.high, if it has them."""
+    return [bound for bound in (group.limit, group.high) if bound is not None]
 
 
 class Replay:
@@ -37,7 +44,7 @@ class Replay:
         self.ups = {path: [self.groups[above] for above in path_up(path)] for path in usage.groups}
         self.places = {}  # of each frame of a file's page: its group, and which of its pages it is
         self.deaths, self.seconds = [], 0.0
-        self.reclaims = {}  # of the paths of a limit and of a group: the first and last second, and the frames
+        self.reclaims = {}  # of a limit or memory.high and of a group: the first and last second, and the frames
         for answer in session.ask(self.lines_of_new(self.groups.values())):
             if not (answer[0].startswith("group ") or answer[0] == "ok"):
                 raise Fault(f"{session.memcg} answered '{answer[0]}' to a new group: is that Tempolemon's memcg? "
@@ -46,12 +53,15 @@ class Replay:
 
     def play(self, sample):
         """A sample: limits that changed, then what became less, then what became more, then what is used."""
+        self.count_above(sample.seconds - self.seconds)
         self.seconds = sample.seconds
         self.session.comment(f"# {seconds_text(sample.seconds)}")
         if self.restart is not None:
             self.revive()
         for path, limit in sorted(sample.limits.items()):
             self.set_limit(self.groups[path], limit)
+        for path, high in sorted(sample.highs.items()):
+            self.set_high(self.groups[path], high)
         wanted = [(group, *sample.amounts.get(group.path, (0, 0))) for group in self.groups.values()]
         for group, anon, file in wanted:
             if anon < len(group.anon):
@@ -65,42 +75,58 @@ class Replay:
 
     def note(self, answer, asker):
         """Takes over what the explanation of a line says."""
-        limit = self.groups["/"]
+        limit, bound = self.groups["/"], "max"
         for words in (line.split(" ") for line in answer[1:]):
             if words[1] == "limit":
-                limit = self.groups[from_node(words[2])]
+                limit, bound = self.groups[from_node(words[2])], "max"
                 limit.times_without_room += 1
                 if limit.first_without_room is None:
                     limit.first_without_room = self.seconds
+            elif words[1] == "high":
+                limit, bound = self.groups[from_node(words[2])], "high"
+                if words[-1] != "0":
+                    self.count_over(limit)
             elif words[1] == "round":
                 for group in self.groups.values():
                     group.touches = 0
             elif words[1] == "reclaimed" and words[-1] == "frames":
-                self.look_for_units(limit)
+                self.look_for_units(limit, bound)
             elif words[1] == "reclaimed":
                 first, _, last = words[3].partition("-")
-                self.lose(range(int(first), int(last or first) + 1), limit)
+                self.lose(range(int(first), int(last or first) + 1), limit, bound)
             elif words[1] == "oom":
                 limit = self.groups[from_node(words[2])]
             elif words[1] == "killed":
                 self.bury(self.groups[from_node(words[2])], limit, asker, answer)
 
-    def lose(self, frames, limit):
-        """Frames of files' pages were reclaimed for a limit."""
+    def count_over(self, group):
+        """A charge would have exceeded memory.high."""
+        group.times_over += 1
+        if group.first_over is None:
+            group.first_over = self.seconds
+
+    def count_above(self, seconds):
+        """The groups whose usage is above memory.high were so for so long."""
+        for group in self.groups.values():
+            if group.high is not None and group.usage > group.high:
+                group.seconds_above += seconds
+
+    def lose(self, frames, limit, bound):
+        """Frames of files' pages were reclaimed for a group's limit ("max") or its memory.high ("high")."""
         for frame in frames:
             group, at = self.places.pop(frame)
             group.file[at] = None
             self.count(group, -1)
             for above in self.ups[group.path]:
                 above.reclaimed += 1
-            first, _, before = self.reclaims.get((limit.path, group.path), (self.seconds, None, 0))
-            self.reclaims[limit.path, group.path] = (first, self.seconds, before + 1)
+            first, _, before = self.reclaims.get((limit.path, bound, group.path), (self.seconds, None, 0))
+            self.reclaims[limit.path, bound, group.path] = (first, self.seconds, before + 1)
 
-    def look_for_units(self, limit):
+    def look_for_units(self, limit, bound):
         """An explanation didn't name all frames that were reclaimed: the groups are asked for those that they have."""
         answers = self.session.ask([f"1 units {group.node}" for group in self.groups.values()])
         there = {int(line.split(" ")[0]) for answer in answers for line in answer if line != "none"}
-        self.lose([frame for frame in self.places if frame not in there], limit)
+        self.lose([frame for frame in self.places if frame not in there], limit, bound)
 
     def bury(self, group, limit, asker, answer):
         """A group died, and what it had was freed. One that died for lack of its first page may be killed later too."""
@@ -127,7 +153,8 @@ class Replay:
         """The lines that make groups, and write what they have of settings."""
         return [*(f"1 mkdir {group.node}" for group in groups),
                 *(f"1 write {group.node} memory.oom.group 1" for group in groups if group.path in self.flags),
-                *(f"1 write {group.node} memory.max {4096 * group.limit}" for group in groups if group.limit is not None)]
+                *(f"1 write {group.node} memory.max {4096 * group.limit}" for group in groups if group.limit is not None),
+                *(f"1 write {group.node} memory.high {4096 * group.high}" for group in groups if group.high is not None)]
 
     def revive(self):
         """Killed groups whose time has come are made anew, each with all below it if nothing there lives."""
@@ -149,8 +176,18 @@ class Replay:
         """A limit is written if it is another one."""
         if limit != group.limit:
             group.limit = limit
-            value = "max" if limit is None else 4096 * limit
-            self.note(self.session.ask([f"1 write {group.node} memory.max {value}"])[0], None)
+            self.write(group, "memory.max", limit)
+
+    def set_high(self, group, high):
+        """A memory.high is written if it is another one."""
+        if high != group.high:
+            group.high = high
+            self.write(group, "memory.high", high)
+
+    def write(self, group, file, frames):
+        """A file of a group is written; None is no limit."""
+        value = "max" if frames is None else 4096 * frames
+        self.note(self.session.ask([f"1 write {group.node} {file} {value}"])[0], None)
 
     def fall(self, group, pages, wanted):
         """The newest pages are released, until no more are there than wanted."""
@@ -162,7 +199,7 @@ class Replay:
         self.count(group, -len(gone))
 
     def grow(self, wanted):
-        """Groups grow to so many pages of each kind: together if no limit can lack room, and else one after the other."""
+        """Groups grow to so many pages of each kind: together if no limit or memory.high can lack room, and else one after the other."""
         growths, more = [], dict.fromkeys(self.groups, 0)
         for group, anon, file in wanted:
             self.forget_reclaimed(group)
@@ -171,7 +208,7 @@ class Replay:
                 growths.append(growth)
                 for above in self.ups[group.path]:
                     more[above.path] += growth[1] + growth[2]
-        if all(group.limit is None or group.usage + more[path] <= group.limit for path, group in self.groups.items()):
+        if all(group.usage + more[path] <= bound for path, group in self.groups.items() for bound in bounds_of(group)):
             self.grow_with_room(growths)
             return
         for group, anon, file in wanted:
@@ -213,7 +250,7 @@ class Replay:
 
     def room(self, group):
         """How many frames the group may have without any reclaim."""
-        return min(above.limit - above.usage for above in self.ups[group.path] if above.limit is not None)
+        return min(bound - above.usage for above in self.ups[group.path] for bound in bounds_of(above))
 
     def grow_anon(self, group, count):
         """So many pages more are allocated, and each is dirty before a line could reclaim it."""

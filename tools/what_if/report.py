@@ -6,6 +6,8 @@ from .paths import NODE
 from .usage import greatest_wanted
 
 COLUMNS = ["group", "wanted", "usage", "limit", "no room", "reclaimed", "died"]
+# Those of a report in which some group has a memory.high, behind "limit".
+HIGH_COLUMNS = ["high", "over", "above"]
 # The words of an explanation behind which the program's bytes stand, of which a frame has 4,096.
 AMOUNTS = ("usage", "need", "bytes")
 
@@ -28,11 +30,22 @@ def first_deaths(replay):
     return {death.group.path: death for death in reversed(replay.deaths)}
 
 
-def group_row(group, wanted, size, death, is_restarted):
+def in_bytes(bound, size):
+    """The bytes of a limit in frames."""
+    return None if bound is None else bound * size
+
+
+def has_high(replay):
+    """Whether a group has or exceeded a memory.high."""
+    return any(group.high is not None or group.times_over for group in replay.groups.values())
+
+
+def group_row(group, wanted, size, death, is_high, is_restarted):
     """A group's row."""
     kills = [str(group.kills)] if is_restarted else []
+    highs = [limit_text(in_bytes(group.high, size)), str(group.times_over), seconds_text(group.seconds_above)] if is_high else []
     return [path_text(group.path), amount_text(wanted * size), amount_text(group.peak * size),
-            limit_text(None if group.limit is None else group.limit * size), str(group.times_without_room),
+            limit_text(in_bytes(group.limit, size)), *highs, str(group.times_without_room),
             amount_text(group.reclaimed * size), *kills, death_text(death)]
 
 
@@ -40,7 +53,7 @@ def explanation(line, size):
     """A line of an explanation with the recorded paths and the bytes that frames stand for."""
     words = line.split(" ")
     for at in range(2, len(words)):
-        is_limit = words[1] == "limit" and at == 3
+        is_limit = words[1] in ("limit", "high") and at == 3
         if words[at].isdigit() and (is_limit or words[at - 1] in AMOUNTS):
             words[at] = str(int(words[at]) // 4096 * size)
         elif words[at] == NODE or words[at].startswith(NODE + "/"):
@@ -64,15 +77,19 @@ def death_lines(deaths, size):
 
 
 def room_lines(replay, size):
-    """When each limit had no room first, and what was reclaimed of whom for it."""
-    for limit in sorted((group for group in replay.groups.values() if group.times_without_room),
-                        key=lambda group: (group.first_without_room, group.path)):
+    """When each limit and memory.high had no room first, and what was reclaimed of whom for it."""
+    groups = replay.groups.values()
+    found = [(group.first_without_room, group.path, "max", f"the limit of {group.path} first had no room, "
+              f"{group.times_without_room} times in all") for group in groups if group.times_without_room]
+    found += [(group.first_over, group.path, "high", f"a charge first would have exceeded memory.high of {group.path}, "
+               f"{group.times_over} in all; the usage was above it for {seconds_text(group.seconds_above)}")
+              for group in groups if group.times_over]
+    for seconds, path, bound, line in sorted(found):
         yield ""
-        yield (f"{seconds_text(limit.first_without_room)}: the limit of {limit.path} first had no room, "
-               f"{limit.times_without_room} times in all")
-        for (path, group), (first, last, frames) in sorted(replay.reclaims.items()):
-            if path == limit.path:
-                yield (f"    {amount_text(frames * size)} of file pages of {group} were reclaimed for it, "
+        yield f"{seconds_text(seconds)}: {line}"
+        for key, (first, last, frames) in sorted(replay.reclaims.items()):
+            if key[:2] == (path, bound):
+                yield (f"    {amount_text(frames * size)} of file pages of {key[2]} were reclaimed for it, "
                        f"from {seconds_text(first)} to {seconds_text(last)}")
 
 
@@ -110,10 +127,12 @@ def head_line(name, usage, size):
 def report(name, usage, size, replay):
     """The whole report, line by line."""
     wanted, deaths, is_restarted = greatest_wanted(usage), first_deaths(replay), replay.restart is not None
-    columns = [*COLUMNS[:-1], *(["kills"] if is_restarted else []), COLUMNS[-1]]
+    is_high = has_high(replay)
+    columns = [*COLUMNS[:4], *(HIGH_COLUMNS if is_high else []), *COLUMNS[4:-1], *(["kills"] if is_restarted else []),
+               COLUMNS[-1]]
     yield head_line(name, usage, size)
     yield ""
-    yield from table([columns, *(group_row(group, wanted[path], size, deaths.get(path), is_restarted)
+    yield from table([columns, *(group_row(group, wanted[path], size, deaths.get(path), is_high, is_restarted)
                                  for path, group in replay.groups.items())])
     yield from room_lines(replay, size)
     yield from death_lines(replay.deaths, size)
@@ -125,8 +144,10 @@ def report(name, usage, size, replay):
 def group_object(group, wanted, size, death):
     """A group as JSON has it."""
     return {"group": group.path, "wanted_bytes": wanted * size, "usage_bytes": group.peak * size,
-            "limit_bytes": None if group.limit is None else group.limit * size,
-            "times_without_room": group.times_without_room, "first_without_room_seconds": group.first_without_room,
+            "limit_bytes": in_bytes(group.limit, size), "times_without_room": group.times_without_room,
+            "first_without_room_seconds": group.first_without_room, "high_bytes": in_bytes(group.high, size),
+            "times_over_high": group.times_over, "first_over_high_seconds": group.first_over,
+            "seconds_above_high": group.seconds_above,
             "reclaimed_bytes": group.reclaimed * size, "kills": group.kills, "samples_away": group.times_away,
             "died_first_seconds": death and death.seconds, "died_first_by": death and death.limit.path}
 
@@ -141,5 +162,6 @@ def json_lines(name, usage, size, replay):
         "groups": [group_object(group, wanted[path], size, deaths.get(path)) for path, group in replay.groups.items()],
         "kills": [{"seconds": death.seconds, "group": death.group.path, "limit": death.limit.path,
                    "asker": death.asker and death.asker.path} for death in replay.deaths],
-        "reclaims": [{"limit": limit, "group": group, "first_seconds": first, "last_seconds": last, "bytes": frames * size}
-                     for (limit, group), (first, last, frames) in sorted(replay.reclaims.items())]})
+        "reclaims": [{"limit": limit, "file": f"memory.{bound}", "group": group, "first_seconds": first,
+                      "last_seconds": last, "bytes": frames * size}
+                     for (limit, bound, group), (first, last, frames) in sorted(replay.reclaims.items())]})

@@ -6,7 +6,7 @@ from .files import open_text
 from .series import Series, read_number, read_time
 
 COLUMNS = {"seconds": ("seconds", "time", "timestamp"), "group": ("group", "path", "pod", "name"), "rss": ("anon", "rss"),
-           "cache": ("file", "cache"), "limit": ("max", "limit")}
+           "cache": ("file", "cache"), "limit": ("max", "limit"), "high": ("high",)}
 
 
 def alternatives(words):
@@ -28,10 +28,10 @@ def places_of(titles):
 def row_series(row, places):
     """The series of a row, each with one value."""
     seconds = read_time(row[places["seconds"]])
-    for kind in ("rss", "cache", "limit"):
+    for kind in ("rss", "cache", "limit", "high"):
         word = row[places[kind]].strip() if kind in places else ""
         number = read_number(word)
-        if number is None and not (kind == "limit" and word in ("", *NO_LIMIT)):
+        if number is None and not (kind in ("limit", "high") and word in ("", *NO_LIMIT)):
             if kind in places:
                 raise Fault(f"'{word}' is no number of bytes")
         if number is not None:

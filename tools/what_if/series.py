@@ -117,12 +117,13 @@ def usage_of(series):
     host = max(found.get("/", {}).pop("host", {0: 0}).values()) or None
     samples = {}
     for path, kinds in sorted(found.items()):
-        limits, limit = kinds.pop("limit", {}), None
+        limits, highs, limit, high = kinds.pop("limit", {}), kinds.pop("high", {}), None, None
         for seconds in sorted(set.intersection(*map(set, kinds.values())) if kinds else ()):
-            limit = limits.get(seconds, limit)
-            sample = samples.setdefault(seconds, Sample(seconds, {}, {}))
+            limit, high = limits.get(seconds, limit), highs.get(seconds, high)
+            sample = samples.setdefault(seconds, Sample(seconds, {}, {}, {}))
             sample.amounts[path] = amount({kind: values[seconds] for kind, values in kinds.items()})
             sample.limits[path] = limit if limit and limit < 1 << 60 else None
+            sample.highs[path] = high
     if not samples:
         raise Fault("there is no value of any group")
     samples = [samples[seconds] for seconds in sorted(samples)]

@@ -32,12 +32,12 @@ def amounts(usage, host):
                "pages: are these KiB or MiB? anon and file are bytes")
 
 
-def small_limits(usage, limits, size):
-    """Limits below one frame."""
-    recorded = {group: limit for sample in usage.samples for group, limit in sample.limits.items()}
-    for group, limit in {**recorded, **limits}.items():
+def small_limits(name, recorded, given, size):
+    """Limits of this name below one frame."""
+    recorded = {group: limit for limits in recorded for group, limit in limits.items()}
+    for group, limit in {**recorded, **given}.items():
         if limit is not None and limit < size:
-            yield (f"the limit of {group}, {amount_text(limit)}, is less than a frame of {amount_text(size)}: it counts as "
+            yield (f"the {name} of {group}, {amount_text(limit)}, is less than a frame of {amount_text(size)}: it counts as "
                    "0; a smaller --frame or another unit (300M) may be meant")
 
 
@@ -58,9 +58,11 @@ def cumulative(usage):
                "too, --cumulative is due")
 
 
-def show(usage, host, size, limits, is_cumulative):
+def show(usage, host, size, limits, highs, is_cumulative):
     """Each sign as a line on standard error."""
-    for signs in (times(usage), amounts(usage, host), small_limits(usage, limits, size),
+    for signs in (times(usage), amounts(usage, host),
+                  small_limits("limit", (sample.limits for sample in usage.samples), limits, size),
+                  small_limits("memory.high", (sample.highs for sample in usage.samples), highs, size),
                   () if is_cumulative else cumulative(usage)):
         for sign in signs:
             note(sign)

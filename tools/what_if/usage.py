@@ -7,13 +7,15 @@ from .files import open_text
 from .paths import MOST_GROUPS, check_path, is_below, path_up
 
 HEADER = ["seconds", "group", "anon", "file", "max"]
+# The same with memory.high, of groups that have that file.
+HIGH_HEADER = [*HEADER, "high"]
 # What to do about times and numbers in other forms.
 REMEDY = "'whatif import rows' also takes ISO times, units and exponents"
 # A zone has at most 1,048,576 frames, some of which are on the CPU's list.
 USUAL_FRAMES, MOST_FRAMES = 65_536, 1_048_000
 
-# At a time: of each group what it has of its own, (anon, file), and its limit; None is no limit.
-Sample = namedtuple("Sample", "seconds amounts limits")
+# At a time: of each group what it has of its own, (anon, file), its limit and its memory.high; None is no limit.
+Sample = namedtuple("Sample", "seconds amounts limits highs")
 # What was recorded, and the host's memory if that is known.
 Usage = namedtuple("Usage", "samples groups host")
 
@@ -27,11 +29,11 @@ def whole_number(word, name):
     return int(word)
 
 
-def read_max(word):
-    """A limit of a row, or None."""
+def read_bound(word, name):
+    """A limit or memory.high of a row, or None."""
     if word in ("", "-1", "unlimited"):
-        raise Fault(f"max is a whole number of bytes, or the word max if there is no limit, and not '{word}'")
-    return None if word == "max" else whole_number(word, "max")
+        raise Fault(f"{name} is a whole number of bytes, or the word max if there is no limit, and not '{word}'")
+    return None if word == "max" else whole_number(word, name)
 
 
 def read_seconds(word, before):
@@ -48,29 +50,31 @@ def read_seconds(word, before):
     return seconds
 
 
-def add_row(row, samples, rename):
+def add_row(row, header, samples, rename):
     """A row goes to the sample of its time."""
-    if len(row) != len(HEADER):
-        raise Fault(f"{len(row)} values, and a row has {len(HEADER)}: {','.join(HEADER)}")
+    if len(row) != len(header):
+        raise Fault(f"{len(row)} values, and a row has {len(header)}: {','.join(header)}")
     seconds = read_seconds(row[0], samples[-1].seconds if samples else 0.0)
     group, anon, file = rename(row[1]), whole_number(row[2], "anon"), whole_number(row[3], "file")
     check_path(group)
     if not samples or seconds > samples[-1].seconds:
-        samples.append(Sample(seconds, {}, {}))
+        samples.append(Sample(seconds, {}, {}, {}))
     if group in samples[-1].amounts:
         raise Fault(f"{group} has a second row at this time")
     samples[-1].amounts[group] = (anon, file)
-    samples[-1].limits[group] = read_max(row[4])
+    samples[-1].limits[group] = read_bound(row[4], "max")
+    samples[-1].highs[group] = read_bound(row[5], "high") if header == HIGH_HEADER else None
 
 
 def read_rows(lines, name, rename):
     """The samples of a file's lines."""
     samples, rows = [], csv.reader(lines)
     try:
-        if next(rows, None) != HEADER:
+        header = next(rows, None)
+        if header not in (HEADER, HIGH_HEADER):
             raise Fault(f"the header {','.join(HEADER)} is due; 'whatif import' makes such a file of other formats")
         for row in rows:
-            add_row(row, samples, rename)
+            add_row(row, header, samples, rename)
     except csv.Error as fault:
         raise Fault(f"{name}: line {rows.line_num}: {fault}") from None
     except Fault as fault:
@@ -90,7 +94,10 @@ def read_usage(path, rename=str):
     with open_text(path) as lines:
         samples = read_rows(lines, path, rename)
     host = next((sample.limits["/"] for sample in samples if "/" in sample.limits), None)
-    return Usage([Sample(s, a, {g: l for g, l in m.items() if g != "/"}) for s, a, m in samples], groups_of(samples), host)
+    for sample in samples:
+        sample.limits.pop("/", None)
+        sample.highs.pop("/", None)
+    return Usage(samples, groups_of(samples), host)
 
 
 def check_count(usage, name):
@@ -112,29 +119,40 @@ def frame_size(host):
 def in_frames(usage, size):
     """The same in frames of this size: amounts are rounded up and limits down, so that no answer is too kind."""
     samples = [Sample(seconds, {group: (-(-anon // size), -(-file // size)) for group, (anon, file) in amounts.items()},
-                      {group: None if limit is None else limit // size for group, limit in limits.items()})
-               for seconds, amounts, limits in usage.samples]
+                      bounds_in_frames(limits, size), bounds_in_frames(highs, size))
+               for seconds, amounts, limits, highs in usage.samples]
     return Usage(samples, usage.groups, usage.host // size)
 
 
-def with_limits(usage, limits):
-    """The same with these limits from the beginning on, and only them at their groups."""
-    samples = [Sample(seconds, amounts, {group: limit for group, limit in recorded.items() if group not in limits})
-               for seconds, amounts, recorded in usage.samples]
+def bounds_in_frames(bounds, size):
+    """Limits in whole frames of this size."""
+    return {group: None if bound is None else bound // size for group, bound in bounds.items()}
+
+
+def but_of(recorded, given):
+    """What was recorded of groups for which nothing is given."""
+    return {group: value for group, value in recorded.items() if group not in given}
+
+
+def with_limits(usage, limits, highs=()):
+    """The same with these limits and this memory.high from the beginning on, and only them at their groups."""
+    samples = [Sample(seconds, amounts, but_of(its_limits, limits), but_of(its_highs, highs))
+               for seconds, amounts, its_limits, its_highs in usage.samples]
     samples[0].limits.update(limits)
+    samples[0].highs.update(highs)
     return Usage(samples, usage.groups, usage.host)
 
 
 def without_limits(usage):
-    """The same without a limit but that of the host."""
-    return Usage([Sample(seconds, amounts, {}) for seconds, amounts, _ in usage.samples], usage.groups, usage.host)
+    """The same without a limit but that of the host, and without memory.high."""
+    return Usage([sample._replace(limits={}, highs={}) for sample in usage.samples], usage.groups, usage.host)
 
 
 def only_below(usage, above):
     """The same of a group and those below it alone."""
-    return Usage([Sample(seconds, {group: amount for group, amount in amounts.items() if is_below(group, above)},
-                         {group: limit for group, limit in limits.items() if is_below(group, above)})
-                  for seconds, amounts, limits in usage.samples],
+    return Usage([Sample(seconds, *({group: value for group, value in values.items() if is_below(group, above)}
+                                    for values in (amounts, limits, highs)))
+                  for seconds, amounts, limits, highs in usage.samples],
                  [group for group in usage.groups if is_below(group, above) or group in path_up(above)], usage.host)
 
 

@@ -26,8 +26,9 @@ function changeWords(run, line) {
       if (run.position) said.push(`${path(group)} is new, and has no limit.`);
       continue;
     }
-    const counts = ["max", "oom", "kill", "group_kill"].filter(event => rows.has(`${event}_events`)).map(event => `${event} ${rows.get(`${event}_events`)} → ${run.row(group, `${event}_events`)}`);
+    const counts = ["low", "high", "max", "oom", "kill", "group_kill"].filter(event => rows.has(`${event}_events`)).map(event => `${event} ${rows.get(`${event}_events`)} → ${run.row(group, `${event}_events`)}`);
     if (rows.has("max")) said.push(`The limit of ${path(group)}: ${limitText(rows.get("max"))} → ${limitText(run.row(group, "max"))}.`);
+    if (rows.has("high")) said.push(`memory.high of ${path(group)}: ${limitText(rows.get("high"), "none")} → ${limitText(run.row(group, "high"), "none")}.`);
     if (rows.has("oom_group")) said.push(`memory.oom.group of ${path(group)}: ${rows.get("oom_group")} → ${run.row(group, "oom_group")}.`);
     if (rows.has("killed") && run.row(group, "killed")) said.push(`${path(group)} is killed.`);
     if (counts.length) said.push(`Events of ${path(group)} and below: ${counts.join(", ")}.`);
@@ -78,7 +79,7 @@ function usageChanges(run) {
 }
 /** How many units were dirty before the line in the subtree that its first round of reclaim is for. */
 function dirtyBefore(run, notes) {
-  const cause = notes.map(note => /^# (?:limit|asked|zone) (\S+)/.exec(note)).find(found => found), { position } = run;
+  const cause = notes.map(note => /^# (?:limit|high|asked|zone) (\S+)/.exec(note)).find(found => found), { position } = run;
   if (!cause) return 0;
   run.goto(position - 1);
   const top = run.groups().find(group => run.path(group) === cause[1]) ?? 0, below = new Set(run.subtree(top));

@@ -11,10 +11,10 @@ const REFUSALS = { 1: ["NoParent", "the parent group is not there"], 2: ["Exists
   20: ["NotKept", "the frame is not the head of a kept unit"], 21: ["NotPinned", "the CPU holds no reference on the frame"],
   22: ["WriteOnly", "the file cannot be read"] };
 // What the line that explains refusal 12 says beside the sentence.
-const VALUES = "memory.max and memory.reclaim take whole bytes, with K M G T P E, memory.max also max; memory.oom.group takes 0 or 1";
+const VALUES = "memory.max, memory.high and memory.reclaim take whole bytes, with K M G T P E, the first two also max; memory.oom.group takes 0 or 1";
 const refused = (number, path = "") => `refused ${number} ${REFUSALS[number][0]}${path && ` ${path}`}`;
-const FILES = { "memory.current": "r", "memory.max": "rw", "memory.peak": "r", "memory.events": "r", "memory.events.local": "r",
-  "memory.oom.group": "rw", "memory.reclaim": "w" };
+const FILES = { "memory.current": "r", "memory.max": "rw", "memory.high": "rw", "memory.peak": "r", "memory.events": "r",
+  "memory.events.local": "r", "memory.oom.group": "rw", "memory.reclaim": "w" };
 // The words of each command: p is a path, o an order, f a frame, g a group's number, n a file's name, v a value.
 const COMMANDS = { mkdir: "p", rmdir: "p", write: "pnv", read: "pn", alloc: "po", fast: "g", release: "f", get: "f", put: "f",
   settle: "", touch: "f", dirty: "f", clean: "f", owner: "f", blocks: "", show: "", stock: "", units: "p" };
@@ -100,15 +100,18 @@ function unitsOf(state, group) {
   return lines.join("\n") || "none";
 }
 function readOf(group, file) {
-  const events = at => ["low 0", "high 0", ...[["max", "max"], ["oom", "oom"], ["oom_kill", "kill"], ["oom_group_kill", "group_kill"]]
-    .map(([key, event]) => `${key} ${group[`${event}_${at}`]}`)].join("\n");
+  const keys = [["low", "low"], ["high", "high"], ["max", "max"], ["oom", "oom"], ["oom_kill", "kill"], ["oom_group_kill", "group_kill"]];
+  const events = at => keys.map(([key, event]) => `${key} ${group[`${event}_${at}`]}`).join("\n");
   switch (file) {
     case "memory.current":
       return `${group.current * PAGE}`;
     case "memory.peak":
       return `${group.peak * PAGE}`;
     case "memory.max":
-      return group.max < 0 ? "max" : `${group.max * PAGE}`;
+    case "memory.high": {
+      const most = file === "memory.max" ? group.max : group.high;
+      return most < 0 ? "max" : `${most * PAGE}`;
+    }
     case "memory.oom.group":
       return `${group.oom_group}`;
     default:

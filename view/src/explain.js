@@ -3,6 +3,9 @@ const EXPLAINED = [
   [/^# limit (\S+) (\d+) usage (\d+) need (\d+)$/, (path, max, usage, need) => Number(need) ?
     `The limit of ${path} is ${pagesText(inPages(max))}, and its usage ${inPages(usage)}. There is no room for ${inPages(need)} more.` :
     `The new limit of ${path} is ${pagesText(inPages(max))}, and its usage is ${inPages(usage)}.`],
+  [/^# high (\S+) (\d+) usage (\d+) need (\d+)$/, (path, high, usage, need) => Number(need) ?
+    `With ${pagesText(inPages(need))} more, the usage of ${path} would be above memory.high: ${inPages(usage)} and ${inPages(need)} are more than ${inPages(high)}.` :
+    `The new memory.high of ${path} is ${pagesText(inPages(high))}, and its usage is ${inPages(usage)}.`],
   [/^# stock (\d+) bytes (\d+) usage/, (cpu, bytes) => `The stock of CPU ${cpu} is drained: ${plural(inPages(bytes), "prepaid page")} less charged.`],
   [/^# asked (\S+) (\d+)$/, (path, bytes) => `${pagesText(inPages(bytes))} of ${path} and below are to be reclaimed.`],
   [/^# zone order (\d+)$/, order => Number(order) ? `The zone has no free block of ${2 ** order} frames. Reclaim from all groups.` :
@@ -32,25 +35,26 @@ function noteWords(note, dirty, spared = false) {
 // Each kind of event: its sign, the colour, what it is, and in which row of the time line its sign is.
 const KINDS = {
   max: ["▲", "accent", "a limit had no room", "max"],
-  lowered: ["▼", "accent", "a limit was set below the usage", "max"],
+  high: ["△", "accent", "a charge would exceed memory.high", "max"],
+  lowered: ["▼", "accent", "a limit or memory.high was set below the usage", "max"],
   drain: ["○", "green", "stocks were drained", "reclaim"],
   reclaim: ["●", "green", "units were reclaimed", "reclaim"],
   oom: ["■", "red", "out of memory", "oom"],
   kill: ["◆", "purple", "a group is killed", "kill"],
   refused: ["✕", "red", "refused", "refused"]
 };
-const LANES = { max: "max ▲▼", reclaim: "reclaim ●○", oom: "oom ■", kill: "kill ◆", refused: "refused ✕" };
+const LANES = { max: "max ▲△▼", reclaim: "reclaim ●○", oom: "oom ■", kill: "kill ◆", refused: "refused ✕" };
 const notesUpTo = (run, { position, note }) => run.log.slice(run.behind.at(position), note).split("\n").slice(0, -1).filter(text => /^# (?!=|refused )/.test(text));
 const notesIndex = (run, event) => notesUpTo(run, event).length;
 /** The notes up to that of an event, from the limit or the wish that it is for. */
 function notesBefore(run, event) {
   const notes = notesUpTo(run, event);
-  return notes.slice(Math.max(0, notes.findLastIndex(text => /^# (limit|asked|zone) /.test(text))));
+  return notes.slice(Math.max(0, notes.findLastIndex(text => /^# (limit|high|asked|zone) /.test(text))));
 }
 /** What stocks were drained or units reclaimed for. */
 function purposeWords([first = ""], command) {
-  const [, what, path] = /^# (limit|asked|zone) (\S+)/.exec(first) ?? [];
-  return { limit: `for the limit of ${path}`, asked: `as was asked of ${path}`, zone: "since the zone had too few free frames" }[what] ?? `by ${command}`;
+  const [, what, path] = /^# (limit|high|asked|zone) (\S+)/.exec(first) ?? [];
+  return { limit: `for the limit of ${path}`, high: `for memory.high of ${path}`, asked: `as was asked of ${path}`, zone: "since the zone had too few free frames" }[what] ?? `by ${command}`;
 }
 /** What became of a killed group, by its note, and for which limit. */
 function killWords(run, event, isShort = false) {
@@ -68,9 +72,10 @@ function reasonWords(run, event, line) {
   if (!text) return KINDS[kind][2];
   if (kind === "oom") return `reclaim wasn't enough${isSpared(line.notes, notesIndex(run, event)) ? ", and no group is left that may die" : ": a group has to die"}`;
   if (kind === "kill") return killWords(run, event, true) || KINDS.kill[2];
-  const [one, two, three] = numbers.slice(kind === "max" || kind === "lowered" ? -3 : 0);
+  const [one, two, three] = numbers.slice(["max", "high", "lowered"].includes(kind) ? -3 : 0), isHigh = text.startsWith("# high ");
   if (kind === "max") return `no room for ${pagesText(three / PAGE)}: usage ${grouped(two / PAGE)}, limit ${grouped(one / PAGE)}`;
-  if (kind === "lowered") return `new limit ${grouped(one / PAGE)} is below the usage ${grouped(two / PAGE)}`;
+  if (kind === "high") return `${pagesText(three / PAGE)} more would exceed memory.high: usage ${grouped(two / PAGE)}, memory.high ${grouped(one / PAGE)}`;
+  if (kind === "lowered") return `new ${isHigh ? "memory.high" : "limit"} ${grouped(one / PAGE)} is below the usage ${grouped(two / PAGE)}`;
   const before = notesBefore(run, event), purpose = purposeWords(before, line.command);
   if (kind === "drain") return `${drainedText(run, event)} ${purpose}`;
   const from = [...new Set(before.slice(before.findLastIndex(text => /^# round /.test(text)) + 1).map(text => /^# reclaimed (\/\S*) /.exec(text)?.[1]).filter(Boolean))];

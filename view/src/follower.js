@@ -70,7 +70,12 @@ class Follower {
     const due = this.due[this.told++];
     if (due === undefined) return "nothing more was due";
     if (due !== text && due !== null) return `${due} was due`;
-    if (due === null && ["touch", "dirty", "clean"].includes(this.line.verb) && !/^# (= )?refused /.test(text)) return CUT;
+    if (due === null && this.hidesState && !/^# (= )?refused /.test(text)) return CUT;
+  }
+  /** Whether the command changes what no step shows. */
+  get hidesState() {
+    const { verb, words } = this.line;
+    return ["touch", "dirty", "clean"].includes(verb) || verb === "write" && words[1] === "memory.high";
   }
   /** Whether a refusal's sentence is due that isn't said: older logs have none, so the first refusal decides. */
   isUntold(text) {
@@ -95,7 +100,7 @@ class Follower {
     Object.assign(this, { line, isEnd: !line, due: null, told: 0, notes: [], runs: 0, more: 0, wants: null, isOpen: false, locks: 0,
       steps: 0, blocked: 0, isBlock: false, behindUngrant: "", over: null, owed: null, drains: [], own: null, took: -1, placed: -1,
       made: -1, isRemoved: false, isSet: false, left: "", got: "", isListed: false, granted: 0, hand: 0, unlisted: 0, passed: 0,
-      givenBack: 0, freed: 0, limited: -1, isDraining: false, killing: null, dying: [], killedWhole: -1, pinsPut: 0 });
+      givenBack: 0, freed: 0, limited: -1, drainedFor: -1, isDraining: false, killing: null, dying: [], killedWhole: -1, pinsPut: 0 });
     if (!line) return;
     this.number = line.number;
     const { cpu, verb, words } = line, part = state.parts[cpu], frame = Number(words[0]);
@@ -112,13 +117,17 @@ class Follower {
     if (verb === "fast") return Number(words[0]);
     return this.state.numbers.get(words[0]) ?? -1;
   }
-  /** The pages that a write names. If the comment doesn't show its bytes, those of the explanation behind the steps. */
+  /**
+   * The pages that a write names. If the comment doesn't show its bytes, those of the explanation behind the steps; of
+   * memory.high, if the answer is ok, those of the comment: then it hides spaces alone.
+   */
   get amount() {
-    const { words, isVague } = this.line;
-    if (!isVague) return pagesOf(words[2], words[1] === "memory.max");
-    const { log, at } = this.reader, next = log.indexOf("\n# line ", at), lines = log.slice(at, next < 0 ? log.length : next);
-    const found = /^# asked \S+ ([0-9]+)$/m.exec(lines);
-    return found ? Number(BigInt(found[1]) / BigInt(PAGE)) : /^# = ok$/m.test(lines) ? 0 : null;
+    const { words: [, file, value], isVague } = this.line, isHigh = file === "memory.high";
+    if (!isVague) return pagesOf(value, isHigh);
+    const { log, start } = this.reader, next = log.indexOf("\n# line ", start), lines = log.slice(start, next < 0 ? log.length : next);
+    const found = /^# asked \S+ ([0-9]+)$/m.exec(lines), isOk = /^# = ok$/m.test(lines);
+    if (isHigh) return isOk ? pagesOf(value.replaceAll("?", " "), true) : null;
+    return found ? Number(BigInt(found[1]) / BigInt(PAGE)) : isOk ? 0 : null;
   }
 
   // Reclaim, by the manual's chapter
@@ -194,25 +203,46 @@ class Follower {
     this.plan = this.rounds(top, missing, isZone);
     this.go();
   }
+  /** The plan goes on: to the next frame that has to be frozen, or below -1, to the next group whose memory.high has no room. */
   go(pages) {
     const { value, done } = this.plan.next(pages);
     if (done) this.plan = null;
     this.expected = done ? -1 : value;
+    if (this.expected < -1) this.owe("note-high", -1 - this.expected);
   }
-  wantRoom(group, pages) {
-    this.wants = () => this.reclaim(group, () => this.state.missing(group, pages));
+  /** Rounds for each memory.high that has no room for a charge, from the group up. -1 less its number is yielded before those of a group. */
+  *highs(group, pages) {
+    const missing = number => this.state.missing(number, pages, "high");
+    for (const { number } of this.state.up(group)) {
+      if (!missing(number)) continue;
+      this.noteBound("high", number, pages);
+      yield -1 - number;
+      yield* this.rounds(number, () => missing(number));
+    }
+  }
+  lookAtHighs(group, pages) {
+    this.plan = this.highs(group, pages);
+    this.go();
+  }
+  wantRoom(group, pages, bound) {
+    this.wants = () => this.reclaim(group, () => this.state.missing(group, pages, bound));
     this.drainBelow(new Set(this.state.subtree(group)));
   }
   /** The stocks of these groups have to be drained. */
   drainBelow(groups) {
     this.drains = this.state.parts.flatMap((part, cpu) => part && groups.has(part.group) ? [cpu] : []);
   }
-  startsLimit(group, pages) {
-    const { max, current, path } = this.state.groups[group];
-    this.limited = group;
+  noteBound(bound, group, pages) {
+    const { [bound]: most, current, path } = this.state.groups[group];
+    this.notes.push(`# ${bound === "max" ? "limit" : bound} ${path} ${most * PAGE} usage ${current * PAGE} need ${pages * PAGE}`);
+  }
+  /** A limit has no room for a charge, or it or memory.high was written below the usage. */
+  startsBound(bound, group, pages) {
+    if (bound === "max") this.limited = group;
+    this.drainedFor = group;
     this.isDraining = true;
-    this.notes.push(`# limit ${path} ${max * PAGE} usage ${current * PAGE} need ${pages * PAGE}`);
-    this.wantRoom(group, pages);
+    this.noteBound(bound, group, pages);
+    this.wantRoom(group, pages, bound);
   }
 
   // Kills
@@ -309,21 +339,39 @@ class Follower {
   }
   /** The CPU is settled: what the state is now, and what the command begins with. */
   opens() {
-    const { state, line: { verb, words } } = this, group = this.group, it = state.groups[group];
+    const { state, line: { cpu, verb, words, order, isCut } } = this, group = this.group, it = state.groups[group];
     this.isOpen = true;
     this.own = { group, below: it?.below, current: it?.current, isKept: isGroupList(state.list[Number(words[0])] ?? 0),
       fault: verb === "mkdir" ? state.makeFault(words[0]) : 0 };
     if (verb === "rmdir" && group > 0 && !it.below) {
       this.wants = () => this.reclaim(group, () => it.current);
       this.drainBelow(new Set([group]));
-    } else if (verb === "alloc" && this.line.order === 0 && it && !it.killed) {
-      const part = state.parts[this.line.cpu];
-      if (part.group !== group || !part.pages) this.drains = [this.line.cpu];
+    } else if (verb === "alloc" && it && !it.killed && order <= MOST_ORDER) {
+      const part = state.parts[cpu];
+      if (order > 0) this.lookAtHighs(group, 2 ** order);
+      else if (part.group !== group || !part.pages) {
+        this.drains = [cpu];
+        this.wants = () => this.chargeFrame(group);
+      }
+    } else if (verb === "write" && words[1] === "memory.high" && group > 0 && !isCut) {
+      const high = this.amount;
+      if (high === null || high === undefined) return;
+      it.high = high;
+      state.touched.groups.add(group);
+      this.isSet = true;
+      if (state.missing(group, 0, "high")) this.startsBound("high", group, 0);
     } else if (verb === "write" && words[1] === "memory.reclaim" && group > 0) {
       const asked = this.amount, before = it.current;
       if (asked) this.notes.push(`# asked ${it.path} ${BigInt(asked) * BigInt(PAGE)}`);
       if (asked) this.reclaim(group, () => Math.max(0, asked - (before - it.current)));
     }
+  }
+  /** A batch isn't tried if some memory.high has no room for it. Then that is looked at for one page. */
+  chargeFrame(group) {
+    const { state, sizes } = this;
+    if (![...state.up(group)].some(({ number }) => state.missing(number, sizes.stock, "high"))) return;
+    this.steps = 1;
+    this.lookAtHighs(group, 1);
   }
   /** Whether the step is one of this command, here. */
   fits(action) {
@@ -374,6 +422,10 @@ class Follower {
         return need(isWrite("memory.max") && (isVague || b === pagesOf(words[2], true)), "it is another limit");
       case "flag":
         return need(isWrite("memory.oom.group") && (isVague || `${b}` === words[2].replace(/^[ \t-\r]+|[ \t-\r]+$/g, "")), "it is another flag");
+      case "note-low":
+        return need(false);
+      case "note-high":
+        return need(this.plan && this.expected === -1 - a, "no memory.high is exceeded");
       case "note-max":
         return need(this.over && a === this.over.group, "no limit refused");
       case "note-oom":
@@ -472,12 +524,15 @@ class Follower {
           this.granted = b;
         }
         break;
+      case "note-high":
+        this.go();
+        break;
       case "note-max":
-        this.startsLimit(a, this.over.pages);
+        this.startsBound("max", a, this.over.pages);
         break;
       case "limit":
         this.isSet = true;
-        if (state.missing(a, 0)) this.startsLimit(a, 0);
+        if (state.missing(a, 0)) this.startsBound("max", a, 0);
         break;
       case "flag":
         this.isSet = true;
@@ -548,7 +603,7 @@ class Follower {
     }
   }
   tellDrain() {
-    this.notes.push(`# stock ${this.drained.cpu} bytes ${this.drained.pages * PAGE} usage ${this.state.groups[this.limited].current * PAGE}`);
+    this.notes.push(`# stock ${this.drained.cpu} bytes ${this.drained.pages * PAGE} usage ${this.state.groups[this.drainedFor].current * PAGE}`);
     this.drained = null;
   }
   /** What isn't a step: uses, dirty and clean units. */
@@ -643,9 +698,10 @@ class Follower {
       const found = /^[ \t-\r]*([01])[ \t-\r]*$/.exec(value);
       return this.isSet ? "ok" : found ? null : refused(12);
     }
+    if (this.isSet) return "ok";
     const pages = this.line.isVague && file === "memory.max" ? group.max : this.amount;
     if (pages === null || pages === undefined) return refused(pages === null ? 12 : 13);
-    if (file === "memory.max") return this.isSet ? "ok" : null;
+    if (file !== "memory.reclaim") return null;
     return this.own.current - group.current >= pages ? "ok" : refused(17);
   }
   /** The report of the end. */

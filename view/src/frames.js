@@ -80,8 +80,8 @@ function freedWords(run, frame, owner) {
     const [, path, first, last] = /^# reclaimed (\S+) (\d+)(?:-(\d+))?$/.exec(note) ?? [];
     return path === owner && first <= frame && frame <= Number(last ?? first);
   });
-  const cause = notes.slice(0, Math.max(0, round)).findLast(note => /^# (limit|asked|zone) /.test(note)), [, kind, of] = (cause ?? "").split(" ");
-  if (round >= 0) return { limit: `: reclaimed for the limit of ${of}`, asked: `: reclaimed, as was asked of ${of}`, zone: ": reclaimed, since the zone had too few free frames" }[kind] ??
+  const cause = notes.slice(0, Math.max(0, round)).findLast(note => /^# (limit|high|asked|zone) /.test(note)), [, kind, of] = (cause ?? "").split(" ");
+  if (round >= 0) return { limit: `: reclaimed for the limit of ${of}`, high: `: reclaimed for memory.high of ${of}`, asked: `: reclaimed, as was asked of ${of}`, zone: ": reclaimed, since the zone had too few free frames" }[kind] ??
     `: reclaimed by ${command}`;
   if (notes.some(note => note.startsWith(`# killed ${owner} `))) return `: killed with ${owner}`;
   return isEnd ? ": given back at the end" : isStep ? `: ${command}` : `: by ${command} of CPU ${cpu}`;

@@ -81,7 +81,7 @@ const tell = text => byId("live").textContent = byId("told").textContent = text;
 const WAYS = {
   k: ["kill", "kill", () => page.ways.kill],
   r: ["refusal", "refusal", () => page.ways.refused],
-  m: ["max", "limit without room", () => page.ways.max], // also one that was set below the usage
+  m: ["max", "limit without room", () => page.ways.max], // also memory.high, and one that was set below the usage
   l: ["reclaim", "reclaim", () => page.ways.reclaim],
   e: ["event", "event in the table", () => page.shownAt],
   d: ["difference", "difference", () => page.differs],

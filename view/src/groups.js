@@ -19,6 +19,11 @@ function treeOf(run) {
   }).map(([group]) => group);
 }
 
+/** The limit of a group, and after the sign of its events memory.high, if it has one. */
+function boundsText(run, group) {
+  const [max, high] = ["max", "high"].map(row => run.row(group, row));
+  return `${max < 0 ? "max" : amount(max)}${high < 0 ? "" : ` △${amount(high)}`}`;
+}
 function leastLimit(run, group) {
   let least = -1;
   for (const above of run.up(group)) {
@@ -68,7 +73,7 @@ function groupRow(run, group) {
   const name = make("td", { className: "left" }, button, make("span", { className: "tag" })), canvas = more => make("td", { className: `picture ${more}` }, make("canvas", { "aria-hidden": "true" }));
   button.dataset.group = group;
   if (isTree) name.style.paddingLeft = `${4 + 8 * Math.max(0, depth - 1)}px`;
-  return make("tr", {}, canvas(""), name, canvas("bar-cell"), ...Array.from({ length: 8 }, () => make("td")));
+  return make("tr", {}, canvas(""), name, canvas("bar-cell"), ...Array.from({ length: 9 }, () => make("td")));
 }
 /** Sets words and class of an element, if they are others: the browser lays out again what is set. */
 function fill(element, text, className = "") {
@@ -84,10 +89,10 @@ function isOther(row, ...shows) {
 }
 
 function fillRow(run, group, row, prepaid, isChanged) {
-  const [usage, max, peak, killed, isWhole, ...counts] = ["current", "max", "peak", "killed", "oom_group", "max_local", "max_events",
+  const [usage, peak, killed, isWhole, ...counts] = ["current", "peak", "killed", "oom_group", "high_local", "high_events", "max_local", "max_events",
     "oom_local", "oom_events", "kill_local", "kill_events"].map(each => run.row(group, each));
-  const limit = leastLimit(run, group), own = run.cells[run.OWN + group], isLit = page.life === run.life(group);
-  if (!isOther(row, usage, max, peak, killed, isWhole, counts, limit, own, prepaid.by, isChanged, isLit, page.unit, styles[group], colors.theme)) return;
+  const bounds = boundsText(run, group), limit = leastLimit(run, group), own = run.cells[run.OWN + group], isLit = page.life === run.life(group);
+  if (!isOther(row, usage, bounds, peak, killed, isWhole, counts, limit, own, prepaid.by, isChanged, isLit, page.unit, styles[group], colors.theme)) return;
   const [swatch, name, bar, ...cells] = row.children, [button, tag] = name.children;
   const { nth } = run.life(group), words = [...(nth > 1 ? [ordinal(nth)] : []), ...(killed ? ["killed"] : []), ...(isWhole ? ["oom.group"] : [])];
   drawSwatch(swatch.firstChild, styles[group]);
@@ -96,9 +101,9 @@ function fillRow(run, group, row, prepaid, isChanged) {
   button.setAttribute("aria-pressed", String(isLit));
   button.setAttribute("aria-label", [run.path(group), ...words].join(", "));
   fill(tag, words.join(", "), "tag");
-  [amount(usage), amount(own), amount(prepaid.sum), max < 0 ? "max" : amount(max), amount(peak)].forEach((text, at) => fill(cells[at], text, !at && isChanged ? "changed" : text === "0" ? "zero" : ""));
+  [amount(usage), amount(own), amount(prepaid.sum), bounds, amount(peak)].forEach((text, at) => fill(cells[at], text, !at && isChanged ? "changed" : text === "0" ? "zero" : ""));
   cells[2].title = prepaid.by.join(", ");
-  for (let at = 0; at < 3; at++) {
+  for (let at = 0; at < 4; at++) {
     const [local, all] = counts.slice(2 * at);
     fill(cells[5 + at], local === all ? `${all}` : `${local}+${all - local}`, all ? "" : "zero");
     cells[5 + at].title = `${local} at the group itself, ${all - local} below it`;

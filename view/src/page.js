@@ -65,7 +65,8 @@ function begin(name, log, run) {
   document.title = `${name} – memcg log`;
   byId("sizes").textContent = `${plural(run.frames, "frame")} · ${plural(run.cpus, "CPU")}` +
     (run.sizes ? ` · batch ${run.sizes.batch}, high ${run.sizes.high}, stock ${run.sizes.stock}` : " · steps without commands");
-  byId("groups-table").className = run.frames > 9999 ? "large" : "";
+  byId("groups-table").classList.toggle("large", run.frames > 9999);
+  byId("groups-table").classList.toggle("no-high", !run.lives.some(life => life.highs.length > 1) && !run.events.some(({ kind }) => kind === "high"));
   byId("save").disabled = byId("picture").disabled = false;
   byId("welcome").hidden = true;
   if (document.body.classList.contains("empty")) {
@@ -81,7 +82,7 @@ function begin(name, log, run) {
 /** Of each kind of event, the positions that have one. */
 function waysOf(run) {
   const ways = Object.fromEntries(Object.keys(KINDS).map(kind => [kind, []]));
-  for (const { kind, position } of run.events) for (const way of kind === "lowered" ? ["lowered", "max"] : [kind]) if (ways[way].at(-1) !== position) ways[way].push(position);
+  for (const { kind, position } of run.events) for (const way of ["high", "lowered"].includes(kind) ? [kind, "max"] : [kind]) if (ways[way].at(-1) !== position) ways[way].push(position);
   return ways;
 }
 /** What the rules say of the log, in the words of `memcg check`. */

@@ -5,7 +5,7 @@ const HELD_BY_ZONE = 4, IN_HAND = 8; // beside DIRTY and MARKED
 const AT_REST = [NOTHING, LISTED, FRESH, IN_USE, LAST_PUT];
 const KILLS = 1, REFUSED = 2, LOCKED = 4;
 const TOTALS = ["puts", "freezes", "drops", "returns"];
-const EVENT_STEPS = { "note-max": "max", "note-oom": "oom", kill: "kill" };
+const EVENT_STEPS = { "note-high": "high", "note-max": "max", "note-oom": "oom", kill: "kill" };
 
 /** A list of numbers that grows. */
 class Numbers {
@@ -235,11 +235,12 @@ class Run {
   /** A line of an explanation. A round that freed something is an event of the group that had no room, and so are stocks that had pages. */
   explained(text, start, numbers) {
     const [, what, path, bytes] = /^# (\w+) (\S+)(?: bytes (\d+))?/.exec(text) ?? [];
-    if (["limit", "asked", "zone"].includes(what)) {
+    if (["limit", "high", "asked", "zone"].includes(what)) {
       this.wanting = numbers.get(what === "zone" ? "/" : path) ?? 0;
       this.drained = false;
     }
-    if (what === "limit" && !this.explain("max", path, start)) this.happened("lowered", this.wanting, "", start);
+    const bound = { limit: "max", high: "high" }[what];
+    if (bound && !this.explain(bound, path, start)) this.happened("lowered", this.wanting, "", start);
     else if (what === "stock" && Number(bytes) && !this.drained) {
       this.happened("drain", this.wanting, "", start);
       this.drained = true;
@@ -303,14 +304,15 @@ class Run {
       if (!this.styles.has(group.path)) this.styles.set(group.path, this.styles.size);
       this.livesOf.set(group.path, (this.livesOf.get(group.path) ?? 0) + 1);
       this.lives.push({ number, path: group.path, nth: this.livesOf.get(group.path), from: this.position, index: this.lives.length, style: this.styles.get(group.path),
-        series: [[this.position, 0]], limits: [[this.position, -1]], peaks: [[this.position, 0]] });
+        series: [[this.position, 0]], limits: [[this.position, -1]], highs: [[this.position, -1]], peaks: [[this.position, 0]] });
     }
     ROW.forEach((name, at) => this.set(this.ROWS + number * ROW.length + at, group[name]));
     this.set(this.OWN + number, group.frames);
     this.tighten(group, 0);
-    const { series, limits, peaks } = this.life(number);
+    const { series, limits, highs, peaks } = this.life(number);
     if (series.at(-1)[1] !== group.current) series.push([this.position, group.current]);
     if (limits.at(-1)[1] !== group.max) limits.push([this.position, group.max]);
+    if (highs.at(-1)[1] !== group.high) highs.push([this.position, group.high]);
     if (peaks.at(-1)[1] !== group.peak) peaks.push([this.position, group.peak]);
   }
 

@@ -28,7 +28,7 @@ const [NOTHING, IN, LISTED, OUT, BARE, FRESH, FRESH_OUT, COLLECTED, IN_USE, LAST
 const DIRTY = 1, MARKED = 2;
 // The numbers of a group, as the page draws them.
 const ROW = ["number", "max", "current", "peak", "max_events", "oom_events", "kill_events", "max_local", "oom_local",
-  "kill_local", "killed", "oom_group", "group_kill_events", "group_kill_local"];
+  "kill_local", "killed", "oom_group", "group_kill_events", "group_kill_local", "high", "low_events", "low_local", "high_events", "high_local"];
 
 /** The frames, CPUs and groups, as the steps made them. Nothing is written for the frames behind a unit's head. */
 class State {
@@ -63,7 +63,7 @@ class State {
     this.born("/", 0, -1);
   }
   born(path, number, parent) {
-    this.groups[number] = { ...Object.fromEntries(ROW.map(name => [name, 0])), number, max: -1, path, parent, below: 0, pending: 0,
+    this.groups[number] = { ...Object.fromEntries(ROW.map(name => [name, 0])), number, max: -1, high: -1, path, parent, below: 0, pending: 0,
       frames: 0, birth: ++this.births };
     if (parent >= 0) this.groups[parent].below++;
     this.numbers.set(path, number);
@@ -183,9 +183,10 @@ class State {
     this.groups[group].pending += pages;
     this.pending += pages;
   }
-  missing(group, pages) {
-    const { max, current } = this.groups[group];
-    return max < 0 ? 0 : Math.max(0, current + pages - max);
+  /** How many pages have to be freed, so that the limit, or memory.high, has room for so many more. */
+  missing(group, pages, bound = "max") {
+    const { [bound]: most, current } = this.groups[group];
+    return most < 0 ? 0 : Math.max(0, current + pages - most);
   }
   countEvent(group, event) {
     this.groups[group][`${event}_local`]++;

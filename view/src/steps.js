@@ -224,6 +224,8 @@ const ACTIONS = [
     }
     return DONE;
   }],
+  ["note-low", "0", "g", (on, step) => counted(on, step, "low")],
+  ["note-high", "0", "g", (on, step) => counted(on, step, "high")],
   ["note-max", "0", "g", (on, step) => counted(on, step, "max")],
   ["note-oom", "0", "g", (on, step) => counted(on, step, "oom")],
   ["group-kill", "0", "g", (on, step) => step.a ? counted(on, step, "group_kill") : ILLEGAL],

@@ -60,8 +60,8 @@ function sayTime(run) {
     run.lives.filter(life => isThereAt(life, position));
   const there = all.filter(life => lit ? lit.has(life) : life.number || all.length === 1).map(life => [life, valueAt(life.series, position)]).sort((a, b) => b[1] - a[1]);
   const said = ([life, usage]) => {
-    const [limit, peak] = [life.limits, life.peaks].map(pairs => valueAt(pairs, position));
-    return `${nameOf(run, life)} ${amount(usage)} (${limit < 0 ? "" : `limit ${amount(limit)}, `}peak ${amount(peak)})`;
+    const [limit, high, peak] = [life.limits, life.highs, life.peaks].map(pairs => valueAt(pairs, position));
+    return `${nameOf(run, life)} ${amount(usage)} (${limit < 0 ? "" : `limit ${amount(limit)}, `}${high < 0 ? "" : `high ${amount(high)}, `}peak ${amount(peak)})`;
   };
   const happened = page.shown.slice(indexIn(page.shownAt, position - 1) + 1, indexIn(page.shownAt, position) + 1)
     .map(({ kind, name, life }) => `${KINDS[kind][0]} ${kind} ${name || life?.path || ""}`.trim());

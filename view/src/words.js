@@ -9,7 +9,7 @@ const bytesText = bytes => `${pagesText(inPages(bytes))}, ${KiBText(bytes)}`;
 const pagesText = pages => plural(pages, "page");
 const framesText = (first, last) => first === last ? `frame ${first}` :
   `frames ${first} ${last === first + 1 ? "and" : "to"} ${last}`;
-const limitText = pages => pages < 0 ? "no limit" : pagesText(pages);
+const limitText = (pages, none = "no limit") => pages < 0 ? none : pagesText(pages);
 const listed = words => words.length < 2 ? words.join("") : `${words.slice(0, -1).join(", ")} and ${words.at(-1)}`;
 const spaced = text => text && ` ${text}`;
 const capital = text => text.charAt(0).toUpperCase() + text.slice(1);
@@ -24,6 +24,7 @@ const FAST_WORDS = {
 const FILE_WORDS = {
   "memory.current": "the usage",
   "memory.max": "the limit",
+  "memory.high": "the usage above which charges reclaim, memory.high",
   "memory.peak": "the greatest usage so far",
   "memory.events": "the events at and below",
   "memory.events.local": "the events at the group alone of",
@@ -43,6 +44,7 @@ function askedWords(command) {
     case "write":
       return second === "memory.max" ? (value.trim() === "max" ? `takes the limit off ${first}` :
           `sets the limit of ${first} to ${amountText(value)}`) :
+        second === "memory.high" ? `sets memory.high of ${first} to ${amountText(value)}` :
         second === "memory.reclaim" ? `asks to reclaim ${amountText(value)} from ${first}` :
         second === "memory.oom.group" ? (value.trim() === "1" ?
           `wants ${first} to be killed as a whole, if a group in it has to die` : value.trim() === "0" ?

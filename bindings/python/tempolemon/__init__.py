@@ -148,8 +148,8 @@ class Cpu:
 
         Raises NoGroup, NoFile, WriteOnly.
         """
-        text = ctypes.create_string_buffer(160)
-        length = self._call(raw.library.tempolemon_try_read, *_text(path), *_text(file), text, 160)[1]
+        text = ctypes.create_string_buffer(256)
+        length = self._call(raw.library.tempolemon_try_read, *_text(path), *_text(file), text, 256)[1]
         return text.raw[:length].decode(errors="surrogateescape")
 
     def alloc(self, group: int, order: int = 0) -> int:

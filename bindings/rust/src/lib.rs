@@ -229,7 +229,7 @@ impl Cpu<'_> {
     /// Errors: `NoGroup`, `NoFile`, `WriteOnly`.
     pub fn read(&self, path: &str, file: &str) -> Result<String, Error> {
         let file = apart(file, &[path]);
-        let mut text = [0; 160]; // the most that a file's text has
+        let mut text = [0; 256]; // the most that a file's text has
         let read = self.call(|cpu, out| unsafe {
             let (path, length) = (path.as_ptr(), path.len());
             raw::tempolemon_try_read(cpu, path, length, file.as_ptr(), file.len(), text.as_mut_ptr(), text.len(), out)

@@ -4,6 +4,7 @@ ghost use Rattle.std.specs.Prelude.{IsTrue};
 ghost use Rattle.group_tree.specs.Groups.{has_group};
 
 use group_charge::charges::{Charges, Over};
+use group_tree::event::EventKey;
 use group_tree::group::GroupId;
 use group_tree::tree::Tree;
 use std::process::Abort;
@@ -33,6 +34,6 @@ pub fn charge_pages(
     expect_true(rt, charges.try_charge(group, pages) == answer);
     if let Err(over) = answer {
         expect_group(rt, charges.tree(), over.group);
-        charges.note_max(over.group);
+        charges.note(EventKey::Max, over.group);
     }
 }

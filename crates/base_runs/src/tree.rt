@@ -81,7 +81,7 @@ const TEXTS: &str = "\
 
 // What the line that explains refusal 12 says beside the text.
 const VALUES: &str =
-    "; memory.max and memory.reclaim take whole bytes, with K M G T P E, memory.max also max; \
+    "; memory.max, memory.high and memory.reclaim take whole bytes, with K M G T P E, the first two also max; \
     memory.oom.group takes 0 or 1";
 
 // The refusals, by their numbers.

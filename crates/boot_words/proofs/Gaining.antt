@@ -10,7 +10,7 @@ use Rattle.step_rules.specs.declared.step.Step.{Step}
 use Rattle.step_rules.specs.declared.step.Answer.{Answer}
 use Rattle.step_rules.specs.declared.step.Answer.TheVariants.{Illegal}
 use Rattle.step_rules.specs.declared.step.Action.{Action}
-use Rattle.step_rules.specs.declared.step.Action.TheVariants.{Lock, Unlock, OpenVisit, ShutVisit, Get, Put, Freeze, Unfreeze, PassOut, TakeIn, PassBack, Collect, Consume, Credit, Report, Absorb, Fill, DrainStock, Grant, Ungrant, PlaceBlock, Publish, Return, NoteMax, NoteOom, NoteGroupKill, SetMax, SetFlag, Make, Remove, Kill}
+use Rattle.step_rules.specs.declared.step.Action.TheVariants.{Lock, Unlock, OpenVisit, ShutVisit, Get, Put, Freeze, Unfreeze, PassOut, TakeIn, PassBack, Collect, Consume, Credit, Report, Absorb, Fill, DrainStock, Grant, Ungrant, PlaceBlock, Publish, Return, Note, NoteGroupKill, SetMax, SetFlag, Make, Remove, Kill}
 use Rattle.step_rules.specs.State.{Zone, State, is_cpu, is_unheld, may_zone_act}
 use Rattle.step_rules.specs.Legal.{is_legal, Allows}
 use Rattle.step_rules.specs.After.{Run, after, state_of, IsLegalRun}
@@ -278,8 +278,7 @@ seat_of_legal s q (Ungrant g n) legal = of_zone_seat s.zone.cpus s.hold q (ungra
 seat_of_legal s q (PlaceBlock g k) legal = of_zone_seat s.zone.cpus s.hold q (place_block_tests s q g k legal).0
 seat_of_legal s q (Publish f) legal = of_zone_seat s.zone.cpus s.hold q (publish_tests s q f legal).0
 seat_of_legal s q (Return f) legal = of_zone_seat s.zone.cpus s.hold q (return_tests s q f legal).0
-seat_of_legal s q (NoteMax g) legal = of_zone_seat s.zone.cpus s.hold q (and_parts (may_zone_act s.hold q) _ legal).0
-seat_of_legal s q (NoteOom g) legal = of_zone_seat s.zone.cpus s.hold q (and_parts (may_zone_act s.hold q) _ legal).0
+seat_of_legal s q (Note key g) legal = of_zone_seat s.zone.cpus s.hold q (and_parts (may_zone_act s.hold q) _ legal).0
 seat_of_legal s q (NoteGroupKill g) legal = of_zone_seat s.zone.cpus s.hold q
     (and_parts (may_zone_act s.hold q) _ (and_parts _ (not (g == 0)) legal).0).0
 seat_of_legal s q (SetMax g limit) legal = of_zone_seat s.zone.cpus s.hold q (set_max_tests s q g limit legal).0

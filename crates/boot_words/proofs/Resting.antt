@@ -6,7 +6,7 @@ use Rattle.step_rules.specs.declared.phase.Hold.{Hold}
 use Rattle.step_rules.specs.declared.step.Step.{Step}
 use Rattle.step_rules.specs.declared.step.Answer.{Answer}
 use Rattle.step_rules.specs.declared.step.Action.{Action}
-use Rattle.step_rules.specs.declared.step.Action.TheVariants.{Lock, Unlock, OpenVisit, ShutVisit, Get, Put, Freeze, Unfreeze, PassOut, TakeIn, PassBack, Collect, Consume, Credit, Report, Absorb, Fill, DrainStock, Grant, Ungrant, PlaceBlock, Publish, Return, NoteMax, NoteOom, NoteGroupKill, SetMax, SetFlag, Make, Remove, Kill}
+use Rattle.step_rules.specs.declared.step.Action.TheVariants.{Lock, Unlock, OpenVisit, ShutVisit, Get, Put, Freeze, Unfreeze, PassOut, TakeIn, PassBack, Collect, Consume, Credit, Report, Absorb, Fill, DrainStock, Grant, Ungrant, PlaceBlock, Publish, Return, Note, NoteGroupKill, SetMax, SetFlag, Make, Remove, Kill}
 use Rattle.step_rules.specs.State.{Zone, State, is_unheld, may_zone_act, visits}
 use Rattle.step_rules.specs.Legal.{is_legal, Allows}
 use Rattle.step_rules.specs.After.{Run, after, state_of, IsLegalRun}
@@ -52,8 +52,7 @@ only_fast s q (Ungrant g n) sound free inside legal = no_zone s.hold q free (ung
 only_fast s q (PlaceBlock g k) sound free inside legal = no_zone s.hold q free (place_block_tests s q g k legal).0
 only_fast s q (Publish f) sound free inside legal = no_zone s.hold q free (publish_tests s q f legal).0
 only_fast s q (Return f) sound free inside legal = no_zone s.hold q free (return_tests s q f legal).0
-only_fast s q (NoteMax g) sound free inside legal = no_zone s.hold q free (and_parts (may_zone_act s.hold q) _ legal).0
-only_fast s q (NoteOom g) sound free inside legal = no_zone s.hold q free (and_parts (may_zone_act s.hold q) _ legal).0
+only_fast s q (Note key g) sound free inside legal = no_zone s.hold q free (and_parts (may_zone_act s.hold q) _ legal).0
 only_fast s q (NoteGroupKill g) sound free inside legal = no_zone s.hold q free
     (and_parts (may_zone_act s.hold q) _ (and_parts _ (not (g == 0)) legal).0).0
 only_fast s q (SetMax g limit) sound free inside legal = no_zone s.hold q free (set_max_tests s q g limit legal).0

@@ -7,7 +7,7 @@ use Rattle.stock_word.specs.Stock.{word_of, HasWord, stock_pages_of, group_of}
 use Rattle.stock_word.specs.StockRule.{stock_index, report_index}
 use Rattle.step_rules.specs.declared.step.Step.{Step}
 use Rattle.step_rules.specs.declared.step.Action.{Action}
-use Rattle.step_rules.specs.declared.step.Action.TheVariants.{OpenVisit, ShutVisit, Get, Put, Freeze, Unfreeze, PassOut, TakeIn, PassBack, Collect, Consume, Credit, Report, Absorb, Fill, DrainStock, Lock, Unlock, Grant, Ungrant, PlaceBlock, Publish, Return, NoteMax, NoteOom, NoteGroupKill, SetMax, SetFlag, Make, Remove, Kill}
+use Rattle.step_rules.specs.declared.step.Action.TheVariants.{OpenVisit, ShutVisit, Get, Put, Freeze, Unfreeze, PassOut, TakeIn, PassBack, Collect, Consume, Credit, Report, Absorb, Fill, DrainStock, Lock, Unlock, Grant, Ungrant, PlaceBlock, Publish, Return, Note, NoteGroupKill, SetMax, SetFlag, Make, Remove, Kill}
 use Rattle.step_rules.specs.declared.step.Answer.{Answer}
 use Rattle.step_rules.specs.declared.step.Answer.TheVariants.{Done, Held, Zero, Full, Left, Last, Missed, Took, Drained, Stocked, Pages}
 use Rattle.step_rules.specs.State.{Zone}
@@ -107,8 +107,7 @@ IsPlain (Ungrant g n) = Unit {0}
 IsPlain (PlaceBlock g k) = Unit {0}
 IsPlain (Publish f) = Unit {0}
 IsPlain (Return f) = Unit {0}
-IsPlain (NoteMax g) = Unit {0}
-IsPlain (NoteOom g) = Unit {0}
+IsPlain (Note key g) = Unit {0}
 IsPlain (NoteGroupKill g) = Unit {0}
 IsPlain (SetMax g limit) = Unit {0}
 IsPlain (SetFlag g flag) = Unit {0}

@@ -1,6 +1,5 @@
 -- The lines of events, written one key after the other. Serves `events_text`.
-use Rattle.std.proofs.Common.{◌≡◌, ℕ, ◌+◌, ◌≤◌, ◌<◌, List, ◌++◌, length, take, drop, get_or, refl, sym, ◌∙◌, ap, arith, append-nil}
-use Rattle.std.specs.Prelude.{codes}
+use Rattle.std.proofs.Common.{◌≡◌, ℕ, ◌+◌, ◌≤◌, ◌<◌, List, [], ◌++◌, length, take, drop, get_or, refl, ◌∙◌, ap, arith}
 use Rattle.std.specs.List.{flat_map, sum_by}
 use Rattle.std.proofs.lemmas.List.{flat_map_more, take_more}
 use Rattle.std.proofs.lemmas.List.Sums.{sum_by-drop_more}
@@ -17,21 +16,21 @@ line_room key = length (key_name key) + 22
 
 -- the lines of the first keys are written, and there is room for those of the others
 abbrev pub AreWritten : EventCounts → List EventKey → ℕ → List ℕ → Type 0
-AreWritten counts keys n text = (text ≡ codes "low 0\nhigh 0\n" ++ flat_map (line_of counts) (take n keys))
-    × (length text + sum_by line_room (drop n keys) ≤ 160)
+AreWritten counts keys n text = (text ≡ flat_map (line_of counts) (take n keys))
+    × (length text + sum_by line_room (drop n keys) ≤ 256)
 
-pub no_line : (counts : EventCounts) → AreWritten counts all_keys 0 (codes "low 0\nhigh 0\n")
-no_line counts = (sym (append-nil _), omega arith)
+pub no_line : (counts : EventCounts) → AreWritten counts all_keys 0 []
+no_line counts = (refl, omega arith)
 
 pub line_fits : (counts : EventCounts) (keys : List EventKey) (n : ℕ) (d : EventKey) (text : List ℕ) → n < length keys → AreWritten counts keys n text →
-    length text + length (key_name (get_or keys n d)) + 22 ≤ 160
+    length text + length (key_name (get_or keys n d)) + 22 ≤ 256
 line_fits counts keys n d text inside h = omega (arith, h.1, sum_by-drop_more line_room keys n d inside)
 
 pub line_written : (counts : EventCounts) (keys : List EventKey) (n : ℕ) (d : EventKey) (text new : List ℕ) → n < length keys → AreWritten counts keys n text →
     new ≡ text ++ line_of counts (get_or keys n d) → length new ≤ length text + length (key_name (get_or keys n d)) + 22 → AreWritten counts keys (n + 1) new
 line_written counts keys n d text new inside h new_is short = (
   new_is ∙ (ap (λ t. t ++ line_of counts (get_or keys n d)) h.0
-      ∙ rw (take_more keys n d inside) (flat_map_more (line_of counts) (codes "low 0\nhigh 0\n") (take n keys) (get_or keys n d))),
+      ∙ rw (take_more keys n d inside) (flat_map_more (line_of counts) [] (take n keys) (get_or keys n d))),
   omega (arith, h.1, sum_by-drop_more line_room keys n d inside),
 )
 

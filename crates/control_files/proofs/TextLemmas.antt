@@ -4,15 +4,15 @@ use Rattle.std.proofs.Common.{drop-drop, append_assoc}
 use Rattle.std.proofs.lemmas.List.{drop-replicate, drop_at, length-take-le}
 use Rattle.group_tree.specs.Text.{IsPadded}
 
-rest_zeros : (bytes : List ℕ) (len more : ℕ) → IsPadded 160 bytes len → drop (len + more) bytes ≡ replicate (160 - (len + more)) 0
+rest_zeros : (bytes : List ℕ) (len more : ℕ) → IsPadded 256 bytes len → drop (len + more) bytes ≡ replicate (256 - (len + more)) 0
 rest_zeros bytes len more h =
-    let rest : drop more (drop len bytes) ≡ replicate (160 - len - more) 0 = rw h.zeros (drop-replicate more (160 - len) 0) in
-    let left : 160 - len - more ≡ 160 - (len + more) = omega arith in
+    let rest : drop more (drop len bytes) ≡ replicate (256 - len - more) 0 = rw h.zeros (drop-replicate more (256 - len) 0) in
+    let left : 256 - len - more ≡ 256 - (len + more) = omega arith in
     sym (drop-drop more len bytes) ∙ (rest ∙ ap (λ n. replicate n 0) left)
 
 -- bytes written behind the text have zeros behind them
-pub IsPadded-written : (bytes new more : List ℕ) (len : ℕ) → IsPadded 160 bytes len → len + length more ≤ 160 →
-    new ≡ take len bytes ++ (more ++ drop (len + length more) bytes) → IsPadded 160 new (len + length more)
+pub IsPadded-written : (bytes new more : List ℕ) (len : ℕ) → IsPadded 256 bytes len → len + length more ≤ 256 →
+    new ≡ take len bytes ++ (more ++ drop (len + length more) bytes) → IsPadded 256 new (len + length more)
 IsPadded-written bytes new more len h fits written = record {
   size = rw written (simp length-append (omega (arith, length-take-le len bytes (omega (arith, h.size)), length-drop (len + length more) bytes, h.size)));
   fits = fits;

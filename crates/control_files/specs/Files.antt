@@ -6,12 +6,12 @@ use Rattle.group_tree.specs.Events.{EventCounts, all_keys, count_of, key_name}
 use Rattle.group_tree.specs.Groups.{is_oom_group, limit_of}
 use Rattle.group_tree.specs.declared.fault.Fault.{Fault}
 use Rattle.group_tree.specs.declared.fault.Fault.TheVariants.{WriteOnly}
-use Rattle.group_charge.specs.Charges.{Ledger, current_of, peak_of, events_of, events_local_of}
+use Rattle.group_charge.specs.Charges.{Ledger, current_of, peak_of, events_of, events_local_of, settings_of}
 use Rattle.control_files.specs.Flag.{flag_word}
 use Rattle.control_files.specs.Limit.{page_bytes}
 use Rattle.control_files.specs.declared.file.File.{File}
-use Rattle.control_files.specs.declared.file.File.TheVariants.{Current, Max, Peak, Events, EventsLocal, OomGroup}
-use Rattle.control_files.specs.declared.file.File.TheVariants.{Reclaim}
+use Rattle.control_files.specs.declared.file.File.TheVariants.{Current, Max, High, Peak}
+use Rattle.control_files.specs.declared.file.File.TheVariants.{Events, EventsLocal, OomGroup, Reclaim}
 
 -- the bytes of a file's name, and whether it can be read and written
 pub record Row : Type 0 where
@@ -23,6 +23,7 @@ pub record Row : Type 0 where
 abbrev pub row_of : File → Row
 row_of Current = record { name = codes "memory.current"; is_readable = true; is_writable = false }
 row_of Max = record { name = codes "memory.max"; is_readable = true; is_writable = true }
+row_of High = record { name = codes "memory.high"; is_readable = true; is_writable = true }
 row_of Peak = record { name = codes "memory.peak"; is_readable = true; is_writable = false }
 row_of Events = record { name = codes "memory.events"; is_readable = true; is_writable = false }
 row_of EventsLocal = record { name = codes "memory.events.local"; is_readable = true; is_writable = false }
@@ -58,15 +59,15 @@ flag_text flag = flag_word flag ++ codes "\n"
 abbrev pub count_line : List ℕ → ℕ → List ℕ
 count_line key count = key ++ (codes " " ++ (decimal count ++ codes "\n"))
 
--- A line for each key. First `low` and `high`, which never happen here and stay 0, then the keys that are counted.
+-- a line for each key
 unfoldable pub events_text : EventCounts → List ℕ
-events_text counts = codes "low 0\nhigh 0\n"
-    ++ flat_map (λ key. count_line (key_name key) (count_of counts key)) all_keys
+events_text counts = flat_map (λ key. count_line (key_name key) (count_of counts key)) all_keys
 
 -- the text of a file of a group, or why it can't be read
 abbrev pub file_text : Ledger → ℕ → File → Result (List ℕ) Fault
 file_text ledger g Current = Ok (pages_text (current_of ledger g))
 file_text ledger g Max = Ok (limit_text (limit_of ledger.groups g))
+file_text ledger g High = Ok (limit_text (settings_of ledger g).high)
 file_text ledger g Peak = Ok (pages_text (peak_of ledger g))
 file_text ledger g Events = Ok (events_text (events_of ledger g))
 file_text ledger g EventsLocal = Ok (events_text (events_local_of ledger g))

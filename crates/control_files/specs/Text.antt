@@ -5,7 +5,7 @@ use Rattle.control_files.specs.declared.text.ArrayText.TheInside.{Inside}
 
 -- how many bytes a text may have: more than any file of a group
 abbrev pub longest_text : ℕ
-longest_text = 160
+longest_text = 256
 
 -- the fields can be found from the text
 pub text-view : (bytes : List ℕ) (len : ℕ) → IsPadded longest_text bytes len

@@ -10,7 +10,7 @@ ghost use Rattle.group_tree.specs.Groups.{has_group};
 
 use crate::flag::write_flag;
 use crate::limit::write_limit;
-use crate::text::{ArrayText, pages_text, text_of};
+use crate::text::{ArrayText, pages_text};
 use group_charge::charges::Charges;
 use group_tree::event::{EventCounts, EventKey};
 use group_tree::fault::Fault;
@@ -23,6 +23,8 @@ pub enum File {
     Current,
     /// memory.max: the limit of that usage.
     Max,
+    /// memory.high: how far that usage may rise before reclaim lowers it.
+    High,
     /// memory.peak: the greatest usage since the group was made.
     Peak,
     /// memory.events: how many events of each kind the group and those below it had.
@@ -36,9 +38,10 @@ pub enum File {
 }
 
 // All files.
-const FILES: [File; 7] = [
+const FILES: [File; 8] = [
     File::Current,
     File::Max,
+    File::High,
     File::Peak,
     File::Events,
     File::EventsLocal,
@@ -56,6 +59,7 @@ impl File {
         match self {
             File::Current => ("memory.current", true, false),
             File::Max => ("memory.max", true, true),
+            File::High => ("memory.high", true, true),
             File::Peak => ("memory.peak", true, false),
             File::Events => ("memory.events", true, false),
             File::EventsLocal => ("memory.events.local", true, false),
@@ -99,6 +103,7 @@ pub fn file_text(charges: &Charges, group: GroupId, file: File) -> Result<ArrayT
     match file {
         File::Current => Ok(pages_text(charges.current(group))),
         File::Max => Ok(write_limit(charges.max(group))),
+        File::High => Ok(write_limit(charges.settings(group).high)),
         File::Peak => Ok(pages_text(charges.peak(group))),
         File::Events => Ok(events_text(charges.events(group))),
         File::EventsLocal => Ok(events_text(charges.events_local(group))),
@@ -107,12 +112,12 @@ pub fn file_text(charges: &Charges, group: GroupId, file: File) -> Result<ArrayT
     }
 }
 
-// The text of counts. Nothing is protected here and nothing is throttled, so `low` and `high` stay 0.
+// The text of counts.
 #[tactic(auto, unfolding(crate::specs::Files::events_text))]
 fn events_text(counts: EventCounts) -> ArrayText
     ensures { result ≡ events_text counts }
 {
-    let mut text = text_of(b"low 0\nhigh 0\n");
+    let mut text = ArrayText::new();
     for key in EventKey::ALL {
         push_count(&mut text, key.name().as_bytes(), counts.count(key));
     }

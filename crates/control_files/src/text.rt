@@ -12,9 +12,9 @@ use std::marker::Model;
 pub const PAGE_BYTES: u64 = 4096;
 
 /// How many bytes a text may have.
-pub const MAX_TEXT: usize = 160;
+pub const MAX_TEXT: usize = 256;
 
-/// A text of at most 160 bytes, kept without memory of its own. Zeros follow the text.
+/// A text of at most 256 bytes, kept without memory of its own. Zeros follow the text.
 #[derive(Clone, Copy, Debug, PartialEq, Eq)]
 pub struct ArrayText {
     bytes: [u8; MAX_TEXT],
@@ -72,6 +72,11 @@ impl ArrayText {
         ensures text { self.new ≡ self.old ++ decimal number }
         ensures short { length self.new ≤ length self.old + 20 }
     {
+        // Most counts of events are one digit.
+        if number < 10 {
+            self.push(&[b'0' + number as u8]);
+            return;
+        }
         let mut buffer = Buffer::new();
         self.push(buffer.format(number).as_bytes());
     }

@@ -17,9 +17,9 @@ use Rattle.group_tree.specs.Groups.{the_root, new_row, IsLeastFreeNumber, has_gr
 use Rattle.group_tree.proofs.GroupLemmas.{CanMake, has_group-any, has_group-contains, length-full, AreGroups-initial, AreGroups-with}
 use Rattle.group_tree.proofs.GroupLemmas.{AreGroups-without, AreGroups-limited, AreGroups-flagged, limited-number, flagged-number}
 use Rattle.group_tree.proofs.CallerLemmas.{in_subtree-flagged, in_subtree-limited, in_subtree-root}
-use Rattle.group_charge.specs.Charges.{Account, Ledger, AreCharges, UsageRises, account_at, pages_of, current_of, usage_charged, total_pages, added, taken}
+use Rattle.group_charge.specs.Charges.{Account, Ledger, Settings, AreCharges, UsageRises, account_at, pages_of, current_of, usage_charged, total_pages, added, taken}
 use Rattle.group_charge.specs.Charges.{peaked, with_event_at, charged, empty_account, initial_ledger, with_charge, with_uncharge, with_new_group}
-use Rattle.group_charge.specs.Charges.{with_group_removed, with_group_limit, with_oom_flag}
+use Rattle.group_charge.specs.Charges.{with_group_removed, with_group_limit, with_noted, with_oom_flag}
 use Rattle.group_charge.proofs.SumLemmas.{AreDistinct, share, total-added, total-taken, usage-le-total, added-group, taken-group, peaked-group}
 use Rattle.group_charge.proofs.SumLemmas.{peaked-pages, sum-map_same}
 
@@ -92,9 +92,9 @@ pub usage-le-root : (l : Ledger) (g : ℕ) → AreCharges l → current_of l g �
 usage-le-root l g facts = omega (arith, usage-le-total l.groups l.accounts g, root_usage l facts)
 
 -- ---- a change keeps the facts
-pub same_ledger : (g h : List Group) (a b : List Account) → g ≡ h → a ≡ b →
-    ◌≡◌ {A = Ledger} (record { groups = g; accounts = a }) (record { groups = h; accounts = b })
-same_ledger g h a b x y = cc
+pub same_ledger : (g : List Group) (a b : List Account) (s : List Settings) → a ≡ b →
+    ◌≡◌ {A = Ledger} (record { groups = g; accounts = a; settings = s }) (record { groups = g; accounts = b; settings = s })
+same_ledger g a b s e = ap (λ (xs : List Account). record { groups = g; accounts = xs; settings = s }) e
 
 -- a change that keeps each account's group keeps the list of groups
 pub same_groups : (f : Account → Account) → ((a : Account) → (f a).group ≡ a.group) → (xs : List Account) →
@@ -166,7 +166,7 @@ AreCharges-flagged l g flag facts below =
     (numbers-kept (flagged g flag) (flagged-number g flag) l.groups) (λ k h. in_subtree-flagged l.groups g k h flag) facts
 
 -- and after a note
-pub AreCharges-noted : (key : EventKey) (l : Ledger) (g : ℕ) → AreCharges l → AreCharges (record { groups = l.groups; accounts = map (with_event_at key l.groups g) l.accounts })
+pub AreCharges-noted : (key : EventKey) (l : Ledger) (g : ℕ) → AreCharges l → AreCharges (with_noted key l g)
 AreCharges-noted key l g facts = record {
   groups = facts.groups;
   numbers = same_groups (with_event_at key l.groups g) (λ a. refl) l.accounts ∙ facts.numbers;
@@ -175,7 +175,7 @@ AreCharges-noted key l g facts = record {
 }
 
 -- and after pages were taken
-pub AreCharges-taken : (l : Ledger) (g n : ℕ) → AreCharges l → AreCharges (record { groups = l.groups; accounts = map (taken g n) l.accounts })
+pub AreCharges-taken : (l : Ledger) (g n : ℕ) → AreCharges l → AreCharges (with_uncharge l g n)
 AreCharges-taken l g n facts = record {
   groups = facts.groups;
   numbers = same_groups (taken g n) (taken-group g n) l.accounts ∙ facts.numbers;
@@ -185,7 +185,7 @@ AreCharges-taken l g n facts = record {
 
 -- and after a charge that fits 32 bits
 pub AreCharges-charged : (l : Ledger) (g n : ℕ) → AreCharges l → IsTrue (has_group l.groups g) → current_of l 0 + n < 2 ^ 32 →
-    AreCharges (record { groups = l.groups; accounts = charged l.groups l.accounts g n })
+    AreCharges (with_charge l g n)
 unfolding charged
 AreCharges-charged l g n facts there fits =
     let more = map (added g n) l.accounts in

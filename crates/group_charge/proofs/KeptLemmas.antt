@@ -12,7 +12,7 @@ use Rattle.group_tree.specs.Events.{with_one_more}
 use Rattle.group_tree.specs.Groups.{AreGroups, has_group, in_subtree, new_row, with_group, with_limit, with_oom_group, without_group, limited, flagged}
 use Rattle.group_tree.specs.Room.{on_path}
 use Rattle.group_tree.proofs.GroupLemmas.{has_group-contains, has_group-is, group_at-contains, limited-number, flagged-number}
-use Rattle.group_charge.specs.Charges.{Account, AreCharges, account_at, added, charged, empty_account, pages_of, peaked, taken, usage_charged}
+use Rattle.group_charge.specs.Charges.{Account, AreCharges, Settings, account_at, added, charged, empty_account, pages_of, peaked, taken, usage_charged}
 use Rattle.group_charge.specs.Charges.{with_charge, with_event_at}
 use Rattle.group_charge.specs.Kept.{AccountsOnPath, AreUsages, account_by, accounts_of, ledger_of, usage_by, with_event, with_local_event, with_usage_peak}
 use Rattle.group_charge.proofs.ChargeLemmas.{account_at-there, same_groups}
@@ -220,9 +220,9 @@ number_below groups g facts there =
     subst (λ k. k < 64) c.1 (All-contains (λ (x : Group). x.number < 64) groups w.0 facts.numbers c.0)
 
 -- the account of a group that is there is the one kept under its number
-pub account_kept : (groups : List Group) (kept : List Account) (g : ℕ) → AreCharges (ledger_of groups kept) → IsTrue (has_group groups g) →
-    account_at (ledger_of groups kept) g ≡ Some (account_by kept g)
-account_kept groups kept g facts there =
+pub account_kept : (groups : List Group) (kept : List Account) (s : List Settings) (g : ℕ) → AreCharges (ledger_of groups kept s) → IsTrue (has_group groups g) →
+    account_at (ledger_of groups kept s) g ≡ Some (account_by kept g)
+account_kept groups kept s g facts there =
     let w = has_group-is groups g there in
     let c = group_at-contains groups g w.0 w.1 in
     let own = own_number groups kept g facts.numbers there in
@@ -232,21 +232,21 @@ account_kept groups kept g facts there =
       omega (arith, c.0.1, length-map groups f),
       get_or-map f groups c.0.0 w.0 (account_by kept g) c.0.1 ∙ ap f c.0.2 ∙ ap (account_by kept) c.1,
     ) in
-    ap (account_at (ledger_of groups kept)) (sym own) ∙ account_at-there (ledger_of groups kept) (account_by kept g) facts here
+    ap (account_at (ledger_of groups kept s)) (sym own) ∙ account_at-there (ledger_of groups kept s) (account_by kept g) facts here
 
 -- and its pages are the group's own
-pub kept_pages : (groups : List Group) (kept : List Account) (g : ℕ) → AreCharges (ledger_of groups kept) → IsTrue (has_group groups g) →
-    pages_of (ledger_of groups kept) g ≡ (account_by kept g).pages
+pub kept_pages : (groups : List Group) (kept : List Account) (s : List Settings) (g : ℕ) → AreCharges (ledger_of groups kept s) → IsTrue (has_group groups g) →
+    pages_of (ledger_of groups kept s) g ≡ (account_by kept g).pages
 unfolding pages_of
-kept_pages groups kept g facts there = ap (λ o. option_map_or (λ (a : Account). a.pages) o 0) (account_kept groups kept g facts there)
+kept_pages groups kept s g facts there = ap (λ o. option_map_or (λ (a : Account). a.pages) o 0) (account_kept groups kept s g facts there)
 
 -- ---- a charge that was granted: the pages, and then the peaks
-pub kept_charged : (groups : List Group) (kept mid new : List Account) (usages : List ℕ) (g n : ℕ) → AreCharges (ledger_of groups kept) →
+pub kept_charged : (groups : List Group) (kept mid new : List Account) (s : List Settings) (usages : List ℕ) (g n : ℕ) → AreCharges (ledger_of groups kept s) →
     g < length kept → mid ≡ set kept g (record (account_by kept g) { pages = (account_by kept g).pages + n }) →
-    AreUsages (with_charge (ledger_of groups kept) g n) usages → AccountsOnPath groups g (with_usage_peak usages) mid new →
+    AreUsages (with_charge (ledger_of groups kept s) g n) usages → AccountsOnPath groups g (with_usage_peak usages) mid new →
     accounts_of groups new ≡ charged groups (accounts_of groups kept) g n
 unfolding charged
-kept_charged groups kept mid new usages g n facts within mid_is are walked =
+kept_charged groups kept mid new s usages g n facts within mid_is are walked =
     let xs = accounts_of groups kept in
     let more : accounts_of groups mid ≡ map (added g n) xs = ap (accounts_of groups) mid_is ∙ kept_added groups kept g n facts.numbers within in
     let bear : BearNumbers groups mid = ap (map (λ (a : Account). a.group)) more ∙ same_groups (added g n) (added-group g n) xs ∙ facts.numbers in

@@ -1,8 +1,9 @@
--- The charges of a tree of groups: for each group its own pages, its peak and its event counts.
-use Rattle.std.specs.Prelude.{All, ◌≡◌, ℕ, ◌+◌, ◌-◌, ◌^◌, ◌<◌, ◌≤◌, ◌==◌, Bool, not, Option, List, [], ◌∷◌, ◌++◌, map}
-use Rattle.std.specs.Prelude.{filter, sum_by, if◌then◌else◌}
-use Rattle.std.specs.List.{find}
+-- The charges of a tree of groups: for each group its own pages, its peak, its event counts and what is set for it.
+use Rattle.std.specs.Prelude.{All, ◌≡◌, ℕ, ◌+◌, ◌-◌, ◌^◌, ◌<◌, ◌≤◌, ◌==◌, Bool, not, Option, None, List, [], ◌∷◌}
+use Rattle.std.specs.Prelude.{◌++◌, filter, map, replicate, set, sum_by, if◌then◌else◌}
+use Rattle.std.specs.List.{find, slice_index_or}
 use Rattle.std.specs.Option.{option_map_or}
+use Rattle.group_tree.specs.Bounds.{most_groups}
 use Rattle.group_tree.specs.declared.group.Group.{Group}
 use Rattle.group_tree.specs.declared.event.EventKey.TheVariants.{Max, Oom, OomKill, OomGroupKill}
 use Rattle.group_tree.specs.declared.event.EventKey.{EventKey}
@@ -12,19 +13,34 @@ use Rattle.group_tree.specs.Groups.{AreGroups}
 use Rattle.group_tree.specs.Room.{at_group, on_path, peak_after}
 -- an account has a group's number, its own pages, its peak and its event counts
 pub use Rattle.group_charge.specs.declared.account.Account.{Account}
+-- memory.high, in pages, or None for `max`
+pub use Rattle.group_charge.specs.declared.settings.Settings.{Settings}
 
--- the groups of the tree, and an account for each, in the order in which the groups were made
+-- the groups of the tree, and an account for each, in the order in which the groups were made; by number, what is set
 pub record Ledger : Type 0 where
   pub groups : List Group
   pub accounts : List Account
+  pub settings : List Settings
+
+-- the defaults: no memory.high
+abbrev pub no_settings : Settings
+no_settings = record { high = None }
 
 -- the account of a new group: no page, peak 0 and all counts 0
 abbrev pub empty_account : ℕ → Account
 empty_account n = record { group = n; pages = 0; peak = 0; events = no_events; events_local = no_events }
 
--- the root alone, with nothing charged
+-- the root alone, with nothing charged and nothing set
 abbrev pub initial_ledger : Ledger
-initial_ledger = record { groups = initial_groups; accounts = empty_account 0 ∷ [] }
+initial_ledger = record {
+  groups = initial_groups;
+  accounts = empty_account 0 ∷ [];
+  settings = replicate most_groups no_settings;
+}
+
+-- what is set for the group
+abbrev pub settings_of : Ledger → ℕ → Settings
+settings_of l g = slice_index_or l.settings g no_settings
 
 -- the account of the group
 unfoldable pub account_at : Ledger → ℕ → Option Account
@@ -115,13 +131,22 @@ with_kill_noted l g = with_noted OomKill l g
 abbrev pub with_group_kill_noted : Ledger → ℕ → Ledger
 with_group_kill_noted l g = with_noted OomGroupKill l g
 
--- the ledger with a new group, which has an empty account
-abbrev pub with_new_group : Ledger → ℕ → List ℕ → Ledger
-with_new_group l n path = record { groups = with_group l.groups n path; accounts = l.accounts ++ empty_account n ∷ [] }
+-- the ledger with this set for the group: nothing else changes
+abbrev pub with_settings : Ledger → ℕ → Settings → Ledger
+with_settings l g settings = record l { settings = set l.settings g settings }
 
--- the ledger without the group and its account: the counts of its ancestors stay
+-- the ledger with a new group, which has an empty account and nothing set
+abbrev pub with_new_group : Ledger → ℕ → List ℕ → Ledger
+with_new_group l n path = record {
+  groups = with_group l.groups n path;
+  accounts = l.accounts ++ empty_account n ∷ [];
+  settings = set l.settings n no_settings;
+}
+
+-- The ledger without the group and its account: the counts of its ancestors stay. What was set for it stays until a new
+-- group has its number.
 abbrev pub with_group_removed : Ledger → ℕ → Ledger
-with_group_removed l g = record {
+with_group_removed l g = record l {
   groups = without_group l.groups g;
   accounts = filter (λ a. not (a.group == g)) l.accounts;
 }

@@ -1,5 +1,5 @@
--- What is kept for each group by its number: its account and its usage. The usage is stored rather than summed at
--- each read.
+-- What is kept for each group by its number: its account, its usage and what is set for it. The usage is stored rather
+-- than summed at each read.
 use Rattle.std.specs.Prelude.{◌≡◌, ℕ, max, Option, List, length, map, set, if◌then◌else◌}
 use Rattle.std.specs.List.{slice_index_or}
 use Rattle.group_tree.specs.declared.group.Group.{Group}
@@ -8,7 +8,7 @@ use Rattle.group_tree.specs.Bounds.{most_groups}
 use Rattle.group_tree.specs.declared.event.EventKey.{EventKey}
 use Rattle.group_tree.specs.Events.{with_one_more}
 use Rattle.group_tree.specs.Room.{on_path}
-use Rattle.group_charge.specs.Charges.{Account, AreCharges, Ledger, current_of, empty_account}
+use Rattle.group_charge.specs.Charges.{Account, AreCharges, Ledger, Settings, current_of, empty_account}
 
 -- the account kept under this number
 abbrev pub account_by : List Account → ℕ → Account
@@ -22,9 +22,13 @@ usage_by usages g = slice_index_or usages g 0
 abbrev pub accounts_of : List Group → List Account → List Account
 accounts_of groups accounts = map (λ (x : Group). account_by accounts x.number) groups
 
--- these groups and their accounts
-abbrev pub ledger_of : List Group → List Account → Ledger
-ledger_of groups accounts = record { groups = groups; accounts = accounts_of groups accounts }
+-- these groups with their accounts, and what is set
+abbrev pub ledger_of : List Group → List Account → List Settings → Ledger
+ledger_of groups accounts settings = record {
+  groups = groups;
+  accounts = accounts_of groups accounts;
+  settings = settings;
+}
 
 -- each stored usage is the sum of the own pages of the group of that number and of all groups below it; 0 if there is
 -- no such group
@@ -32,11 +36,13 @@ pub record AreUsages (l : Ledger) (usages : List ℕ) : Type 0 where
   pub size : length usages ≡ most_groups
   pub sums : (g : ℕ) → usage_by usages g ≡ current_of l g
 
--- what holds of all that is kept: of accounts and usages
-pub record AreSoundCharges (groups : List Group) (accounts : List Account) (usages : List ℕ) : Type 0 where
-  pub charges : AreCharges (ledger_of groups accounts)
+-- what holds of all that is kept: of accounts, usages and what is set
+pub record AreSoundCharges (groups : List Group) (accounts : List Account) (usages : List ℕ)
+    (settings : List Settings) : Type 0 where
+  pub charges : AreCharges (ledger_of groups accounts settings)
   pub size : length accounts ≡ most_groups
-  pub usages_are : AreUsages (ledger_of groups accounts) usages
+  pub settings_size : length settings ≡ most_groups
+  pub usages_are : AreUsages (ledger_of groups accounts settings) usages
 
 -- ---- what a walk changes
 -- f changes the usage of each group that the walk from g passes before it reaches `next`, or of the whole path if

@@ -7,7 +7,7 @@ use Rattle.group_charge.specs.declared.note.Note.TheVariants.{Reclaimed}
 
 -- how many notes are kept
 abbrev pub most_notes : ℕ
-most_notes = 2048
+most_notes = 2112
 
 -- how many of them may be spans of freed units
 abbrev pub most_spans : ℕ

@@ -10,11 +10,12 @@ ghost use Rattle.group_charge.specs.Charges.{AreCharges, CountsOnly, PagesRise};
 ghost use Rattle.group_charge.specs.Charges.{PeaksRise, SameEvents, SamePages, SamePeaks};
 ghost use Rattle.group_charge.specs.Charges.{UsageRises, account_at, current_of, empty_account};
 ghost use Rattle.group_charge.specs.Charges.{events_local_of, events_of, initial_ledger, pages_of, peak_of};
-ghost use Rattle.group_charge.specs.Charges.{total_pages, with_charge, with_group_kill_noted, with_group_limit};
-ghost use Rattle.group_charge.specs.Charges.{with_group_removed, with_kill_noted, with_max_noted, with_new_group};
-ghost use Rattle.group_charge.specs.Charges.{with_noted, with_oom_flag, with_oom_noted, with_uncharge};
+ghost use Rattle.group_charge.specs.Charges.{settings_of, total_pages, with_charge, with_group_limit};
+ghost use Rattle.group_charge.specs.Charges.{with_group_removed, with_new_group, with_noted, with_oom_flag};
+ghost use Rattle.group_charge.specs.Charges.{with_settings, with_uncharge};
 
 use crate::account::Account;
+use crate::settings::Settings;
 use crate::walks;
 use group_tree::event::{EventCounts, EventKey};
 use group_tree::fault::Fault;
@@ -39,6 +40,8 @@ pub struct Charges {
     accounts: [Account; MAX_GROUPS],
     // By number: the pages charged to each group and to all groups below it; 0 if no group has the number.
     usages: [u32; MAX_GROUPS],
+    // By number: what is set for each group.
+    settings: [Settings; MAX_GROUPS],
 }
 
 impl Model for Charges {
@@ -47,23 +50,25 @@ impl Model for Charges {
 
     ghost Value = { Ledger };
 
-    ghost view = { λ c. ledger_of c.tree c.accounts };
+    ghost view = { λ c. ledger_of c.tree c.accounts c.settings };
 
-    ghost invariant = { λ c. AreSoundCharges c.tree c.accounts c.usages };
+    ghost invariant = { λ c. AreSoundCharges c.tree c.accounts c.usages c.settings };
 }
 
 impl Charges {
-    /// The root alone, with nothing charged and no limit.
+    /// The root alone, with nothing charged, no limit and nothing set.
     pub fn new(alloc: Global) -> Result<Charges, AllocError>
         ensures { IfOk result (λ charges. charges ≡ initial_ledger) }
     {
         let tree = Tree::new(alloc)?;
         let accounts = [new_account(GroupId::root()); MAX_GROUPS];
         let usages = [0; MAX_GROUPS];
+        let settings = [Settings::none(); MAX_GROUPS];
         Ok(Charges {
             tree,
             accounts,
             usages,
+            settings,
         })
     }
 
@@ -94,7 +99,7 @@ impl Charges {
         &self.accounts[group.number() as usize]
     }
 
-    /// Makes a group, as `Tree::make` does. It has no page, peak 0 and all counts 0.
+    /// Makes a group, as `Tree::make` does. It has no page, peak 0, all counts 0 and nothing set.
     pub fn make(&mut self, path: &[u8]) -> Result<GroupId, Fault>
         ensures made { IfOk result (λ n. self.new ≡ with_new_group self.old n path.now) }
         ensures least { IfOk result (λ n. IsLeastFreeNumber self.old.groups n) }
@@ -105,7 +110,9 @@ impl Charges {
         ensures kept { (m : ℕ) → IsTrue (has_group self.old.groups m) → IsTrue (has_group self.new.groups m) }
     {
         let group = self.tree.make(path)?;
-        self.accounts[group.number() as usize] = new_account(group);
+        let at = group.number() as usize;
+        self.accounts[at] = new_account(group);
+        self.settings[at] = Settings::none();
         Ok(group)
     }
 
@@ -129,6 +136,14 @@ impl Charges {
         ensures pages { SamePages self.old self.new }
     {
         self.tree.set_oom_group(group, oom_group);
+    }
+
+    /// Sets memory.high of the group. Only later charges read it.
+    pub fn set_settings(&mut self, group: GroupId, settings: Settings)
+        ensures { self.new ≡ with_settings self.old group settings }
+    {
+        let at = group.number() as usize;
+        self.settings[at] = settings;
     }
 
     /// Removes an existing group that isn't the root, has no group below it and no page charged.
@@ -183,6 +198,13 @@ impl Charges {
         ensures { result ≡ is_oom_group self.now.groups group }
     {
         self.tree.is_oom_group(group)
+    }
+
+    /// What is set for the group: memory.high.
+    pub fn settings(&self, group: GroupId) -> Settings
+        ensures { result ≡ settings_of self.now group }
+    {
+        self.settings[group.number() as usize]
     }
 
     /// The events of the group and of all groups below it (memory.events).
@@ -243,54 +265,15 @@ impl Charges {
         walks::subtract_until(&self.tree, &mut self.usages, group, None, pages);
     }
 
-    // Counts one event of this key: for the group itself, and for it and each of its ancestors.
-    fn note(&mut self, key: EventKey, group: GroupId)
+    /// Counts one more event of this key for the group itself, and one more for it and each of its ancestors. A count
+    /// that reaches 2^64 - 1 stays there.
+    pub fn note(&mut self, key: EventKey, group: GroupId)
         requires { IsTrue (has_group self.old.groups group) }
         ensures noted { self.new ≡ with_noted key self.old group }
         ensures only { CountsOnly key self.old self.new group }
     {
         walks::count_event(&self.tree, &mut self.accounts, key, group);
         walks::count_local_event(&mut self.accounts, key, group);
-    }
-
-    /// Counts that a charge was about to exceed the group's limit: one more `max` for the group itself, and for it
-    /// and each of its ancestors. A count that reaches 2^64 - 1 stays there.
-    pub fn note_max(&mut self, group: GroupId)
-        requires { IsTrue (has_group self.old.groups group) }
-        ensures noted { self.new ≡ with_max_noted self.old group }
-        ensures only { CountsOnly EventKey.Max self.old self.new group }
-    {
-        self.note(EventKey::Max, group);
-    }
-
-    /// Counts that an allocation was about to fail at the group's limit and a kill was possible: one more `oom`,
-    /// counted as in `note_max`.
-    pub fn note_oom(&mut self, group: GroupId)
-        requires { IsTrue (has_group self.old.groups group) }
-        ensures noted { self.new ≡ with_oom_noted self.old group }
-        ensures only { CountsOnly EventKey.Oom self.old self.new group }
-    {
-        self.note(EventKey::Oom, group);
-    }
-
-    /// Counts that the group was killed: one more `oom_kill`, counted as in `note_max`.
-    pub fn note_kill(&mut self, group: GroupId)
-        requires { IsTrue (has_group self.old.groups group) }
-        ensures noted { self.new ≡ with_kill_noted self.old group }
-        ensures only { CountsOnly EventKey.OomKill self.old self.new group }
-    {
-        self.note(EventKey::OomKill, group);
-    }
-
-    /// Counts that the group, which isn't the root, was killed as a whole: one more `oom_group_kill`, counted as in
-    /// `note_max`.
-    pub fn note_group_kill(&mut self, group: GroupId)
-        requires there { IsTrue (has_group self.old.groups group) }
-        requires below_root { group ≢ 0 }
-        ensures noted { self.new ≡ with_group_kill_noted self.old group }
-        ensures only { CountsOnly EventKey.OomGroupKill self.old self.new group }
-    {
-        self.note(EventKey::OomGroupKill, group);
     }
 }
 

@@ -8,5 +8,6 @@ pub mod account;
 pub mod charges;
 pub mod note;
 pub mod notes;
+pub mod settings;
 mod spans;
 mod walks;

@@ -24,6 +24,14 @@ pub enum Note {
         usage: u32,
         need: u32,
     },
+    /// `need` more pages would have taken the usage of the group over its memory.high, `high` pages: `usage` pages were
+    /// charged in its subtree. `need` is 0 if memory.high was written. Rounds of reclaim from the subtree follow.
+    High {
+        group: GroupId,
+        high: u32,
+        usage: u32,
+        need: u32,
+    },
     /// No block of 2^`order` frames was free: rounds of reclaim from all groups follow.
     Zone {
         order: u32,

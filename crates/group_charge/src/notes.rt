@@ -10,17 +10,17 @@ use group_tree::group::GroupId;
 use std::alloc::{AllocError, Global};
 use std::marker::Model;
 
-/// How many notes are kept at most. One command makes at most 909 that are no spans of freed units and no rounds of the
-/// zone. For each of 8 limits on a path these are the limit, a stock of each of 64 CPUs, 16 rounds and an `oom`. There
-/// is a `Kill` for each of 63 groups, and a victim and a `GroupKill` each time that the killer chooses, at most 63
-/// times. And the 64 stocks are drained as their groups die. Rounds of the zone are 16, with one note before them. So
-/// all of these fit beside `MAX_SPANS` spans.
-pub const MAX_NOTES: usize = 2_048;
+/// How many notes are kept at most. One command makes at most 1,045 that are no spans of freed units and no rounds of
+/// the zone. For each of 8 limits on a path these are the limit, a stock of each of 64 CPUs, 16 rounds and an `oom`; for
+/// each memory.high there, itself and 16 rounds. There is a `Kill` for each of 63 groups, and a victim and a `GroupKill`
+/// each time that the killer chooses, at most 63 times. And the 64 stocks are drained as their groups die. Rounds of the
+/// zone are 16, with one note before them. So all of these fit beside `MAX_SPANS` spans.
+pub const MAX_NOTES: usize = 2_112;
 
 /// How many of the notes are spans of freed units at most.
 pub const MAX_SPANS: usize = 1_024;
 
-/// The notes of a visit, the oldest first; at most the first 2,048 of them, and at most the first 1,024 spans of freed
+/// The notes of a visit, the oldest first; at most the first 2,112 of them, and at most the first 1,024 spans of freed
 /// units.
 #[derive(Drop)]
 pub struct Notes {
@@ -67,7 +67,7 @@ impl Notes {
         self.notes_units = is_on;
     }
 
-    /// Adds a note, unless there are 2,048.
+    /// Adds a note, unless there are 2,112.
     pub fn note(&mut self, note: Note)
         ensures { self.new ≡ noted self.old note }
     {
@@ -79,7 +79,7 @@ impl Notes {
 
     /// Notes that a unit of this group was freed, whose frames are `frames` from `first` on, if freed units are noted.
     /// The unit joins the last note if that is a span of units of the same group which it adjoins. Otherwise it is a
-    /// new span; if there are 1,024 spans or 2,048 notes, its frames are counted as left out instead. That count stays
+    /// new span; if there are 1,024 spans or 2,112 notes, its frames are counted as left out instead. That count stays
     /// at 2^64 - 1.
     #[inline(always)]
     pub fn note_unit(&mut self, group: GroupId, first: u32, frames: u32)

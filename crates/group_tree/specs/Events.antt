@@ -1,25 +1,29 @@
 -- The kinds of event that are counted (the keys of memory.events, cgroup-v2.rst), and counts by kind.
 use Rattle.std.specs.Prelude.{ℕ, ◌==◌, Bool, List, [], ◌∷◌, map, if◌then◌else◌, codes}
 use Rattle.std.specs.List.{slice_index_or}
-use Rattle.group_tree.specs.declared.event.EventKey.TheVariants.{Max, Oom, OomKill, OomGroupKill}
+use Rattle.group_tree.specs.declared.event.EventKey.TheVariants.{Low, High, Max, Oom, OomKill, OomGroupKill}
 use Rattle.group_tree.specs.Room.{one_more}
--- a charge was about to exceed the limit; reclaim could not keep the limit; a group was killed; a group was killed as
--- a whole
+-- pages that memory.low protects were reclaimed; a charge was about to exceed memory.high, or the limit; reclaim could
+-- not keep the limit; a group was killed; a group was killed as a whole
 pub use Rattle.group_tree.specs.declared.event.EventKey.{EventKey}
 
 -- all keys, in the order of the lines of memory.events
 abbrev pub all_keys : List EventKey
-all_keys = Max ∷ Oom ∷ OomKill ∷ OomGroupKill ∷ []
+all_keys = Low ∷ High ∷ Max ∷ Oom ∷ OomKill ∷ OomGroupKill ∷ []
 
 -- the index of a key among all keys
 abbrev pub key_index : EventKey → ℕ
-key_index Max = 0
-key_index Oom = 1
-key_index OomKill = 2
-key_index OomGroupKill = 3
+key_index Low = 0
+key_index High = 1
+key_index Max = 2
+key_index Oom = 3
+key_index OomKill = 4
+key_index OomGroupKill = 5
 
 -- the key, as memory.events writes it
 abbrev pub key_name : EventKey → List ℕ
+key_name Low = codes "low"
+key_name High = codes "high"
 key_name Max = codes "max"
 key_name Oom = codes "oom"
 key_name OomKill = codes "oom_kill"

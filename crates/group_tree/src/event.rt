@@ -6,12 +6,15 @@ ghost use Rattle.group_tree.specs.Events.{count_of, key_index, key_name, no_even
 use std::marker::Model;
 
 // The number of kinds of event.
-const KEYS: usize = 4;
+const KEYS: usize = 6;
 
-/// The kinds of event that are counted: the keys of memory.events. This controller has no memory.low and no
-/// memory.high, so it counts no events for them.
+/// The kinds of event that are counted: the keys of memory.events.
 #[derive(Clone, Copy, Debug, PartialEq, Eq)]
 pub enum EventKey {
+    /// Pages that memory.low protects were reclaimed.
+    Low,
+    /// A charge was about to exceed memory.high.
+    High,
     /// A charge was about to exceed the limit.
     Max,
     /// An allocation was about to fail at the limit, and a kill was possible.
@@ -24,7 +27,9 @@ pub enum EventKey {
 
 impl EventKey {
     /// All keys, in the order of the lines of memory.events.
-    pub const ALL: [EventKey; 4] = [
+    pub const ALL: [EventKey; 6] = [
+        EventKey::Low,
+        EventKey::High,
         EventKey::Max,
         EventKey::Oom,
         EventKey::OomKill,
@@ -36,6 +41,8 @@ impl EventKey {
         ensures { result.now ≡ key_name self }
     {
         match self {
+            EventKey::Low => "low",
+            EventKey::High => "high",
             EventKey::Max => "max",
             EventKey::Oom => "oom",
             EventKey::OomKill => "oom_kill",
@@ -46,13 +53,15 @@ impl EventKey {
     // The index of the key's count.
     fn index(self) -> usize
         ensures value { result ≡ key_index self }
-        ensures below { result < 4 }
+        ensures below { result < 6 }
     {
         match self {
-            EventKey::Max => 0,
-            EventKey::Oom => 1,
-            EventKey::OomKill => 2,
-            EventKey::OomGroupKill => 3,
+            EventKey::Low => 0,
+            EventKey::High => 1,
+            EventKey::Max => 2,
+            EventKey::Oom => 3,
+            EventKey::OomKill => 4,
+            EventKey::OomGroupKill => 5,
         }
     }
 }
@@ -71,7 +80,7 @@ impl Model for EventCounts {
 
     ghost view = { λ c. c.counts };
 
-    ghost invariant = { λ c. length c.counts ≡ 4 };
+    ghost invariant = { λ c. length c.counts ≡ 6 };
 
     ghost inverse = { λ counts. record { counts = counts } };
 }

@@ -12,7 +12,7 @@ use Rattle.step_rules.specs.declared.step.Answer.TheVariants.{Done}
 use Rattle.step_rules.specs.declared.step.Action.{Action}
 use Rattle.step_rules.specs.declared.step.Action.TheVariants.{Lock, Unlock, OpenVisit, ShutVisit, Get, Put, Freeze, Unfreeze, PassOut, TakeIn, PassBack, Collect}
 use Rattle.step_rules.specs.declared.step.Action.TheVariants.{Consume, Credit, Report, Absorb, Fill, DrainStock, Grant, Ungrant, PlaceBlock, Publish, Return}
-use Rattle.step_rules.specs.declared.step.Action.TheVariants.{NoteMax, NoteOom, NoteGroupKill, SetMax, SetFlag, Make, Remove, Kill}
+use Rattle.step_rules.specs.declared.step.Action.TheVariants.{Note, NoteGroupKill, SetMax, SetFlag, Make, Remove, Kill}
 use Rattle.step_rules.specs.State.{Zone, State, is_unheld, may_zone_act, visits}
 use Rattle.step_rules.specs.Legal.{Allows, IsAnswer, IsMade, is_legal}
 use Rattle.step_rules.specs.After.{IsLegalRun, Run, after, state_of}
@@ -159,8 +159,7 @@ only_fast s q (Ungrant g n) sound closed ne legal = absurd (no_zone s.hold q ne 
 only_fast s q (PlaceBlock g k) sound closed ne legal = absurd (no_zone s.hold q ne (place_block_tests s q g k legal).0)
 only_fast s q (Publish f) sound closed ne legal = absurd (no_zone s.hold q ne (publish_tests s q f legal).0)
 only_fast s q (Return f) sound closed ne legal = absurd (no_zone s.hold q ne (return_tests s q f legal).0)
-only_fast s q (NoteMax g) sound closed ne legal = absurd (no_zone s.hold q ne (and_parts (may_zone_act s.hold q) _ legal).0)
-only_fast s q (NoteOom g) sound closed ne legal = absurd (no_zone s.hold q ne (and_parts (may_zone_act s.hold q) _ legal).0)
+only_fast s q (Note key g) sound closed ne legal = absurd (no_zone s.hold q ne (and_parts (may_zone_act s.hold q) _ legal).0)
 only_fast s q (NoteGroupKill g) sound closed ne legal = absurd (no_zone s.hold q ne
     (and_parts (may_zone_act s.hold q) _ (and_parts _ _ legal).0).0)
 only_fast s q (SetMax g limit) sound closed ne legal = absurd (no_zone s.hold q ne (set_max_tests s q g limit legal).0)

@@ -3,6 +3,7 @@ use Rattle.std.proofs.Common.{◌≡◌, ℕ, List, [], ◌∷◌, ◌++◌, inl
 use Rattle.std.specs.List.{list_all}
 use Rattle.std.specs.Map.{lookup}
 use Rattle.std.proofs.lemmas.Slice.Eq.{bytes_eq-Decides}
+use Rattle.step_rules.specs.declared.step.NoteKey.TheVariants.{Low, High, Max, Oom}
 use Rattle.step_rules.specs.declared.step.Action.{Action}
 use Rattle.step_rules.specs.declared.step.Action.TheVariants as action
 use Rattle.step_rules.specs.declared.step.Answer.{Answer}
@@ -96,8 +97,10 @@ action_rows =
     & row_two action_words (codes "pass-out") refl number_codec number_codec action.PassOut (λ a b. refl)
     & row_two action_words (codes "collect") refl number_codec number_codec action.Collect (λ a b. refl)
     & row_one action_words (codes "consume") refl group_codec action.Consume (λ a. refl)
-    & row_one action_words (codes "note-max") refl group_codec action.NoteMax (λ a. refl)
-    & row_one action_words (codes "note-oom") refl group_codec action.NoteOom (λ a. refl)
+    & row_one action_words (codes "note-low") refl group_codec (action.Note Low) (λ a. refl)
+    & row_one action_words (codes "note-high") refl group_codec (action.Note High) (λ a. refl)
+    & row_one action_words (codes "note-max") refl group_codec (action.Note Max) (λ a. refl)
+    & row_one action_words (codes "note-oom") refl group_codec (action.Note Oom) (λ a. refl)
     & row_one action_words (codes "group-kill") refl group_codec action.NoteGroupKill (λ a. refl)
     & row_one action_words (codes "remove") refl group_codec action.Remove (λ a. refl)
     & row_one action_words (codes "kill") refl group_codec action.Kill (λ a. refl)
@@ -169,8 +172,10 @@ action_again (action.Unfreeze a b) rest fit = two_again number_codec number_code
 action_again (action.PassOut a b) rest fit = two_again number_codec number_codec action.PassOut a b rest (fit.1.0, tt) fit.1.1
 action_again (action.Collect a b) rest fit = two_again number_codec number_codec action.Collect a b rest (fit.1.0, tt) fit.1.1
 action_again (action.Consume a) rest fit = one_again group_codec action.Consume a rest fit.1
-action_again (action.NoteMax a) rest fit = one_again group_codec action.NoteMax a rest fit.1
-action_again (action.NoteOom a) rest fit = one_again group_codec action.NoteOom a rest fit.1
+action_again (action.Note Low a) rest fit = one_again group_codec (action.Note Low) a rest fit.1
+action_again (action.Note High a) rest fit = one_again group_codec (action.Note High) a rest fit.1
+action_again (action.Note Max a) rest fit = one_again group_codec (action.Note Max) a rest fit.1
+action_again (action.Note Oom a) rest fit = one_again group_codec (action.Note Oom) a rest fit.1
 action_again (action.NoteGroupKill a) rest fit = one_again group_codec action.NoteGroupKill a rest fit.1
 action_again (action.Remove a) rest fit = one_again group_codec action.Remove a rest fit.1
 action_again (action.Kill a) rest fit = one_again group_codec action.Kill a rest fit.1

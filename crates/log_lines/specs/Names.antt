@@ -1,6 +1,7 @@
 -- The names of actions and answers, each with the kind of its arguments.
 use Rattle.std.specs.Prelude.{ℕ, List, [], ◌∷◌, Option, bytes_eq, codes}
 use Rattle.std.specs.Map.{lookup}
+use Rattle.step_rules.specs.declared.step.NoteKey.TheVariants.{Low, High, Max, Oom}
 use Rattle.step_rules.specs.declared.step.Action.{Action}
 use Rattle.step_rules.specs.declared.step.Action.TheVariants as action
 use Rattle.step_rules.specs.declared.step.Answer.TheVariants as answer
@@ -11,7 +12,7 @@ use Rattle.log_lines.specs.declared.name.NumberAction.TheVariants.{Absorb, Drain
 use Rattle.log_lines.specs.declared.name.TwoNumberAction.{TwoNumberAction}
 use Rattle.log_lines.specs.declared.name.TwoNumberAction.TheVariants.{Freeze, Unfreeze, PassOut, Collect}
 use Rattle.log_lines.specs.declared.name.GroupAction.{GroupAction}
-use Rattle.log_lines.specs.declared.name.GroupAction.TheVariants.{Consume, NoteMax, NoteOom, GroupKill, Remove, Kill}
+use Rattle.log_lines.specs.declared.name.GroupAction.TheVariants.{Consume, Note, GroupKill, Remove, Kill}
 use Rattle.log_lines.specs.declared.name.PagesAction.{PagesAction}
 use Rattle.log_lines.specs.declared.name.PagesAction.TheVariants.{Grant, Ungrant}
 use Rattle.log_lines.specs.declared.name.ActionName.{ActionName}
@@ -31,7 +32,9 @@ action_names =
     ∷ (codes "freeze", TwoNumbers Freeze) ∷ (codes "unfreeze", TwoNumbers Unfreeze)
     ∷ (codes "pass-out", TwoNumbers PassOut)
     ∷ (codes "collect", TwoNumbers Collect)
-    ∷ (codes "consume", Group Consume) ∷ (codes "note-max", Group NoteMax) ∷ (codes "note-oom", Group NoteOom)
+    ∷ (codes "consume", Group Consume)
+    ∷ (codes "note-low", Group (Note Low)) ∷ (codes "note-high", Group (Note High))
+    ∷ (codes "note-max", Group (Note Max)) ∷ (codes "note-oom", Group (Note Oom))
     ∷ (codes "group-kill", Group GroupKill) ∷ (codes "remove", Group Remove) ∷ (codes "kill", Group Kill)
     ∷ (codes "grant", Pages Grant) ∷ (codes "ungrant", Pages Ungrant)
     ∷ (codes "fill", Fill) ∷ (codes "place", Place) ∷ (codes "limit", Limit) ∷ (codes "flag", Flag)
@@ -86,8 +89,7 @@ action_of_two_numbers Collect m n = action.Collect m n
 -- an action with a group
 abbrev pub action_of_group : GroupAction → ℕ → Action
 action_of_group Consume g = action.Consume g
-action_of_group NoteMax g = action.NoteMax g
-action_of_group NoteOom g = action.NoteOom g
+action_of_group (Note key) g = action.Note key g
 action_of_group GroupKill g = action.NoteGroupKill g
 action_of_group Remove g = action.Remove g
 action_of_group Kill g = action.Kill g

@@ -3,11 +3,13 @@ use Rattle.std.specs.Prelude.{ℕ, ◌^◌, ◌<◌, ◌==◌, ◌&&◌, nat_le,
 use Rattle.std.specs.Prelude.{Option, Some, None, codes, decimal, length}
 use Rattle.std.specs.List.{list_all}
 use Rattle.group_tree.specs.Bounds.{longest_path, most_groups}
+use Rattle.step_rules.specs.declared.step.NoteKey.{NoteKey}
+use Rattle.step_rules.specs.declared.step.NoteKey.TheVariants.{Low, High, Max, Oom}
 use Rattle.step_rules.specs.declared.step.Action.{Action}
 use Rattle.step_rules.specs.declared.step.Action.TheVariants.{Lock, Unlock, OpenVisit, ShutVisit, Get, Put, Freeze}
 use Rattle.step_rules.specs.declared.step.Action.TheVariants.{Unfreeze, PassOut, TakeIn, PassBack, Collect, Consume}
 use Rattle.step_rules.specs.declared.step.Action.TheVariants.{Credit, Report, Absorb, Fill, DrainStock, Grant, Ungrant}
-use Rattle.step_rules.specs.declared.step.Action.TheVariants.{PlaceBlock, Publish, Return, NoteMax, NoteOom}
+use Rattle.step_rules.specs.declared.step.Action.TheVariants.{PlaceBlock, Publish, Return, Note}
 use Rattle.step_rules.specs.declared.step.Action.TheVariants.{NoteGroupKill, SetMax, SetFlag, Make, Remove, Kill}
 use Rattle.step_rules.specs.declared.step.Answer.{Answer}
 use Rattle.step_rules.specs.declared.step.Answer.TheVariants.{Illegal, Done, Held, Zero, Full, Left, Last, Missed, Took}
@@ -89,6 +91,13 @@ flag true = Fixed (codes "1")
 
 -- ---- actions and answers
 
+-- the name of a note
+abbrev pub note_name : NoteKey → List ℕ
+note_name Low = codes "note-low"
+note_name High = codes "note-high"
+note_name Max = codes "note-max"
+note_name Oom = codes "note-oom"
+
 -- the words of an action
 abbrev pub action_words : Action → List Word
 action_words Lock = Fixed (codes "lock") ∷ []
@@ -114,8 +123,7 @@ action_words (Ungrant g pages) = Fixed (codes "ungrant") ∷ group g ∷ number 
 action_words (PlaceBlock g k) = Fixed (codes "place") ∷ group g ∷ order k ∷ []
 action_words (Publish frame) = Fixed (codes "publish") ∷ number frame ∷ []
 action_words (Return frame) = Fixed (codes "return") ∷ number frame ∷ []
-action_words (NoteMax g) = Fixed (codes "note-max") ∷ group g ∷ []
-action_words (NoteOom g) = Fixed (codes "note-oom") ∷ group g ∷ []
+action_words (Note key g) = Fixed (note_name key) ∷ group g ∷ []
 action_words (NoteGroupKill g) = Fixed (codes "group-kill") ∷ group g ∷ []
 action_words (SetMax g pages) = Fixed (codes "limit") ∷ group g ∷ limit pages ∷ []
 action_words (SetFlag g oom_group) = Fixed (codes "flag") ∷ group g ∷ flag oom_group ∷ []

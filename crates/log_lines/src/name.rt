@@ -6,7 +6,7 @@ ghost use Rattle.log_lines.specs.Names.{action_named, action_of_group, action_of
 ghost use Rattle.log_lines.specs.Names.{action_of_pages, answer_named};
 
 use group_tree::group::GroupId;
-use step_rules::step::{Action, Answer};
+use step_rules::step::{Action, Answer, NoteKey};
 
 /// An action with one number: a frame, a CPU or a number of pages.
 #[derive(Clone, Copy)]
@@ -38,8 +38,7 @@ pub(crate) enum TwoNumberAction {
 #[derive(Clone, Copy)]
 pub(crate) enum GroupAction {
     Consume,
-    NoteMax,
-    NoteOom,
+    Note(NoteKey),
     GroupKill,
     Remove,
     Kill,
@@ -79,7 +78,7 @@ pub(crate) enum AnswerName {
     Number,
 }
 
-const ACTION_NAMES: [(&[u8], ActionName); 31] = [
+const ACTION_NAMES: [(&[u8], ActionName); 33] = [
     (b"lock", ActionName::Lock),
     (b"unlock", ActionName::Unlock),
     (b"open", ActionName::Number(NumberAction::Open)),
@@ -105,8 +104,22 @@ const ACTION_NAMES: [(&[u8], ActionName); 31] = [
     ),
     (b"collect", ActionName::TwoNumbers(TwoNumberAction::Collect)),
     (b"consume", ActionName::Group(GroupAction::Consume)),
-    (b"note-max", ActionName::Group(GroupAction::NoteMax)),
-    (b"note-oom", ActionName::Group(GroupAction::NoteOom)),
+    (
+        b"note-low",
+        ActionName::Group(GroupAction::Note(NoteKey::Low)),
+    ),
+    (
+        b"note-high",
+        ActionName::Group(GroupAction::Note(NoteKey::High)),
+    ),
+    (
+        b"note-max",
+        ActionName::Group(GroupAction::Note(NoteKey::Max)),
+    ),
+    (
+        b"note-oom",
+        ActionName::Group(GroupAction::Note(NoteKey::Oom)),
+    ),
     (b"group-kill", ActionName::Group(GroupAction::GroupKill)),
     (b"remove", ActionName::Group(GroupAction::Remove)),
     (b"kill", ActionName::Group(GroupAction::Kill)),
@@ -215,8 +228,7 @@ impl GroupAction {
     {
         match self {
             GroupAction::Consume => Action::Consume { group },
-            GroupAction::NoteMax => Action::NoteMax { group },
-            GroupAction::NoteOom => Action::NoteOom { group },
+            GroupAction::Note(key) => Action::Note { key, group },
             GroupAction::GroupKill => Action::NoteGroupKill { group },
             GroupAction::Remove => Action::Remove { group },
             GroupAction::Kill => Action::Kill { group },

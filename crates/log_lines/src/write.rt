@@ -2,14 +2,14 @@
 
 ghost use Rattle.std.specs.Prelude.{◌≡◌, ℕ, [], ◌∷◌, ◌++◌, IfOk, decimal};
 ghost use Rattle.log_lines.specs.Line.{entry_text, zone_text};
-ghost use Rattle.log_lines.specs.Words.{Fixed, action_words, answer_words, spaced};
+ghost use Rattle.log_lines.specs.Words.{Fixed, action_words, answer_words, note_name, spaced};
 ghost use Rattle.log_lines.specs.Words as words;
 ghost use Rattle.step_rules.specs.declared.step.Action.TheVariants.{SetMax};
 
 use group_tree::group::GroupId;
 use itoa::Buffer;
 use std::alloc::AllocError;
-use step_rules::step::{Action, Answer, Step};
+use step_rules::step::{Action, Answer, NoteKey, Step};
 
 /// Appends the sizes of the zone, without a line feed. It fails only if memory runs out.
 pub fn write_zone(frames: u32, cpus: u32, text: &mut Vec<u8>) -> Result<(), AllocError>
@@ -130,6 +130,17 @@ fn push_limit(group: GroupId, limit: Option<u32>, text: &mut Vec<u8>) -> Result<
     }
 }
 
+fn note_name(key: NoteKey) -> &'static [u8]
+    ensures { result.now ≡ note_name key }
+{
+    match key {
+        NoteKey::Low => b"note-low",
+        NoteKey::High => b"note-high",
+        NoteKey::Max => b"note-max",
+        NoteKey::Oom => b"note-oom",
+    }
+}
+
 fn push_action(action: &Action, text: &mut Vec<u8>) -> Result<(), AllocError>
     ensures { IfOk result (λ _. text.new.items ≡ text.old.items ++ spaced (action_words action.now)) }
 {
@@ -153,8 +164,7 @@ fn push_action(action: &Action, text: &mut Vec<u8>) -> Result<(), AllocError>
         Action::Publish { frame } => push_of_number(b"publish", frame, text),
         Action::Return { frame } => push_of_number(b"return", frame, text),
         Action::Consume { group } => push_of_group(b"consume", group, text),
-        Action::NoteMax { group } => push_of_group(b"note-max", group, text),
-        Action::NoteOom { group } => push_of_group(b"note-oom", group, text),
+        Action::Note { key, group } => push_of_group(note_name(key), group, text),
         Action::NoteGroupKill { group } => push_of_group(b"group-kill", group, text),
         Action::Remove { group } => push_of_group(b"remove", group, text),
         Action::Kill { group } => push_of_group(b"kill", group, text),

@@ -6,7 +6,7 @@ use Rattle.std.specs.Option.{option_map}
 use Rattle.std.specs.Fmt.{decimal}
 use Rattle.group_tree.specs.declared.group.Group.{Group}
 use Rattle.group_charge.specs.declared.note.Note.{Note}
-use Rattle.group_charge.specs.declared.note.Note.TheVariants.{Limit, Zone, Asked, Stock, Reclaimed, Round, Oom}
+use Rattle.group_charge.specs.declared.note.Note.TheVariants.{Limit, High, Zone, Asked, Stock, Reclaimed, Round, Oom}
 use Rattle.group_charge.specs.declared.note.Note.TheVariants.{Victim, GroupKill, Kill}
 use Rattle.machine_texts.specs.Lines.{line_text}
 
@@ -16,6 +16,7 @@ is_attempt (Stock cpu pages) = true
 is_attempt (Round number returned missed pages usage) = true
 is_attempt (Kill g returned pages pinned left usage) = true
 is_attempt (Limit g max usage need) = false
+is_attempt (High g high usage need) = false
 is_attempt (Zone order) = false
 is_attempt (Asked g pages) = false
 is_attempt (Reclaimed g first last) = false
@@ -23,10 +24,11 @@ is_attempt (Oom g) = false
 is_attempt (Victim victim candidates next) = false
 is_attempt (GroupKill g number) = false
 
--- The usage under the limit whose stocks are drained, after a note. A limit gives its usage, each of its stocks takes
--- off what it had, and after any other note there is none.
+-- The usage under the limit whose stocks are drained, after a note. A limit or a memory.high gives its usage, each of
+-- its stocks takes off what it had, and after any other note there is none.
 abbrev pub usage_after : Option ℕ → Note → Option ℕ
 usage_after before (Limit g max usage need) = Some usage
+usage_after before (High g high usage need) = Some usage
 usage_after before (Stock cpu pages) = option_map (λ usage. usage - pages) before
 usage_after before (Zone order) = None
 usage_after before (Asked g pages) = None

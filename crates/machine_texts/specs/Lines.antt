@@ -7,7 +7,7 @@ use Rattle.group_tree.specs.declared.group.Group.{Group}
 use Rattle.group_tree.specs.Groups.{path_of}
 use Rattle.group_charge.specs.declared.note.Candidate.{Candidate}
 use Rattle.group_charge.specs.declared.note.Note.{Note}
-use Rattle.group_charge.specs.declared.note.Note.TheVariants.{Limit, Zone, Asked, Stock, Reclaimed, Round, Oom}
+use Rattle.group_charge.specs.declared.note.Note.TheVariants.{Limit, High, Zone, Asked, Stock, Reclaimed, Round, Oom}
 use Rattle.group_charge.specs.declared.note.Note.TheVariants.{Victim, GroupKill, Kill}
 use Rattle.control_files.specs.Limit.{page_bytes}
 use Rattle.machine_texts.specs.Characters.{characters}
@@ -28,9 +28,9 @@ candidate_text groups gone c = group_text groups gone c.group ++ codes " frames 
 unfoldable pub ending_text : ℕ → ℕ → List ℕ
 ending_text pages usage = codes " bytes " ++ bytes_text pages ++ codes " usage " ++ bytes_text usage ++ codes "\n"
 
--- a limit without room, the usage under it, and what was asked for
-abbrev pub limit_line : List Group → (gone : List ℕ) → ℕ → ℕ → ℕ → ℕ → List ℕ
-limit_line groups gone g max usage need = codes "# limit " ++ group_text groups gone g ++ codes " " ++ bytes_text max
+-- after this word a limit without room or a memory.high, the usage under it, and what was asked for
+abbrev pub limit_line : (word : List ℕ) → List Group → (gone : List ℕ) → ℕ → ℕ → ℕ → ℕ → List ℕ
+limit_line word groups gone g max usage need = word ++ group_text groups gone g ++ codes " " ++ bytes_text max
     ++ codes " usage " ++ bytes_text usage ++ codes " need " ++ bytes_text need ++ codes "\n"
 
 -- no block of this order was free, and rounds follow
@@ -96,7 +96,8 @@ killed_text groups gone g returned pages pinned left usage =
 
 -- the line of a note; `usage` is that under the limit whose stocks are drained, if any
 abbrev pub line_text : List Group → (gone : List ℕ) → Option ℕ → Note → List ℕ
-line_text groups gone _ (Limit g max usage need) = limit_line groups gone g max usage need
+line_text groups gone _ (Limit g max usage need) = limit_line (codes "# limit ") groups gone g max usage need
+line_text groups gone _ (High g high usage need) = limit_line (codes "# high ") groups gone g high usage need
 line_text groups gone _ (Zone order) = zone_line order
 line_text groups gone _ (Asked g pages) = asked_text groups gone g pages
 line_text groups gone usage (Stock cpu pages) = stock_line usage cpu pages

@@ -83,6 +83,7 @@ fn usage_after(usage: Option<u32>, note: &Note) -> Option<u32>
 {
     match *note {
         Note::Limit { usage, .. } => Some(usage),
+        Note::High { usage, .. } => Some(usage),
         Note::Stock { pages, .. } => usage.map(|usage| usage.saturating_sub(pages)),
         _ => None,
     }

@@ -29,7 +29,13 @@ pub(crate) fn write_line(
             max,
             usage,
             need,
-        } => write_limit(tree, gone, group, max, usage, need, text),
+        } => write_limit("# limit ", tree, gone, group, max, usage, need, text),
+        Note::High {
+            group,
+            high,
+            usage,
+            need,
+        } => write_limit("# high ", tree, gone, group, high, usage, need, text),
         Note::Zone { order } => write_zone(order, text),
         Note::Asked { group, pages } => write_asked(tree, gone, group, pages, text),
         Note::Stock { cpu, pages } => write_stock(usage, cpu, pages, text),
@@ -63,8 +69,9 @@ pub(crate) fn write_line(
     }
 }
 
-// A limit that had no room, what was charged under it, and what was asked for.
+// A limit that had no room or a memory.high, what was charged under it, and what was asked for.
 fn write_limit(
+    word: &str,
     tree: &Tree,
     gone: &[u8],
     group: GroupId,
@@ -73,9 +80,9 @@ fn write_limit(
     need: u32,
     text: &mut String,
 ) -> Result<(), AllocError>
-    ensures { AddsBytes result text.old text.new (limit_line tree.now gone.now group max usage need) }
+    ensures { AddsBytes result text.old text.new (limit_line word.now tree.now gone.now group max usage need) }
 {
-    push_group("# limit ", tree, gone, group, text)?;
+    push_group(word, tree, gone, group, text)?;
     push_bytes(" ", u64::from(max), text)?;
     push_bytes(" usage ", u64::from(usage), text)?;
     push_bytes(" need ", u64::from(need), text)?;

@@ -7,7 +7,7 @@ use Rattle.group_tree.proofs.CallerLemmas.{in_subtree-above}
 use Rattle.cpu_part.specs.Cpus.{KnownCpu}
 use Rattle.zone_blocks.specs.declared.config.Config.{Config}
 use Rattle.step_rules.specs.After.{Run}
-use Rattle.mem_machine.specs.Machines.{KnownMachine, with_run}
+use Rattle.mem_machine.specs.Machines.{KnownMachine}
 use Rattle.mem_alloc.specs.declared.faults.AllocFault.TheVariants.{Over}
 use Rattle.mem_alloc.specs.Room.{IsRefusedFor}
 use Rattle.mem_alloc.specs.Frames.{AllocatesFrame}
@@ -32,7 +32,7 @@ pub frame_over_there : (t : KnownTable) (sizes : Config) (g over : ℕ) (m n : K
 frame_over_there t sizes g over m n c d steps h =
     let anew = h.does.does in
     let charges = anew.second in
-    over_there t g 1 over (with_run anew.between.machine charges.seen) n anew.between.cpu d charges.later charges.does
+    over_there t g 1 over charges.between.machine n charges.between.cpu d charges.later charges.second
 
 -- after a block was refused
 pub block_over_there : (t : KnownTable) (g k over : ℕ) (m n : KnownMachine) (c d : KnownCpu) (steps : Run)

@@ -6,8 +6,6 @@ use Rattle.std.specs.Prelude.{Result, Ok, Err, IsErr, IfErr, OnOk}
 use Rattle.std.proofs.lemmas.List.{append_assoc, append-nil}
 use Rattle.zone_blocks.specs.Areas.{HasNoneFrom}
 use Rattle.frame_word.specs.Seats.{KnownTable}
-use Rattle.group_tree.specs.Room.{IsLowestOver}
-use Rattle.group_charge.specs.Charges.{current_of}
 use Rattle.stock_word.specs.declared.view.Stock.TheVariants.{HeldBy}
 use Rattle.cpu_part.specs.Cpus.{KnownCpu}
 use Rattle.zone_blocks.specs.declared.config.Config.{Config}
@@ -18,10 +16,10 @@ use Rattle.mem_machine.specs.Machines.{KnownMachine, is_killed, with_note, with_
 use Rattle.boot_words.specs.Pasts.{IsHeld}
 use Rattle.mem_machine.specs.Local.{Makes, VisitMakes, Visits, visit_state}
 use Rattle.mem_machine.specs.Lending.{LendsMany, Refills}
-use Rattle.mem_machine.specs.Paying.{HoldsPage, PaysForFront}
+use Rattle.mem_machine.specs.Paying.{HoldsPage, MayCharge, PaysForFront}
 use Rattle.mem_machine.specs.Showing.{stock_now}
 use Rattle.mem_machine.specs.Stocks.{Drains, Fills, stock_group}
-use Rattle.mem_machine.specs.Steps.{drain_steps, fill_steps, over_steps, refill_steps, take_front_steps}
+use Rattle.mem_machine.specs.Steps.{drain_steps, refill_steps, take_front_steps}
 use Rattle.mem_machine.proofs.StocksKept.{filled_stock, has_stock_step, stock_kept, stock_left}
 use Rattle.boot_words.specs.Words.{stock_in}
 use Rattle.mem_reclaim.specs.Staying.{Keeps}
@@ -29,7 +27,7 @@ use Rattle.mem_alloc.specs.declared.faults.AllocFault.{AllocFault}
 use Rattle.mem_alloc.specs.declared.faults.AllocFault.TheVariants.{Over, NoFrames, RequesterKilled}
 use Rattle.mem_machine.specs.Transitions.{BySteps, Finds, transition}
 use Rattle.mem_alloc.specs.Room.{IsRefusedAt, IsRefusedFor, MakesRoom}
-use Rattle.mem_alloc.specs.Charging.{ChargesAfterDrain, FillsDrainedStock, ChargesOne, DrainsStock, FillsStock, AfterBatchRefused, PaysForFrame}
+use Rattle.mem_alloc.specs.Charging.{ChargesAfterDrain, ChargesNoBatch, ChargesOne, DrainsStock, FillsBatch, FillsDrainedStock, FillsStock, LacksBatch, PaysForFrame}
 use Rattle.mem_alloc.specs.Rounds.{FailsInRounds}
 use Rattle.mem_alloc.specs.Frames.{AllocatesFrame, FillsList, HasNoFreeFrame, LendsBatch, LendsNoFrame, RefillsInRounds, RefillsList}
 use Rattle.mem_alloc.proofs.Making.{answer_is}
@@ -86,9 +84,11 @@ one_keeps t g (Err e) m n c d steps h = refusal_keeps t g 1 e m n c d steps h
 
 charges_keep : (t : KnownTable) (sizes : Config) (g : ℕ) (r : Result (Unit {0}) AllocFault) (m n : KnownMachine) (c d : KnownCpu) (steps : Run)
     → FillsDrainedStock sizes g r (transition t (visit_state m c) steps (visit_state n d)) → KeepsPart c d
-charges_keep t sizes g (Ok v) m n c d steps (inl h) = same_keeps c d h.cpu
-charges_keep t sizes g (Ok v) m n c d steps (inr h) = one_keeps t g (Ok v) (with_run m h.seen) n c d h.later h.does
-charges_keep t sizes g (Err e) m n c d steps h = one_keeps t g (Err e) (with_run m h.seen) n c d h.later h.does
+charges_keep t sizes g (Ok v) m n c d steps (inl h) = same_keeps c d h.fills.cpu
+charges_keep t sizes g (Ok v) m n c d steps (inr h) =
+    keeps_both c h.between.cpu d (same_keeps c h.between.cpu h.first.cpu) (one_keeps t g (Ok v) h.between.machine n h.between.cpu d h.later h.second)
+charges_keep t sizes g (Err e) m n c d steps h =
+    keeps_both c h.between.cpu d (same_keeps c h.between.cpu h.first.cpu) (one_keeps t g (Err e) h.between.machine n h.between.cpu d h.later h.second)
 
 own_drain_keeps : (t : KnownTable) (m n : KnownMachine) (c d : KnownCpu) (steps : Run) → DrainsStock (transition t (visit_state m c) steps (visit_state n d)) → KeepsPart c d
 own_drain_keeps t m n c d steps h = same_keeps c d h.cpu
@@ -119,9 +119,10 @@ filled_page t g k m n c d steps visit f some none =
 pub charged_page : (t : KnownTable) (sizes : Config) (g : ℕ) (r : Result (Unit {0}) AllocFault) (m n : KnownMachine) (c d : KnownCpu) (steps : Run)
     → IsValidConfig sizes → Visits t (visit_state n d) → FillsDrainedStock sizes g r (transition t (visit_state m c) steps (visit_state n d)) → c.fresh ≡ []
     → OnOk r (HoldsPage t (visit_state n d) g)
-charged_page t sizes g (Ok v) m n c d steps valid visit (inl h) none = filled_page t g sizes.stock m n c d steps visit h valid.stock_low none
+charged_page t sizes g (Ok v) m n c d steps valid visit (inl h) none = filled_page t g sizes.stock m n c d steps visit h.fills valid.stock_low none
 charged_page t sizes g (Ok v) m n c d steps valid visit (inr h) none =
-    filled_page t g 1 h.does.cleared n c d h.does.later visit h.does.does (omega arith) none
+    let one = h.second in
+    filled_page t g 1 one.cleared n h.between.cpu d one.later visit one.does (omega arith) (ap (λ (e : KnownCpu). e.fresh) h.first.cpu ∙ none)
 charged_page t sizes g (Err e) m n c d steps valid visit h none = tt
 
 -- ---- the own stock has a page
@@ -180,28 +181,37 @@ spared_stock t m n c visit keeps none =
 -- ---- the parts put together
 
 -- the batch fits
-pub batch_fits : (t : KnownTable) (sizes : Config) (g : ℕ) (m n : KnownMachine) (c : KnownCpu) → Fills t c.number g sizes.stock m n
-    → Makes t m (fill_steps c.number g sizes.stock) n → BySteps VisitMakes t (FillsDrainedStock sizes g (Ok tt)) (visit_state m c) (visit_state n c)
-batch_fits t sizes g m n c fills steps =
-    record { steps = fill_steps c.number g sizes.stock; does = inl (record { fills = fills; cpu = refl; steps_are = refl }); makes = steps }
+pub batch_fits : (t : KnownTable) (sizes : Config) (g : ℕ) (m n : KnownMachine) (c : KnownCpu) → BySteps VisitMakes t (FillsBatch g sizes.stock) (visit_state m c) (visit_state n c)
+    → BySteps VisitMakes t (FillsDrainedStock sizes g (Ok tt)) (visit_state m c) (visit_state n c)
+batch_fits t sizes g m n c fills = record { steps = fills.steps; does = inl fills.does; makes = fills.makes }
 
 -- the batch doesn't fit, and then one page is charged, or is refused
-module _ (t : KnownTable) (sizes : Config) (g over : ℕ) (m x n : KnownMachine) (c d : KnownCpu) (stays : x ≡ with_run m x.run)
-    (lowest : IsLowestOver m.ledger.groups (current_of m.ledger) g sizes.stock over) (refused : Makes t m (over_steps g sizes.stock over) x) where
-  lacks : (r : Result (Unit {0}) AllocFault) → BySteps VisitMakes t (ChargesOne g r) (visit_state x c) (visit_state n d)
-      → BySteps VisitMakes t (AfterBatchRefused sizes g (ChargesOne g r)) (visit_state m c) (visit_state n d)
-  lacks r b =
-      let here = subst (λ (z : KnownMachine). BySteps VisitMakes t (ChargesOne g r) (visit_state z c) (visit_state n d)) stays b in
-      let first = subst (λ (z : KnownMachine). Makes t m (over_steps g sizes.stock over) z) stays refused in record {
-        steps = over_steps g sizes.stock over ++ here.steps;
-        does = record { over = over; batch = lowest; later = here.steps; seen = x.run; refuses = first; does = here.does; steps_are = refl };
-        makes = makes_both t (over_steps g sizes.stock over) here.steps m (with_run m x.run) n first here.makes;
-      }
+module _ (t : KnownTable) (sizes : Config) (g : ℕ) (m x n : KnownMachine) (c d : KnownCpu) (lacks : BySteps Makes t (LacksBatch g sizes.stock) m x) where
+  charges_one : (r : Result (Unit {0}) AllocFault) → BySteps VisitMakes t (ChargesOne g r) (visit_state x c) (visit_state n d)
+      → BySteps VisitMakes t (ChargesNoBatch sizes g r) (visit_state m c) (visit_state n d)
+  charges_one r b = record {
+    steps = lacks.steps ++ b.steps;
+    does = record {
+      between = visit_state x c;
+      earlier = lacks.steps;
+      later = b.steps;
+      first = record { does = lacks.does; cpu = refl };
+      second = b.does;
+      steps_are = refl;
+    };
+    makes = makes_both t lacks.steps b.steps m x n lacks.makes b.makes;
+  }
 
   pub one_charged : (r : Result (Unit {0}) AllocFault) → BySteps VisitMakes t (ChargesOne g r) (visit_state x c) (visit_state n d)
       → BySteps VisitMakes t (FillsDrainedStock sizes g r) (visit_state m c) (visit_state n d)
-  one_charged (Ok v) b = let l = lacks (Ok v) b in record { steps = l.steps; does = inr l.does; makes = l.makes }
-  one_charged (Err e) b = lacks (Err e) b
+  one_charged (Ok v) b = let l = charges_one (Ok v) b in record { steps = l.steps; does = inr l.does; makes = l.makes }
+  one_charged (Err e) b = charges_one (Err e) b
+
+-- which may be charged still
+pub still_may : (t : KnownTable) (g pages k : ℕ) (m x : KnownMachine) (steps : Run) → LacksBatch g pages (transition t m steps x) → MayCharge m g k → MayCharge x g k
+still_may t g pages k m x steps (inl h) may = subst (λ (z : KnownMachine). MayCharge z g k) (sym h.1.machine) may
+still_may t g pages k m x steps (inr h) may =
+    subst (λ (z : KnownMachine). MayCharge z g k) (sym h.machine) (record { there = may.there; alive = may.alive; fits = may.fits })
 
 -- the own stock is drained first
 module _ (t : KnownTable) (pages q : ℕ) (m k x : KnownMachine) (c : KnownCpu) (same : k ≡ m) (named : q ≡ c.number)
@@ -413,7 +423,7 @@ module _ (t : KnownTable) (sizes : Config) (g : ℕ) (m : KnownMachine) (c : Kno
   refused_for : (x : AllocFault) (n : KnownMachine) (d : KnownCpu) → BySteps VisitMakes t (PaysForFrame sizes g (Err x)) (visit_state m c) (visit_state n d)
       → BySteps VisitMakes t (AllocatesFrame sizes g (Err x)) (visit_state m c) (visit_state n d)
   refused_for (Over over) n d b = record { steps = b.steps; does = record { is = alive; does = b.does }; makes = b.makes }
-  refused_for NoFrames n d b = absurd b.does.does.second.does.does.does.1.room
+  refused_for NoFrames n d b = absurd b.does.does.second.second.does.does.1.room
   refused_for RequesterKilled n d b = record { steps = b.steps; does = inr (record { is = alive; does = b.does }); makes = b.makes }
 
   pub not_paid : (r : Result ℕ AllocFault) (x : AllocFault) (n : KnownMachine) (d : KnownCpu) → IsErr r → IfErr r (λ e. e ≡ x)

@@ -1,6 +1,7 @@
 pub mod Lowering
 pub mod Killing
 pub mod Emptied
+pub mod HighRooms
 pub mod Making
 pub mod Filling
 pub mod Rounding

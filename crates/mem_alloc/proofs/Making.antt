@@ -1,5 +1,5 @@
 -- Charges that are refused, one after the other. Serves the loops of `fill_one` and `charge_block`.
-use Rattle.std.proofs.Common.{◌≡◌, ℕ, ◌+◌, false, Option, None, List, [], ◌∷◌, ◌++◌, refl, sym, ap, ◌∙◌, subst}
+use Rattle.std.proofs.Common.{◌≡◌, ℕ, ◌+◌, Bool, false, Option, None, List, [], ◌∷◌, ◌++◌, refl, sym, ap, ◌∙◌, subst}
 use Rattle.std.specs.Prelude.{Result, Ok, Err, IsErr, IfErr, IfOk, MatchResult}
 use Rattle.std.proofs.lemmas.Bool.{false≢true}
 use Rattle.std.proofs.lemmas.List.{append_assoc, append-nil}
@@ -19,11 +19,12 @@ use Rattle.mem_reclaim.specs.Wanted.{progress}
 use Rattle.mem_reclaim.proofs.Keeping.{keeps_none}
 use Rattle.mem_reclaim.proofs.Moving.{moves_rest}
 use Rattle.mem_alloc.specs.Room.{AfterRoom, ClearsBelow, HasMadeRoom, IsRefusedAt, IsRefusedFor, IsRoomAnswer}
-use Rattle.mem_alloc.specs.Room.{KillsForFewPages, MakesRoom, ReclaimsBefore, ReclaimsFor, RelievesLimit}
+use Rattle.mem_alloc.specs.High.{ReclaimsHigh}
+use Rattle.mem_alloc.specs.Room.{KillsForFewPages, MakesRoom, PreparesCharge, ReclaimsBefore, ReclaimsFor, RelievesLimit}
 use Rattle.mem_alloc.specs.Room.{with_limit_noted, with_max_noted_at}
 use Rattle.mem_alloc.specs.declared.faults.AllocFault.{AllocFault}
 use Rattle.mem_alloc.specs.Charging.{ChargesOne, FillsStock}
-use Rattle.mem_alloc.proofs.Lowering.{Lowers, lowers_none, lowers_both, run_lowers}
+use Rattle.mem_alloc.proofs.Lowering.{Lowers, keeps_lower, lowers_both, run_lowers}
 use Rattle.mem_alloc.proofs.Killing.{relieving_lowers}
 use Rattle.mem_machine.proofs.Followed.{makes_both, makes_none}
 use Rattle.mem_machine.proofs.Made.{visit_same}
@@ -110,25 +111,45 @@ room_more t g pages over (h ∷ before) m x n making last makes refused = record
   steps_are = ap (λ (r : Run). r ++ last) makes.steps_are ∙ append_assoc makes.earlier makes.later last;
 }
 
+-- the same after what memory.high asks for
+prepared_more : (t : KnownTable) (g pages over : ℕ) (before : List ℕ) (m x n : KnownMachine) (making last : Run) → PreparesCharge g before pages (transition t m making x)
+    → IsRefusedAt g over pages (Ok tt) (transition t x last n) → PreparesCharge g (before ++ over ∷ []) pages (transition t m (making ++ last) n)
+prepared_more t g pages over before m x n making last makes refused = record {
+  between = makes.between;
+  earlier = makes.earlier;
+  later = makes.later ++ last;
+  first = makes.first;
+  second = room_more t g pages over before makes.between x n makes.later last makes.second refused;
+  steps_are = ap (λ (r : Run). r ++ last) makes.steps_are ∙ append_assoc makes.earlier makes.later last;
+}
+
 -- what the loops keep: the charges so far were refused at groups that have room now, and nothing else happened
 pub record RoomSoFar (t : KnownTable) (g pages : ℕ) (c : KnownCpu) (m n : KnownMachine) : Type 0 where
   pub refused_at : List ℕ
   pub making : Run
-  pub makes : MakesRoom g refused_at pages (transition t m making n)
+  pub makes : PreparesCharge g refused_at pages (transition t m making n)
   pub runs : Makes t m making n
   pub visit : Visits t (visit_state m c) → Visits t (visit_state n c)
   pub lowers : Lowers t m n
   pub alive : is_killed n.killed g ≡ false
 
-pub so_far_none : (t : KnownTable) (g pages : ℕ) (c : KnownCpu) (m : KnownMachine) → is_killed m.killed g ≡ false → RoomSoFar t g pages c m m
-so_far_none t g pages c m alive = record {
+pub so_far_none : (t : KnownTable) (g pages : ℕ) (c : KnownCpu) (m x : KnownMachine) → BySteps Makes t (ReclaimsHigh g pages) m x → is_killed m.killed g ≡ false
+    → RoomSoFar t g pages c m x
+so_far_none t g pages c m x high alive = record {
   refused_at = [];
-  making = [];
-  makes = record { machine = refl; steps_are = refl };
-  runs = makes_none t m;
-  visit = λ v. v;
-  lowers = lowers_none t m;
-  alive = alive;
+  making = high.steps;
+  makes = record {
+    between = x;
+    earlier = high.steps;
+    later = [];
+    first = high.does;
+    second = record { machine = refl; steps_are = refl };
+    steps_are = sym (append-nil high.steps);
+  };
+  runs = high.makes;
+  visit = high.does.keeps.visit c;
+  lowers = keeps_lower t m x high.does.keeps;
+  alive = ap (λ (k : List Bool). is_killed k g) high.does.keeps.killed ∙ alive;
 }
 
 module _ (t : KnownTable) (g pages : ℕ) (c : KnownCpu) (m x : KnownMachine) (so_far : RoomSoFar t g pages c m x) where
@@ -161,7 +182,7 @@ module _ (t : KnownTable) (g pages : ℕ) (c : KnownCpu) (m x : KnownMachine) (s
     so_far_more room visit = record {
       refused_at = so_far.refused_at ++ over ∷ [];
       making = so_far.making ++ (over_steps g pages over ++ relieves.steps);
-      makes = room_more t g pages over so_far.refused_at m x n so_far.making
+      makes = prepared_more t g pages over so_far.refused_at m x n so_far.making
           (over_steps g pages over ++ relieves.steps) so_far.makes (refused (Ok tt) room);
       runs = runs_on;
       visit = λ v. subst (λ (k : KnownCpu). Visits t (visit_state n k)) mine_after visit;

@@ -37,7 +37,7 @@ use Rattle.mem_reclaim.proofs.Grown.{held_after, misses_after, parts_after}
 use Rattle.mem_reclaim.proofs.LettingGo.{drains_leave, quiet_drains}
 use Rattle.mem_machine.specs.Transitions.{MachineStays, OfMachineAlone, Transition, transition}
 use Rattle.mem_alloc.specs.Kills.{KillsVictims, KillsForRoom, KillsOneVictim, KillsUntilRoom, has_room_at, with_oom_noted_at}
-use Rattle.mem_alloc.specs.Room.{AfterRoom, ClearsBelow, IsRefusedAt, IsRefusedFor, IsRefusedAtSome, KillsForFewPages, MakesRoom, ReclaimsFor, RelievesLimit}
+use Rattle.mem_alloc.specs.Room.{AfterRoom, ClearsBelow, IsRefusedAt, IsRefusedFor, IsRefusedAtSome, KillsForFewPages, MakesRoom, PreparesCharge, ReclaimsFor, RelievesLimit}
 use Rattle.mem_alloc.specs.Room.{with_max_noted_at}
 use Rattle.mem_alloc.specs.declared.faults.AllocFault.{AllocFault}
 use Rattle.mem_alloc.specs.NoRash.{MayKill, MayKillAfter, begins_with_kill, has_oom_note, is_oom_note}
@@ -467,6 +467,14 @@ module _ (t : KnownTable) (MayAsk : List Group → ℕ → ℕ → Type 0) (s : 
         let two = makes_tame later (made ++ first) x h.later n (one.groups ∙ is) (passes_both t s m x made first since one.passes) h.second in
         subst (λ (k : Run). Tame made m k n) (sym h.steps_are) (tame_both made m x n first h.later one two)
 
+    prepares_tame : (refused : List ℕ) (made : Run) (m : KnownMachine) (steps : Run) (n : KnownMachine) → m.ledger.groups ≡ base → Passes t s made m
+        → PreparesCharge g refused pages (transition t m steps n) → Tame made m steps n
+    prepares_tame refused made m steps n is since h =
+        let x = h.between in
+        let one = tame_quiet made m h.earlier x (keeps_pass t m x h.earlier h.first.runs h.first.keeps) h.first.keeps.groups h.first.no_kill in
+        let two = makes_tame refused (made ++ h.earlier) x h.later n (one.groups ∙ is) (passes_both t s m x made h.earlier since one.passes) h.second in
+        subst (λ (k : Run). Tame made m k n) (sym h.steps_are) (tame_both made m x n h.earlier h.later one two)
+
     -- this is done after room was made for the charge, and comes no kill of it too early
     pub after_room_rash : (Does : Transition VisitState → Type 0) (made : Run) (m : KnownMachine) (c : KnownCpu) (steps : Run) (n : VisitState) → m.ledger.groups ≡ base
         → Passes t s made m
@@ -475,7 +483,7 @@ module _ (t : KnownTable) (MayAsk : List Group → ℕ → ℕ → Type 0) (s : 
         → AfterRoom g pages Does (transition t (visit_state m c) steps n) → RashFree t MayAsk s made steps
     after_room_rash Does made m c steps n is since free h =
         let x = h.cleared in
-        let one = makes_tame h.refused_at made m h.making x is since h.makes in
+        let one = prepares_tame h.refused_at made m h.making x is since h.makes in
         let done = passes_both t s m x made h.making since one.passes in
         subst (λ (k : Run). RashFree t MayAsk s made k) (sym h.steps_are) (rash_both made h.making h.later one.rash
         (free (made ++ h.making) h.later x (one.groups ∙ is) done h.does))

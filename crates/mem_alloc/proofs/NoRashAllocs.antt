@@ -1,5 +1,5 @@
 -- No kill of an allocation comes before everything else was tried. Serves the calls that name the steps of an Alloc.
-use Rattle.std.proofs.Common.{◌≡◌, ℕ, ◌≤◌, ◌^◌, true, false, List, [], ◌++◌, refl, sym, ap, subst, inl, inr}
+use Rattle.std.proofs.Common.{◌≡◌, ℕ, ◌≤◌, ◌^◌, true, false, List, [], ◌++◌, refl, sym, ap, ◌∙◌, subst, inl, inr}
 use Rattle.std.specs.Prelude.{Result, Ok, Err}
 use Rattle.frame_word.specs.Seats.{KnownTable}
 use Rattle.boot_words.specs.Pasts.{IsHeld}
@@ -8,14 +8,14 @@ use Rattle.group_tree.specs.Groups.{in_subtree}
 use Rattle.zone_blocks.specs.declared.config.Config.{Config}
 use Rattle.cpu_part.specs.Cpus.{KnownCpu}
 use Rattle.step_rules.specs.After.{Run}
-use Rattle.mem_machine.specs.Machines.{KnownMachine, with_run}
-use Rattle.mem_machine.specs.Local.{VisitState, visit_state}
-use Rattle.mem_machine.specs.Steps.{over_steps, take_front_steps}
+use Rattle.mem_machine.specs.Machines.{KnownMachine}
+use Rattle.mem_machine.specs.Local.{Makes, VisitState, visit_state}
+use Rattle.mem_machine.specs.Steps.{take_front_steps}
 use Rattle.mem_reclaim.specs.Moves.{has_kill}
 use Rattle.mem_alloc.specs.declared.faults.AllocFault.{AllocFault}
 use Rattle.mem_alloc.specs.declared.faults.AllocFault.TheVariants.{Over, NoFrames, RequesterKilled}
 use Rattle.mem_machine.specs.Transitions.{Transition, transition}
-use Rattle.mem_alloc.specs.Charging.{ChargesAfterDrain, FillsDrainedStock, ChargesOne, FillsStock, AfterBatchRefused, PaysForFrame}
+use Rattle.mem_alloc.specs.Charging.{ChargesAfterDrain, ChargesNoBatch, ChargesOne, FillsDrainedStock, FillsStock, LacksBatch, PaysForFrame}
 use Rattle.mem_alloc.specs.Frames.{AllocatesFrame}
 use Rattle.mem_alloc.specs.Blocks.{AllocatesBlock, ChargesBlock, FindsNoBlock, RetriesBlock, TakesFreeBlock}
 use Rattle.mem_alloc.specs.NoRash.{NoRashKill}
@@ -34,6 +34,18 @@ module _ (t : KnownTable) (MayAsk : List Group → ℕ → ℕ → Type 0) (s : 
   stock_quiet : (pages : ℕ) (call : Transition VisitState) → FillsStock g pages call → has_kill call.steps ≡ false
   stock_quiet pages call h = ap has_kill h.steps_are
 
+  -- a stock for which there is no room kills nobody
+  no_batch_passes : (sizes : Config) (x : KnownMachine) (steps : Run) (y : KnownMachine) → LacksBatch g sizes.stock (transition t x steps y)
+      → Passes t x steps y × (y.ledger.groups ≡ x.ledger.groups) × (has_kill steps ≡ false)
+  no_batch_passes sizes x steps y (inl h) =
+      subst (λ (z : Run × KnownMachine). Passes t x z.0 z.1 × (z.1.ledger.groups ≡ x.ledger.groups) × (has_kill z.0 ≡ false))
+      (λ i. (sym h.1.steps_are i, sym h.1.machine i)) (passes_none t x, refl, refl)
+  no_batch_passes sizes x steps y (inr h) = (
+    passes_same t x y steps (subst (λ (k : Run). Makes t x k y) (sym h.steps_are) h.refuses) (ap (λ (z : KnownMachine). z.links) h.machine),
+    ap (λ (z : KnownMachine). z.ledger.groups) h.machine,
+    ap has_kill h.steps_are,
+  )
+
   module _ (asks : Asks 1) where
     one_rash : (answer : Result (Unit {0}) AllocFault) (made : Run) (x : KnownMachine) (steps : Run) (n : VisitState) → x.ledger.groups ≡ s.ledger.groups
         → Passes t s made x → ChargesOne g answer (transition t (visit_state x c) steps n) → RashFree t MayAsk s made steps
@@ -44,19 +56,19 @@ module _ (t : KnownTable) (MayAsk : List Group → ℕ → ℕ → Type 0) (s : 
 
     lacks_rash : (sizes : Config) (answer : Result (Unit {0}) AllocFault) (made : Run) (x : KnownMachine) (steps : Run) (n : VisitState)
         → x.ledger.groups ≡ s.ledger.groups → Passes t s made x
-        → AfterBatchRefused sizes g (ChargesOne g answer) (transition t (visit_state x c) steps n) → RashFree t MayAsk s made steps
+        → ChargesNoBatch sizes g answer (transition t (visit_state x c) steps n) → RashFree t MayAsk s made steps
     lacks_rash sizes answer made x steps n is since h =
-        let first = over_steps g sizes.stock h.over in
-        let y = with_run x h.seen in
-        let refused = passes_same t x y first h.refuses refl in
-        subst (λ (k : Run). RashFree t MayAsk s made k) (sym h.steps_are) (rash_both t MayAsk s held_there made first h.later
-        (rash_quiet t MayAsk s held_there made first refl)
-        (one_rash answer (made ++ first) y h.later n is (passes_both t s x y made first since refused) h.does))
+        let y = h.between in
+        let lacks = no_batch_passes sizes x h.earlier y.machine h.first.does in
+        let one = subst (λ (e : KnownCpu). ChargesOne g answer (transition t (visit_state y.machine e) h.later n)) h.first.cpu h.second in
+        subst (λ (k : Run). RashFree t MayAsk s made k) (sym h.steps_are) (rash_both t MayAsk s held_there made h.earlier h.later
+        (rash_quiet t MayAsk s held_there made h.earlier lacks.2)
+        (one_rash answer (made ++ h.earlier) y.machine h.later n (lacks.1 ∙ is) (passes_both t s x y.machine made h.earlier since lacks.0) one))
 
     charges_rash : (sizes : Config) (answer : Result (Unit {0}) AllocFault) (made : Run) (x : KnownMachine) (steps : Run) (n : VisitState)
         → x.ledger.groups ≡ s.ledger.groups → Passes t s made x
         → FillsDrainedStock sizes g answer (transition t (visit_state x c) steps n) → RashFree t MayAsk s made steps
-    charges_rash sizes (Ok v) made x steps n is since (inl h) = rash_quiet t MayAsk s held_there made steps (ap has_kill h.steps_are)
+    charges_rash sizes (Ok v) made x steps n is since (inl h) = rash_quiet t MayAsk s held_there made steps (ap has_kill h.fills.steps_are)
     charges_rash sizes (Ok v) made x steps n is since (inr h) = lacks_rash sizes (Ok v) made x steps n is since h
     charges_rash sizes (Err cause) made x steps n is since h = lacks_rash sizes (Err cause) made x steps n is since h
 

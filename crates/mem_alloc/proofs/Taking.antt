@@ -26,8 +26,8 @@ use Rattle.mem_machine.specs.Transitions.{BySteps, Transition, transition}
 use Rattle.mem_alloc.specs.Room.{AfterRoom, IsRefusedFor, IsRoomAnswer}
 use Rattle.mem_alloc.specs.Blocks.{AllocatesBlock, ChargesBlock, FindsNoBlock, MayHaveBlock, RetriesBlock}
 use Rattle.mem_alloc.specs.Blocks.{TakesAfterDrain, TakesFreeBlock, TakesInRounds, TakesOrReclaims}
-use Rattle.mem_alloc.proofs.Lowering.{lowered_fits, usage_back, room_back}
-use Rattle.mem_alloc.proofs.Making.{RoomSoFar, so_far_does, so_far_none}
+use Rattle.mem_alloc.proofs.Lowering.{Lowers, lowers_none, lowered_fits, usage_back, room_back}
+use Rattle.mem_alloc.proofs.Making.{RoomSoFar, so_far_does}
 use Rattle.mem_alloc.proofs.Rounding.{FailureSpares}
 use Rattle.mem_machine.proofs.Followed.{makes_both}
 
@@ -50,6 +50,23 @@ pub by_none : {t : KnownTable} (g k : ℕ) (a b : KnownMachine) (e : TakeFault) 
     → Makes t a (unplaced_steps g k) b
 by_none {t = t} g k a b e is steps = subst (λ (x : TakeFault). Makes t a (block_steps g k (Err x)) b) is steps
 
+-- what it leaves, if it was tried after usages fell
+room_left : (t : KnownTable) (g k : ℕ) (m x n : KnownMachine) → Lowers t m x → is_killed x.killed g ≡ false → TakesNoBlock g k x n → has_group m.ledger.groups g ≡ true
+    → HasRoomFor m (2 ^ k) → MayHaveBlock n g k
+room_left t g k m x n lowers alive none there fits =
+    let ledger : n.ledger ≡ with_uncharge (with_charge x.ledger g (2 ^ k)) g (2 ^ k) = ap (λ (z : KnownMachine). z.ledger) none.machine in
+    let groups : n.ledger.groups ≡ m.ledger.groups = ap (λ (z : KnownMachine). z.ledger.groups) none.machine ∙ lowers.groups in
+    let here : HasRoomFor x (2 ^ k) = lowered_fits t m x (2 ^ k) lowers fits in
+    let back : current_of n.ledger 0 ≡ current_of x.ledger 0 = ap (λ l. current_of l 0) ledger ∙ usage_back x.ledger g (2 ^ k) 0 in
+    record {
+      charges = record {
+        there = ap (λ (l : List Group). has_group l g) groups ∙ there;
+        alive = ap (λ (z : KnownMachine). is_killed z.killed g) none.machine ∙ alive;
+        fits = omega (arith, here, back);
+      };
+      room = subst (λ l. PathHasRoom l.groups (current_of l) g (2 ^ k)) (sym ledger) (room_back x.ledger g (2 ^ k) none.room);
+    }
+
 -- ---- after the tries that were refused
 
 module _ (t : KnownTable) (g k : ℕ) (c : KnownCpu) (m x : KnownMachine) (so_far : RoomSoFar t g (2 ^ k) c m x) (y : KnownCpu) (mine : y ≡ c)
@@ -71,19 +88,7 @@ module _ (t : KnownTable) (g k : ℕ) (c : KnownCpu) (m x : KnownMachine) (so_fa
 
   -- what a call for which no block is free leaves
   pub room_still : TakesNoBlock g k x n → has_group m.ledger.groups g ≡ true → HasRoomFor m (2 ^ k) → MayHaveBlock n g k
-  room_still none there fits =
-      let ledger : n.ledger ≡ with_uncharge (with_charge x.ledger g (2 ^ k)) g (2 ^ k) = ap (λ (z : KnownMachine). z.ledger) none.machine in
-      let groups : n.ledger.groups ≡ m.ledger.groups = ap (λ (z : KnownMachine). z.ledger.groups) none.machine ∙ so_far.lowers.groups in
-      let here : HasRoomFor x (2 ^ k) = lowered_fits t m x (2 ^ k) so_far.lowers fits in
-      let back : current_of n.ledger 0 ≡ current_of x.ledger 0 = ap (λ l. current_of l 0) ledger ∙ usage_back x.ledger g (2 ^ k) 0 in
-      record {
-        charges = record {
-          there = ap (λ (l : List Group). has_group l g) groups ∙ there;
-          alive = ap (λ (z : KnownMachine). is_killed z.killed g) none.machine ∙ so_far.alive;
-          fits = omega (arith, here, back);
-        };
-        room = subst (λ l. PathHasRoom l.groups (current_of l) g (2 ^ k)) (sym ledger) (room_back x.ledger g (2 ^ k) none.room);
-      }
+  room_still none there fits = room_left t g k m x n so_far.lowers so_far.alive none there fits
 
 -- a charge is refused for good
 charges_refused : (t : KnownTable) (g k : ℕ) (e : AllocFault) (a b : VisitState)
@@ -172,7 +177,7 @@ none_spares t g k m n c d steps h = record {
 -- what one try that finds no block leaves
 pub none_leaves : (t : KnownTable) (g k : ℕ) (m n : KnownMachine) (c d : KnownCpu) → TakesNoBlock g k m n → is_killed m.killed g ≡ false → has_group m.ledger.groups g ≡ true
     → HasRoomFor m (2 ^ k) → MayHaveBlock n g k
-none_leaves t g k m n c d none alive there fits = room_still t g k c m m (so_far_none t g (2 ^ k) c m alive) c refl n d none there fits
+none_leaves t g k m n c d none alive there fits = room_left t g k m m n (lowers_none t m) alive none there fits
 
 -- a note leaves the room for a block
 pub noted_room : (m : KnownMachine) (note : Note) (g k : ℕ) → MayHaveBlock m g k → MayHaveBlock (with_note m note) g k

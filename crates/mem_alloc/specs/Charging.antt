@@ -1,16 +1,15 @@
 -- How pages for single frames are charged, through the CPU's stock.
-use Rattle.std.specs.Prelude.{◌≡◌, ◌⊎◌, ℕ, Result, Ok, Err, ◌++◌}
+use Rattle.std.specs.Prelude.{◌≡◌, ◌⊎◌, ℕ, Result, Ok, Err}
 use Rattle.zone_blocks.specs.declared.config.Config.{Config}
-use Rattle.step_rules.specs.After.{Run}
-use Rattle.mem_machine.specs.Machines.{LacksRoom, with_run}
+use Rattle.mem_machine.specs.Machines.{KnownMachine, LacksRoom, with_run}
 use Rattle.mem_machine.specs.Stocks.{Drains, Fills, stock_group}
 use Rattle.mem_machine.specs.Steps.{drain_steps, fill_steps, over_steps}
 use Rattle.mem_machine.specs.Paying.{HoldsPage}
-use Rattle.mem_machine.specs.Local.{Makes, VisitState, visit_state}
+use Rattle.mem_machine.specs.Local.{Makes, VisitState}
 use Rattle.mem_alloc.specs.declared.faults.AllocFault.{AllocFault}
-use Rattle.mem_machine.specs.Transitions.{Finds, InTurn, Stays, Transition, transition}
+use Rattle.mem_machine.specs.Transitions.{Finds, InTurn, MachineStays, OfMachineAlone, Stays, Transition}
+use Rattle.mem_alloc.specs.High.{PathHasHighRoom}
 use Rattle.mem_alloc.specs.Room.{AfterRoom, IsRefusedFor}
-use Rattle.mem_machine.specs.Noted.{KnownRun}
 
 -- the limits have room for this many pages, which are charged to the group and fill the CPU's stock
 pub record FillsStock (group pages : ℕ) (call : Transition VisitState) : Type 0 where
@@ -24,26 +23,37 @@ abbrev pub ChargesOne : ℕ → Result (Unit {0}) AllocFault → Transition Visi
 ChargesOne group (Ok done) call = AfterRoom group 1 (FillsStock group 1) call
 ChargesOne group (Err cause) call = IsRefusedFor group 1 cause call
 
--- the limit of some group has no room for all pages of a whole stock, which is no event but which the run notes, and
--- then `Does` holds
-pub record AfterBatchRefused (sizes : Config) (group : ℕ) (Does : Transition VisitState → Type 0)
-    (call : Transition VisitState) : Type 0 where
-  pub over : ℕ
-  pub batch : LacksRoom call.before.machine group sizes.stock over
-  pub later : Run
-  pub seen : KnownRun
-  pub refuses : Makes call.table call.before.machine (over_steps group sizes.stock over)
-      (with_run call.before.machine seen)
-  pub does : Does
-      (transition call.table (visit_state (with_run call.before.machine seen) call.before.cpu) later call.after)
-  pub steps_are : call.steps ≡ over_steps group sizes.stock over ++ later
+-- each memory.high and each limit has room for a whole stock, which is charged to the group and fills the CPU's stock
+pub record FillsBatch (group pages : ℕ) (call : Transition VisitState) : Type 0 where
+  pub high : PathHasHighRoom call.before.machine.ledger group pages
+  pub fills : FillsStock group pages call
 
--- The CPU's drained stock is filled with `sizes.stock` pages or, if a limit has no room for them, with one. Or the
--- charge of that one page is refused.
+-- each memory.high has room for a whole stock but the limit of some group has none, which is no event but which the run
+-- notes
+pub record RefusesBatch (group pages : ℕ) (call : Transition KnownMachine) : Type 0 where
+  pub high : PathHasHighRoom call.before.ledger group pages
+  pub over : ℕ
+  pub batch : LacksRoom call.before group pages over
+  pub machine : call.after ≡ with_run call.before call.after.run
+  pub refuses : Makes call.table call.before (over_steps group pages over) call.after
+  pub steps_are : call.steps ≡ over_steps group pages over
+
+-- some memory.high has no room for a whole stock, which isn't tried, or some limit has none
+abbrev pub LacksBatch : (group pages : ℕ) → Transition KnownMachine → Type 0
+LacksBatch group pages call =
+    ((¬ PathHasHighRoom call.before.ledger group pages) × MachineStays call) ⊎ RefusesBatch group pages call
+
+-- there is no room for a whole stock, and one page is charged
+abbrev pub ChargesNoBatch : Config → ℕ → Result (Unit {0}) AllocFault → Transition VisitState → Type 0
+ChargesNoBatch sizes group answer call =
+    InTurn (OfMachineAlone (LacksBatch group sizes.stock)) (ChargesOne group answer) call
+
+-- The CPU's drained stock is filled with `sizes.stock` pages or, if there is no room for them, with one. Or the charge
+-- of that one page is refused.
 abbrev pub FillsDrainedStock : Config → ℕ → Result (Unit {0}) AllocFault → Transition VisitState → Type 0
 FillsDrainedStock sizes group (Ok done) call =
-    FillsStock group sizes.stock call ⊎ AfterBatchRefused sizes group (ChargesOne group (Ok done)) call
-FillsDrainedStock sizes group (Err cause) call = AfterBatchRefused sizes group (ChargesOne group (Err cause)) call
+    FillsBatch group sizes.stock call ⊎ ChargesNoBatch sizes group (Ok done) call
+FillsDrainedStock sizes group (Err cause) call = ChargesNoBatch sizes group (Err cause) call
 
 -- the CPU's own stock is drained of `drained` pages, which are uncharged from their group
 pub record DrainsStock (call : Transition VisitState) : Type 0 where

@@ -1,4 +1,5 @@
 pub mod Kills
+pub mod High
 pub mod Room
 pub mod Charging
 pub mod Rounds

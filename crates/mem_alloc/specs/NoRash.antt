@@ -8,8 +8,9 @@ use Rattle.group_tree.specs.Groups.{in_subtree}
 use Rattle.group_charge.specs.Charges.{AreCharges}
 use Rattle.lru_lists.specs.Lists.{owner_of}
 use Rattle.lru_lists.specs.Queue.{link_at}
+use Rattle.step_rules.specs.declared.step.NoteKey.TheVariants as key
 use Rattle.step_rules.specs.declared.step.Action.{Action}
-use Rattle.step_rules.specs.declared.step.Action.TheVariants.{Kill, NoteOom}
+use Rattle.step_rules.specs.declared.step.Action.TheVariants.{Kill, Note}
 use Rattle.step_rules.specs.declared.step.Answer.{Answer}
 use Rattle.step_rules.specs.declared.step.Step.{Step}
 use Rattle.step_rules.specs.After.{Run}
@@ -27,7 +28,7 @@ use Rattle.mem_reclaim.specs.Moves.{CountsMisses}
 
 -- the step notes that only kills are left at the group's limit (`oom`)
 abbrev pub is_oom_note : ℕ → Action → Bool
-is_oom_note group (NoteOom noted) = noted == group
+is_oom_note group (Note key.Oom noted) = noted == group
 is_oom_note group action = false
 
 -- one of the steps is this note at the group

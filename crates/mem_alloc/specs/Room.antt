@@ -18,6 +18,7 @@ use Rattle.mem_alloc.specs.declared.faults.AllocFault.{AllocFault}
 use Rattle.mem_alloc.specs.declared.faults.AllocFault.TheVariants.{Over, NoFrames, RequesterKilled}
 use Rattle.mem_machine.specs.Transitions.{InTurn, MachineStays, OfMachineAlone, Transition, transition}
 use Rattle.mem_machine.specs.Noted.{KnownRun}
+use Rattle.mem_alloc.specs.High.{ReclaimsHigh}
 -- what is killed, and whether there is room
 pub use Rattle.mem_alloc.specs.Kills.{KillsForRoom, NeedsRoom, has_room_at, most_killed_for}
 
@@ -115,15 +116,21 @@ MakesRoom requester [] pages call = MachineStays call
 MakesRoom requester (limited ∷ others) pages call =
     InTurn (IsRefusedAt requester limited pages (Ok tt)) (MakesRoom requester others pages) call
 
--- A charge of this many pages to the requester may first be refused at the groups `refused_at`, which then get room.
--- After that `Does` holds.
+-- What precedes a charge of this many pages to the requester: what memory.high asks for, and then the charge may be
+-- refused at these groups, which then get room.
+abbrev pub PreparesCharge : ℕ → List ℕ → ℕ → Transition KnownMachine → Type 0
+PreparesCharge requester refused_at pages call =
+    InTurn (ReclaimsHigh requester pages) (MakesRoom requester refused_at pages) call
+
+-- A charge of this many pages to the requester is prepared, and may first be refused at the groups `refused_at`. After
+-- that `Does` holds.
 pub record AfterRoom (requester pages : ℕ) (Does : Transition VisitState → Type 0)
     (call : Transition VisitState) : Type 0 where
   pub refused_at : List ℕ
   pub cleared : KnownMachine
   pub making : Run
   pub later : Run
-  pub makes : MakesRoom requester refused_at pages (transition call.table call.before.machine making cleared)
+  pub makes : PreparesCharge requester refused_at pages (transition call.table call.before.machine making cleared)
   pub does : Does (transition call.table (visit_state cleared call.before.cpu) later call.after)
   pub steps_are : call.steps ≡ making ++ later
 

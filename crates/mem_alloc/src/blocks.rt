@@ -12,6 +12,7 @@ ghost use Rattle.mem_alloc.specs.Blocks.{MakesTakeRounds, TakesAfterDrain};
 ghost use Rattle.mem_machine.specs.Local.{VisitMakes, visit_state};
 
 use crate::faults::AllocFault;
+use crate::high::reclaim_high;
 use crate::reclaims::reclaim_anywhere;
 use crate::room::make_room;
 use cpu_part::{BootName, Cpu, Tables};
@@ -22,7 +23,7 @@ use mem_machine::{Machine, TakeFault, prove_order};
 use mem_reclaim::MAX_ROUNDS;
 use zone_blocks::order::Order;
 
-// Charges a block to the group and takes it, as soon as every limit has room.
+// Charges a block to the group and takes it, after what memory.high asks for and as soon as every limit has room.
 fn charge_block<N: BootName>(
     machine: &mut Machine<N>,
     tables: &Tables<N>,
@@ -40,6 +41,7 @@ fn charge_block<N: BootName>(
     ensures room { result ≡ Err NoFrames → MayHaveBlock machine.new group order }
 {
     let pages = order.frames();
+    reclaim_high(machine, tables, group, pages);
     'tries: loop {
         match machine.take_block(tables, cpu, group, order) {
             Ok(head) => return Ok(head),

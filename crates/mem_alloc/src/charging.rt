@@ -1,17 +1,18 @@
 //! Charging pages for single frames, through the CPU's stock.
 
-ghost use Rattle.std.specs.Prelude.{◌≡◌, ◌↔◌, [], IsTrue, false, OnOk};
+ghost use Rattle.std.specs.Prelude.{◌≡◌, ◌↔◌, [], IsTrue, false, true, OnOk};
 ghost use Rattle.zone_blocks.specs.Config.{IsValidConfig};
 ghost use Rattle.group_tree.specs.Groups.{has_group};
 ghost use Rattle.mem_machine.specs.Machines.{is_killed};
 ghost use Rattle.mem_machine.specs.Local.{Holds, Visits};
 ghost use Rattle.mem_machine.specs.Paying.{HoldsPage, IsOfSize, MayCharge};
-ghost use Rattle.mem_machine.specs.Stocks.{IsDrained};
+ghost use Rattle.mem_machine.specs.Stocks.{FitsStock, IsDrained};
 ghost use Rattle.mem_machine.specs.Transitions.{BySteps};
-ghost use Rattle.mem_alloc.specs.Charging.{ChargesOne, FillsDrainedStock, PaysForFrame};
-ghost use Rattle.mem_machine.specs.Local.{VisitMakes, visit_state};
+ghost use Rattle.mem_alloc.specs.Charging.{ChargesOne, FillsBatch, FillsDrainedStock, LacksBatch, PaysForFrame};
+ghost use Rattle.mem_machine.specs.Local.{Makes, VisitMakes, visit_state};
 
 use crate::faults::AllocFault;
+use crate::high::{path_has_high_room, reclaim_high};
 use crate::room::make_room;
 use cpu_part::{BootName, Cpu, Tables};
 use group_tree::group::GroupId;
@@ -37,7 +38,8 @@ fn holds_page<N: BootName>(
     }
 }
 
-// Charges one page to the group and fills the CPU's stock with it, as soon as every limit has room.
+// Charges one page to the group and fills the CPU's stock with it, after what memory.high asks for and as soon as every
+// limit has room.
 fn fill_one<N: BootName>(
     machine: &mut Machine<N>,
     tables: &Tables<N>,
@@ -52,6 +54,7 @@ fn fill_one<N: BootName>(
         (visit_state machine.old cpu.now) (visit_state machine.new cpu.now) }
     ensures visit { Visits N.frames (visit_state machine.new cpu.now) }
 {
+    reclaim_high(machine, tables, group, 1);
     'tries: loop {
         let Err(over) = machine.fill_stock(tables, cpu, group, 1) else {
             return Ok(());
@@ -60,8 +63,37 @@ fn fill_one<N: BootName>(
     }
 }
 
-// Charges pages to the group and fills the CPU's drained stock with them: `sizes.stock` pages if every limit has room
-// for them, else one.
+// Charges this many pages to the group and fills the CPU's drained stock with them, if each memory.high and each limit
+// has room for them. Returns whether it has.
+fn fill_batch<N: BootName>(
+    machine: &mut Machine<N>,
+    tables: &Tables<N>,
+    cpu: &Cpu<N>,
+    group: GroupId,
+    pages: u32,
+) -> bool
+    requires visit { Visits N.frames (visit_state machine.old cpu.now) }
+    requires may_charge { MayCharge machine.old group pages }
+    requires pages { FitsStock pages }
+    requires none_fresh { cpu.now.fresh ≡ [] }
+    requires drained { IsDrained N.frames machine.old cpu.now.number }
+    ensures fills { result ≡ true → BySteps VisitMakes N.frames (FillsBatch group pages)
+        (visit_state machine.old cpu.now) (visit_state machine.new cpu.now) }
+    ensures lacks { result ≡ false → BySteps Makes N.frames (LacksBatch group pages) machine.old machine.new }
+    ensures visit { Visits N.frames (visit_state machine.new cpu.now) }
+    ensures drained { result ≡ false → IsDrained N.frames machine.new cpu.now.number }
+{
+    if !path_has_high_room(machine.charges(), group, pages) {
+        return false;
+    }
+    let Err(_over) = machine.fill_stock(tables, cpu, group, pages) else {
+        return true;
+    };
+    false
+}
+
+// Charges pages to the group and fills the CPU's drained stock with them: `sizes.stock` pages if each memory.high and
+// each limit has room for them, else one.
 fn fill_drained_stock<N: BootName>(
     machine: &mut Machine<N>,
     tables: &Tables<N>,
@@ -81,9 +113,9 @@ fn fill_drained_stock<N: BootName>(
     ensures visit { Visits N.frames (visit_state machine.new cpu.now) }
 {
     machine.prove_room();
-    let Err(_batch) = machine.fill_stock(tables, cpu, group, sizes.stock) else {
+    if fill_batch(machine, tables, cpu, group, sizes.stock) {
         return Ok(());
-    };
+    }
     fill_one(machine, tables, cpu, group)
 }
 

@@ -14,6 +14,7 @@ use group_charge::note::Note;
 use group_tree::group::GroupId;
 use mem_machine::{Machine, prove_charges};
 use mem_reclaim::kill;
+use step_rules::step::NoteKey;
 
 // The most pages for which groups are killed: those of an order of 3. Linux kills nobody for more either
 // (`PAGE_ALLOC_COSTLY_ORDER`).
@@ -68,7 +69,7 @@ pub fn kill_for<N: BootName>(
     if has_room_at(machine.charges(), limited, pages) {
         return;
     }
-    machine.note_oom(tables, limited);
+    machine.note_event(tables, NoteKey::Oom, limited);
     machine.note(Note::Oom { group: limited });
     'kills: loop {
         machine.prove_consistent();

@@ -15,6 +15,7 @@ use group_charge::note::Note;
 use group_tree::group::GroupId;
 use mem_machine::{Machine, prove_number};
 use mem_reclaim::reclaim_to_limit;
+use step_rules::step::NoteKey;
 
 // Reclaims in rounds from the subtree of the group, until its limit has room for this many pages.
 fn reclaim_for<N: BootName>(
@@ -77,7 +78,7 @@ pub(crate) fn make_room<N: BootName>(
 {
     prove_number(limited);
     note_limit(machine, limited, pages);
-    machine.note_max(tables, limited);
+    machine.note_event(tables, NoteKey::Max, limited);
     machine.drain_stocks(tables, limited);
     reclaim_for(machine, tables, limited, pages);
     kill_for_few_pages(machine, tables, requester, limited, pages);

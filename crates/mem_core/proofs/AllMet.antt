@@ -3,7 +3,7 @@ use Rattle.std.proofs.Common.{◌≡◌, ◌∙◌, ℕ, ◌&&◌, ◌==◌, Boo
 use Rattle.std.proofs.lemmas.Bool.{and_parts}
 use Rattle.step_rules.specs.declared.step.Action.{Action}
 use Rattle.step_rules.specs.declared.step.Action.TheVariants.{Lock, Unlock, OpenVisit, ShutVisit, Get, Put, Freeze, Unfreeze, PassOut, TakeIn, PassBack, Collect, Consume, Credit}
-use Rattle.step_rules.specs.declared.step.Action.TheVariants.{Report, Absorb, Fill, DrainStock, Grant, Ungrant, PlaceBlock, Publish, Return, NoteMax, NoteOom, NoteGroupKill, SetMax, SetFlag}
+use Rattle.step_rules.specs.declared.step.Action.TheVariants.{Report, Absorb, Fill, DrainStock, Grant, Ungrant, PlaceBlock, Publish, Return, Note, NoteGroupKill, SetMax, SetFlag}
 use Rattle.step_rules.specs.declared.step.Action.TheVariants.{Make, Remove, Kill}
 use Rattle.group_tree.specs.Groups.{has_child, has_group}
 use Rattle.step_rules.specs.State.{State, may_zone_act}
@@ -49,8 +49,7 @@ is_table s seat (Ungrant g n) = refl
 is_table s seat (PlaceBlock g k) = refl
 is_table s seat (Publish f) = refl
 is_table s seat (Return f) = refl
-is_table s seat (NoteMax g) = refl
-is_table s seat (NoteOom g) = refl
+is_table s seat (Note key g) = refl
 is_table s seat (NoteGroupKill g) = refl
 is_table s seat (SetMax g limit) = refl
 is_table s seat (SetFlag g flag) = refl

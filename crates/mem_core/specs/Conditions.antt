@@ -11,7 +11,7 @@ use Rattle.step_rules.specs.declared.step.Action.{Action}
 use Rattle.step_rules.specs.declared.step.Action.TheVariants.{Lock, Unlock, OpenVisit, ShutVisit, Get, Put, Freeze}
 use Rattle.step_rules.specs.declared.step.Action.TheVariants.{Unfreeze, PassOut, TakeIn, PassBack, Collect, Consume}
 use Rattle.step_rules.specs.declared.step.Action.TheVariants.{Credit, Report, Absorb, Fill, DrainStock, Grant, Ungrant}
-use Rattle.step_rules.specs.declared.step.Action.TheVariants.{PlaceBlock, Publish, Return, NoteMax, NoteOom}
+use Rattle.step_rules.specs.declared.step.Action.TheVariants.{PlaceBlock, Publish, Return, Note}
 use Rattle.step_rules.specs.declared.step.Action.TheVariants.{NoteGroupKill, SetMax, SetFlag, Make, Remove, Kill}
 use Rattle.mem_core.specs.declared.quantity.Quantity.{Quantity}
 use Rattle.mem_core.specs.declared.quantity.Quantity.TheVariants.{Own, References, Pins, Listed, Fresh, Unreported, Reported}
@@ -92,8 +92,7 @@ zone_conditions (Ungrant g n) = Group g ∷ AtLeast (Pending g) n ∷ []
 zone_conditions (PlaceBlock g k) = Group g ∷ AtLeast (Pending g) (2 ^ k) ∷ []
 zone_conditions (Publish f) = Frame f ∷ InPlace f Head ∷ AtLeast (Own 0 f) 1 ∷ []
 zone_conditions (Return f) = Frame f ∷ InPlace f Returnable ∷ []
-zone_conditions (NoteMax g) = Group g ∷ []
-zone_conditions (NoteOom g) = Group g ∷ []
+zone_conditions (Note key g) = Group g ∷ []
 zone_conditions (NoteGroupKill g) = Group g ∷ NotRoot g ∷ []
 zone_conditions (SetMax g limit) = Group g ∷ NotRoot g ∷ []
 zone_conditions (SetFlag g flag) = Group g ∷ NotRoot g ∷ []

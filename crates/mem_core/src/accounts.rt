@@ -37,8 +37,7 @@ fn note_of(action: &Action, answer: &Answer) -> Option<(EventKey, GroupId)>
 {
     match answer {
         Answer::Done => match action {
-            Action::NoteMax { group } => Some((EventKey::Max, *group)),
-            Action::NoteOom { group } => Some((EventKey::Oom, *group)),
+            Action::Note { key, group } => Some((key.event(), *group)),
             Action::Kill { group } => Some((EventKey::OomKill, *group)),
             Action::NoteGroupKill { group } => Some((EventKey::OomGroupKill, *group)),
             _ => None,

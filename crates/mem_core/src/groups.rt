@@ -9,7 +9,7 @@ ghost use Rattle.mem_core.specs.Rooms.{FitsZone, IsBelowBounds, MakesOnRows};
 use crate::rows::Rows;
 use group_tree::group::GroupId;
 use group_tree::path::PathText;
-use step_rules::step::Answer;
+use step_rules::step::{Answer, NoteKey};
 
 /// Grants pages to a group, if the limits on its path have room for them.
 pub(crate) fn grant(rows: &mut Rows, seat: u32, group: GroupId, pages: u32) -> Answer
@@ -38,22 +38,12 @@ pub(crate) fn ungrant(rows: &mut Rows, seat: u32, group: GroupId, pages: u32) ->
     Answer::Done
 }
 
-/// A note of `max` changes nothing here.
-pub(crate) fn note_max(rows: &mut Rows, seat: u32, group: GroupId) -> Answer
+/// A note changes nothing here.
+pub(crate) fn note(rows: &mut Rows, seat: u32, key: NoteKey, group: GroupId) -> Answer
     requires fits { FitsZone rows.old }
     requires bounded { IsBelowBounds (state_in rows.old) }
-    requires legal { is_legal (state_in rows.old) seat (Action.NoteMax group) ≡ true }
-    ensures made { MakesOnRows rows.old seat (Action.NoteMax group) result rows.new }
-{
-    Answer::Done
-}
-
-/// A note of `oom` changes nothing here.
-pub(crate) fn note_oom(rows: &mut Rows, seat: u32, group: GroupId) -> Answer
-    requires fits { FitsZone rows.old }
-    requires bounded { IsBelowBounds (state_in rows.old) }
-    requires legal { is_legal (state_in rows.old) seat (Action.NoteOom group) ≡ true }
-    ensures made { MakesOnRows rows.old seat (Action.NoteOom group) result rows.new }
+    requires legal { is_legal (state_in rows.old) seat (Action.Note key group) ≡ true }
+    ensures made { MakesOnRows rows.old seat (Action.Note key group) result rows.new }
 {
     Answer::Done
 }

@@ -8,9 +8,7 @@ ghost use Rattle.mem_core.specs.Rows.{state_in};
 ghost use Rattle.mem_core.specs.Rooms.{AreasFor, FitsZone, IsBelowBounds, MakesOnRows, PlacesFront, pages_asked};
 
 use crate::blocks::{place_block, return_unit};
-use crate::groups::{
-    grant, kill, make, note_group_kill, note_max, note_oom, remove, set_flag, set_max, ungrant,
-};
+use crate::groups::{grant, kill, make, note, note_group_kill, remove, set_flag, set_max, ungrant};
 use crate::hand_over::{collect, pass_back, pass_out, take_in};
 use crate::legal::is_legal;
 use crate::lock::{lock, open_visit, shut_visit, unlock};
@@ -72,8 +70,7 @@ fn make_step(rows: &mut Rows, areas: &FreeAreas, step: &Step) -> Answer
         Action::PlaceBlock { group, order } => place_block(rows, areas, seat, *group, *order),
         Action::Publish { frame } => publish(rows, seat, *frame),
         Action::Return { frame } => return_unit(rows, seat, *frame),
-        Action::NoteMax { group } => note_max(rows, seat, *group),
-        Action::NoteOom { group } => note_oom(rows, seat, *group),
+        Action::Note { key, group } => note(rows, seat, *key, *group),
         Action::NoteGroupKill { group } => note_group_kill(rows, seat, *group),
         Action::SetMax { group, limit } => set_max(rows, seat, *group, *limit),
         Action::SetFlag { group, oom_group } => set_flag(rows, seat, *group, *oom_group),

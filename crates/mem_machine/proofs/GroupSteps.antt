@@ -1,24 +1,26 @@
--- Steps on the groups alone. Serves `note_max`, `note_oom`, `note_group_kill`, `mark_killed`, `set_max`,
--- `set_oom_group`, `make` and `remove`.
-use Rattle.std.proofs.Common.{◌≡◌, ◌≢◌, ℕ, ◌<◌, ◌&&◌, Bool, true, false, Option, Some, None, List, [], ◌∷◌, length, get_or, refl, sym, ap, ◌∙◌, subst, eq-eqb}
+-- Steps on the groups alone. Serves `note_event`, `note_group_kill`, `mark_killed`, `set_max`, `set_oom_group`,
+-- `set_settings`, `make` and `remove`.
+use Rattle.std.proofs.Common.{◌≡◌, ◌≢◌, ℕ, ◌<◌, Bool, true, false, Option, Some, None, List, [], ◌∷◌, length, refl, sym, ap, ◌∙◌, subst, eq-eqb}
 use Rattle.std.specs.Prelude.{is_none, not, slice_set}
 use Rattle.std.proofs.lemmas.Bool.{and_from, ne_eqb}
 use Rattle.std.proofs.lemmas.List.{get_or-set_same, get_or-set_other}
 use Rattle.group_tree.specs.declared.event.EventKey.{EventKey}
-use Rattle.group_tree.specs.declared.event.EventKey.TheVariants.{Max, Oom, OomKill, OomGroupKill}
+use Rattle.group_tree.specs.declared.event.EventKey.TheVariants.{OomKill, OomGroupKill}
 use Rattle.group_tree.specs.declared.fault.Fault.{Fault}
 use Rattle.group_tree.specs.declared.group.Group.{Group}
 use Rattle.group_tree.specs.Bounds.{most_groups}
 use Rattle.group_tree.specs.Groups.{has_child, has_group, make_fault, IsLeastFreeNumber}
-use Rattle.group_charge.specs.Charges.{Ledger, AreCharges, CountsEvent, SamePages, SamePeaks, current_of}
+use Rattle.group_charge.specs.declared.settings.Settings.{Settings}
+use Rattle.group_charge.specs.Charges.{Ledger, AreCharges, CountsEvent, SamePages, SamePeaks, account_at, current_of, pages_of, with_settings}
 use Rattle.group_charge.specs.Charges.{with_new_group, with_group_removed, with_group_limit, with_oom_flag}
 use Rattle.frame_word.specs.Seats.{KnownTable}
 use Rattle.step_rules.specs.declared.step.Step.{Step}
+use Rattle.step_rules.specs.declared.step.NoteKey.{NoteKey}
 use Rattle.step_rules.specs.declared.step.Action.{Action}
-use Rattle.step_rules.specs.declared.step.Action.TheVariants.{Kill, Make, NoteGroupKill, NoteMax, NoteOom, Remove, SetFlag, SetMax}
+use Rattle.step_rules.specs.declared.step.Action.TheVariants.{Kill, Make, Note, NoteGroupKill, Remove, SetFlag, SetMax}
 use Rattle.step_rules.specs.declared.step.Answer.{Answer}
 use Rattle.step_rules.specs.declared.step.Answer.TheVariants.{Done, Number}
-use Rattle.step_rules.specs.Events.{event_of}
+use Rattle.step_rules.specs.Events.{event_key, event_of}
 use Rattle.step_rules.specs.Laws.{IsLocalStep}
 use Rattle.step_rules.specs.Legal.{is_removable}
 use Rattle.step_rules.specs.State.{State, with_at}
@@ -33,9 +35,10 @@ use Rattle.mem_machine.specs.Following.{FollowsSteps}
 use Rattle.mem_machine.specs.Local.{Makes, StaysVisited, lock_holder, local_of}
 use Rattle.mem_machine.specs.Machines.{KnownMachine, AddsGroup, IsConsistent, IsShownBy, is_killed, left_by}
 use Rattle.mem_machine.specs.Noted.{KnownRun, MayTake, Notes, after_made}
-use Rattle.mem_machine.specs.Steps.{zone_makes, make_steps, remove_steps, set_max_steps, set_oom_group_steps}
-use Rattle.mem_machine.proofs.LedgerMoves.{follows_flag, follows_limit, follows_make, follows_note, follows_remove}
+use Rattle.mem_machine.specs.Steps.{zone_makes}
+use Rattle.mem_machine.proofs.LedgerMoves.{follows_flag, follows_limit, follows_make, follows_note, follows_remove, follows_settings}
 use Rattle.mem_machine.proofs.Made.{makes, one_leads, stays_visited, zone_acts}
+use Rattle.mem_machine.proofs.Noted.{notes_none}
 use Rattle.mem_machine.proofs.Reaching.{zone_step}
 use Rattle.mem_machine.proofs.Sight.{left_then, shown_seen}
 use Rattle.mem_machine.proofs.Staying.{HaveSameBooks, owners_stay, sums_stay}
@@ -146,13 +149,10 @@ module _ (t : KnownTable) (m now : KnownMachine) (same : m ≡ now) (ok : IsCons
       counts = none (local_of t m) m.counts;
     }
 
-    pub notes_max : (l : Ledger) → l.groups ≡ m.ledger.groups → CountsEvent Max m.ledger l g → SamePeaks m.ledger l → IsGroupStep t m (zone_makes (NoteMax g) Done) l m.killed
-    notes_max l groups counts peaks = notes Max (NoteMax g) refl (λ s x. refl) refl
-        (zone_step (local_of t m) (lock_holder m) (NoteMax g) Done refl (and_from _ _ (zone_acts t m.run.past is) (seen_there g there)) tt) l groups counts peaks
-
-    pub notes_oom : (l : Ledger) → l.groups ≡ m.ledger.groups → CountsEvent Oom m.ledger l g → SamePeaks m.ledger l → IsGroupStep t m (zone_makes (NoteOom g) Done) l m.killed
-    notes_oom l groups counts peaks = notes Oom (NoteOom g) refl (λ s x. refl) refl
-        (zone_step (local_of t m) (lock_holder m) (NoteOom g) Done refl (and_from _ _ (zone_acts t m.run.past is) (seen_there g there)) tt) l groups counts peaks
+    pub notes_event : (key : NoteKey) (kind : EventKey) → kind ≡ event_key key → (l : Ledger) → l.groups ≡ m.ledger.groups → CountsEvent kind m.ledger l g
+        → SamePeaks m.ledger l → IsGroupStep t m (zone_makes (Note key g) Done) l m.killed
+    notes_event key kind counted l groups counts peaks = notes kind (Note key g) (ap (λ (k : EventKey). Some (k, g)) (sym counted)) (λ s x. refl) refl
+        (zone_step (local_of t m) (lock_holder m) (Note key g) Done refl (and_from _ _ (zone_acts t m.run.past is) (seen_there g there)) tt) l groups counts peaks
 
     pub notes_group_kill : g ≢ 0 → (l : Ledger) → l.groups ≡ m.ledger.groups → CountsEvent OomGroupKill m.ledger l g → SamePeaks m.ledger l
         → IsGroupStep t m (zone_makes (NoteGroupKill g) Done) l m.killed
@@ -235,6 +235,40 @@ module _ (t : KnownTable) (m now : KnownMachine) (same : m ≡ now) (ok : IsCons
     machine = (λ i. record m { ledger = is_new i; killed = set i; run = run })
         ∙ ap (λ (k : KnownMachine). record k { ledger = with_new_group k.ledger g path; killed = slice_set k.killed g false; run = run }) same;
   }
+
+-- ---- no step
+
+-- what is set for a group binds no step
+pub settings_consistent : (t : KnownTable) (m : KnownMachine) (l : Ledger) (g : ℕ) (settings : Settings) → l ≡ with_settings m.ledger g settings
+    → IsConsistent t m → IsConsistent t (record m { ledger = l })
+unfolding pages_of account_at
+settings_consistent t m l g settings set ok = subst (λ (k : Ledger). IsConsistent t (record m { ledger = k })) (sym set) (record {
+  sizes = record { frame_states = ok.sizes.frame_states; links = ok.sizes.links; lists = ok.sizes.lists; killed = ok.sizes.killed };
+  areas = ok.areas;
+  frame_states = ok.frame_states;
+  units = ok.units;
+  lists = ok.lists;
+  balances = ok.balances;
+  shown = record {
+    groups = ok.shown.groups;
+    killed = ok.shown.killed;
+    phases = ok.shown.phases;
+    references = ok.shown.references;
+    settled = ok.shown.settled;
+    absorbed = ok.shown.absorbed;
+    bounded = ok.shown.bounded;
+    charged = ok.shown.charged;
+  };
+})
+
+pub settings_make : (t : KnownTable) (m : KnownMachine) (g : ℕ) (settings : Settings) → Makes t m [] (record m { ledger = with_settings m.ledger g settings })
+settings_make t m g settings = record {
+  holder = refl;
+  leads = refl;
+  follows = follows_settings (local_of t m) m.ledger g settings;
+  counts = refl;
+  noted = notes_none t m.run;
+}
 
 -- only the groups and the run are others, where the call did this to the groups
 pub ledger_is : (m now : KnownMachine) → m ≡ now → (does : Ledger → Ledger) (ledger : Ledger) → ledger ≡ does m.ledger → (run : KnownRun)

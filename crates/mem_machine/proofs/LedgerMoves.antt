@@ -15,8 +15,9 @@ use Rattle.group_tree.specs.Room.{one_more}
 use Rattle.group_tree.proofs.EventLemmas.{counted, none_counted}
 use Rattle.group_tree.proofs.GroupLemmas.{find-filter, is_some-find}
 use Rattle.group_charge.specs.declared.account.Account.{Account}
+use Rattle.group_charge.specs.declared.settings.Settings.{Settings}
 use Rattle.group_charge.specs.Charges.{Ledger, AreCharges, SamePeaks, SameEvents, CountsEvent, current_of, peak_of, events_of, events_local_of, account_at}
-use Rattle.group_charge.specs.Charges.{empty_account, with_charge, with_new_group, with_group_removed, with_group_limit, with_oom_flag}
+use Rattle.group_charge.specs.Charges.{with_settings, empty_account, with_charge, with_new_group, with_group_removed, with_group_limit, with_oom_flag}
 use Rattle.group_charge.proofs.CallerLemmas.{charge_rises, charge_peaks, charge_events, has_account}
 use Rattle.step_rules.specs.declared.step.Action.{Action}
 use Rattle.step_rules.specs.declared.step.Action.TheVariants.{Grant, Make}
@@ -123,11 +124,16 @@ follows_note kind action g notes s l k seen counts peaks =
           ∙ sym (done_count (is_noted_at key h) s.groups action h (count_of old key) _ (noted_at_so kind key g h s.groups action Done notes));
     }
 
--- ---- a limit and a flag
+-- ---- a limit, settings and a flag
 
 pub follows_limit : (s : State) (l : Ledger) (g : ℕ) (limit : Option ℕ) → FollowsSteps s l (set_max_steps g limit) (with_group_limit l g limit)
 unfolding peak_of events_of events_local_of account_at
 follows_limit s l g limit = follows_still s l (set_max_steps g limit) (with_group_limit l g limit) refl (λ m. refl)
+    (record { events = λ m. refl; events_local = λ m. refl })
+
+pub follows_settings : (s : State) (l : Ledger) (g : ℕ) (settings : Settings) → FollowsSteps s l [] (with_settings l g settings)
+unfolding peak_of events_of events_local_of account_at
+follows_settings s l g settings = follows_still s l [] (with_settings l g settings) refl (λ m. refl)
     (record { events = λ m. refl; events_local = λ m. refl })
 
 pub follows_flag : (s : State) (l : Ledger) (g : ℕ) (flag : Bool) → FollowsSteps s l (set_oom_group_steps g flag) (with_oom_flag l g flag)

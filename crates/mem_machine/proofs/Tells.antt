@@ -10,7 +10,7 @@ use Rattle.group_tree.specs.Groups.{has_group, in_subtree}
 use Rattle.group_charge.specs.Charges.{peak_of, events_of, events_local_of}
 use Rattle.step_rules.specs.declared.step.Step.{Step}
 use Rattle.step_rules.specs.declared.step.Action.{Action}
-use Rattle.step_rules.specs.declared.step.Action.TheVariants.{Grant, NoteMax, NoteOom, NoteGroupKill, Kill, Make}
+use Rattle.step_rules.specs.declared.step.Action.TheVariants.{Grant, Note, NoteGroupKill, Kill, Make}
 use Rattle.step_rules.specs.declared.step.Answer.{Answer}
 use Rattle.step_rules.specs.declared.step.Answer.TheVariants.{Illegal, Done, Granted, Number}
 use Rattle.step_rules.specs.State.{Zone, State}
@@ -53,8 +53,7 @@ not_own p seat other = (
 -- no step that moves a peak or a count is a CPU's
 cpu_still : (s : State) (seat : ℕ) (action : Action) (answer : Answer) → seat ≢ 0 → is_legal s seat action ≡ true → is_still action answer ≡ true
 cpu_still s seat (Grant g n) Granted ne legal = absurd (not_zone seat _ ne (grant_tests s seat g n legal).0)
-cpu_still s seat (NoteMax g) Done ne legal = absurd (not_zone seat _ ne (and_parts _ _ legal).0)
-cpu_still s seat (NoteOom g) Done ne legal = absurd (not_zone seat _ ne (and_parts _ _ legal).0)
+cpu_still s seat (Note key g) Done ne legal = absurd (not_zone seat _ ne (and_parts _ _ legal).0)
 cpu_still s seat (NoteGroupKill g) Done ne legal = absurd (not_zone seat _ ne (and_parts _ _ (and_parts _ _ legal).0).0)
 cpu_still s seat (Kill g) Done ne legal = absurd (not_zone seat _ ne (kill_tests s seat g legal).0)
 cpu_still s seat (Make path) (Number n) ne legal = absurd (not_zone seat _ ne (make_tests s seat path legal).0)

@@ -1,8 +1,10 @@
 -- The list of steps of each call, with the answer of each step.
 use Rattle.std.specs.Prelude.{ℕ, zero, suc, Bool, Option, Some, None, List, [], ◌∷◌, sum_by}
 use Rattle.std.specs.List.{flat_map}
-use Rattle.step_rules.specs.declared.step.Action.TheVariants.{OpenVisit, ShutVisit, PassOut, TakeIn, PassBack, Collect, Fill, DrainStock, Grant, Ungrant, Consume, NoteMax, Kill}
-use Rattle.step_rules.specs.declared.step.Action.TheVariants.{NoteOom, NoteGroupKill, SetMax, SetFlag, Make, Remove}
+use Rattle.step_rules.specs.declared.step.NoteKey.{NoteKey}
+use Rattle.step_rules.specs.declared.step.NoteKey.TheVariants.{Max, Oom}
+use Rattle.step_rules.specs.declared.step.Action.TheVariants.{OpenVisit, ShutVisit, PassOut, TakeIn, PassBack, Collect, Fill, DrainStock, Grant, Ungrant, Consume, Note, Kill}
+use Rattle.step_rules.specs.declared.step.Action.TheVariants.{NoteGroupKill, SetMax, SetFlag, Make, Remove}
 use Rattle.step_rules.specs.declared.step.Answer.TheVariants.{Done, Took, Pages, Granted, Over, Number}
 use Rattle.step_rules.specs.After.{Run}
 -- a step of the zone's seat or of a CPU's, with its answer
@@ -70,13 +72,17 @@ over_steps group pages over = zone_makes (Grant group pages) (Over over) ∷ []
 abbrev pub take_front_steps : ℕ → ℕ → Run
 take_front_steps cpu group = cpu_makes cpu (Consume group) Took ∷ []
 
+-- an event of this kind is noted at the group
+abbrev pub note_steps : NoteKey → ℕ → Run
+note_steps key group = zone_makes (Note key group) Done ∷ []
+
 -- an event: the group's usage was about to exceed its limit
 abbrev pub note_max_steps : ℕ → Run
-note_max_steps group = zone_makes (NoteMax group) Done ∷ []
+note_max_steps group = note_steps Max group
 
 -- an event: only kills are left to keep the group within its limit
 abbrev pub note_oom_steps : ℕ → Run
-note_oom_steps group = zone_makes (NoteOom group) Done ∷ []
+note_oom_steps group = note_steps Oom group
 
 -- the group is killed, which is an event of the group
 abbrev pub kill_steps : ℕ → Run

@@ -1,61 +1,45 @@
-//! The groups: making, removing, limiting and killing them, and noting their events.
+//! The groups: making, removing, limiting and killing them, noting their events, and what is set for them.
 
-ghost use Rattle.std.specs.Prelude.{◌≡◌, ◌≢◌, IsTrue, IfOk, OnErr, false, true, slice_set};
+ghost use Rattle.std.specs.Prelude.{◌≡◌, ◌≢◌, [], IsTrue, IfOk, OnErr, false, true, slice_set};
 ghost use Rattle.std.specs.Result.{result_err};
 ghost use Rattle.group_tree.specs.Groups.{has_group, has_child, make_fault};
 ghost use Rattle.group_charge.specs.Charges.{current_of, SameUsage, with_group_limit, with_group_removed};
-ghost use Rattle.group_charge.specs.Charges.{with_oom_flag, with_group_kill_noted, with_kill_noted, with_max_noted};
-ghost use Rattle.group_charge.specs.Charges.{with_oom_noted};
+ghost use Rattle.group_charge.specs.Charges.{with_group_kill_noted, with_kill_noted, with_noted, with_oom_flag};
+ghost use Rattle.group_charge.specs.Charges.{with_settings};
+ghost use Rattle.step_rules.specs.Events.{event_key};
 ghost use Rattle.mem_machine.specs.Machines.{is_killed, AddsGroup};
 ghost use Rattle.boot_words.specs.Pasts.{IsHeld};
 ghost use Rattle.mem_machine.specs.Local.{Makes, StaysVisited};
-ghost use Rattle.mem_machine.specs.Steps.{kill_steps, note_group_kill_steps, note_max_steps, note_oom_steps};
+ghost use Rattle.mem_machine.specs.Steps.{kill_steps, note_group_kill_steps, note_steps};
 ghost use Rattle.mem_machine.specs.Steps.{make_steps, remove_steps, set_max_steps, set_oom_group_steps};
 
 use crate::machine::Machine;
 use crate::proving::prove_charges;
 use crate::stepping::make_step;
 use cpu_part::{BootName, Tables};
+use group_charge::settings::Settings;
+use group_tree::event::EventKey;
 use group_tree::fault::Fault;
 use group_tree::group::GroupId;
 use group_tree::path::PathText;
-use step_rules::step::{Action, Answer};
+use step_rules::step::{Action, Answer, NoteKey};
 
 impl<N: BootName> Machine<N> {
-    /// Notes that a group's usage was about to exceed its limit: one more `max` in its events and its ancestors'
-    /// events, and in its local events.
-    pub fn note_max(&mut self, tables: &Tables<N>, group: GroupId)
+    /// Notes an event of a group: one more in its events and its ancestors' events, and in its local events.
+    pub fn note_event(&mut self, tables: &Tables<N>, key: NoteKey, group: GroupId)
         requires there { IsTrue (has_group self.old.ledger.groups group) }
         requires held { IsHeld N.frames self.old.run.past }
         ensures machine { self.new ≡ record self.old {
-          ledger = with_max_noted self.old.ledger group;
-          run = self.new.run;
-        } }
-        ensures visit { StaysVisited N.frames self.old self.new }
-        ensures steps { Makes N.frames self.old (note_max_steps group) self.new }
-    {
-        self.charges.note_max(group);
-        make_step(tables, &mut self.past, &mut self.watch, || {
-            (Action::NoteMax { group }, Answer::Done)
-        });
-    }
-
-    /// Notes that only kills are left to keep a group within its limit: one more `oom` in its events and its ancestors'
-    /// events, and in its local events.
-    pub fn note_oom(&mut self, tables: &Tables<N>, group: GroupId)
-        requires there { IsTrue (has_group self.old.ledger.groups group) }
-        requires held { IsHeld N.frames self.old.run.past }
-        ensures machine { self.new ≡ record self.old {
-          ledger = with_oom_noted self.old.ledger group;
+          ledger = with_noted (event_key key) self.old.ledger group;
           run = self.new.run;
         } }
         ensures usage { SameUsage self.old.ledger self.new.ledger }
         ensures visit { StaysVisited N.frames self.old self.new }
-        ensures steps { Makes N.frames self.old (note_oom_steps group) self.new }
+        ensures steps { Makes N.frames self.old (note_steps key group) self.new }
     {
-        self.charges.note_oom(group);
+        self.charges.note(key.event(), group);
         make_step(tables, &mut self.past, &mut self.watch, || {
-            (Action::NoteOom { group }, Answer::Done)
+            (Action::Note { key, group }, Answer::Done)
         });
     }
 
@@ -75,7 +59,7 @@ impl<N: BootName> Machine<N> {
         ensures visit { StaysVisited N.frames self.old self.new }
         ensures steps { Makes N.frames self.old (kill_steps group) self.new }
     {
-        self.charges.note_kill(group);
+        self.charges.note(EventKey::OomKill, group);
         self.killed[group.number() as usize] = true;
         make_step(tables, &mut self.past, &mut self.watch, || {
             (Action::Kill { group }, Answer::Done)
@@ -96,7 +80,7 @@ impl<N: BootName> Machine<N> {
         ensures visit { StaysVisited N.frames self.old self.new }
         ensures steps { Makes N.frames self.old (note_group_kill_steps group) self.new }
     {
-        self.charges.note_group_kill(group);
+        self.charges.note(EventKey::OomGroupKill, group);
         make_step(tables, &mut self.past, &mut self.watch, || {
             (Action::NoteGroupKill { group }, Answer::Done)
         });
@@ -179,5 +163,14 @@ impl<N: BootName> Machine<N> {
         make_step(tables, &mut self.past, &mut self.watch, || {
             (Action::SetFlag { group, oom_group }, Answer::Done)
         });
+    }
+
+    /// Sets memory.high of a group. This is no step: no rule reads it.
+    pub fn set_settings(&mut self, group: GroupId, settings: Settings)
+        ensures machine { self.new ≡ record self.old { ledger = with_settings self.old.ledger group settings } }
+        ensures visit { StaysVisited N.frames self.old self.new }
+        ensures steps { Makes N.frames self.old [] self.new }
+    {
+        self.charges.set_settings(group, settings);
     }
 }

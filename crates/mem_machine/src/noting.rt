@@ -9,7 +9,7 @@ use group_charge::note::Note;
 
 impl<N: BootName> Machine<N> {
     /// The notes since the last `forget_notes`, the oldest first: limits without room, what was tried there, which
-    /// units were reclaimed, and who was killed. If there were more than 2,048, only the first 2,048 are kept. At most
+    /// units were reclaimed, and who was killed. If there were more than 2,112, only the first 2,112 are kept. At most
     /// 1,024 of them are spans of reclaimed units.
     pub fn notes(&self) -> &[Note]
         ensures { result.now ≡ self.now.notes.list }

@@ -7,7 +7,7 @@ use Rattle.group_tree.specs.Groups.{has_group}
 use Rattle.group_charge.specs.Charges.{Ledger, peak_of}
 use Rattle.step_rules.specs.declared.step.Step.{Step}
 use Rattle.step_rules.specs.declared.step.Action.{Action}
-use Rattle.step_rules.specs.declared.step.Action.TheVariants.{Collect, Freeze, Grant, Kill, Make, NoteGroupKill, NoteMax, NoteOom, Put, Return}
+use Rattle.step_rules.specs.declared.step.Action.TheVariants.{Collect, Freeze, Grant, Kill, Make, Note, NoteGroupKill, Put, Return}
 use Rattle.step_rules.specs.declared.step.Answer.{Answer}
 use Rattle.step_rules.specs.declared.step.Answer.TheVariants.{Done, Granted, Illegal, Last, Missed, Number}
 use Rattle.step_rules.specs.State.{State, Zone, at_boot}
@@ -36,8 +36,7 @@ no_zone seat b ne acts = ne (eqb-true seat 0 (and_parts (seat == 0) b acts).0)
 
 legal_still : (s : State) (seat : ℕ) (action : Action) (answer : Answer) → seat ≢ 0 → is_legal s seat action ≡ true → is_still action answer ≡ true
 legal_still s seat (Grant g n) Granted ne legal = absurd (no_zone seat _ ne (grant_tests s seat g n legal).0)
-legal_still s seat (NoteMax g) Done ne legal = absurd (no_zone seat _ ne (and_parts _ _ legal).0)
-legal_still s seat (NoteOom g) Done ne legal = absurd (no_zone seat _ ne (and_parts _ _ legal).0)
+legal_still s seat (Note key g) Done ne legal = absurd (no_zone seat _ ne (and_parts _ _ legal).0)
 legal_still s seat (NoteGroupKill g) Done ne legal = absurd (no_zone seat _ ne (and_parts _ _ (and_parts _ _ legal).0).0)
 legal_still s seat (Kill g) Done ne legal = absurd (no_zone seat _ ne (kill_tests s seat g legal).0)
 legal_still s seat (Make path) (Number n) ne legal = absurd (no_zone seat _ ne (make_tests s seat path legal).0)

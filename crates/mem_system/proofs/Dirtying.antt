@@ -30,9 +30,9 @@ use Rattle.mem_machine.proofs.Made.{zone_seen}
 use Rattle.mem_machine.proofs.OwnFrames.{fresh_own}
 use Rattle.mem_reclaim.proofs.Grown.{parts_after}
 use Rattle.mem_alloc.specs.Blocks.{AllocatesBlock, FindsNoBlock, TakesFreeBlock}
-use Rattle.mem_alloc.specs.Charging.{PaysForFrame}
+use Rattle.mem_alloc.specs.Charging.{LacksBatch, PaysForFrame}
 use Rattle.mem_alloc.specs.Frames.{AllocatesFrame, FillsList, LendsBatch, LendsNoFrame}
-use Rattle.mem_alloc.specs.Room.{MakesRoom}
+use Rattle.mem_alloc.specs.Room.{MakesRoom, PreparesCharge}
 use Rattle.mem_alloc.specs.Rounds.{SucceedsInRounds}
 use Rattle.mem_system.specs.declared.command.Cmd.{Cmd}
 use Rattle.mem_system.specs.declared.command.Cmd.TheVariants.{Alloc, Dirty}
@@ -100,6 +100,16 @@ room_alive g pages [] call h alive = ap (λ (m : KnownMachine). is_killed m.kill
 room_alive g pages (limited ∷ others) call h alive =
     room_alive g pages others (transition call.table h.between h.later call.after) h.second h.first.room.alive
 
+prepared_alive : (g pages : ℕ) (refused_at : List ℕ) (call : Transition KnownMachine) → PreparesCharge g refused_at pages call
+    → is_killed call.before.killed g ≡ false → is_killed call.after.killed g ≡ false
+prepared_alive g pages refused_at call h alive =
+    room_alive g pages refused_at (transition call.table h.between h.later call.after) h.second (ap (λ k. is_killed k g) h.first.keeps.killed ∙ alive)
+
+lacks_alive : (g pages : ℕ) (call : Transition KnownMachine) → LacksBatch g pages call → is_killed call.before.killed g ≡ false
+    → is_killed call.after.killed g ≡ false
+lacks_alive g pages call (inl high) alive = ap (λ (m : KnownMachine). is_killed m.killed g) high.1.machine ∙ alive
+lacks_alive g pages call (inr limit) alive = ap (λ (m : KnownMachine). is_killed m.killed g) limit.machine ∙ alive
+
 paid_alive : (sizes : Config) (g : ℕ) (call : Transition VisitState) → PaysForFrame sizes g (Ok tt) call → is_killed call.before.machine.killed g ≡ false
     → is_killed call.after.machine.killed g ≡ false
 paid_alive sizes g call h alive = elim h [
@@ -107,9 +117,11 @@ paid_alive sizes g call h alive = elim h [
   | inr charges ↦
       let drained = ap (λ (m : KnownMachine). is_killed m.killed g) charges.does.first.drains.machine ∙ alive in
       elim charges.does.second [
-        | inl whole ↦ ap (λ (m : KnownMachine). is_killed m.killed g) whole.fills.machine ∙ drained
-        | inr one ↦ ap (λ (m : KnownMachine). is_killed m.killed g) one.does.does.fills.machine
-            ∙ room_alive g 1 one.does.refused_at _ one.does.makes drained
+        | inl whole ↦ ap (λ (m : KnownMachine). is_killed m.killed g) whole.fills.fills.machine ∙ drained
+        | inr one ↦
+            let lacks = lacks_alive g sizes.stock _ one.first.does drained in
+            ap (λ (m : KnownMachine). is_killed m.killed g) one.second.does.fills.machine
+            ∙ prepared_alive g 1 one.second.refused_at _ one.second.makes lacks
       ]
 ]
 

@@ -19,7 +19,7 @@ use Rattle.mem_reclaim.proofs.LettingGo.{drains_leave}
 use Rattle.mem_alloc.specs.Kills.{KillsForRoom}
 use Rattle.mem_alloc.specs.Room.{with_limit_noted}
 use Rattle.mem_system.specs.Leaves.{IsLeafAt}
-use Rattle.mem_system.specs.Usage.{LowersUsage, LowersAbove, KeepsToLimit}
+use Rattle.mem_system.specs.Usage.{LowersUsage, LowersAbove, LowersToHigh, KeepsToLimit, with_high_told}
 use Rattle.mem_system.specs.Files.{SetsLimit, with_limit_of}
 use Rattle.mem_system.proofs.Found.{found_there}
 
@@ -116,6 +116,42 @@ pub limited_none : (t : KnownTable) (g : ℕ) (of : Option ℕ) (m x : KnownMach
 limited_none t g of m x none is first =
     let keeps = subst (λ (o : Option ℕ). KeepsToLimit g o (transition t x [] x)) (sym none) (record { machine = refl; steps_are = refl }) in
     limited_by t g of m x x is first (record { steps = []; does = keeps; makes = makes_none t x })
+
+-- ---- a memory.high that is set
+
+-- there is none
+pub high_none : (t : KnownTable) (g : ℕ) (of : Option ℕ) (m : KnownMachine) → of ≡ None → BySteps Makes t (LowersToHigh g of) m m
+high_none t g of m none = subst (λ (o : Option ℕ). BySteps Makes t (LowersToHigh g o) m m) (sym none) (record {
+  steps = [];
+  does = record { machine = refl; steps_are = refl };
+  makes = makes_none t m;
+})
+
+module _ (t : KnownTable) (g high : ℕ) (of : Option ℕ) (m : KnownMachine) (some : of ≡ Some high) where
+  -- the usage is above it
+  pub high_above : (y n : KnownMachine) → high < current_of m.ledger g → y ≡ with_high_told m g high → BySteps Makes t (LowersUsage g high) y n
+      → BySteps Makes t (LowersToHigh g of) m n
+  high_above y n over told of_y =
+      let b = subst (λ (z : KnownMachine). BySteps Makes t (LowersUsage g high) z n) told of_y in
+      subst (λ (o : Option ℕ). BySteps Makes t (LowersToHigh g o) m n) (sym some) (record {
+        steps = b.steps;
+        does = record {
+          above = λ more. b.does;
+          within = λ (less : current_of m.ledger g ≤ high). absurd (omega (arith, over, less));
+        };
+        makes = record { holder = b.makes.holder; leads = b.makes.leads; follows = b.makes.follows; counts = b.makes.counts; noted = b.makes.noted };
+      })
+
+  -- the usage is within it
+  pub high_within : current_of m.ledger g ≤ high → BySteps Makes t (LowersToHigh g of) m m
+  high_within within = subst (λ (o : Option ℕ). BySteps Makes t (LowersToHigh g o) m m) (sym some) (record {
+    steps = [];
+    does = record {
+      above = λ (over : high < current_of m.ledger g). absurd (omega (arith, over, within));
+      within = λ less. record { machine = refl; steps_are = refl };
+    };
+    makes = makes_none t m;
+  })
 
 -- ---- a group that is removed
 

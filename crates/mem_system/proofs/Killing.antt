@@ -13,7 +13,7 @@ use Rattle.group_tree.proofs.CallerLemmas.{limit_of-limited}
 use Rattle.group_charge.specs.Charges.{current_of}
 use Rattle.zone_blocks.specs.declared.config.Config.{Config}
 use Rattle.control_files.specs.declared.file.File.{File}
-use Rattle.control_files.specs.declared.file.File.TheVariants.{Max, OomGroup, Reclaim}
+use Rattle.control_files.specs.declared.file.File.TheVariants.{Max, High, OomGroup, Reclaim}
 use Rattle.cpu_part.specs.Cpus.{KnownCpu}
 use Rattle.step_rules.specs.After.{Run}
 use Rattle.mem_machine.specs.declared.releasing.Released.TheVariants as released
@@ -39,8 +39,8 @@ use Rattle.mem_system.specs.declared.command.Cmd.TheVariants.{Mkdir, Rmdir, Writ
 use Rattle.mem_system.specs.declared.command.Reply.{Reply}
 use Rattle.mem_system.specs.declared.command.Reply.TheVariants as reply
 use Rattle.mem_system.specs.Groups.{MakesGroup, Removes}
-use Rattle.mem_system.specs.Files.{IsFileOf, IsLimitFor, SetsFile, SetsLimit, Writes, with_limit_of}
-use Rattle.mem_system.specs.Usage.{LowersUsage, LowersAbove, LowersByKills, KeepsToLimit}
+use Rattle.mem_system.specs.Files.{IsFileOf, IsLimitFor, SetsFile, SetsLimit, Writes, with_high_of, with_limit_of}
+use Rattle.mem_system.specs.Usage.{LowersUsage, LowersAbove, LowersByKills, LowersToHigh, KeepsToLimit, with_high_told}
 use Rattle.mem_system.specs.Allocations.{Allocates, AllocatesFor}
 use Rattle.mem_system.specs.Releases.{CutsList, ListsFrame, ReleasesFrame, ReturnsFrames}
 use Rattle.mem_system.specs.Asks.{MayAskFor}
@@ -58,6 +58,13 @@ lowers_quiet : (g limit : ℕ) (call : Transition KnownMachine) → LowersUsage 
 lowers_quiet g limit call h =
     ap has_kill h.steps_are
     ∙ no_kill_both (drain_stocks_steps h.drains) h.reclaims.steps (quiet_drains h.drains).no_kill h.reclaims.moves.no_kill
+
+high_quiet : (g : ℕ) (of : Option ℕ) (call : Transition KnownMachine) → LowersToHigh g of call → has_kill call.steps ≡ false
+high_quiet g None call h = ap has_kill h.steps_are
+high_quiet g (Some high) call h = elim (cases_lt high (current_of call.before.ledger g)) [
+  | inl above ↦ lowers_quiet g high (transition call.table (with_high_told call.before g high) call.steps call.after) (h.above above)
+  | inr within ↦ ap has_kill (h.within within).steps_are
+]
 
 removes_quiet : (path : List ℕ) (said : Reply) (call : Transition KnownMachine) → Removes path said call → has_kill call.steps ≡ false
 removes_quiet path reply.Done call h =
@@ -160,6 +167,7 @@ module _ (t : KnownTable) (MayAsk : List Group → ℕ → ℕ → Type 0) (s : 
         → SetsFile file value g (transition t s steps n) → NoRashKill t MayAsk s steps
     set_no_rash g Max steps n is h =
         sets_rash path g h.limit steps n is.number (asks g h.limit (record { file = is; reads = h.reads })) h.sets
+    set_no_rash g High steps n is h = quiet steps (high_quiet g h.limit (transition t (with_high_of s g h.limit) steps n) h.lowers)
     set_no_rash g OomGroup steps n is h = quiet steps (ap has_kill h.sets.steps_are)
     set_no_rash g Reclaim steps n is h = quiet steps (ap has_kill h.steps_are ∙ h.reclaims.moves.no_kill)
     set_no_rash g file steps n is h = absurd h

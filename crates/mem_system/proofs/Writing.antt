@@ -1,16 +1,16 @@
 -- Serves the writes of files: a value that isn't taken, and an amount that is reclaimed.
-use Rattle.std.proofs.Common.{◌≡◌, ◌≢◌, ◌⊎◌, ℕ, false, ◌+◌, ◌<◌, ◌≤◌, List, [], refl, sym, subst, inl, inr}
+use Rattle.std.proofs.Common.{◌≡◌, ◌≢◌, ◌⊎◌, ℕ, false, ◌+◌, ◌<◌, ◌≤◌, Option, List, [], refl, sym, subst, inl, inr}
 use Rattle.group_tree.specs.declared.fault.Fault.{Fault}
 use Rattle.group_tree.specs.declared.fault.Fault.TheVariants.{Again, BadLimit, BadNumber}
 use Rattle.control_files.specs.declared.file.File.{File}
-use Rattle.control_files.specs.declared.file.File.TheVariants.{Current, Max, Peak, Events, EventsLocal, OomGroup, Reclaim}
+use Rattle.control_files.specs.declared.file.File.TheVariants.{Current, Max, High, Peak, Events, EventsLocal, OomGroup, Reclaim}
 use Rattle.control_files.specs.Files.{is_writable}
 use Rattle.control_files.specs.Flag.{IsNoFlagText}
-use Rattle.control_files.specs.Limit.{ReadsAmount, IsNoAmountText, IsNoLimitText, IsTooGreat}
+use Rattle.control_files.specs.Limit.{ReadsAmount, ReadsAs, IsNoAmountText, IsNoLimitText, IsTooGreat}
 use Rattle.frame_word.specs.Seats.{KnownTable}
 use Rattle.mem_machine.specs.Machines.{KnownMachine}
 use Rattle.mem_machine.specs.Local.{Makes}
-use Rattle.mem_machine.proofs.Followed.{makes_none}
+use Rattle.mem_machine.proofs.Followed.{makes_both, makes_none}
 use Rattle.group_charge.specs.Charges.{current_of}
 use Rattle.mem_reclaim.specs.Moves.{FreesBySteps}
 use Rattle.mem_reclaim.specs.Rounds.{ReclaimsAmount}
@@ -18,12 +18,18 @@ use Rattle.mem_reclaim.specs.Staying.{Keeps, MissedAll}
 use Rattle.mem_machine.specs.Transitions.{BySteps, Transition, transition}
 use Rattle.mem_system.specs.declared.command.Reply.{Reply}
 use Rattle.mem_system.specs.declared.command.Reply.TheVariants.{Done, Refused}
-use Rattle.mem_system.specs.Files.{IsFileOf, RefusesValue, Writes, WritesTo}
+use Rattle.mem_system.specs.Files.{IsFileOf, RefusesValue, Writes, WritesTo, with_high_of}
+use Rattle.mem_system.specs.Usage.{LowersToHigh}
 
 pub refused_limit : (value : List ℕ) (fault : Fault) → (fault ≡ BadNumber) ⊎ (fault ≡ BadLimit) → (fault ≡ BadNumber → IsTooGreat value)
     → (fault ≡ BadLimit → IsNoLimitText value) → RefusesValue Max value fault
 refused_limit value fault (inl number) great none = subst (λ (f : Fault). RefusesValue Max value f) (sym number) (great number)
 refused_limit value fault (inr limit) great none = subst (λ (f : Fault). RefusesValue Max value f) (sym limit) (none limit)
+
+pub refused_high : (value : List ℕ) (fault : Fault) → (fault ≡ BadNumber) ⊎ (fault ≡ BadLimit) → (fault ≡ BadNumber → IsTooGreat value)
+    → (fault ≡ BadLimit → IsNoLimitText value) → RefusesValue High value fault
+refused_high value fault (inl number) great none = subst (λ (f : Fault). RefusesValue High value f) (sym number) (great number)
+refused_high value fault (inr limit) great none = subst (λ (f : Fault). RefusesValue High value f) (sym limit) (none limit)
 
 pub refused_flag : (value : List ℕ) (fault : Fault) → fault ≡ BadLimit → (fault ≡ BadLimit → IsNoFlagText value) → RefusesValue OomGroup value fault
 refused_flag value fault limit none = subst (λ (f : Fault). RefusesValue OomGroup value f) (sym limit) (none limit)
@@ -32,6 +38,19 @@ pub refused_amount : (value : List ℕ) (fault : Fault) → (fault ≡ BadNumber
     → (fault ≡ BadLimit → IsNoAmountText value) → RefusesValue Reclaim value fault
 refused_amount value fault (inl number) great none = subst (λ (f : Fault). RefusesValue Reclaim value f) (sym number) (great number)
 refused_amount value fault (inr limit) great none = subst (λ (f : Fault). RefusesValue Reclaim value f) (sym limit) (none limit)
+
+-- memory.high is set by no step, and then the usage is lowered to it
+pub high_written : (t : KnownTable) (value : List ℕ) (g : ℕ) (of : Option ℕ) (m x n : KnownMachine) → ReadsAs value of → x ≡ with_high_of m g of
+    → Makes t m [] x → BySteps Makes t (LowersToHigh g of) x n → BySteps Makes t (WritesTo High value g Done) m n
+high_written t value g of m x n reads set first last = record {
+  steps = last.steps;
+  does = record {
+    limit = of;
+    reads = reads;
+    lowers = subst (λ (k : KnownMachine). LowersToHigh g of (transition t k last.steps n)) set last.does;
+  };
+  makes = makes_both t [] last.steps m x n first last.makes;
+}
 
 -- the file is there, and nothing changes
 pub refused_by : (t : KnownTable) (file : File) (value : List ℕ) (g : ℕ) (fault : Fault) (m : KnownMachine) → RefusesValue file value fault
@@ -70,15 +89,16 @@ written_at t path name value g file m n reply is made = record {
   makes = made.makes;
 }
 
--- what isn't one of these three files isn't written
-pub read_only : (file : File) → file ≢ Max → file ≢ OomGroup → file ≢ Reclaim → is_writable file ≡ false
-read_only Current a b c = refl
-read_only Max a b c = absurd (a refl)
-read_only Peak a b c = refl
-read_only Events a b c = refl
-read_only EventsLocal a b c = refl
-read_only OomGroup a b c = absurd (b refl)
-read_only Reclaim a b c = absurd (c refl)
+-- what isn't one of these four files isn't written
+pub read_only : (file : File) → file ≢ Max → file ≢ High → file ≢ OomGroup → file ≢ Reclaim → is_writable file ≡ false
+read_only Current a b c d = refl
+read_only Max a b c d = absurd (a refl)
+read_only High a b c d = absurd (b refl)
+read_only Peak a b c d = refl
+read_only Events a b c d = refl
+read_only EventsLocal a b c d = refl
+read_only OomGroup a b c d = absurd (c refl)
+read_only Reclaim a b c d = absurd (d refl)
 
 module _ (t : KnownTable) (value : List ℕ) (g asked freed : ℕ) (m n : KnownMachine) (reads : ReadsAmount value asked)
     (leads : FreesBySteps t freed m n (ReclaimsAmount g asked)) (missed : freed < asked → MissedAll g m n)

@@ -5,9 +5,9 @@ use Rattle.group_tree.specs.declared.group.Group.{Group}
 use Rattle.group_tree.specs.Groups.{number_at}
 use Rattle.group_tree.specs.declared.fault.Fault.{Fault}
 use Rattle.group_tree.specs.declared.fault.Fault.TheVariants.{NoGroup, NoFile, ReadOnly, BadLimit, BadNumber, Again}
-use Rattle.group_charge.specs.Charges.{Ledger, current_of, with_group_limit, with_oom_flag}
+use Rattle.group_charge.specs.Charges.{Ledger, current_of, with_group_limit, with_oom_flag, with_settings}
 use Rattle.control_files.specs.declared.file.File.{File}
-use Rattle.control_files.specs.declared.file.File.TheVariants.{Max, OomGroup, Reclaim}
+use Rattle.control_files.specs.declared.file.File.TheVariants.{Max, High, OomGroup, Reclaim}
 use Rattle.control_files.specs.Files.{name_of_file, file_text, is_writable}
 use Rattle.control_files.specs.Flag.{IsFlagText, IsNoFlagText}
 use Rattle.control_files.specs.Limit.{ReadsAmount, ReadsAs, IsTooGreat, IsNoAmountText, IsNoLimitText}
@@ -22,7 +22,7 @@ use Rattle.mem_reclaim.specs.Staying.{Keeps, MissedAll}
 use Rattle.mem_machine.specs.Transitions.{Transition, MachineStays, transition}
 use Rattle.mem_system.specs.declared.command.Reply.{Reply}
 use Rattle.mem_system.specs.declared.command.Reply.TheVariants.{Text, Done, Refused}
-use Rattle.mem_system.specs.Usage.{KeepsToLimit}
+use Rattle.mem_system.specs.Usage.{KeepsToLimit, LowersToHigh}
 
 -- the group has this path and isn't the root, and the name is that of its file
 pub record IsFileOf (groups : List Group) (path name : List ℕ) (group : ℕ) (file : File) : Type 0 where
@@ -76,6 +76,19 @@ pub record WritesLimit (value : List ℕ) (group : ℕ) (call : Transition Known
   pub reads : ReadsAs value limit
   pub sets : SetsLimit group limit call
 
+-- the machine with another memory.high of the group; no step sets it, since no rule reads it
+abbrev pub with_high_of : KnownMachine → (group : ℕ) → Option ℕ → KnownMachine
+with_high_of machine group limit = record machine {
+  ledger = with_settings machine.ledger group (record { high = limit });
+}
+
+-- the value is the text of a limit, which becomes the group's memory.high, and then its usage is lowered to it
+pub record WritesHigh (value : List ℕ) (group : ℕ) (call : Transition KnownMachine) : Type 0 where
+  pub limit : Option ℕ
+  pub reads : ReadsAs value limit
+  pub lowers : LowersToHigh group limit
+      (transition call.table (with_high_of call.before group limit) call.steps call.after)
+
 -- the machine with another flag of the group: whether it is killed as a whole
 abbrev pub with_flag_of : KnownMachine → (group : ℕ) → Bool → KnownMachine
 with_flag_of machine group flag = record machine { ledger = with_oom_flag machine.ledger group flag }
@@ -109,6 +122,7 @@ pub record WritesAmount (value : List ℕ) (group : ℕ) (Ends : (asked freed : 
 -- what a value written to a file of the group sets, and what is done for it
 abbrev pub SetsFile : File → (value : List ℕ) → (group : ℕ) → Transition KnownMachine → Type 0
 SetsFile Max value group call = WritesLimit value group call
+SetsFile High value group call = WritesHigh value group call
 SetsFile OomGroup value group call = WritesFlag value group call
 SetsFile Reclaim value group call = WritesAmount value group (λ asked freed. asked ≤ freed) call
 SetsFile read_only value group call = ⊥
@@ -118,6 +132,8 @@ abbrev pub RefusesValue : File → (value : List ℕ) → Fault → Type 0
 RefusesValue file value ReadOnly = is_writable file ≡ false
 RefusesValue Max value BadLimit = IsNoLimitText value
 RefusesValue Max value BadNumber = IsTooGreat value
+RefusesValue High value BadLimit = IsNoLimitText value
+RefusesValue High value BadNumber = IsTooGreat value
 RefusesValue OomGroup value BadLimit = IsNoFlagText value
 RefusesValue Reclaim value BadLimit = IsNoAmountText value
 RefusesValue Reclaim value BadNumber = IsTooGreat value

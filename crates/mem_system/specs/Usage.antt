@@ -1,8 +1,9 @@
 -- How a group's usage is lowered to a limit.
 use Rattle.std.specs.Prelude.{◌≡◌, ℕ, ◌<◌, ◌≤◌, Option, Some, None, List, ◌++◌}
 use Rattle.group_charge.specs.Charges.{current_of}
+use Rattle.group_charge.specs.declared.note.Note.TheVariants.{High}
 use Rattle.step_rules.specs.After.{Run}
-use Rattle.mem_machine.specs.Machines.{KnownMachine}
+use Rattle.mem_machine.specs.Machines.{KnownMachine, with_note}
 use Rattle.mem_machine.specs.Local.{Makes}
 use Rattle.mem_machine.specs.Steps.{Drain, drain_stocks_steps}
 use Rattle.mem_machine.specs.Stocks.{DrainsAllBelow, AreDrained}
@@ -43,6 +44,22 @@ pub record LowersByKills (group limit : ℕ) (call : Transition KnownMachine) : 
 pub record LowersAbove (group limit : ℕ) (call : Transition KnownMachine) : Type 0 where
   pub above : limit < current_of call.before.ledger group → LowersByKills group limit call
   pub within : current_of call.before.ledger group ≤ limit → MachineStays call
+
+-- the machine after a note that this memory.high of the group was written below its usage
+abbrev pub with_high_told : KnownMachine → (group high : ℕ) → KnownMachine
+with_high_told machine group high = with_note machine (High group high (current_of machine.ledger group) 0)
+
+-- if the group's usage is above this memory.high, that is noted, and the usage is lowered; nobody is killed
+pub record LowersAboveHigh (group high : ℕ) (call : Transition KnownMachine) : Type 0 where
+  pub above : high < current_of call.before.ledger group
+      → LowersUsage group high
+      (transition call.table (with_high_told call.before group high) call.steps call.after)
+  pub within : current_of call.before.ledger group ≤ high → MachineStays call
+
+-- if the group has a memory.high, its usage is lowered to it
+abbrev pub LowersToHigh : (group : ℕ) → Option ℕ → Transition KnownMachine → Type 0
+LowersToHigh group None call = MachineStays call
+LowersToHigh group (Some high) call = LowersAboveHigh group high call
 
 -- if the group has a limit, its usage is kept to it
 abbrev pub KeepsToLimit : (group : ℕ) → Option ℕ → Transition KnownMachine → Type 0

@@ -11,12 +11,13 @@ ghost use Rattle.control_files.specs.declared.file.File.{File};
 ghost use Rattle.control_files.specs.Limit.{ReadsAmount};
 
 use crate::outcome::Outcome;
-use crate::usage::keep_to_limit;
+use crate::usage::{keep_to_limit, lower_to_high};
 use control_files::file::{File, file_named};
 use control_files::flag::read_flag;
 use control_files::limit::{Limit, read_amount, read_limit};
 use cpu_part::{BootName, Tables};
 use group_charge::charges::Charges;
+use group_charge::settings::Settings;
 use group_tree::fault::Fault;
 use group_tree::group::GroupId;
 use mem_machine::Machine;
@@ -83,6 +84,30 @@ fn write_limit<N: BootName>(
     match read_limit(value) {
         Ok(limit) => {
             set_limit(machine, tables, group, limit);
+            Outcome::Done
+        }
+        Err(fault) => Outcome::Refused(fault),
+    }
+}
+
+// Gives the group the memory.high that the value writes, and lowers its usage to it. The value is refused if it is no
+// limit.
+fn write_high<N: BootName>(
+    machine: &mut Machine<N>,
+    tables: &Tables<N>,
+    group: GroupId,
+    value: &[u8],
+) -> Outcome
+    requires there { IsTrue (has_group machine.old.ledger.groups group) }
+    requires held { IsHeld N.frames machine.old.run.past }
+    ensures written { ComesToAlone N.frames result (WritesTo File.High value.now group) machine.old machine.new }
+    ensures groups { HasItsGroups machine.new.ledger result }
+    ensures visit { StaysVisited N.frames machine.old machine.new }
+{
+    match read_limit(value) {
+        Ok(high) => {
+            machine.set_settings(group, Settings { high });
+            lower_to_high(machine, tables, group, high);
             Outcome::Done
         }
         Err(fault) => Outcome::Refused(fault),
@@ -171,6 +196,7 @@ pub(crate) fn write_file<N: BootName>(
     };
     match file {
         File::Max => write_limit(machine, tables, group, value),
+        File::High => write_high(machine, tables, group, value),
         File::OomGroup => write_flag(machine, tables, group, value),
         File::Reclaim => write_reclaim(machine, tables, group, value),
         _ => Outcome::Refused(Fault::ReadOnly),

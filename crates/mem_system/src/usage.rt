@@ -5,9 +5,11 @@ ghost use Rattle.group_tree.specs.Groups.{has_group};
 ghost use Rattle.boot_words.specs.Pasts.{IsHeld};
 ghost use Rattle.mem_machine.specs.Local.{Makes, StaysVisited};
 ghost use Rattle.mem_machine.specs.Transitions.{BySteps};
-ghost use Rattle.mem_system.specs.Usage.{LowersAbove, LowersUsage};
+ghost use Rattle.mem_system.specs.Usage.{LowersAbove, LowersToHigh, LowersUsage};
 
+use control_files::limit::Limit;
 use cpu_part::{BootName, Tables};
+use group_charge::note::Note;
 use group_tree::group::GroupId;
 use mem_alloc::{kill_for, note_limit};
 use mem_machine::Machine;
@@ -28,6 +30,34 @@ pub(crate) fn lower_usage<N: BootName>(
 {
     machine.drain_stocks(tables, group);
     reclaim_to_limit(machine, tables, group, 0, limit);
+}
+
+// If the group's usage is above its new memory.high, notes that and lowers the usage as `lower_usage` does. No event is
+// counted, since no charge was about to exceed it, and nobody is killed for memory.high.
+pub(crate) fn lower_to_high<N: BootName>(
+    machine: &mut Machine<N>,
+    tables: &Tables<N>,
+    group: GroupId,
+    high: Limit,
+)
+    requires there { IsTrue (has_group machine.old.ledger.groups group) }
+    requires held { IsHeld N.frames machine.old.run.past }
+    ensures lowers { BySteps Makes N.frames (LowersToHigh group high) machine.old machine.new }
+    ensures visit { StaysVisited N.frames machine.old machine.new }
+{
+    let Some(high) = high else {
+        return;
+    };
+    let usage = machine.current(group);
+    if high < usage {
+        machine.note(Note::High {
+            group,
+            high,
+            usage,
+            need: 0,
+        });
+        lower_usage(machine, tables, group, high);
+    }
 }
 
 // If the group's usage is above its limit, notes that and lowers the usage as `lower_usage` does. If that isn't enough,

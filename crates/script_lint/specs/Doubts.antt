@@ -10,7 +10,9 @@ use Rattle.script_lint.specs.declared.refusal.Refusal.TheVariants.{LessThanPage}
 
 -- a file of this name takes a number of bytes
 abbrev pub takes_bytes : List ℕ → Bool
-takes_bytes name = bytes_eq name (codes "memory.max") || bytes_eq name (codes "memory.reclaim")
+takes_bytes name =
+    bytes_eq name (codes "memory.max") || bytes_eq name (codes "memory.high")
+    || bytes_eq name (codes "memory.reclaim")
 
 -- the value is a number below that of a page's bytes, and isn't 0
 abbrev pub IsFewBytes : List ℕ → Type 0

@@ -8,7 +8,7 @@ use Rattle.control_files.specs.Files.{is_readable, is_writable, name_of_file}
 use Rattle.control_files.specs.Flag.{IsNoFlagText}
 use Rattle.control_files.specs.Limit.{IsNoAmountText, IsNoLimitText, IsTooGreat}
 use Rattle.control_files.specs.declared.file.File.{File}
-use Rattle.control_files.specs.declared.file.File.TheVariants.{Max, OomGroup, Reclaim}
+use Rattle.control_files.specs.declared.file.File.TheVariants.{Max, High, OomGroup, Reclaim}
 use Rattle.group_tree.specs.Bounds.{most_names}
 use Rattle.group_tree.specs.Path.{depth_of, is_root, is_well_formed}
 use Rattle.script_lines.specs.Script.{IsRequestText, longest_line}
@@ -21,10 +21,9 @@ use Rattle.script_lint.specs.declared.refusal.Refusal.TheVariants.{OrderTooGreat
 use Rattle.script_lint.specs.declared.refusal.Refusal.TheVariants.{BadPath, PathTooDeep, RootToChange}
 use Rattle.script_lint.specs.declared.refusal.Refusal.TheVariants.{ReadOnly, NoLimit, NoAmount, NoFlag, TooGreat}
 
--- memory.high, and the protections
-abbrev pub is_soft_limit : List ℕ → Bool
-is_soft_limit name =
-    bytes_eq name (codes "memory.high") || bytes_eq name (codes "memory.low") || bytes_eq name (codes "memory.min")
+-- what protects memory from reclaim
+abbrev pub is_protection : List ℕ → Bool
+is_protection name = bytes_eq name (codes "memory.low") || bytes_eq name (codes "memory.min")
 
 -- what only shows how memory is used
 abbrev pub is_statistic : List ℕ → Bool
@@ -38,7 +37,7 @@ is_of_swap name = starts_with nat_eq name (codes "memory.swap.") || starts_with 
 
 -- cgroup v2 has a file of this name, and no group has it here
 abbrev pub is_unmodelled : List ℕ → Bool
-is_unmodelled name = is_soft_limit name || is_statistic name || is_of_swap name
+is_unmodelled name = is_protection name || is_statistic name || is_of_swap name
 
 -- no group has a file of this name
 abbrev pub IsNoFileName : List ℕ → Type 0
@@ -57,15 +56,35 @@ pub record HasFile (path name : List ℕ) (file : File) : Type 0 where
   pub only : (other : File) → name ≡ name_of_file other → other ≡ file
   pub there : (why : Refusal) → ¬ LacksFile path name why
 
+-- why a file that takes a limit doesn't take this value
+abbrev pub LacksLimit : (value : List ℕ) → Refusal → Type 0
+LacksLimit value NoLimit = IsNoLimitText value
+LacksLimit value TooGreat = IsTooGreat value
+LacksLimit value other = ⊥
+
+-- why memory.reclaim doesn't
+abbrev pub LacksAmount : (value : List ℕ) → Refusal → Type 0
+LacksAmount value NoAmount = IsNoAmountText value
+LacksAmount value TooGreat = IsTooGreat value
+LacksAmount value other = ⊥
+
+-- why memory.oom.group doesn't
+abbrev pub LacksFlag : (value : List ℕ) → Refusal → Type 0
+LacksFlag value NoFlag = IsNoFlagText value
+LacksFlag value other = ⊥
+
+-- why the file can't be written at all
+abbrev pub CantWrite : File → Refusal → Type 0
+CantWrite file ReadOnly = is_writable file ≡ false
+CantWrite file other = ⊥
+
 -- the file doesn't take this value, or none
 abbrev pub NeverTakesValue : File → (value : List ℕ) → Refusal → Type 0
-NeverTakesValue file value ReadOnly = is_writable file ≡ false
-NeverTakesValue Max value NoLimit = IsNoLimitText value
-NeverTakesValue Max value TooGreat = IsTooGreat value
-NeverTakesValue Reclaim value NoAmount = IsNoAmountText value
-NeverTakesValue Reclaim value TooGreat = IsTooGreat value
-NeverTakesValue OomGroup value NoFlag = IsNoFlagText value
-NeverTakesValue file value other = ⊥
+NeverTakesValue Max value why = LacksLimit value why
+NeverTakesValue High value why = LacksLimit value why
+NeverTakesValue Reclaim value why = LacksAmount value why
+NeverTakesValue OomGroup value why = LacksFlag value why
+NeverTakesValue read_only value why = CantWrite read_only why
 
 -- the file can't be read
 abbrev pub RefusesRead : File → Refusal → Type 0

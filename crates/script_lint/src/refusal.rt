@@ -6,7 +6,7 @@ ghost use Rattle.group_tree.specs.Path.{is_root};
 ghost use Rattle.script_lint.specs.Refusals.{CantChange, HasFile, IsJudged, IsNoFileName, IsNoPath, IsRefused, LacksFile, RefusesOrder};
 ghost use Rattle.script_lint.specs.Refusals.{RefusesRead, RefusesReadOf, NeverTakesValue, RefusesWriteOf};
 ghost use Rattle.script_lint.specs.Refusals.{is_unmodelled};
-ghost use Rattle.script_lint.specs.Refusals.{is_of_swap, is_soft_limit, is_statistic};
+ghost use Rattle.script_lint.specs.Refusals.{LacksAmount, LacksFlag, LacksLimit, is_of_swap, is_protection, is_statistic};
 ghost use Rattle.script_lint.specs.Doubts.{IsDoubtful, IsFewBytes, takes_bytes};
 ghost use Rattle.script_lint.specs.Refused.{sentence, verdict};
 ghost use Rattle.script_lint.specs.declared.refusal.Refusal.{Refusal};
@@ -46,7 +46,7 @@ pub enum Refusal {
     WriteOnly,
     /// The file can't be written.
     ReadOnly,
-    /// memory.max doesn't take this value.
+    /// memory.max or memory.high doesn't take this value.
     NoLimit,
     /// memory.reclaim doesn't take this value.
     NoAmount,
@@ -83,20 +83,20 @@ impl Refusal {
             Refusal::RootToChange => "/ can't be made or removed",
             Refusal::NeverMade => "no line before makes this group",
             Refusal::NotModelled => {
-                "this file isn't modelled; the files are memory.current, memory.max, memory.peak, \
-                memory.events, memory.events.local, memory.oom.group, memory.reclaim"
+                "this file isn't modelled; the files are memory.current, memory.max, memory.high, \
+                memory.peak, memory.events, memory.events.local, memory.oom.group, memory.reclaim"
             }
             Refusal::NoFile => {
-                "no such file; the files are memory.current, memory.max, memory.peak, \
-                memory.events, memory.events.local, memory.oom.group, memory.reclaim"
+                "no such file; the files are memory.current, memory.max, memory.high, \
+                memory.peak, memory.events, memory.events.local, memory.oom.group, memory.reclaim"
             }
             Refusal::FileOfRoot => "/ has no files",
             Refusal::WriteOnly => "memory.reclaim can't be read",
             Refusal::ReadOnly => {
-                "only memory.max, memory.oom.group and memory.reclaim can be written"
+                "only memory.max, memory.high, memory.oom.group and memory.reclaim can be written"
             }
             Refusal::NoLimit => {
-                "memory.max takes a whole number of bytes, with K M G T P E, or max"
+                "memory.max and memory.high take a whole number of bytes, with K M G T P E, or max"
             }
             Refusal::NoAmount => "memory.reclaim takes a whole number of bytes, with K M G T P E",
             Refusal::NoFlag => "memory.oom.group takes 0 or 1",
@@ -141,7 +141,9 @@ pub(crate) fn doubt_of(command: &Command<'_>) -> Option<Refusal>
 fn takes_bytes(name: &[u8]) -> bool
     ensures { result ≡ takes_bytes name.now }
 {
-    name == b"memory.max".as_slice() || name == b"memory.reclaim".as_slice()
+    name == b"memory.max".as_slice()
+        || name == b"memory.high".as_slice()
+        || name == b"memory.reclaim".as_slice()
 }
 
 // Whether the value is a number of bytes below a page, and isn't 0.
@@ -257,15 +259,13 @@ fn no_file(name: &[u8]) -> Refusal
 fn is_unmodelled(name: &[u8]) -> bool
     ensures { result ≡ is_unmodelled name.now }
 {
-    is_soft_limit(name) || is_statistic(name) || is_of_swap(name)
+    is_protection(name) || is_statistic(name) || is_of_swap(name)
 }
 
-fn is_soft_limit(name: &[u8]) -> bool
-    ensures { result ≡ is_soft_limit name.now }
+fn is_protection(name: &[u8]) -> bool
+    ensures { result ≡ is_protection name.now }
 {
-    name == b"memory.high".as_slice()
-        || name == b"memory.low".as_slice()
-        || name == b"memory.min".as_slice()
+    name == b"memory.low".as_slice() || name == b"memory.min".as_slice()
 }
 
 fn is_statistic(name: &[u8]) -> bool
@@ -287,7 +287,7 @@ fn value_refusal(file: File, value: &[u8]) -> Option<Refusal>
     ensures { IsJudged (NeverTakesValue file value.now) result }
 {
     match file {
-        File::Max => limit_refusal(value),
+        File::Max | File::High => limit_refusal(value),
         File::Reclaim => amount_refusal(value),
         File::OomGroup => flag_refusal(value),
         File::Current | File::Peak | File::Events | File::EventsLocal => Some(Refusal::ReadOnly),
@@ -295,7 +295,7 @@ fn value_refusal(file: File, value: &[u8]) -> Option<Refusal>
 }
 
 fn limit_refusal(value: &[u8]) -> Option<Refusal>
-    ensures { IsJudged (NeverTakesValue File.Max value.now) result }
+    ensures { IsJudged (LacksLimit value.now) result }
 {
     match read_limit(value) {
         Ok(_) => None,
@@ -307,7 +307,7 @@ fn limit_refusal(value: &[u8]) -> Option<Refusal>
 }
 
 fn amount_refusal(value: &[u8]) -> Option<Refusal>
-    ensures { IsJudged (NeverTakesValue File.Reclaim value.now) result }
+    ensures { IsJudged (LacksAmount value.now) result }
 {
     match read_amount(value) {
         Ok(_) => None,
@@ -319,7 +319,7 @@ fn amount_refusal(value: &[u8]) -> Option<Refusal>
 }
 
 fn flag_refusal(value: &[u8]) -> Option<Refusal>
-    ensures { IsJudged (NeverTakesValue File.OomGroup value.now) result }
+    ensures { IsJudged (LacksFlag value.now) result }
 {
     match read_flag(value) {
         Ok(_) => None,

@@ -10,7 +10,7 @@ use Rattle.group_tree.specs.Room.{PathHasRoom, has_room}
 use Rattle.step_rules.specs.Legal.{Allows}
 use Rattle.step_rules.specs.After.{Run, IsLegalRun}
 use Rattle.step_rules.specs.Examples.{small_zone, life_of_a_frame, credited_twice, returned_twice, unlocked_too_soon, returned_when_killed, at_the_borders, in_line, noted_events}
-use Rattle.group_tree.specs.declared.event.EventKey.TheVariants.{Max, Oom, OomKill}
+use Rattle.group_tree.specs.declared.event.EventKey.TheVariants.{Low, High, Max, Oom, OomKill}
 use Rattle.step_rules.specs.Events.{events_in, events_local_in}
 use Rattle.step_rules.proofs.Runs.{next, IsLegalFrom}
 
@@ -114,6 +114,14 @@ line_is_kept = legal_each (at_boot small_zone) in_line (search (rules, root_has_
 pub noted_is_legal : IsLegalRun small_zone noted_events
 unfolding has_group group_at sum_to all_to
 noted_is_legal = legal_each (at_boot small_zone) noted_events (search rules)
+
+pub low_counts : (events_in Low small_zone noted_events 0 ≡ 1) × (events_local_in Low small_zone noted_events 0 ≡ 1)
+unfolding in_subtree path_of group_at names_of
+low_counts = (refl, refl)
+
+pub high_counts : (events_in High small_zone noted_events 0 ≡ 1) × (events_local_in High small_zone noted_events 0 ≡ 1)
+unfolding in_subtree path_of group_at names_of
+high_counts = (refl, refl)
 
 pub max_counts : (events_in Max small_zone noted_events 0 ≡ 1) × (events_local_in Max small_zone noted_events 0 ≡ 1)
 unfolding in_subtree path_of group_at names_of

@@ -1,11 +1,13 @@
 -- Event counts over a run (memory.events and memory.events.local of cgroup-v2.rst).
 use Rattle.std.specs.Prelude.{◌≡◌, ℕ, ◌+◌, ◌==◌, min, Bool, false, Option, Some, None, List, [], fold, if◌then◌else◌}
 use Rattle.group_tree.specs.declared.event.EventKey.{EventKey}
-use Rattle.group_tree.specs.declared.event.EventKey.TheVariants.{Max, Oom, OomKill, OomGroupKill}
+use Rattle.group_tree.specs.declared.event.EventKey.TheVariants.{Low, High, Max, Oom, OomKill, OomGroupKill}
 use Rattle.group_tree.specs.declared.group.Group.{Group}
 use Rattle.group_tree.specs.Events.{is_same_key}
 use Rattle.group_tree.specs.Room.{max_count, one_more}
 use Rattle.step_rules.specs.declared.step.Step.{Step}
+use Rattle.step_rules.specs.declared.step.NoteKey.{NoteKey}
+use Rattle.step_rules.specs.declared.step.NoteKey.TheVariants as kind
 use Rattle.step_rules.specs.declared.step.Action.{Action}
 use Rattle.step_rules.specs.declared.step.Action.TheVariants as action
 use Rattle.step_rules.specs.declared.step.Answer.{Answer}
@@ -16,10 +18,16 @@ use Rattle.step_rules.specs.Legal.{is_of_group}
 use Rattle.step_rules.specs.After.{Run, after, state_of}
 use Rattle.step_rules.specs.Laws.{pushed}
 
+-- the key that counts a noted event
+abbrev pub event_key : NoteKey → EventKey
+event_key kind.Low = Low
+event_key kind.High = High
+event_key kind.Max = Max
+event_key kind.Oom = Oom
+
 -- the event that a step notes, and the group at which it notes it
 abbrev pub event_of : Action → Answer → Option (EventKey × ℕ)
-event_of (action.NoteMax g) Done = Some (Max, g)
-event_of (action.NoteOom g) Done = Some (Oom, g)
+event_of (action.Note key g) Done = Some (event_key key, g)
 event_of (action.Kill g) Done = Some (OomKill, g)
 event_of (action.NoteGroupKill g) Done = Some (OomGroupKill, g)
 event_of step answer = None

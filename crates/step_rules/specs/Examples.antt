@@ -3,11 +3,12 @@
 -- events. Two have a group, its limit and its kill, one a group that is killed as a whole. In one a stock doesn't pay.
 use Rattle.std.specs.Prelude.{ℕ, ◌==◌, true, Some, [], ◌∷◌, ◌++◌, codes, replicate, if◌then◌else◌}
 use Rattle.step_rules.specs.declared.step.Step.{Step}
+use Rattle.step_rules.specs.declared.step.NoteKey.TheVariants.{Low, High, Max, Oom}
 use Rattle.step_rules.specs.declared.step.Action.{Action}
 use Rattle.step_rules.specs.declared.step.Action.TheVariants.{Lock, Unlock, OpenVisit, ShutVisit, Get, Put, Freeze}
 use Rattle.step_rules.specs.declared.step.Action.TheVariants.{Unfreeze, PassOut, TakeIn, PassBack, Collect, Consume}
 use Rattle.step_rules.specs.declared.step.Action.TheVariants.{Credit, Report, Absorb, Fill, DrainStock, Grant, Ungrant}
-use Rattle.step_rules.specs.declared.step.Action.TheVariants.{PlaceBlock, Publish, Return, NoteMax, NoteOom}
+use Rattle.step_rules.specs.declared.step.Action.TheVariants.{PlaceBlock, Publish, Return, Note}
 use Rattle.step_rules.specs.declared.step.Action.TheVariants.{NoteGroupKill, SetMax, SetFlag, Make, Remove, Kill}
 use Rattle.step_rules.specs.declared.step.Answer.{Answer}
 use Rattle.step_rules.specs.declared.step.Answer.TheVariants.{Illegal, Done, Held, Zero, Full, Left, Last, Missed, Took}
@@ -98,10 +99,11 @@ in_line =
     ∷ made 0 (PlaceBlock 0 0) (Placed (record { at = 0; order = 0 })) ∷ made 0 (Unfreeze 0 1) Done ∷ made 2 (Get 0) Held
     ∷ made 0 (Publish 0) Done ∷ made 0 (Put 0) (Left 1) ∷ made 0 (Publish 0) Illegal ∷ []
 
--- three kinds of events are noted at the root, once, twice and once
+-- five kinds of events are noted at the root, `oom` twice and each other once
 abbrev pub noted_events : Run
-noted_events = made 1 Lock Done ∷ made 0 (NoteMax 0) Done ∷ made 0 (NoteOom 0) Done ∷ made 0 (NoteOom 0) Done
-    ∷ made 0 (Kill 0) Done ∷ []
+noted_events =
+    made 1 Lock Done ∷ made 0 (Note Low 0) Done ∷ made 0 (Note High 0) Done ∷ made 0 (Note Max 0) Done
+    ∷ made 0 (Note Oom 0) Done ∷ made 0 (Note Oom 0) Done ∷ made 0 (Kill 0) Done ∷ []
 
 -- Two groups are made, one below the other, and the upper one gets a limit of one page. A grant of two pages to the
 -- lower one is over it, a grant of one isn't. Then the limit may be set below the usage. A frame is kept for that page,
@@ -118,9 +120,9 @@ group_in_use =
 -- the group is removed. A new one gets its number, not killed, and is below the same limit.
 abbrev pub group_comes_and_goes : Run
 group_comes_and_goes =
-    group_in_use ++ made 0 (Remove 1) Illegal ∷ made 0 (Remove 2) Illegal ∷ made 0 (NoteOom 2) Done
+    group_in_use ++ made 0 (Remove 1) Illegal ∷ made 0 (Remove 2) Illegal ∷ made 0 (Note Oom 2) Done
     ∷ made 0 (Kill 2) Done ∷ made 0 (Freeze 0 1) Done ∷ made 0 (Return 0) Done ∷ made 0 (Remove 2) Done
-    ∷ made 0 (Make (codes "/a/b")) (Number 2) ∷ made 0 (NoteMax 2) Done ∷ made 0 (Grant 2 1) (Over 1)
+    ∷ made 0 (Make (codes "/a/b")) (Number 2) ∷ made 0 (Note Max 2) Done ∷ made 0 (Grant 2 1) (Over 1)
     ∷ made 1 Unlock Done ∷ []
 
 -- Two pages are granted to a group, and it is killed. It gets no more pages, but of these one is placed and one
@@ -129,7 +131,7 @@ group_comes_and_goes =
 abbrev pub killed_group_ends : Run
 killed_group_ends =
     made 1 Lock Done ∷ made 0 (Make (codes "/a")) (Number 1) ∷ made 0 (Grant 1 2) Granted ∷ made 0 (Kill 1) Done
-    ∷ made 0 (Grant 1 1) Illegal ∷ made 0 (NoteMax 1) Done ∷ made 0 (NoteOom 1) Done ∷ made 0 (SetMax 1 (Some 0)) Done
+    ∷ made 0 (Grant 1 1) Illegal ∷ made 0 (Note Max 1) Done ∷ made 0 (Note Oom 1) Done ∷ made 0 (SetMax 1 (Some 0)) Done
     ∷ made 0 (PlaceBlock 1 0) (Placed (record { at = 0; order = 0 })) ∷ made 0 (Ungrant 1 1) Done
     ∷ made 0 (Unfreeze 0 1) Done ∷ made 0 (Publish 0) Done ∷ made 0 (Freeze 0 1) Done ∷ made 0 (Return 0) Done
     ∷ made 0 (Make (codes "/a/b")) (Number 2) ∷ made 0 (Remove 2) Done ∷ made 0 (Remove 1) Done ∷ made 1 Unlock Done

@@ -10,7 +10,7 @@ use Rattle.step_rules.specs.declared.step.Action.{Action}
 use Rattle.step_rules.specs.declared.step.Action.TheVariants.{Lock, Unlock, OpenVisit, ShutVisit, Get, Put, Freeze}
 use Rattle.step_rules.specs.declared.step.Action.TheVariants.{Unfreeze, PassOut, TakeIn, PassBack, Collect, Consume}
 use Rattle.step_rules.specs.declared.step.Action.TheVariants.{Credit, Report, Absorb, Fill, DrainStock, Grant, Ungrant}
-use Rattle.step_rules.specs.declared.step.Action.TheVariants.{PlaceBlock, Publish, Return, NoteMax, NoteOom}
+use Rattle.step_rules.specs.declared.step.Action.TheVariants.{PlaceBlock, Publish, Return, Note}
 use Rattle.step_rules.specs.declared.step.Action.TheVariants.{NoteGroupKill, SetMax, SetFlag, Make, Remove, Kill}
 use Rattle.step_rules.specs.declared.step.Answer.{Answer}
 use Rattle.step_rules.specs.declared.step.Answer.TheVariants.{Illegal, Done, Held, Zero, Full, Left, Last, Missed, Took}
@@ -93,8 +93,7 @@ is_legal s seat (PlaceBlock g k) = may_zone_act s.hold seat && has_group s.group
 is_legal s seat (Publish f) = may_zone_act s.hold seat && is_frame s.zone f && is_head (s.phases f)
     && nat_le 1 (s.references 0 f)
 is_legal s seat (Return f) = may_zone_act s.hold seat && is_frame s.zone f && is_returnable s.killed (s.phases f)
-is_legal s seat (NoteMax g) = may_zone_act s.hold seat && has_group s.groups g
-is_legal s seat (NoteOom g) = may_zone_act s.hold seat && has_group s.groups g
+is_legal s seat (Note key g) = may_zone_act s.hold seat && has_group s.groups g
 is_legal s seat (NoteGroupKill g) = may_zone_act s.hold seat && has_group s.groups g && not (g == 0)
 is_legal s seat (SetMax g limit) = may_zone_act s.hold seat && has_group s.groups g && not (g == 0)
 is_legal s seat (SetFlag g flag) = may_zone_act s.hold seat && has_group s.groups g && not (g == 0)
@@ -141,8 +140,7 @@ IsAnswer s seat (PlaceBlock g k) (Placed b) = (b.order ≡ k) × IsFreeBlock (fr
 IsAnswer s seat (PlaceBlock g k) NoFreeBlock = (b : Block) → b.order ≡ k → ¬ IsFreeBlock (free_in s.zone s.phases) b
 IsAnswer s seat (Publish f) Done = Unit {0}
 IsAnswer s seat (Return f) Done = Unit {0}
-IsAnswer s seat (NoteMax g) Done = Unit {0}
-IsAnswer s seat (NoteOom g) Done = Unit {0}
+IsAnswer s seat (Note key g) Done = Unit {0}
 IsAnswer s seat (NoteGroupKill g) Done = Unit {0}
 IsAnswer s seat (SetMax g limit) Done = Unit {0}
 IsAnswer s seat (SetFlag g flag) Done = Unit {0}

@@ -17,7 +17,7 @@ ghost use Rattle.step_rules.specs.Returns.{awaits_return};
 ghost use Rattle.step_rules.specs.Kept.{is_published};
 ghost use Rattle.step_rules.specs.Lent.{lent_to};
 ghost use Rattle.step_rules.specs.declared.step.Action.TheVariants.{Get, Consume};
-ghost use Rattle.group_tree.specs.declared.event.EventKey.TheVariants.{Max, Oom, OomKill, OomGroupKill};
+ghost use Rattle.group_tree.specs.declared.event.EventKey.TheVariants.{Low, High, Max, Oom, OomKill, OomGroupKill};
 ghost use Rattle.step_rules.specs.Events.{events_in, events_local_in};
 ghost use Rattle.step_rules.specs.declared.phase.Phase.TheVariants.{InZone};
 ghost use Rattle.step_rules.specs.declared.phase.Hold.TheVariants.{Unheld};
@@ -64,9 +64,12 @@ pub fn only_the_front_passes_back()
     ensures { IsLegalRun small_zone in_line }
 {}
 
-/// Each kind of event is counted at the group at which it is noted: one `max`, two of `oom` and one `oom_kill`.
+/// Each kind of event is counted at the group at which it is noted: two of `oom`, and one of each other kind.
 pub fn notes_are_counted()
     ensures legal { IsLegalRun small_zone noted_events }
+    ensures low { (events_in Low small_zone noted_events 0 ≡ 1) × (events_local_in Low small_zone noted_events 0 ≡ 1) }
+    ensures high { (events_in High small_zone noted_events 0 ≡ 1)
+        × (events_local_in High small_zone noted_events 0 ≡ 1) }
     ensures max { (events_in Max small_zone noted_events 0 ≡ 1) × (events_local_in Max small_zone noted_events 0 ≡ 1) }
     ensures oom { (events_in Oom small_zone noted_events 0 ≡ 2) × (events_local_in Oom small_zone noted_events 0 ≡ 2) }
     ensures oom_kill { (events_in OomKill small_zone noted_events 0 ≡ 1)

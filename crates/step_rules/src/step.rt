@@ -1,5 +1,9 @@
 //! What a CPU or the zone's own seat may ask of the core, and what it is answered.
 
+ghost use Rattle.std.specs.Prelude.{◌≡◌};
+ghost use Rattle.step_rules.specs.Events.{event_key};
+
+use group_tree::event::EventKey;
 use group_tree::group::GroupId;
 use group_tree::path::PathText;
 use zone_blocks::block::Block;
@@ -24,6 +28,33 @@ pub struct Step {
     pub seat: u32,
     /// What is done.
     pub action: Action,
+}
+
+/// The events that are noted by a step of their own.
+#[derive(Clone, Copy, PartialEq, Eq)]
+pub enum NoteKey {
+    /// Pages of the group were reclaimed that its memory.low protects.
+    Low,
+    /// The usage of the group was about to go over its memory.high.
+    High,
+    /// The usage of the group was about to go over its limit.
+    Max,
+    /// Reclaim could not keep the group's limit.
+    Oom,
+}
+
+impl NoteKey {
+    /// The key that counts the event.
+    pub fn event(self) -> EventKey
+        ensures { result ≡ event_key self }
+    {
+        match self {
+            NoteKey::Low => EventKey::Low,
+            NoteKey::High => EventKey::High,
+            NoteKey::Max => EventKey::Max,
+            NoteKey::Oom => EventKey::Oom,
+        }
+    }
 }
 
 /// What a step does. A step that names a frame or CPU that doesn't exist is illegal. So is one, other than Consume,
@@ -131,12 +162,9 @@ pub enum Action {
     Return {
         frame: u32,
     },
-    /// Notes that the usage of a group was about to go over its limit.
-    NoteMax {
-        group: GroupId,
-    },
-    /// Notes that reclaim could not keep a group's limit.
-    NoteOom {
+    /// Notes an event of a group.
+    Note {
+        key: NoteKey,
         group: GroupId,
     },
     /// Notes that a group other than the root was killed as a whole, with all groups below it.

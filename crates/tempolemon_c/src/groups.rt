@@ -64,7 +64,7 @@ pub extern "C" fn tempolemon_write(
 }
 
 /// Reads a file of the group of this path, and writes its text at the start of the buffer, which has room for at least
-/// 160 bytes.
+/// 256 bytes.
 #[unsafe(no_mangle)]
 pub extern "C" fn tempolemon_read(
     alloc: Global,

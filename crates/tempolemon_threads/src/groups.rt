@@ -60,7 +60,7 @@ pub extern "C" fn tempolemon_try_write(
 }
 
 /// Reads a file of the group of this path, and writes its text at the start of the buffer, which has room for at least
-/// 160 bytes.
+/// 256 bytes.
 #[tactic(auto, using(host_memory::proofs::Numbers::number_low))]
 #[unsafe(no_mangle)]
 pub extern "C" fn tempolemon_try_read(

@@ -4,7 +4,7 @@ use Rattle.control_files.proofs.EventLines.{all_lines, line_fits, line_written, 
 use Rattle.control_files.proofs.file.events_text.Goals as goal
 
 pub loop-key-init : goal.loop-key-init
-loop-key-init c = rw c.text_of-text.ensures (no_line c.args.counts)
+loop-key-init c = rw c.new-text.ensures (no_line c.args.counts)
 
 pub push_count-requires : goal.push_count-requires
 push_count-requires c =

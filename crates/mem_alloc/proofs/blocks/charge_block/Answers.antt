@@ -6,6 +6,7 @@ use Rattle.cpu_part.specs.Cpus.{KnownCpu}
 use Rattle.mem_machine.specs.Machines.{KnownMachine}
 use Rattle.mem_machine.specs.Local.{Makes, Visits, visit_state}
 use Rattle.mem_machine.specs.Transitions.{BySteps}
+use Rattle.mem_alloc.specs.High.{ReclaimsHigh}
 use Rattle.mem_alloc.specs.Room.{HasMadeRoom, IsRoomAnswer, RelievesLimit, has_room_at}
 use Rattle.mem_alloc.proofs.Lowering.{Lowers, lowers_both, usages_fall, run_lowers}
 use Rattle.mem_alloc.proofs.Killing.{relieving_lowers}
@@ -106,6 +107,8 @@ returns-in_err-make_room-in-Err-Over-clause-room g c none =
 
 pub tries-init : goal.tries-init
 tries-init g c = (
-  so_far_none g.N.BootName.frames c.args.group (2 ^ c.args.order) c.args.cpu.now c.args.machine.now c.requires.may_charge.alive,
+  so_far_none g.N.BootName.frames c.args.group (2 ^ c.args.order) c.args.cpu.now c.args.machine.now c.reclaim_high.new.machine
+      (subst (λ (n : ℕ). BySteps Makes g.N.BootName.frames (ReclaimsHigh c.args.group n) c.args.machine.now c.reclaim_high.new.machine) c.frames-pages.ensures.frames
+      c.reclaim_high.ensures.high) c.requires.may_charge.alive,
   refl,
 )

@@ -12,7 +12,11 @@ use Rattle.mem_alloc.proofs.Making.{answer_is, refuses_one, so_far_fills, so_far
 use Rattle.mem_alloc.proofs.charging.fill_one.Goals as goal
 
 pub tries-init : goal.tries-init
-tries-init g c = (so_far_none g.N.BootName.frames c.args.group 1 c.args.cpu.now c.args.machine.now c.requires.may_charge.alive, c.requires.drained)
+tries-init g c = (
+  so_far_none g.N.BootName.frames c.args.group 1 c.args.cpu.now c.args.machine.now c.reclaim_high.new.machine c.reclaim_high.ensures.high
+      c.requires.may_charge.alive,
+  subst HasDrained (sym (c.reclaim_high.ensures.keeps.stocks c.args.cpu.now.number)) c.requires.drained,
+)
 
 pub fill_stock-requires-clause-visit : goal.fill_stock-requires-clause-visit
 fill_stock-requires-clause-visit g c = c.tries.invariant.0.visit c.requires.visit

@@ -15,8 +15,8 @@ use Rattle.mem_alloc.proofs.kills.kill_for.Goals as goal
 
 pub kills-init : goal.kills-init
 kills-init g c =
-    so_far_nobody c.args.requester g.N.BootName.frames c.args.limited c.args.pages c.args.machine.now c.note_oom.new.self c.note.new.self
-    c.note_oom.ensures.machine c.note_oom.ensures.steps c.note_oom.ensures.visit c.note.ensures
+    so_far_nobody c.args.requester g.N.BootName.frames c.args.limited c.args.pages c.args.machine.now c.note_event.new.self c.note.new.self
+    c.note_event.ensures.machine c.note_event.ensures.steps c.note_event.ensures.visit c.note.ensures
 
 pub needs_room-requires : goal.needs_room-requires
 needs_room-requires g c =

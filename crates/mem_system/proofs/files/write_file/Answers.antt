@@ -1,7 +1,7 @@
 use Rattle.std.proofs.Common.{subst}
 use Rattle.group_tree.specs.declared.fault.Fault.TheVariants.{ReadOnly}
 use Rattle.control_files.specs.declared.file.File.{File}
-use Rattle.control_files.specs.declared.file.File.TheVariants.{Max, OomGroup, Reclaim}
+use Rattle.control_files.specs.declared.file.File.TheVariants.{Max, High, OomGroup, Reclaim}
 use Rattle.group_charge.specs.Charges.{Ledger}
 use Rattle.mem_system.specs.Files.{HasNoFile, IsFileOf}
 use Rattle.mem_system.proofs.Found.{found_there}
@@ -11,6 +11,12 @@ use Rattle.mem_system.proofs.files.write_file.Goals as goal
 
 pub write_limit-requires-clause-there : goal.write_limit-requires-clause-there
 write_limit-requires-clause-there g c =
+    let is = subst (λ (l : Ledger). IsFileOf l.groups c.args.path.now c.args.name.now c.in-Ok.found.0 c.in-Ok.found.1)
+    c.charges.ensures c.in-Ok.ensures.found in
+    found_there _ _ _ is.number
+
+pub write_high-requires-clause-there : goal.write_high-requires-clause-there
+write_high-requires-clause-there g c =
     let is = subst (λ (l : Ledger). IsFileOf l.groups c.args.path.now c.args.name.now c.in-Ok.found.0 c.in-Ok.found.1)
     c.charges.ensures c.in-Ok.ensures.found in
     found_there _ _ _ is.number
@@ -33,7 +39,7 @@ returns-in_default g c =
     c.charges.ensures c.in-Ok.ensures.found in
     record {
       written = refused_at g.N.BootName.frames c.args.path.now c.args.name.now c.args.value.now c.in-Ok.found.0 c.in-Ok.found.1
-          ReadOnly c.args.machine.now is (read_only c.in-Ok.found.1 c.in_default.not-Max c.in_default.not-OomGroup c.in_default.not-Reclaim);
+          ReadOnly c.args.machine.now is (read_only c.in-Ok.found.1 c.in_default.not-Max c.in_default.not-High c.in_default.not-OomGroup c.in_default.not-Reclaim);
       groups = tt;
       visit = λ y v. v;
     }
@@ -50,6 +56,14 @@ returns-in-Max-clause-written g c =
     written_at g.N.BootName.frames c.args.path.now c.args.name.now c.args.value.now c.in-Ok.found.0 Max c.args.machine.now _ _
     (subst (λ (f : File). IsFileOf c.args.machine.now.ledger.groups c.args.path.now c.args.name.now c.in-Ok.found.0 f) c.in-Max.is is)
     c.write_limit.ensures.written
+
+pub returns-in-High-clause-written : goal.returns-in-High-clause-written
+returns-in-High-clause-written g c =
+    let is = subst (λ (l : Ledger). IsFileOf l.groups c.args.path.now c.args.name.now c.in-Ok.found.0 c.in-Ok.found.1)
+    c.charges.ensures c.in-Ok.ensures.found in
+    written_at g.N.BootName.frames c.args.path.now c.args.name.now c.args.value.now c.in-Ok.found.0 High c.args.machine.now _ _
+    (subst (λ (f : File). IsFileOf c.args.machine.now.ledger.groups c.args.path.now c.args.name.now c.in-Ok.found.0 f) c.in-High.is is)
+    c.write_high.ensures.written
 
 pub returns-in-OomGroup-clause-written : goal.returns-in-OomGroup-clause-written
 returns-in-OomGroup-clause-written g c =

@@ -1,4 +1,4 @@
-use Rattle.std.proofs.Common.{IsTrue, length, sym, ap, ◌∙◌, subst, refl, arith}
+use Rattle.std.proofs.Common.{IsTrue, length, sym, ap, ◌∙◌, subst, arith}
 use Rattle.std.proofs.lemmas.List.{length-set}
 use Rattle.group_tree.specs.Events.{with_one_more}
 use Rattle.group_tree.specs.Groups.{has_group}
@@ -19,17 +19,17 @@ returns-clause-noted c =
     let below = number_below groups c.args.group c.self.invariant.charges.groups there in
     let same = kept_noted c.args.key groups old c.count_event.new.accounts c.args.group c.self.invariant.charges.numbers
     (omega (arith, below, c.count_event.ensures.size)) c.count_event.ensures.counted in
-    same_ledger _ _ _ _ refl (ap (accounts_of groups) c.count_local_event.ensures.counted ∙ same) ∙ ap (λ l. with_noted c.args.key l c.args.group) c.self.view_is
+    same_ledger _ _ _ _ (ap (accounts_of groups) c.count_local_event.ensures.counted ∙ same) ∙ ap (λ l. with_noted c.args.key l c.args.group) c.self.view_is
 
 pub invariant_of-self : goal.invariant_of-self
 invariant_of-self c =
-    let l = ledger_of c.self.inside.tree c.self.inside.accounts in
+    let l = ledger_of c.self.inside.tree c.self.inside.accounts c.self.inside.settings in
     let mid = c.count_event.new.accounts in
     let a = account_by mid c.args.group in
     let size = ap length c.count_local_event.ensures.counted ∙ length-set mid c.args.group (record a { events_local = with_one_more c.args.key a.events_local })
     ∙ c.count_event.ensures.size in
-    kept_as _ _ _ (with_noted c.args.key l c.args.group) (returns-clause-noted c ∙ ap (λ k. with_noted c.args.key k c.args.group) (sym c.self.view_is))
-    (AreCharges-noted c.args.key l c.args.group c.self.invariant.charges) size
+    kept_as _ _ _ _ (with_noted c.args.key l c.args.group) (returns-clause-noted c ∙ ap (λ k. with_noted c.args.key k c.args.group) (sym c.self.view_is))
+    (AreCharges-noted c.args.key l c.args.group c.self.invariant.charges) size c.self.invariant.settings_size
     (stored_noted c.args.key l c.self.inside.usages c.args.group c.self.invariant.usages_are)
 
 pub returns-clause-only : goal.returns-clause-only

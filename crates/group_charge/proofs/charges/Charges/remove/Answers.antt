@@ -1,4 +1,4 @@
-use Rattle.std.proofs.Common.{◌≡◌, IsTrue, false, sym, ap, ◌∙◌, subst, refl}
+use Rattle.std.proofs.Common.{◌≡◌, IsTrue, false, sym, ap, ◌∙◌, subst}
 use Rattle.group_tree.specs.Groups.{has_child, has_group}
 use Rattle.group_charge.specs.Charges.{Ledger, SamePages, current_of, with_group_removed}
 use Rattle.group_charge.specs.Kept.{ledger_of}
@@ -10,18 +10,18 @@ use Rattle.group_charge.proofs.charges.Charges.remove.Goals as goal
 
 pub returns-clause-removed : goal.returns-clause-removed
 returns-clause-removed c =
-    ap (λ rows. ledger_of rows c.self.inside.accounts) c.remove.ensures
-    ∙ same_ledger _ _ _ _ refl (kept_removed c.self.inside.tree c.self.inside.accounts c.args.group c.self.invariant.charges.numbers)
+    ap (λ rows. ledger_of rows c.self.inside.accounts c.self.inside.settings) c.remove.ensures
+    ∙ same_ledger _ _ _ _ (kept_removed c.self.inside.tree c.self.inside.accounts c.args.group c.self.invariant.charges.numbers)
     ∙ ap (λ l. with_group_removed l c.args.group) c.self.view_is
 
 pub invariant_of-self : goal.invariant_of-self
 invariant_of-self c =
-    let l = ledger_of c.self.inside.tree c.self.inside.accounts in
+    let l = ledger_of c.self.inside.tree c.self.inside.accounts c.self.inside.settings in
     let there = subst (λ (k : Ledger). IsTrue (has_group k.groups c.args.group)) (sym c.self.view_is) c.requires.there in
     let leaf = subst (λ (k : Ledger). has_child k.groups c.args.group ≡ false) (sym c.self.view_is) c.requires.leaf in
     let empty = subst (λ (k : Ledger). current_of k c.args.group ≡ 0) (sym c.self.view_is) c.requires.empty in
-    kept_as _ _ _ (with_group_removed l c.args.group) (returns-clause-removed c ∙ ap (λ k. with_group_removed k c.args.group) (sym c.self.view_is))
-    (AreCharges-removed l c.args.group c.self.invariant.charges leaf c.requires.below_root) c.self.invariant.size
+    kept_as _ _ _ _ (with_group_removed l c.args.group) (returns-clause-removed c ∙ ap (λ k. with_group_removed k c.args.group) (sym c.self.view_is))
+    (AreCharges-removed l c.args.group c.self.invariant.charges leaf c.requires.below_root) c.self.invariant.size c.self.invariant.settings_size
     (stored_removed l c.self.inside.usages c.args.group c.self.invariant.charges there empty c.self.invariant.usages_are)
 
 pub returns-clause-pages : goal.returns-clause-pages

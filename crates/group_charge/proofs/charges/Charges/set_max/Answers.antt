@@ -1,4 +1,4 @@
-use Rattle.std.proofs.Common.{sym, ap, ◌∙◌, subst, refl}
+use Rattle.std.proofs.Common.{sym, ap, ◌∙◌, subst}
 use Rattle.group_tree.specs.Groups.{has_group}
 use Rattle.group_tree.proofs.CallerLemmas.{has_group-limited}
 use Rattle.group_charge.specs.Charges.{Ledger, SamePages, with_group_limit}
@@ -11,16 +11,16 @@ use Rattle.group_charge.proofs.charges.Charges.set_max.Goals as goal
 
 pub returns-clause-limited : goal.returns-clause-limited
 returns-clause-limited c =
-    ap (λ rows. ledger_of rows c.self.inside.accounts) c.set_max.ensures
-    ∙ same_ledger _ _ _ _ refl (kept_limited c.self.inside.tree c.self.inside.accounts c.args.group c.args.limit)
+    ap (λ rows. ledger_of rows c.self.inside.accounts c.self.inside.settings) c.set_max.ensures
+    ∙ same_ledger _ _ _ _ (kept_limited c.self.inside.tree c.self.inside.accounts c.args.group c.args.limit)
     ∙ ap (λ l. with_group_limit l c.args.group c.args.limit) c.self.view_is
 
 pub invariant_of-self : goal.invariant_of-self
 invariant_of-self c =
-    let l = ledger_of c.self.inside.tree c.self.inside.accounts in
-    kept_as _ _ _ (with_group_limit l c.args.group c.args.limit) (returns-clause-limited c
+    let l = ledger_of c.self.inside.tree c.self.inside.accounts c.self.inside.settings in
+    kept_as _ _ _ _ (with_group_limit l c.args.group c.args.limit) (returns-clause-limited c
     ∙ ap (λ k. with_group_limit k c.args.group c.args.limit) (sym c.self.view_is))
-    (AreCharges-limited l c.args.group c.args.limit c.self.invariant.charges) c.self.invariant.size
+    (AreCharges-limited l c.args.group c.args.limit c.self.invariant.charges) c.self.invariant.size c.self.invariant.settings_size
     (stored_limited l c.self.inside.usages c.args.group c.args.limit c.self.invariant.usages_are)
 
 pub returns-clause-pages : goal.returns-clause-pages

@@ -1,4 +1,4 @@
-use Rattle.std.proofs.Common.{sym, ap, ◌∙◌, subst, refl}
+use Rattle.std.proofs.Common.{sym, ap, ◌∙◌, subst}
 use Rattle.group_tree.specs.Groups.{has_group}
 use Rattle.group_tree.proofs.CallerLemmas.{has_group-flagged}
 use Rattle.group_charge.specs.Charges.{Ledger, SamePages, with_oom_flag}
@@ -11,16 +11,16 @@ use Rattle.group_charge.proofs.charges.Charges.set_oom_group.Goals as goal
 
 pub returns-clause-flagged : goal.returns-clause-flagged
 returns-clause-flagged c =
-    ap (λ rows. ledger_of rows c.self.inside.accounts) c.set_oom_group.ensures
-    ∙ same_ledger _ _ _ _ refl (kept_flagged c.self.inside.tree c.self.inside.accounts c.args.group c.args.oom_group)
+    ap (λ rows. ledger_of rows c.self.inside.accounts c.self.inside.settings) c.set_oom_group.ensures
+    ∙ same_ledger _ _ _ _ (kept_flagged c.self.inside.tree c.self.inside.accounts c.args.group c.args.oom_group)
     ∙ ap (λ l. with_oom_flag l c.args.group c.args.oom_group) c.self.view_is
 
 pub invariant_of-self : goal.invariant_of-self
 invariant_of-self c =
-    let l = ledger_of c.self.inside.tree c.self.inside.accounts in
-    kept_as _ _ _ (with_oom_flag l c.args.group c.args.oom_group) (returns-clause-flagged c
+    let l = ledger_of c.self.inside.tree c.self.inside.accounts c.self.inside.settings in
+    kept_as _ _ _ _ (with_oom_flag l c.args.group c.args.oom_group) (returns-clause-flagged c
     ∙ ap (λ k. with_oom_flag k c.args.group c.args.oom_group) (sym c.self.view_is))
-    (AreCharges-flagged l c.args.group c.args.oom_group c.self.invariant.charges c.requires.below_root) c.self.invariant.size
+    (AreCharges-flagged l c.args.group c.args.oom_group c.self.invariant.charges c.requires.below_root) c.self.invariant.size c.self.invariant.settings_size
     (stored_flagged l c.self.inside.usages c.args.group c.args.oom_group c.self.invariant.usages_are)
 
 pub returns-clause-pages : goal.returns-clause-pages

@@ -1,4 +1,4 @@
-use Rattle.std.proofs.Common.{◌≡◌, ◌<◌, ◌≤◌, ◌-◌, IsTrue, length, get_or, set, sym, ap, ◌∙◌, subst, refl, arith}
+use Rattle.std.proofs.Common.{◌≡◌, ◌<◌, ◌≤◌, ◌-◌, IsTrue, length, get_or, set, sym, ap, ◌∙◌, subst, arith}
 use Rattle.std.proofs.lemmas.List.{length-set}
 use Rattle.group_tree.specs.Groups.{has_group}
 use Rattle.group_charge.specs.Charges.{Account, AreCharges, Ledger, PagesRise, SameEvents, SamePeaks, UsageRises, empty_account, pages_of, with_uncharge}
@@ -14,17 +14,17 @@ overflow_sub-self c =
     let groups = c.self.inside.tree in
     let kept = c.self.inside.accounts in
     let there : IsTrue (has_group groups c.args.group) = subst (λ (l : Ledger). IsTrue (has_group l.groups c.args.group)) (sym c.self.view_is) c.requires.there in
-    let charged : c.args.pages ≤ pages_of (ledger_of groups kept) c.args.group =
+    let charged : c.args.pages ≤ pages_of (ledger_of groups kept c.self.inside.settings) c.args.group =
     subst (λ (l : Ledger). c.args.pages ≤ pages_of l c.args.group) (sym c.self.view_is) c.requires.charged in
     let within : c.number.result < length kept = omega (arith, c.self.invariant.size, c.number.ensures.below) in
-    let own = kept_pages groups kept c.args.group c.self.invariant.charges there in
+    let own = kept_pages groups kept c.self.inside.settings c.args.group c.self.invariant.charges there in
     let read : (get_or kept c.number.result c.index-self-number.result).pages ≡ (account_by kept c.args.group).pages =
     ap (λ (a : Account). a.pages) (read_at kept c.number.result c.args.group c.index-self-number.result (empty_account 0) within c.number.ensures.value) in
     omega (arith, own, read, charged)
 
 pub subtract_until-requires-clause-enough : goal.subtract_until-requires-clause-enough
 subtract_until-requires-clause-enough c = λ m passed.
-    let l = ledger_of c.self.inside.tree c.self.inside.accounts in
+    let l = ledger_of c.self.inside.tree c.self.inside.accounts c.self.inside.settings in
     let there : IsTrue (has_group l.groups c.args.group) = subst (λ (k : Ledger). IsTrue (has_group k.groups c.args.group)) (sym c.self.view_is) c.requires.there in
     let charged : c.args.pages ≤ pages_of l c.args.group = subst (λ k. c.args.pages ≤ pages_of k c.args.group) (sym c.self.view_is) c.requires.charged in
     enough_stored l c.self.inside.usages c.args.group c.args.pages m c.self.invariant.charges there charged c.self.invariant.usages_are passed
@@ -38,19 +38,20 @@ returns-clause-uncharged c =
     let less : (get_or kept c.number.result c.index-self-number.result).pages - c.args.pages ≡ (account_by kept c.args.group).pages - c.args.pages =
     ap (λ (a : Account). a.pages - c.args.pages)
     (read_at kept c.number.result c.args.group c.index-self-number.result (empty_account 0) within c.number.ensures.value) in
-    ap (λ k. ledger_of groups (set kept c.number.result (record (get_or kept c.number.result c.index-self-number-2.result) { pages = k }))) less
-    ∙ ap (ledger_of groups) (set_pages kept c.number.result c.args.group
+    ap (λ k. ledger_of groups (set kept c.number.result (record (get_or kept c.number.result c.index-self-number-2.result) { pages = k })) c.self.inside.settings) less
+    ∙ ap (λ a. ledger_of groups a c.self.inside.settings) (set_pages kept c.number.result c.args.group
     ((account_by kept c.args.group).pages - c.args.pages) c.index-self-number-2.result within c.number.ensures.value)
-    ∙ same_ledger _ _ _ _ refl (kept_taken groups kept c.args.group c.args.pages c.self.invariant.charges.numbers also)
+    ∙ same_ledger _ _ _ _ (kept_taken groups kept c.args.group c.args.pages c.self.invariant.charges.numbers also)
     ∙ ap (λ l. with_uncharge l c.args.group c.args.pages) c.self.view_is
 
 pub invariant_of-self : goal.invariant_of-self
 invariant_of-self c =
-    let l = ledger_of c.self.inside.tree c.self.inside.accounts in
+    let l = ledger_of c.self.inside.tree c.self.inside.accounts c.self.inside.settings in
     let there : IsTrue (has_group l.groups c.args.group) = subst (λ (k : Ledger). IsTrue (has_group k.groups c.args.group)) (sym c.self.view_is) c.requires.there in
     let charged : c.args.pages ≤ pages_of l c.args.group = subst (λ k. c.args.pages ≤ pages_of k c.args.group) (sym c.self.view_is) c.requires.charged in
-    kept_as _ _ _ (with_uncharge l c.args.group c.args.pages) (returns-clause-uncharged c ∙ ap (λ k. with_uncharge k c.args.group c.args.pages) (sym c.self.view_is))
+    kept_as _ _ _ _ (with_uncharge l c.args.group c.args.pages) (returns-clause-uncharged c ∙ ap (λ k. with_uncharge k c.args.group c.args.pages) (sym c.self.view_is))
     (AreCharges-taken l c.args.group c.args.pages c.self.invariant.charges) (length-set c.self.inside.accounts c.number.result _ ∙ c.self.invariant.size)
+    c.self.invariant.settings_size
     (stored_taken l c.self.inside.usages c.subtract_until.new.usages c.args.group c.args.pages c.self.invariant.charges there charged c.self.invariant.usages_are
     c.subtract_until.ensures.size c.subtract_until.ensures.taken)
 

@@ -20,7 +20,7 @@ make_step-requires-clause-legal g c =
     let sized = c.self.invariant.consistent.sizes.killed in
     let inside : c.args.group < length c.self.inside.killed.items = omega (arith, value, below, sized) in
     legal_step _ _ _ _ (kills g.N.BootName.frames (machine_of c.self.inside) _ c.self.view_is c.self.invariant.consistent c.requires.held c.args.group c.requires.there inside c.requires.alive _
-    c.note_kill.ensures.only.groups c.note_kill.ensures.only.counts c.note_kill.ensures.only.peaks _ (ap (λ (n : ℕ). slice_set c.self.inside.killed.items n true) value)).step tt (search rules)
+    c.note.ensures.only.groups c.note.ensures.only.counts c.note.ensures.only.peaks _ (ap (λ (n : ℕ). slice_set c.self.inside.killed.items n true) value)).step tt (search rules)
 
 pub invariant_of-self : goal.invariant_of-self
 invariant_of-self g c =
@@ -30,8 +30,8 @@ invariant_of-self g c =
     let inside : c.args.group < length c.self.inside.killed.items = omega (arith, value, below, sized) in
     let all = grouped g.N.BootName.frames (machine_of c.self.inside) c.self.invariant.consistent (held_here g.N.BootName.frames (machine_of c.self.inside) _ c.self.view_is c.requires.held) _ _ _
     (kills g.N.BootName.frames (machine_of c.self.inside) _ c.self.view_is c.self.invariant.consistent c.requires.held c.args.group c.requires.there inside c.requires.alive _
-    c.note_kill.ensures.only.groups c.note_kill.ensures.only.counts c.note_kill.ensures.only.peaks _ (ap (λ (n : ℕ). slice_set c.self.inside.killed.items n true) value))
-    c.note_kill.ensures.only.pages (length-set c.self.inside.killed.items c.number.result true ∙ sized) _ (c.make_step.ensures.notes _ _ (search rules)) _ refl in
+    c.note.ensures.only.groups c.note.ensures.only.counts c.note.ensures.only.peaks _ (ap (λ (n : ℕ). slice_set c.self.inside.killed.items n true) value))
+    c.note.ensures.only.pages (length-set c.self.inside.killed.items c.number.result true ∙ sized) _ (c.make_step.ensures.notes _ _ (search rules)) _ refl in
     record { consistent = all.consistent; free = c.self.invariant.free; sums = all.sums _ c.self.invariant.sums; owners = all.owners _ c.self.invariant.owners }
 
 pub returns-clause-steps : goal.returns-clause-steps
@@ -42,8 +42,8 @@ returns-clause-steps g c =
     let inside : c.args.group < length c.self.inside.killed.items = omega (arith, value, below, sized) in
     (grouped g.N.BootName.frames (machine_of c.self.inside) c.self.invariant.consistent (held_here g.N.BootName.frames (machine_of c.self.inside) _ c.self.view_is c.requires.held) _ _ _
     (kills g.N.BootName.frames (machine_of c.self.inside) _ c.self.view_is c.self.invariant.consistent c.requires.held c.args.group c.requires.there inside c.requires.alive _
-    c.note_kill.ensures.only.groups c.note_kill.ensures.only.counts c.note_kill.ensures.only.peaks _ (ap (λ (n : ℕ). slice_set c.self.inside.killed.items n true) value))
-    c.note_kill.ensures.only.pages (length-set c.self.inside.killed.items c.number.result true ∙ sized) _ (c.make_step.ensures.notes _ _ (search rules)) _ c.self.view_is).steps
+    c.note.ensures.only.groups c.note.ensures.only.counts c.note.ensures.only.peaks _ (ap (λ (n : ℕ). slice_set c.self.inside.killed.items n true) value))
+    c.note.ensures.only.pages (length-set c.self.inside.killed.items c.number.result true ∙ sized) _ (c.make_step.ensures.notes _ _ (search rules)) _ c.self.view_is).steps
 
 pub returns-clause-visit : goal.returns-clause-visit
 returns-clause-visit g c =
@@ -53,15 +53,15 @@ returns-clause-visit g c =
     let inside : c.args.group < length c.self.inside.killed.items = omega (arith, value, below, sized) in
     (grouped g.N.BootName.frames (machine_of c.self.inside) c.self.invariant.consistent (held_here g.N.BootName.frames (machine_of c.self.inside) _ c.self.view_is c.requires.held) _ _ _
     (kills g.N.BootName.frames (machine_of c.self.inside) _ c.self.view_is c.self.invariant.consistent c.requires.held c.args.group c.requires.there inside c.requires.alive _
-    c.note_kill.ensures.only.groups c.note_kill.ensures.only.counts c.note_kill.ensures.only.peaks _ (ap (λ (n : ℕ). slice_set c.self.inside.killed.items n true) value))
-    c.note_kill.ensures.only.pages (length-set c.self.inside.killed.items c.number.result true ∙ sized) _ (c.make_step.ensures.notes _ _ (search rules)) _ c.self.view_is).visit
+    c.note.ensures.only.groups c.note.ensures.only.counts c.note.ensures.only.peaks _ (ap (λ (n : ℕ). slice_set c.self.inside.killed.items n true) value))
+    c.note.ensures.only.pages (length-set c.self.inside.killed.items c.number.result true ∙ sized) _ (c.make_step.ensures.notes _ _ (search rules)) _ c.self.view_is).visit
 
-pub note_kill-requires : goal.note_kill-requires
-note_kill-requires g c = subst (λ (m : KnownMachine). IsTrue (has_group m.ledger.groups c.args.group)) (sym c.self.view_is) c.requires.there
+pub note-requires : goal.note-requires
+note-requires g c = subst (λ (m : KnownMachine). IsTrue (has_group m.ledger.groups c.args.group)) (sym c.self.view_is) c.requires.there
 
 pub returns-clause-machine : goal.returns-clause-machine
 returns-clause-machine g c = λ i. record (c.self.view_is i) {
-  ledger = (c.note_kill.ensures.noted ∙ ap (λ (m : KnownMachine). with_kill_noted m.ledger c.args.group) c.self.view_is) i;
+  ledger = (c.note.ensures.noted ∙ ap (λ (m : KnownMachine). with_kill_noted m.ledger c.args.group) c.self.view_is) i;
   killed = (ap (λ (n : ℕ). slice_set c.self.inside.killed.items n true) c.number.ensures.value
       ∙ ap (λ (m : KnownMachine). slice_set m.killed c.args.group true) c.self.view_is) i;
   run = record { past = c.make_step.new.past; watch = c.make_step.new.watch };
