@@ -9,8 +9,7 @@ use Rattle.std.specs.Bool.{then_some}
 use Rattle.std.specs.List.{list_all, position, position_or_len}
 use Rattle.control_files.proofs.Runs.{position_or_len-append, position-found, position-none, front_passes, rest_outside, unwrap_or-position}
 use Rattle.control_files.proofs.GrammarLemmas.{double_not, word_outside, spaces_outside}
-use Rattle.control_files.specs.Limit.{is_space, AreSpaces}
-use Rattle.control_files.specs.Reading.{BeginsOutside, HasOnlyWord, IsOnlyWord}
+use Rattle.control_files.specs.{is_space, AreSpaces, BeginsOutside, HasOnlyWord, IsOnlyWord}
 
 length_positive : (xs : List ℕ) → xs ≢ [] → 0 < length xs
 length_positive [] h = absurd (h refl)

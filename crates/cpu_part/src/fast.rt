@@ -1,7 +1,6 @@
 //! The fast path: frames are paid for and dropped without a lock.
 ghost use Rattle.std.specs.Prelude.{◌<◌, ◌≤◌};
-ghost use Rattle.boot_words.specs.Growth.{GrewByAll};
-ghost use Rattle.boot_words.specs.Pasts.{own_past};
+ghost use Rattle.boot_words.specs.{GrewByAll, own_past};
 ghost use Rattle.step_rules.specs.State.{times};
 ghost use Rattle.cpu_part.specs.Calls.{FastAnswers, IfGot, DropAnswers};
 ghost use Rattle.cpu_part.specs.Known.{KnowsItsPart};

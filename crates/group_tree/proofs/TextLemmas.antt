@@ -1,7 +1,6 @@
 -- A text that is written over zeros. Serves `PathText::of`.
-use Rattle.std.proofs.Common.{◌≡◌, ℕ, ◌-◌, ◌≤◌, ◌++◌, List, length, drop, replicate, arith, length-append}
+use Rattle.std.proofs.Common.{◌≡◌, ℕ, ◌-◌, ◌≤◌, ◌++◌, List, length, drop, replicate, arith, length-append, refl}
 use Rattle.std.proofs.lemmas.List.{drop-replicate, drop_at, length-replicate}
-use Rattle.std.proofs.Common.{refl}
 use Rattle.group_tree.specs.Text.{IsPadded, padded}
 
 padded-is : (text : List ℕ) → length text ≤ 512 → IsPadded 512 (padded 512 text) (length text)

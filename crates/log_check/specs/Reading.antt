@@ -1,8 +1,7 @@
 -- How far a check reads a log.
 use Rattle.std.specs.Prelude.{◌≡◌, ◌≢◌, ℕ, ◌<◌, ◌≤◌, List, ◌++◌, Option, All, length, ⊤}
 use Rattle.std.specs.Io.KnownBytes.{Consumes, IsAtEnd}
-use Rattle.log_lines.specs.Line.{longest_log_line}
-use Rattle.log_lines.specs.Log.{AreLinesOf}
+use Rattle.log_lines.specs.{longest_log_line, AreLinesOf}
 use Rattle.log_check.specs.declared.verdict.LogVerdict.{LogVerdict}
 use Rattle.log_check.specs.declared.verdict.LogVerdict.TheVariants.{Legal, NotLegal, LeftOut, BadLine}
 

@@ -5,10 +5,8 @@ use Rattle.std.proofs.lemmas.Bool.{cases_lt, cases_eq}
 use Rattle.std.proofs.lemmas.Nat.{pow_pos}
 use Rattle.zone_blocks.specs.declared.block.Block.{Block}
 use Rattle.zone_blocks.specs.declared.links.Link.{Link}
-use Rattle.zone_blocks.specs.Block.{IsBlock}
-use Rattle.zone_blocks.specs.Areas.{Inserts, RemovesBlock, Overlaps}
-use Rattle.zone_blocks.specs.Links.{next_of, prev_of, Joins}
-use Rattle.zone_blocks.specs.OrderLists.{AreApart, IsStart, IsNode, ComesAfter, IsLastBefore, Follows, AreRings}
+use Rattle.zone_blocks.specs.{IsBlock, Inserts, RemovesBlock, Overlaps, next_of, prev_of, Joins, AreApart, IsStart, IsNode, ComesAfter, IsLastBefore}
+use Rattle.zone_blocks.specs.{Follows, AreRings}
 use Rattle.zone_blocks.proofs.Nested.{covers_start}
 
 -- what is known of the blocks: they lie in the zone, and no two share a frame

@@ -4,8 +4,7 @@ use Rattle.step_rules.specs.declared.step.Action.TheVariants.{Consume}
 use Rattle.step_rules.specs.State.{times}
 use Rattle.step_rules.proofs.Lists.{times_same}
 use Rattle.stock_word.specs.declared.words.Consume.TheVariants as consumes
-use Rattle.boot_words.specs.Pasts.{MayDo}
-use Rattle.boot_words.specs.Cpus.{ConsumesPage}
+use Rattle.boot_words.specs.{MayDo, ConsumesPage}
 use Rattle.cpu_part.specs.Known.{KnowsItsPart}
 use Rattle.cpu_part.proofs.Knowing.{front_inside, knows_drained, knows_took, may_consume}
 use Rattle.cpu_part.proofs.cpu.Cpu.alloc_fast.Goals as goal

@@ -2,10 +2,8 @@ use Rattle.std.proofs.Common.{◌+◌, ◌<◌, length, arith, subst, sym}
 use Rattle.frame_word.specs.Seats.{KnownTable}
 use Rattle.frame_word.specs.declared.answers.Get.TheVariants as gets
 use Rattle.step_rules.specs.declared.step.Action.TheVariants.{Get}
-use Rattle.boot_words.specs.Calls.{GetsReference}
-use Rattle.boot_words.specs.Cpus.{IsAwayCpu}
-use Rattle.cpu_part.specs.Cpus.{KnownCpu}
-use Rattle.cpu_part.specs.Known.{KnowsItsPart}
+use Rattle.boot_words.specs.{GetsReference, IsAwayCpu}
+use Rattle.cpu_part.specs.{KnownCpu, KnowsItsPart}
 use Rattle.cpu_part.proofs.Knowing.{knows_held, knows_not_held, may_get}
 use Rattle.cpu_part.proofs.Making.{may_do_at}
 use Rattle.cpu_part.proofs.Telling.{not_pinned, same_answer, told_get}

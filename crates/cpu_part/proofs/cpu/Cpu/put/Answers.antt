@@ -4,10 +4,8 @@ use Rattle.frame_word.specs.Seats.{KnownTable}
 use Rattle.step_rules.specs.declared.step.Action.TheVariants.{Put}
 use Rattle.step_rules.specs.declared.step.Answer.TheVariants as said
 use Rattle.step_rules.specs.State.{times}
-use Rattle.boot_words.specs.Calls.{CpuMakes}
-use Rattle.boot_words.specs.Cpus.{IsAwayCpu}
-use Rattle.cpu_part.specs.Cpus.{KnownCpu}
-use Rattle.cpu_part.specs.Known.{KnowsItsPart}
+use Rattle.boot_words.specs.{CpuMakes, IsAwayCpu}
+use Rattle.cpu_part.specs.{KnownCpu, KnowsItsPart}
 use Rattle.cpu_part.proofs.Counts.{one_shorter}
 use Rattle.cpu_part.proofs.Knowing.{knows_last, knows_left, may_put}
 use Rattle.cpu_part.proofs.Making.{may_do_at}

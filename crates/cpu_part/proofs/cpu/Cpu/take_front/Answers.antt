@@ -1,7 +1,6 @@
 use Rattle.std.proofs.Common.{subst, sym}
 use Rattle.boot_words.specs.Pasts.{IsHolder}
-use Rattle.cpu_part.specs.Cpus.{KnownCpu}
-use Rattle.cpu_part.specs.Known.{HasOwn}
+use Rattle.cpu_part.specs.{KnownCpu, HasOwn}
 use Rattle.cpu_part.proofs.Passing.{front_inside}
 use Rattle.cpu_part.proofs.cpu.Cpu.take_front.Goals as goal
 
