@@ -18,7 +18,6 @@ pub mod Opening
 pub mod Closed
 pub mod Shown
 pub mod Laws
-
 -- what other crates and the proofs import by one name, `Rattle.boot_words.specs`
 pub use Rattle.boot_words.specs.Runs.{BooksNothingOf, GrewBy, HasNoStepOf, IsFast, IsLegalLater, OthersFollow, books, no_past}
 pub use Rattle.boot_words.specs.Words.{AreFrameWords, AreStockWords, IsRunOf, frame_word, stock_in, stock_said, with_frame_word, with_report_word}

@@ -3,7 +3,6 @@ pub mod ReferenceRule
 pub mod Seats
 pub mod Laws
 pub mod Totals
-
 -- what other crates and the proofs import by one name, `Rattle.frame_word.specs`
 pub use Rattle.frame_word.specs.Views.{in_hands, lent_count, note_of}
 pub use Rattle.frame_word.specs.ReferenceRule.{IsInOneHand, IsPassing, IsReferenced, mark, mark_count, most_references, only, visit_index}

@@ -1,7 +1,6 @@
 pub mod Charges
 pub mod Kept
 pub mod Notes
-
 -- what other crates and the proofs import by one name, `Rattle.group_charge.specs`
 pub use Rattle.group_charge.specs.Charges.{AreCharges, CountsEvent, Ledger, SamePages, SamePeaks, SameUsage, UsageRises, current_of, empty_account}
 pub use Rattle.group_charge.specs.Charges.{initial_ledger, pages_of, settings_of, with_charge, with_group_kill_noted, with_group_limit}

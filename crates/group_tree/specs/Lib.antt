@@ -7,7 +7,6 @@ pub mod Slots
 pub mod Path
 pub mod Room
 pub mod Text
-
 -- what other crates and the proofs import by one name, `Rattle.group_tree.specs`
 pub use Rattle.group_tree.specs.Ancestors.{ancestors_from, ancestors_of, depth_at, is_ahead, is_passed, is_there}
 pub use Rattle.group_tree.specs.Bounds.{most_groups, most_names}

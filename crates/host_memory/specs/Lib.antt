@@ -3,7 +3,6 @@ pub mod Cells
 pub mod Kinds
 pub mod Sizes
 pub mod Statuses
-
 -- what other crates and the proofs import by one name, `Rattle.host_memory.specs`
 pub use Rattle.host_memory.specs.Buffers.{ExceedsBuffer, FillsBuffer, PutsText}
 pub use Rattle.host_memory.specs.Kinds.{get_result, no_result, put_result, result_with}

@@ -5,7 +5,6 @@ pub mod Texts
 pub mod Verdicts
 pub mod Reasons
 pub mod ReasonTexts
-
 -- what other crates and the proofs import by one name, `Rattle.log_check.specs`
 pub use Rattle.log_check.specs.Ends.{IsEnd, free_count}
 pub use Rattle.log_check.specs.Reading.{EndsBefore, NamesLineAfter, ReadsAsFar, ReadsUpTo, StopsAfter}

@@ -1,7 +1,6 @@
 pub mod Lists
 pub mod Packed
 pub mod Queue
-
 -- what other crates and the proofs import by one name, `Rattle.lru_lists.specs`
 pub use Rattle.lru_lists.specs.Lists.{AllLinked, AreLinked, ChangesOwn, HasNoUnits, IsOnNone, KeepsUnits, MovesOnly, OneOfAllChanges}
 pub use Rattle.lru_lists.specs.Lists.{OthersStayLinked, SameOwners, Touches, active_of, changed_at, dirtied, entries_of, entries_without, entry_after}

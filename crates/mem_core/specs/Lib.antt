@@ -10,7 +10,6 @@ pub mod Counted
 pub mod Tables
 pub mod Bounded
 pub mod Conditions
-
 -- what other crates and the proofs import by one name, `Rattle.mem_core.specs`
 pub use Rattle.mem_core.specs.Accounts.{AccountsFollow, HaveSmallPeaks, account_after, account_in, new_account}
 pub use Rattle.mem_core.specs.Checked.{IsFirstIllegal, IsVerdict, Leads}

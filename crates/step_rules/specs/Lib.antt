@@ -29,7 +29,6 @@ pub mod Charges
 pub mod References
 pub mod Promise
 pub mod Breaches
-
 -- what other crates and the proofs import by one name, `Rattle.step_rules.specs`
 pub use Rattle.step_rules.specs.Phases.{Kind, at_stage, collected, has_as, has_stage, is_free, is_head, is_head_in_hand, is_live_phase, is_out}
 pub use Rattle.step_rules.specs.Phases.{is_passing, is_returnable, is_returning, is_stage_in_hand, is_stage_passing, is_stage_returnable, keeper_of}

@@ -6,7 +6,6 @@ pub mod OrderLists
 pub mod PairBits
 pub mod Config
 pub mod Zone
-
 -- what other crates and the proofs import by one name, `Rattle.zone_blocks.specs`
 pub use Rattle.zone_blocks.specs.Areas.{AreBlocksApart, AreMaximalBlocks, FreeBlocks, HasNoneFrom, HasNoneOf, Inserts, IsFirstOf, IsFree, IsFreeBlock}
 pub use Rattle.zone_blocks.specs.Areas.{IsFrontOfSmallest, IsMaximalBlock, IsOneOfPair, IsSmallestFrom, Overlaps, Precedes, RemovesBlock}
