@@ -15,7 +15,7 @@ use crate::faults::AllocFault;
 use crate::high::reclaim_high;
 use crate::reclaims::reclaim_anywhere;
 use crate::room::make_room;
-use cpu_part::{BootName, Cpu, Tables};
+use cpu_part::{BootName, CpuLists, Tables};
 use frame_word::Frame;
 use group_charge::note::Note;
 use group_tree::group::GroupId;
@@ -27,7 +27,7 @@ use zone_blocks::order::Order;
 fn charge_block<N: BootName>(
     machine: &mut Machine<N>,
     tables: &Tables<N>,
-    cpu: &mut Cpu<N>,
+    cpu: &mut CpuLists<N>,
     group: GroupId,
     order: Order,
 ) -> Result<Frame, AllocFault>
@@ -56,7 +56,7 @@ fn charge_block<N: BootName>(
 fn reclaim_until_taken<N: BootName>(
     machine: &mut Machine<N>,
     tables: &Tables<N>,
-    cpu: &mut Cpu<N>,
+    cpu: &mut CpuLists<N>,
     group: GroupId,
     order: Order,
 ) -> Result<Frame, AllocFault>
@@ -86,7 +86,7 @@ fn reclaim_until_taken<N: BootName>(
 fn take_after_drain<N: BootName>(
     machine: &mut Machine<N>,
     tables: &Tables<N>,
-    cpu: &mut Cpu<N>,
+    cpu: &mut CpuLists<N>,
     group: GroupId,
     order: Order,
 ) -> Result<Frame, AllocFault>
@@ -127,7 +127,7 @@ fn take_after_drain<N: BootName>(
 pub fn alloc_block<N: BootName>(
     machine: &mut Machine<N>,
     tables: &Tables<N>,
-    cpu: &mut Cpu<N>,
+    cpu: &mut CpuLists<N>,
     group: GroupId,
     order: Order,
 ) -> Result<Frame, AllocFault>

@@ -14,7 +14,7 @@ ghost use Rattle.mem_machine.specs.Local.{Makes, VisitMakes, visit_state};
 use crate::faults::AllocFault;
 use crate::high::{path_has_high_room, reclaim_high};
 use crate::room::make_room;
-use cpu_part::{BootName, Cpu, Tables};
+use cpu_part::{BootName, CpuLists, Tables};
 use group_tree::group::GroupId;
 use mem_machine::Machine;
 use stock_word::Stock;
@@ -24,7 +24,7 @@ use zone_blocks::config::Config;
 fn holds_page<N: BootName>(
     machine: &mut Machine<N>,
     tables: &Tables<N>,
-    cpu: &Cpu<N>,
+    cpu: &CpuLists<N>,
     group: GroupId,
 ) -> bool
     requires holds { Holds N.frames (visit_state machine.old cpu.now) }
@@ -43,7 +43,7 @@ fn holds_page<N: BootName>(
 fn fill_one<N: BootName>(
     machine: &mut Machine<N>,
     tables: &Tables<N>,
-    cpu: &Cpu<N>,
+    cpu: &CpuLists<N>,
     group: GroupId,
 ) -> Result<(), AllocFault>
     requires visit { Visits N.frames (visit_state machine.old cpu.now) }
@@ -68,7 +68,7 @@ fn fill_one<N: BootName>(
 fn fill_batch<N: BootName>(
     machine: &mut Machine<N>,
     tables: &Tables<N>,
-    cpu: &Cpu<N>,
+    cpu: &CpuLists<N>,
     group: GroupId,
     pages: u32,
 ) -> bool
@@ -97,7 +97,7 @@ fn fill_batch<N: BootName>(
 fn fill_drained_stock<N: BootName>(
     machine: &mut Machine<N>,
     tables: &Tables<N>,
-    cpu: &Cpu<N>,
+    cpu: &CpuLists<N>,
     sizes: Config,
     group: GroupId,
 ) -> Result<(), AllocFault>
@@ -123,7 +123,7 @@ fn fill_drained_stock<N: BootName>(
 pub(crate) fn pay_for_frame<N: BootName>(
     machine: &mut Machine<N>,
     tables: &Tables<N>,
-    cpu: &Cpu<N>,
+    cpu: &CpuLists<N>,
     sizes: Config,
     group: GroupId,
 ) -> Result<(), AllocFault>

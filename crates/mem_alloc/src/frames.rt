@@ -16,7 +16,7 @@ ghost use Rattle.mem_machine.specs.Local.{visit_state, VisitMakes};
 use crate::charging::pay_for_frame;
 use crate::faults::AllocFault;
 use crate::reclaims::reclaim_anywhere;
-use cpu_part::{BootName, Cpu, Tables};
+use cpu_part::{BootName, CpuLists, Tables};
 use frame_word::Frame;
 use group_charge::note::Note;
 use group_tree::group::GroupId;
@@ -29,7 +29,7 @@ use zone_blocks::config::Config;
 fn make_refill_rounds<N: BootName>(
     machine: &mut Machine<N>,
     tables: &Tables<N>,
-    cpu: &mut Cpu<N>,
+    cpu: &mut CpuLists<N>,
     batch: u32,
 ) -> bool
     requires visit { Visits N.frames (visit_state machine.old cpu.old) }
@@ -59,7 +59,7 @@ fn make_refill_rounds<N: BootName>(
 fn refill_in_rounds<N: BootName>(
     machine: &mut Machine<N>,
     tables: &Tables<N>,
-    cpu: &mut Cpu<N>,
+    cpu: &mut CpuLists<N>,
     batch: u32,
 ) -> bool
     requires visit { Visits N.frames (visit_state machine.old cpu.old) }
@@ -81,7 +81,7 @@ fn refill_in_rounds<N: BootName>(
 fn fill_list<N: BootName>(
     machine: &mut Machine<N>,
     tables: &Tables<N>,
-    cpu: &mut Cpu<N>,
+    cpu: &mut CpuLists<N>,
     sizes: Config,
     group: GroupId,
 ) -> Result<(), AllocFault>
@@ -123,7 +123,7 @@ fn fill_list<N: BootName>(
 pub fn alloc_frame<N: BootName>(
     machine: &mut Machine<N>,
     tables: &Tables<N>,
-    cpu: &mut Cpu<N>,
+    cpu: &mut CpuLists<N>,
     sizes: Config,
     group: GroupId,
 ) -> Result<Frame, AllocFault>

@@ -10,7 +10,7 @@ use crate::lists::join_list;
 use crate::machine::Machine;
 use crate::proving::prove_charges;
 use crate::stepping::make_step;
-use cpu_part::{BootName, Cpu, Tables};
+use cpu_part::{BootName, CpuLists, Tables};
 use frame_word::Frame;
 use group_charge::charges::Over;
 use group_tree::group::GroupId;
@@ -51,7 +51,7 @@ impl<N: BootName> Machine<N> {
     pub fn take_block(
         &mut self,
         tables: &Tables<N>,
-        cpu: &mut Cpu<N>,
+        cpu: &mut CpuLists<N>,
         group: GroupId,
         order: Order,
     ) -> Result<Frame, TakeFault>

@@ -6,7 +6,7 @@ ghost use Rattle.mem_machine.specs.Places.{frames_in_groups, NoneLentTo};
 
 use crate::machine::Machine;
 use crate::proving::{prove_charges, prove_sizes};
-use cpu_part::{BootName, Cpu, Tables};
+use cpu_part::{BootName, CpuLists, Tables};
 use group_tree::group::{GroupId, MAX_GROUPS};
 
 impl<N: BootName> Machine<N> {
@@ -27,7 +27,7 @@ impl<N: BootName> Machine<N> {
 
     /// Shows that no frame is lent to the CPU that holds the lock, if it has no listed and no fresh frame. It does
     /// nothing.
-    pub fn prove_none_lent(&self, cpu: &Cpu<N>)
+    pub fn prove_none_lent(&self, cpu: &CpuLists<N>)
         requires holds { Holds N.frames (visit_state self.now cpu.now) }
         requires none_listed { cpu.now.list ≡ [] }
         requires none_fresh { cpu.now.fresh ≡ [] }

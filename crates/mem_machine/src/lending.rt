@@ -13,7 +13,7 @@ ghost use Rattle.step_watch.specs.Watched.{Watches};
 use crate::frame_state::{FrameState, single_order};
 use crate::machine::Machine;
 use crate::proving::prove_sizes;
-use cpu_part::{BootName, Cpu, Tables};
+use cpu_part::{BootName, CpuLists, Tables};
 use frame_word::Frame;
 use step_rules::step::{Action, Answer};
 use step_watch::Watch;
@@ -29,7 +29,7 @@ fn watch_lent(watch: &mut Watch, cpu: u32, frame: u32)
 
 impl<N: BootName> Machine<N> {
     // Lends one free frame to the CPU, if there is one, at the end of its list.
-    fn lend_one(&mut self, tables: &Tables<N>, cpu: &mut Cpu<N>) -> bool
+    fn lend_one(&mut self, tables: &Tables<N>, cpu: &mut CpuLists<N>) -> bool
         requires visit { Visits N.frames (visit_state self.old cpu.old) }
         requires room { HasListRoom cpu.old 1 }
         ensures lends { LendsIfFree N.frames result (visit_state self.old cpu.old) (visit_state self.new cpu.new) }
@@ -52,7 +52,7 @@ impl<N: BootName> Machine<N> {
 
     /// Lends up to `batch` free frames to the visited CPU, one after the other, and returns how many it lent. They are
     /// added to the end of its list, which has room for them: listed and fresh frames are at most 256.
-    pub fn refill(&mut self, tables: &Tables<N>, cpu: &mut Cpu<N>, batch: u32) -> u32
+    pub fn refill(&mut self, tables: &Tables<N>, cpu: &mut CpuLists<N>, batch: u32) -> u32
         requires visit { Visits N.frames (visit_state self.old cpu.old) }
         requires room { HasListRoom cpu.old batch }
         ensures at_most { result ≤ batch }
@@ -70,7 +70,7 @@ impl<N: BootName> Machine<N> {
 
     /// Lends this free frame to the visited CPU, at the end of its list. The list has room for it: listed and fresh
     /// frames are at most 256.
-    pub fn lend(&mut self, tables: &Tables<N>, cpu: &mut Cpu<N>, frame: Frame)
+    pub fn lend(&mut self, tables: &Tables<N>, cpu: &mut CpuLists<N>, frame: Frame)
         requires visit { Visits N.frames (visit_state self.old cpu.old) }
         requires frame { frame < N.frames.frames }
         requires free { frame_state_at self.old.frame_states frame ≡ Free }
@@ -90,7 +90,7 @@ impl<N: BootName> Machine<N> {
     }
 
     // Frees the front of the CPU's list, if there is one.
-    fn unlist_one(&mut self, tables: &Tables<N>, cpu: &mut Cpu<N>) -> bool
+    fn unlist_one(&mut self, tables: &Tables<N>, cpu: &mut CpuLists<N>) -> bool
         requires { Visits N.frames (visit_state self.old cpu.old) }
         ensures takes { UnlistsIfListed N.frames result (visit_state self.old cpu.old)
             (visit_state self.new cpu.new) }
@@ -126,7 +126,7 @@ impl<N: BootName> Machine<N> {
 
     /// Returns up to `count` frames from the front of the visited CPU's list to the zone, one after the other, and
     /// reports how many. They are free again.
-    pub fn drain_list(&mut self, tables: &Tables<N>, cpu: &mut Cpu<N>, count: u32) -> u32
+    pub fn drain_list(&mut self, tables: &Tables<N>, cpu: &mut CpuLists<N>, count: u32) -> u32
         requires { Visits N.frames (visit_state self.old cpu.old) }
         ensures at_most { result ≤ count }
         ensures listed { result ≤ length cpu.old.list }

@@ -11,7 +11,7 @@ use crate::freed::free_unit;
 use crate::lists::leave_list;
 use crate::machine::Machine;
 use crate::stepping::make_step;
-use cpu_part::{BootName, Cpu, Tables};
+use cpu_part::{BootName, CpuLists, Tables};
 use frame_word::{Frame, Put};
 use step_rules::step::{Action, Answer};
 
@@ -68,7 +68,7 @@ impl<N: BootName> Machine<N> {
     }
 
     /// Releases a kept unit as `put_zone_reference` does, in the visit of this CPU.
-    pub fn release(&mut self, tables: &Tables<N>, cpu: &Cpu<N>, head: Frame) -> Released
+    pub fn release(&mut self, tables: &Tables<N>, cpu: &CpuLists<N>, head: Frame) -> Released
         requires visit { Visits N.frames (visit_state self.old cpu.now) }
         requires frame { head < N.frames.frames }
         requires kept { HeadsKeptUnit self.old head }

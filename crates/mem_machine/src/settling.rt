@@ -19,7 +19,7 @@ use crate::lists::join_list;
 use crate::machine::Machine;
 use crate::stepping::make_step;
 use boot_words::PastSeat;
-use cpu_part::{BootName, Cpu, Tables};
+use cpu_part::{BootName, CpuLists, Tables};
 use frame_word::Frame;
 use group_tree::group::{GroupId, MAX_GROUPS};
 use step_rules::phase::ChargedUnit;
@@ -40,7 +40,7 @@ fn watch_collected(watch: &mut Watch, cpu: u32, frame: u32)
 // which is of this group, nor in the group's sum.
 fn collect_fresh<N: BootName>(
     tables: &Tables<N>,
-    cpu: &mut Cpu<N>,
+    cpu: &mut CpuLists<N>,
     past: &mut PastSeat,
     watch: &mut Watch,
     sums: &mut [u32; MAX_GROUPS],
@@ -71,7 +71,7 @@ fn collect_fresh<N: BootName>(
 
 impl<N: BootName> Machine<N> {
     // Keeps the oldest fresh frame for the group that paid for it.
-    fn keep_one(&mut self, tables: &Tables<N>, cpu: &mut Cpu<N>, group: GroupId) -> Frame
+    fn keep_one(&mut self, tables: &Tables<N>, cpu: &mut CpuLists<N>, group: GroupId) -> Frame
         requires visit { Visits N.frames (visit_state self.old cpu.old) }
         requires fresh { cpu.old.fresh ≢ [] }
         requires group { stock_group N.frames self.old cpu.old.number ≡ Some group }
@@ -102,7 +102,7 @@ impl<N: BootName> Machine<N> {
     }
 
     // Frees the oldest fresh frame, whose group is killed, and uncharges its page from the group.
-    fn drop_one(&mut self, tables: &Tables<N>, cpu: &mut Cpu<N>, group: GroupId) -> Frame
+    fn drop_one(&mut self, tables: &Tables<N>, cpu: &mut CpuLists<N>, group: GroupId) -> Frame
         requires visit { Visits N.frames (visit_state self.old cpu.old) }
         requires fresh { cpu.old.fresh ≢ [] }
         requires group { stock_group N.frames self.old cpu.old.number ≡ Some group }
@@ -138,7 +138,7 @@ impl<N: BootName> Machine<N> {
     }
 
     // Takes the oldest back frame, if there is one, into the zone's hand, and frees its unit.
-    fn return_one(&mut self, tables: &Tables<N>, cpu: &mut Cpu<N>) -> Option<Frame>
+    fn return_one(&mut self, tables: &Tables<N>, cpu: &mut CpuLists<N>) -> Option<Frame>
         requires { Visits N.frames (visit_state self.old cpu.old) }
         ensures returns { ReturnsNext result (visit_state self.old cpu.old) (visit_state self.new cpu.new) }
         ensures visit { Visits N.frames (visit_state self.new cpu.new) }
@@ -182,7 +182,7 @@ impl<N: BootName> Machine<N> {
     }
 
     // Settles the oldest fresh frame, if there is one: it is kept for its group, or dropped if that group is killed.
-    fn settle_one(&mut self, tables: &Tables<N>, cpu: &mut Cpu<N>) -> Option<Frame>
+    fn settle_one(&mut self, tables: &Tables<N>, cpu: &mut CpuLists<N>) -> Option<Frame>
         requires { Visits N.frames (visit_state self.old cpu.old) }
         ensures settles { SettlesNext N.frames result (visit_state self.old cpu.old) (visit_state self.new cpu.new) }
         ensures visit { Visits N.frames (visit_state self.new cpu.new) }
@@ -202,7 +202,7 @@ impl<N: BootName> Machine<N> {
     }
 
     // Settles all fresh frames, in the order in which they were taken.
-    fn settle_fresh(&mut self, tables: &Tables<N>, cpu: &mut Cpu<N>)
+    fn settle_fresh(&mut self, tables: &Tables<N>, cpu: &mut CpuLists<N>)
         requires { Visits N.frames (visit_state self.old cpu.old) }
         ensures settles { SettlesAllFresh N.frames cpu.old.fresh (visit_state self.old cpu.old)
             (visit_state self.new cpu.new) }
@@ -217,7 +217,7 @@ impl<N: BootName> Machine<N> {
     }
 
     // Frees the units of all back frames, in the order of their last puts.
-    fn settle_back(&mut self, tables: &Tables<N>, cpu: &mut Cpu<N>)
+    fn settle_back(&mut self, tables: &Tables<N>, cpu: &mut CpuLists<N>)
         requires { Visits N.frames (visit_state self.old cpu.old) }
         ensures returns { ReturnsAllBack cpu.old.back (visit_state self.old cpu.old) (visit_state self.new cpu.new) }
         ensures others { LeavesOthers cpu.old cpu.new }
@@ -233,7 +233,7 @@ impl<N: BootName> Machine<N> {
     /// Settles the visited CPU. Each fresh frame, in the order in which they were taken, becomes a kept unit of the
     /// group that paid for it. If that group has been killed, the frame is freed and its page uncharged, which counts
     /// as a drop. Then the units of the back frames are freed, in the order of their last puts.
-    pub fn settle(&mut self, tables: &Tables<N>, cpu: &mut Cpu<N>)
+    pub fn settle(&mut self, tables: &Tables<N>, cpu: &mut CpuLists<N>)
         requires { Visits N.frames (visit_state self.old cpu.old) }
         ensures settles { Settles N.frames (visit_state self.old cpu.old) (visit_state self.new cpu.new) }
         ensures others { LeavesOthers cpu.old cpu.new }

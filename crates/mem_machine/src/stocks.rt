@@ -17,7 +17,7 @@ use crate::machine::Machine;
 use crate::proving::{prove_charges, prove_sizes};
 use crate::stepping::make_step;
 use crate::subtrees::is_at_or_below;
-use cpu_part::{BootName, Cpu, Tables};
+use cpu_part::{BootName, CpuLists, Tables};
 use group_charge::charges::Over;
 use group_charge::note::Note;
 use group_tree::group::GroupId;
@@ -132,7 +132,7 @@ impl<N: BootName> Machine<N> {
     pub fn fill_stock(
         &mut self,
         tables: &Tables<N>,
-        cpu: &Cpu<N>,
+        cpu: &CpuLists<N>,
         group: GroupId,
         pages: u32,
     ) -> Result<(), Over>
