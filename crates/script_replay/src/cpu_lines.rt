@@ -4,7 +4,7 @@ ghost use Rattle.std.specs.Prelude.{All, IfOk};
 ghost use Rattle.std.specs.String.{string_bytes};
 ghost use Rattle.script_replay.specs.Answers.{AddsText};
 ghost use Rattle.script_replay.specs.Terms.{boot_tables};
-ghost use Rattle.script_replay.specs.Own.{LineCommandInRange, ServesOwn, ServesOwnBySteps, worker};
+ghost use Rattle.script_replay.specs.CpuLines.{LineCommandInRange, ServesOwn, ServesOwnBySteps, worker};
 ghost use Rattle.step_rules.specs.After.{Run};
 
 use crate::{Visitor, visit_line, visit_numbered_line};

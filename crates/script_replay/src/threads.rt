@@ -5,8 +5,8 @@ ghost use Rattle.std.specs.Thread.{IsSend, IsSync};
 ghost use Rattle.step_rules.specs.After.{Run};
 ghost use Rattle.script_replay.specs.Ranges.{LineInRange};
 ghost use Rattle.script_replay.specs.Terms.{boot_tables};
-ghost use Rattle.script_replay.specs.Own.{LineCommandInRange, ServesOwn, worker};
-ghost use Rattle.script_replay.specs.Each.{AreAllAnswers, heading, workers_from};
+ghost use Rattle.script_replay.specs.CpuLines.{LineCommandInRange, ServesOwn, worker};
+ghost use Rattle.script_replay.specs.Threads.{AreAllAnswers, heading, workers_from};
 ghost use Rattle.script_replay.specs.Runs.{RunsLines, lines_before_go};
 
 use crate::cpu_lines::{Job, serve_own};

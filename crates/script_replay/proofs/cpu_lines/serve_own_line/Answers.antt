@@ -1,5 +1,5 @@
 use Rattle.std.proofs.Common.{◌≡◌, ◌==◌, false, rules}
-use Rattle.script_replay.specs.Own.{ServesOwnBySteps}
+use Rattle.script_replay.specs.CpuLines.{ServesOwnBySteps}
 use Rattle.script_replay.specs.Terms.{boot_tables}
 use Rattle.script_replay.proofs.Owning.{go_skipped, other_skipped}
 use Rattle.script_replay.proofs.Telling.{nothing_added}

@@ -5,7 +5,7 @@ use Rattle.mem_system.specs.Cpus.{CpuInRun}
 use Rattle.step_rules.specs.After.{Run}
 use Rattle.script_lines.specs.declared.line.Line.{Line}
 use Rattle.mem_system.specs.Boots.{KnownSystem}
-use Rattle.script_replay.specs.Own.{KnownWorker, ServesOwn, worker}
+use Rattle.script_replay.specs.CpuLines.{KnownWorker, ServesOwn, worker}
 
 -- a worker for each of these parts, whose CPUs are numbered from this number on
 abbrev pub workers_from : ℕ → List CpuInRun → List Line → (is_numbered : Bool) → List KnownWorker
