@@ -1,7 +1,7 @@
 //! What the end of a boot needs: how many frames are charged, and that none is lent.
 
 ghost use Rattle.std.specs.Prelude.{◌≡◌, ◌≤◌, []};
-ghost use Rattle.mem_machine.specs.Local.{Holds, visit_state};
+ghost use Rattle.mem_machine.specs.Local.{Holds};
 ghost use Rattle.mem_machine.specs.Places.{frames_in_groups, NoneLentTo};
 
 use crate::machine::Machine;
@@ -28,7 +28,7 @@ impl<N: BootName> Machine<N> {
     /// Shows that no frame is lent to the CPU that holds the lock, if it has no listed and no fresh frame. It does
     /// nothing.
     pub fn prove_none_lent(&self, cpu: &CpuLists<N>)
-        requires holds { Holds N.frames (visit_state self.now cpu.now) }
+        requires holds { Holds N.frames self.now cpu.now }
         requires none_listed { cpu.now.list ≡ [] }
         requires none_fresh { cpu.now.fresh ≡ [] }
         ensures { NoneLentTo cpu.now.number self.now.frame_states }
