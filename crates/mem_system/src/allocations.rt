@@ -43,7 +43,8 @@ fn allocate_as<N: BootName>(
 ) -> Result<Frame, AllocFault>
     requires visit { MayExecute N.frames sizes machine.old cpu.old }
     requires there { IsTrue (has_group machine.old.ledger.groups group) }
-    ensures allocates { VisitDoes N.frames (AllocatesAs sizes group order result) machine.old cpu.old machine.new cpu.new }
+    ensures allocates { VisitDoes N.frames (AllocatesAs sizes group order result)
+        machine.old cpu.old machine.new cpu.new }
     ensures stays { KeepsVisit N.frames cpu.old machine.new cpu.new }
     ensures fresh { FreshOf (reply_of machine.new.ledger (outcome_of result)) order cpu.new.fresh }
     ensures at_most_high { ListAndFreshStayWithin sizes cpu.old cpu.new }
@@ -66,7 +67,8 @@ pub(crate) fn allocate<N: BootName>(
     order: u32,
 ) -> Outcome
     requires visit { MayExecute N.frames sizes machine.old cpu.old }
-    ensures allocates { ComesTo N.frames result (Allocates sizes path.now order) machine.old cpu.old machine.new cpu.new }
+    ensures allocates { ComesTo N.frames result (Allocates sizes path.now order)
+        machine.old cpu.old machine.new cpu.new }
     ensures groups { HasItsGroups machine.new.ledger result }
     ensures stays { KeepsVisit N.frames cpu.old machine.new cpu.new }
     ensures fresh { FreshOf (reply_of machine.new.ledger result) order cpu.new.fresh }
