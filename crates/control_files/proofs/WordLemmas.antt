@@ -27,7 +27,7 @@ word_start text word h =
 pub no_word : (text : List ℕ) → position (λ byte. not (is_space byte)) text ≡ None → (word : List ℕ) → ¬ HasOnlyWord text word
 no_word text h word found = omega (arith, word_start text word found, position-none (λ byte. not (is_space byte)) text h)
 
--- the rest behind the white space in front begins with the word, and white space follows
+-- the rest after the white space in front begins with the word, and white space follows
 pub word_rest : (text word : List ℕ) (start : ℕ) → position (λ byte. not (is_space byte)) text ≡ Some start → (h : HasOnlyWord text word) →
     drop start text ≡ word ++ h.after
 word_rest text word start found h =

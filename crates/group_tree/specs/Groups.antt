@@ -80,7 +80,7 @@ make_fault groups path =
     else (if nat_le most_groups (length groups) then Some TreeFull
     else None))))
 
--- the groups, and behind them one more, with no limit and its flag off
+-- the groups, and after them one more, with no limit and its flag off
 abbrev pub with_group : List Group → ℕ → List ℕ → List Group
 with_group groups n path = groups ++ new_row n path ∷ []
 

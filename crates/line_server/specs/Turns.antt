@@ -14,7 +14,7 @@ use Rattle.line_server.specs.Lines.{RefusesText}
 use Rattle.line_server.specs.Logs.{LogsLine}
 
 -- A line of a session: its text, or None if it was too long; the line of a script that was served for it, if any; and
--- its answer, without the empty line behind it. If the session writes a log, the answer is the line's part of that.
+-- its answer, without the empty line after it. If the session writes a log, the answer is the line's part of that.
 pub record Turn : Type 0 where
   pub text : Option (List ℕ)
   pub served : Option Line

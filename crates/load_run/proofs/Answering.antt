@@ -20,7 +20,7 @@ use Rattle.script_replay.proofs.InRange.{script_there}
 the_same : (a b : Options) → Some a ≡ Some b → a ≡ b
 the_same a b e = cc
 
--- the answers were written behind what the writer held, if the script is known
+-- the answers were written after what the writer held, if the script is known
 pub answers_written : (options : Options) (input before after : Option (List ℕ)) (text : List ℕ) (status : ℕ)
     → IfSome input (IsAnswered (Some options) text) → Appends before after text
     → status ≡ answered_status options.is_strict options.is_numbered text → IfSome input (IsWritten (Some options) status before after)

@@ -18,7 +18,7 @@ use Rattle.script_lines.specs.declared.line.Line.{Line}
 use Rattle.script_replay.specs.Lines.{HasRun, ServesAll, SystemState, steps_of_served}
 use Rattle.script_replay.specs.Ranges.{LineInRange}
 use Rattle.script_replay.specs.Terms.{boot_tables, numbered_terms}
-use Rattle.script_replay.specs.Each.{AreAllAnswers, workers_from}
+use Rattle.script_replay.specs.Threads.{AreAllAnswers, workers_from}
 use Rattle.script_replay.specs.Runs.{lines_before_go}
 use Rattle.script_replay.specs.Visits.{GrewByChanges}
 use Rattle.script_replay.proofs.Gaining.{all_lines_go_on}

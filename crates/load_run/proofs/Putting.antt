@@ -29,7 +29,7 @@ use Rattle.load_run.specs.Ending.{LeavesNothing, PutsAllPins, PutsEach, PutsHeld
 
 -- ---- lists
 
--- the entry behind these
+-- the entry after these
 at_seam : {X : Type 0} (xs : List X) (x : X) (ys : List X) → slice_get (xs ++ x ∷ ys) (length xs) ≡ Some x
 at_seam [] x ys = refl
 at_seam (z ∷ xs) x ys = at_seam xs x ys

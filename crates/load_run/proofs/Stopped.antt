@@ -13,8 +13,8 @@ use Rattle.mem_system.specs.Cpus.{CpuInRun, parts_of, pasts_of}
 use Rattle.mem_system.specs.Locked.{KnownLocked}
 use Rattle.script_lines.specs.declared.line.Line.{Line}
 use Rattle.script_replay.specs.declared.form.Form.{Form}
-use Rattle.script_replay.specs.declared.owned_replay.Stopped.{Stopped}
-use Rattle.script_replay.specs.declared.owned_replay.Stopped.TheVariants as stopped
+use Rattle.script_replay.specs.declared.replays.Stopped.{Stopped}
+use Rattle.script_replay.specs.declared.replays.Stopped.TheVariants as stopped
 use Rattle.script_replay.specs.History.{StopsFor}
 use Rattle.script_replay.specs.Lines.{SystemState, system_state}
 use Rattle.script_replay.specs.Terms.{form_of, form_terms}

@@ -19,7 +19,7 @@ use Rattle.script_replay.specs.Lines.{ServesAll, SystemState}
 use Rattle.script_replay.specs.declared.form.Form.{Form}
 use Rattle.script_replay.specs.History.{KeepsHistory, past}
 use Rattle.script_replay.specs.Terms.{boot_tables, form_of, form_terms, numbered_terms}
-use Rattle.script_replay.specs.Each.{AreAllAnswers, workers_from}
+use Rattle.script_replay.specs.Threads.{AreAllAnswers, workers_from}
 use Rattle.script_replay.specs.Runs.{lines_before_go}
 use Rattle.load_options.specs.declared.task.Options.{Options}
 use Rattle.load_options.specs.declared.task.Task.{Task}

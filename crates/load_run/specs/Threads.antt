@@ -8,8 +8,8 @@ use Rattle.boot_words.specs.Hidden.{hide}
 use Rattle.boot_words.specs.Pasts.{KnownPasts, own_past}
 use Rattle.mem_machine.specs.Interleaving.{zone_of}
 use Rattle.mem_machine.specs.Machines.{KnownMachine, IsShownBy}
-use Rattle.mem_system.specs.declared.command.Cmd.{Cmd}
-use Rattle.mem_system.specs.declared.command.Reply.{Reply}
+use Rattle.mem_system.specs.declared.command.LockedCommand.{LockedCommand}
+use Rattle.mem_system.specs.declared.command.ReplyWithText.{ReplyWithText}
 use Rattle.mem_system.specs.Cpus.{CpuInRun, between_locks}
 use Rattle.mem_system.specs.Locked.{IsSound, KnownLocked}
 use Rattle.mem_system.specs.Visits.{IsServed, LockedState}
@@ -39,7 +39,7 @@ pub record ShowsVisit (table : KnownTable) (run : Run) (cpu : ℕ) (steps : Run)
 
 -- If a command was served in a visit, and the CPU's past after it is a beginning of a run, then this run shows the visit.
 abbrev pub RunsShowVisits : Type 0
-RunsShowVisits = (table : KnownTable) (cmd : Cmd) (reply : Reply)
+RunsShowVisits = (table : KnownTable) (cmd : LockedCommand) (reply : ReplyWithText)
     (before after : LockedState) (run : Run) → IsSound table before.locked
     → (served : IsServed table cmd reply before after) → IsSound table after.locked
     → IsBeginning (own_past after.cpu.past).seen run

@@ -5,7 +5,7 @@ ghost use Rattle.std.specs.Prelude.{◌≡◌, ◌<◌, ◌^◌, All, IfOk, List
 ghost use Rattle.step_rules.specs.After.{Run};
 ghost use Rattle.script_replay.specs.Ranges.{LineInRange};
 ghost use Rattle.script_replay.specs.Terms.{boot_tables};
-ghost use Rattle.script_replay.specs.Each.{AreAllAnswers, workers_from};
+ghost use Rattle.script_replay.specs.Threads.{AreAllAnswers, workers_from};
 ghost use Rattle.load_run.specs.Answers.{AreThreadAnswers};
 
 use crate::boot_end::end_boot;

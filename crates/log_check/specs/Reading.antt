@@ -20,7 +20,7 @@ pub record EndsBefore (line : ℕ) (text : List ℕ) : Type 0 where
   pub no_feed : All (λ b. b ≢ 10) rest
   pub short : length rest ≤ longest_log_line
 
--- at most one piece was read behind a text that ends before this line does
+-- at most one piece was read after a text that ends before this line does
 pub record ReadsUpTo (line : ℕ) (before after : Option (List ℕ)) : Type 0 where
   pub text : List ℕ
   pub piece : List ℕ

@@ -120,7 +120,7 @@ pub record BeginsWith (line text : List ℕ) : Type 0 where
   pub no_feed : All (λ b. b ≢ 10) line
   pub parts : text ≡ line ++ 10 ∷ more
 
--- the line may not come behind these lines, for this reason: one of them gave the sizes, or none did
+-- the line may not come after these lines, for this reason: one of them gave the sizes, or none did
 abbrev pub IsMisplaced : LineFault → List LogLine → LogLine → Type 0
 IsMisplaced SizesAgain lines (kinds.Zone frames cpus) = filter says_something lines ≢ []
 IsMisplaced StepFirst lines (kinds.Step step answer) = filter says_something lines ≡ []

@@ -170,7 +170,7 @@ both_lists t g m between n first second all some inactive active together =
       same = active.same ∙ inactive.same;
     }
 
--- two texts, one behind the other
+-- two texts, one after the other
 pub both_added : {T E : Type 0} (r w l : Result T E) (start now new : List ℕ) → IfOk r (λ _. IsOk w) → IfOk r (λ _. IsOk l)
     → (text line : List ℕ) → IfOk w (λ _. now ≡ start ++ text) → IfOk l (λ _. new ≡ now ++ line) → IfOk r (λ _. new ≡ start ++ (text ++ line))
 both_added r w l start now new a b text line told added = joined r w l start now new text line a b told added

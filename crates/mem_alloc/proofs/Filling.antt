@@ -108,8 +108,8 @@ pays_keep t sizes g (Err e) m n c d steps h = drain_charges_keep t sizes g (Err 
 
 -- ---- the stock holds a page
 
-filled_page : (t : KnownTable) (g k : ℕ) (m n : KnownMachine) (c d : KnownCpu) (steps : Run) → Visits t (visit_state n d)
-    → FillsStock g k (transition t (visit_state m c) steps (visit_state n d)) → 1 ≤ k → c.fresh ≡ [] → HoldsPage t (visit_state n d) g
+filled_page : (t : KnownTable) (g k : ℕ) (m n : KnownMachine) (c d : KnownCpu) (steps : Run) → Visits t n d
+    → FillsStock g k (transition t (visit_state m c) steps (visit_state n d)) → 1 ≤ k → c.fresh ≡ [] → HoldsPage t n d.number g
 filled_page t g k m n c d steps visit f some none =
     let number = ap (λ (e : KnownCpu). e.number) f.cpu in
     let fills : Fills t d.number g k m n = subst (λ (p : ℕ). Fills t p g k m n) (sym number) f.fills in
@@ -117,8 +117,8 @@ filled_page t g k m n c d steps visit f some none =
     (k - 1, filled_stock t m n d g k visit (ap (λ (e : KnownCpu). e.fresh) f.cpu ∙ none) fills ∙ ap (HeldBy g) (sym all))
 
 pub charged_page : (t : KnownTable) (sizes : Config) (g : ℕ) (r : Result (Unit {0}) AllocFault) (m n : KnownMachine) (c d : KnownCpu) (steps : Run)
-    → IsValidConfig sizes → Visits t (visit_state n d) → FillsDrainedStock sizes g r (transition t (visit_state m c) steps (visit_state n d)) → c.fresh ≡ []
-    → OnOk r (HoldsPage t (visit_state n d) g)
+    → IsValidConfig sizes → Visits t n d → FillsDrainedStock sizes g r (transition t (visit_state m c) steps (visit_state n d)) → c.fresh ≡ []
+    → OnOk r (HoldsPage t n d.number g)
 charged_page t sizes g (Ok v) m n c d steps valid visit (inl h) none = filled_page t g sizes.stock m n c d steps visit h.fills valid.stock_low none
 charged_page t sizes g (Ok v) m n c d steps valid visit (inr h) none =
     let one = h.second in
@@ -128,7 +128,7 @@ charged_page t sizes g (Err e) m n c d steps valid visit h none = tt
 -- ---- the own stock has a page
 
 -- it had one before
-pub pays_none : (t : KnownTable) (m n : KnownMachine) (c : KnownCpu) → n ≡ m → (sizes : Config) (g : ℕ) → HoldsPage t (visit_state m c) g
+pub pays_none : (t : KnownTable) (m n : KnownMachine) (c : KnownCpu) → n ≡ m → (sizes : Config) (g : ℕ) → HoldsPage t m c.number g
     → BySteps VisitMakes t (PaysForFrame sizes g (Ok tt)) (visit_state m c) (visit_state n c)
 pays_none t m n c same sizes g page = record {
   steps = [];
@@ -167,13 +167,13 @@ lent_calm p (f ∷ frames) = lent_calm p frames
 
 -- the stock has the same pages
 pub lent_stock : (t : KnownTable) (frames : List ℕ) (m n : KnownMachine) (c d : KnownCpu) → IsHeld t m.run.past → Makes t m (refill_steps c.number frames) n
-    → LendsMany frames (visit_state m c) (visit_state n d) → stock_now t (visit_state n d) ≡ stock_now t (visit_state m c)
+    → LendsMany frames (visit_state m c) (visit_state n d) → stock_now t n d.number ≡ stock_now t m c.number
 lent_stock t frames m n c d held makes lends =
     stock_kept t m n (refill_steps c.number frames) held makes (lent_calm c.number frames) c d (lent_part frames m n c d lends).number
 
 -- a reclaim leaves its pages
-pub spared_stock : (t : KnownTable) (m n : KnownMachine) (c : KnownCpu) → Visits t (visit_state m c) → Keeps t m n → c.fresh ≡ []
-    → stock_now t (visit_state n c) ≡ stock_now t (visit_state m c)
+pub spared_stock : (t : KnownTable) (m n : KnownMachine) (c : KnownCpu) → Visits t m c → Keeps t m n → c.fresh ≡ []
+    → stock_now t n c.number ≡ stock_now t m c.number
 spared_stock t m n c visit keeps none =
     let later = keeps.visit c visit in
     stock_left t n c later.held later.own none ∙ ap stock_in (keeps.stocks c.number) ∙ sym (stock_left t m c visit.held visit.own none)
@@ -235,7 +235,7 @@ module _ (t : KnownTable) (pages q : ℕ) (m k x : KnownMachine) (c : KnownCpu) 
   drained_own = record { steps = own_steps; does = drains_own; makes = by_drain }
 
   -- it had no page of the group
-  module _ (sizes : Config) (g : ℕ) (n : KnownMachine) (d : KnownCpu) (lacks : ¬ HoldsPage t (visit_state m c) g) where
+  module _ (sizes : Config) (g : ℕ) (n : KnownMachine) (d : KnownCpu) (lacks : ¬ HoldsPage t m c.number g) where
     charges_anew : (r : Result (Unit {0}) AllocFault) → BySteps VisitMakes t (FillsDrainedStock sizes g r) (visit_state x c) (visit_state n d)
         → BySteps VisitMakes t (ChargesAfterDrain sizes g r) (visit_state m c) (visit_state n d)
     charges_anew r b = record {

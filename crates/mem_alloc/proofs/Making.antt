@@ -129,7 +129,7 @@ pub record RoomSoFar (t : KnownTable) (g pages : ℕ) (c : KnownCpu) (m n : Know
   pub making : Run
   pub makes : PreparesCharge g refused_at pages (transition t m making n)
   pub runs : Makes t m making n
-  pub visit : Visits t (visit_state m c) → Visits t (visit_state n c)
+  pub visit : Visits t m c → Visits t n c
   pub lowers : Lowers t m n
   pub alive : is_killed n.killed g ≡ false
 
@@ -178,14 +178,14 @@ module _ (t : KnownTable) (g pages : ℕ) (c : KnownCpu) (m x : KnownMachine) (s
         (subst (λ (k : KnownMachine). Makes t k (over_steps g pages over) y) before_it refusing) relieves.makes)
 
     -- and its group has room now
-    pub so_far_more : HasMadeRoom g over pages n → Visits t (visit_state n e) → RoomSoFar t g pages c m n
+    pub so_far_more : HasMadeRoom g over pages n → Visits t n e → RoomSoFar t g pages c m n
     so_far_more room visit = record {
       refused_at = so_far.refused_at ++ over ∷ [];
       making = so_far.making ++ (over_steps g pages over ++ relieves.steps);
       makes = prepared_more t g pages over so_far.refused_at m x n so_far.making
           (over_steps g pages over ++ relieves.steps) so_far.makes (refused (Ok tt) room);
       runs = runs_on;
-      visit = λ v. subst (λ (k : KnownCpu). Visits t (visit_state n k)) mine_after visit;
+      visit = λ v. subst (λ (k : KnownCpu). Visits t n k) mine_after visit;
       lowers = lowers_both t m x n so_far.lowers lowered;
       alive = room.alive;
     }

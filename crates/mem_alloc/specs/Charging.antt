@@ -67,10 +67,12 @@ pub record DrainsStock (call : Transition VisitState) : Type 0 where
 -- The CPU's stock has no page of the group. It is drained, and then pages of the group are charged.
 abbrev pub ChargesAfterDrain : Config → ℕ → Result (Unit {0}) AllocFault → Transition VisitState → Type 0
 ChargesAfterDrain sizes group answer call =
-    Finds (λ now. ¬ HoldsPage call.table now group) (InTurn DrainsStock (FillsDrainedStock sizes group answer)) call
+    Finds (λ now. ¬ HoldsPage call.table now.machine now.cpu.number group)
+    (InTurn DrainsStock (FillsDrainedStock sizes group answer)) call
 
 -- The CPU's stock has a page of the group: it had one before, or one is charged. Or that charge is refused.
 abbrev pub PaysForFrame : Config → ℕ → Result (Unit {0}) AllocFault → Transition VisitState → Type 0
 PaysForFrame sizes group (Ok done) call =
-    Finds (λ now. HoldsPage call.table now group) Stays call ⊎ ChargesAfterDrain sizes group (Ok done) call
+    Finds (λ now. HoldsPage call.table now.machine now.cpu.number group) Stays call
+    ⊎ ChargesAfterDrain sizes group (Ok done) call
 PaysForFrame sizes group (Err cause) call = ChargesAfterDrain sizes group (Err cause) call

@@ -18,13 +18,12 @@ use Rattle.mem_machine.specs.Machines.{HeadsKeptUnit, IsConsistent, KnownMachine
 use Rattle.mem_machine.specs.Local.{IsLocalRun, lock_holder, local_of}
 use Rattle.mem_machine.specs.Stocks.{AreDrained}
 use Rattle.mem_reclaim.specs.declared.sets.Killed.{Killed}
-use Rattle.mem_reclaim.specs.Moves.{is_kill, kills_in}
+use Rattle.mem_reclaim.specs.Moves.{CountsMisses, is_kill, kills_in}
 use Rattle.mem_reclaim.specs.Sets.{IsKilledRoot, kill_set}
 use Rattle.mem_reclaim.specs.Staying.{MissedAll}
 use Rattle.mem_reclaim.specs.Victim.{IsVictim}
 use Rattle.mem_alloc.specs.Kills.{has_room_at, most_killed_for}
 use Rattle.mem_machine.specs.Transitions.{Transition, transition}
-use Rattle.mem_reclaim.specs.Moves.{CountsMisses}
 
 -- the step notes that only kills are left at the group's limit (`oom`)
 abbrev pub is_oom_note : ℕ → Action → Bool

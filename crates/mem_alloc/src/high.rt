@@ -95,8 +95,8 @@ fn keep_path_to_high<N: BootName>(
     }
 }
 
-/// Reclaims for the memory.high of the group and then of each ancestor, up to the root, before `need` pages are charged.
-/// Linux does so after the charge (`reclaim_high`).
+/// Reclaims for the memory.high of the group and then of each ancestor, up to the root, before `need` pages are
+/// charged. Linux does so after the charge (`reclaim_high`).
 #[inline(always)]
 pub(crate) fn reclaim_high<N: BootName>(
     machine: &mut Machine<N>,

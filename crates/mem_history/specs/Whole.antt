@@ -50,7 +50,7 @@ TheSameIsShown = (table : KnownTable) (run : Run) (machine other : KnownMachine)
 -- the CPU whose part is at this index holds the lock, and its visit isn't open
 pub record HasTakenLock (table : KnownTable) (cpus : List KnownCpu) (index : ℕ) (now : VisitState) : Type 0 where
   pub is_part : slice_get cpus index ≡ Some now.cpu
-  pub holds : Holds table now
+  pub holds : Holds table now.machine now.cpu
   pub shut : IsShut table now.machine now.cpu.number
 
 -- if a run shows the whole and a CPU has taken the lock, the run with that Lock shows this CPU the machine
@@ -77,7 +77,7 @@ pub record ServesAt (table : KnownTable) (cpus : List KnownCpu) (index : ℕ)
     (before : VisitState) (steps : Run) (after : VisitState) : Type 0 where
   pub taken : HasTakenLock table cpus index before
   pub leads : Makes table before.machine steps after.machine
-  pub holds : Holds table after
+  pub holds : Holds table after.machine after.cpu
 
 -- if a run shows the whole and continues legally with the line, then the longer run shows the whole after the line
 abbrev pub LinesFollow : Type 0

@@ -29,7 +29,7 @@ use Rattle.mem_machine.specs.declared.counts.Counts.{Counts}
 use Rattle.mem_machine.specs.Booked.{AreBooked, AreOwners}
 use Rattle.mem_machine.specs.FrameStates.{frame_state_at, free_of, phase_hidden}
 use Rattle.mem_machine.specs.Machines.{KnownMachine, IsConsistent, IsShownBy, BalancesCounts, home_of, left_by, pages_booked}
-use Rattle.mem_machine.specs.Local.{Visits, local_of, visit_state}
+use Rattle.mem_machine.specs.Local.{Visits, local_of}
 use Rattle.mem_machine.specs.Noted.{AreLocal, KnownRun, MayTake, Notes}
 use Rattle.mem_machine.specs.Steps.{zone_makes, cpu_makes}
 use Rattle.mem_machine.specs.Freeing.{FreesFrames}
@@ -46,7 +46,7 @@ use Rattle.mem_machine.proofs.Noted.{notes_both, notes_one, run_steps}
 use Rattle.mem_machine.proofs.OwnFrames.{HasFrame}
 use Rattle.mem_machine.proofs.Sight.{left_seen, shown_seen}
 
-module _ (t : KnownTable) (m : KnownMachine) (c : KnownCpu) (ok : IsConsistent t m) (visit : Visits t (visit_state m c)) (f : ℕ) (rest : List ℕ) (front : c.back ≡ f ∷ rest) where
+module _ (t : KnownTable) (m : KnownMachine) (c : KnownCpu) (ok : IsConsistent t m) (visit : Visits t m c) (f : ℕ) (rest : List ℕ) (front : c.back ≡ f ∷ rest) where
   shown : IsShownBy t m (hide (local_of t m))
   shown = shown_seen t m ok visit.held
 
@@ -159,8 +159,8 @@ module _ (t : KnownTable) (m : KnownMachine) (c : KnownCpu) (ok : IsConsistent t
 
 -- ---- of the machine as it was seen before
 
-module _ (t : KnownTable) (m now : KnownMachine) (same : m ≡ now) (c : KnownCpu) (visit_now : Visits t (visit_state now c)) (ok : IsConsistent t m) where
-  visit : Visits t (visit_state m c)
+module _ (t : KnownTable) (m now : KnownMachine) (same : m ≡ now) (c : KnownCpu) (visit_now : Visits t now c) (ok : IsConsistent t m) where
+  visit : Visits t m c
   visit = visits_here t m now same c visit_now
 
   module _ (f : ℕ) (rest : List ℕ) (front : c.back ≡ f ∷ rest) where

@@ -156,7 +156,7 @@ module _ (frame_states new : List FrameState) (f : ℕ) (unit : ChargedUnit) (he
   frame_state_out : (x : ℕ) → is_within f n x ≡ false → frame_state_at new x ≡ frame_state_at frame_states x
   frame_state_out x w = frees.records x ∙ ap (λ (b : Bool). cond b Free (frame_state_at frame_states x)) w
 
-  -- a frame behind another head isn't of the unit
+  -- a frame after another head isn't of the unit
   apart : (h x : ℕ) (u : ChargedUnit) → (h ≡ f → ⊥) → frame_state_at frame_states h ≡ Head u → h < x → x < h + 2 ^ u.order → is_within f n x ≡ false
   apart h x u ne is from below = is_out f n x (λ low high. elim (cases_lt h f) [
     | inl before ↦

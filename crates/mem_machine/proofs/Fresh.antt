@@ -38,7 +38,7 @@ use Rattle.mem_machine.specs.declared.counts.Counts.{Counts}
 use Rattle.mem_machine.specs.Booked.{AreBooked, AreOwners}
 use Rattle.mem_machine.specs.FrameStates.{frame_state_at, is_free_state, free_of, frame_state_group, AreUnits}
 use Rattle.mem_machine.specs.Machines.{KnownMachine, FitsFrameState, IsConsistent, IsShownBy, BalancesCounts, frames_charged, home_of, is_killed, left_by, pages_booked, stock_group}
-use Rattle.mem_machine.specs.Local.{Visits, local_of, visit_state}
+use Rattle.mem_machine.specs.Local.{Visits, local_of}
 use Rattle.mem_machine.specs.Noted.{AreLocal, KnownRun, MayTake, Notes}
 use Rattle.mem_machine.specs.Steps.{zone_makes}
 use Rattle.mem_machine.specs.Blocks.{PlacesUnit}
@@ -99,7 +99,7 @@ frees_one frame_states new f inside frees =
           ∙ sym (get_or-set_other frame_states f g Free Free ne)
     ])
 
-module _ (t : KnownTable) (m : KnownMachine) (c : KnownCpu) (ok : IsConsistent t m) (visit : Visits t (visit_state m c))
+module _ (t : KnownTable) (m : KnownMachine) (c : KnownCpu) (ok : IsConsistent t m) (visit : Visits t m c)
     (f g : ℕ) (rest : List ℕ) (front : c.fresh ≡ f ∷ rest) (of : stock_group t m c.number ≡ Some g) where
   abbrev s : State
   s = local_of t m
@@ -282,7 +282,7 @@ module _ (t : KnownTable) (m : KnownMachine) (c : KnownCpu) (ok : IsConsistent t
       shown = subst (IsShownBy t kept) (sym kept_left) kept_shown;
     }
 
-    kept_visit : Visits t (visit_state kept d)
+    kept_visit : Visits t kept d
     kept_visit = visit_moved t m c visit kept d (keep_steps c.number f) _ noted keep_leads refl
         (own_moved (local_of t m) c visit.own part _ (one_more_held (local_of t m) c.number f v unit) c.list rest c.back
         (λ y. ap (λ (r : ℕ → ℕ). r y) (at_other (local_of t m).references 0 _ c.number (let low = (number_range t m c visit).0 in λ e. absurd (omega (arith, low, e)))))
@@ -395,9 +395,9 @@ pub front_of_some : (xs : List ℕ) → xs ≢ [] → (f : ℕ) × (rest : List 
 front_of_some [] some = absurd (some refl)
 front_of_some (x ∷ xs) some = (x, xs, refl)
 
-module _ (t : KnownTable) (m now : KnownMachine) (same : m ≡ now) (c : KnownCpu) (visit_now : Visits t (visit_state now c)) (ok : IsConsistent t m)
+module _ (t : KnownTable) (m now : KnownMachine) (same : m ≡ now) (c : KnownCpu) (visit_now : Visits t now c) (ok : IsConsistent t m)
     (g : ℕ) (of_now : stock_group t now c.number ≡ Some g) where
-  visit : Visits t (visit_state m c)
+  visit : Visits t m c
   visit = visits_here t m now same c visit_now
 
   of : stock_group t m c.number ≡ Some g

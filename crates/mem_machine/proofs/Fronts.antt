@@ -124,7 +124,7 @@ consume_hides s p g was some =
 
 -- ---- the front that is paid for
 
-module _ (t : KnownTable) (m : KnownMachine) (c : KnownCpu) (visit : Visits t (visit_state m c)) (g : ℕ) (page : HoldsPage t (visit_state m c) g) (none : c.fresh ≡ [])
+module _ (t : KnownTable) (m : KnownMachine) (c : KnownCpu) (visit : Visits t m c) (g : ℕ) (page : HoldsPage t m c.number g) (none : c.fresh ≡ [])
     (some : 1 ≤ length c.list) where
   -- the front is on the CPU's list, once
   front_phase : (local_of t m).phases (front_of ((local_of t m).parts c.number).list) ≡ Lent c.number OnList
@@ -185,11 +185,11 @@ module _ (t : KnownTable) (m : KnownMachine) (c : KnownCpu) (visit : Visits t (v
         left = front_left;
       }
 
-      front_visit : Visits t (visit_state (record m { run = run }) d)
+      front_visit : Visits t (record m { run = run }) d
       front_visit =
           let later = sym (noted.grew.sees visit.held) in
           let own = own_took (local_of t m) c visit.own g f takes.0 (c.fresh ++ f ∷ []) takes.1 refl (front_once f takes.0 takes.1) in
-          subst (λ (x : KnownCpu). Visits t (visit_state (record m { run = run }) x)) (sym takes.2) (record {
+          subst (λ (x : KnownCpu). Visits t (record m { run = run }) x) (sym takes.2) (record {
             held = noted.grew.held visit.held;
             who = noted.grew.holder visit.held ∙ visit.who;
             is_open = subst (λ (s : State). visits c.number s.hold ≡ true) later visit.is_open;
@@ -203,14 +203,14 @@ module _ (t : KnownTable) (m : KnownMachine) (c : KnownCpu) (visit : Visits t (v
 -- all of it, of the machine as it was seen before
 pub record FrontPaid (t : KnownTable) (now : KnownMachine) (g f : ℕ) (c : KnownCpu) (n : KnownMachine) (d : KnownCpu) : Type 0 where
   pub pays : PaysForFront t g f (visit_state now c) (visit_state n d)
-  pub visit : Visits t (visit_state n d)
+  pub visit : Visits t n d
   pub steps : Makes t now (take_front_steps c.number g) n
 
-pub front_paid : (t : KnownTable) (m now : KnownMachine) → m ≡ now → (c : KnownCpu) → Visits t (visit_state now c) → (g f : ℕ) → HoldsPage t (visit_state now c) g → c.fresh ≡ []
+pub front_paid : (t : KnownTable) (m now : KnownMachine) → m ≡ now → (c : KnownCpu) → Visits t now c → (g f : ℕ) → HoldsPage t now c.number g → c.fresh ≡ []
     → 1 ≤ length c.list → (d : KnownCpu) → TakesFront f c d → (run : KnownRun) → Notes t m.run (take_front_steps c.number g) run → FrontPaid t now g f c (record m { run = run }) d
 front_paid t m now same c visit_now g f page_now none some d takes run noted =
-    let visit : Visits t (visit_state m c) = subst (λ (x : KnownMachine). Visits t (visit_state x c)) (sym same) visit_now in
-    let page : HoldsPage t (visit_state m c) g = subst (λ (x : KnownMachine). HoldsPage t (visit_state x c) g) (sym same) page_now in
+    let visit : Visits t m c = subst (λ (x : KnownMachine). Visits t x c) (sym same) visit_now in
+    let page : HoldsPage t m c.number g = subst (λ (x : KnownMachine). HoldsPage t x c.number g) (sym same) page_now in
     subst (λ (x : KnownMachine). FrontPaid t x g f c (record m { run = run }) d) same (record {
       pays = front_pays t m c visit g page none some run noted f d takes;
       visit = front_visit t m c visit g page none some run noted f d takes;
@@ -226,9 +226,9 @@ front_noted t run p g n h number group later watch made saw =
     (subst (λ (k : ℕ). Watches run.watch (cpu_makes k (Consume g) Took ∷ []) watch) number saw)
 
 -- the fields after it
-pub front_sound : {N : Type 0} (t : KnownTable) (fields : Inside N) → IsSoundMachine t fields → (now : KnownMachine) → machine_of fields ≡ now → (c : KnownCpu) → Visits t (visit_state now c)
-    → (g : ℕ) → HoldsPage t (visit_state now c) g → c.fresh ≡ [] → 1 ≤ length c.list → (run : KnownRun) → Notes t (machine_of fields).run (take_front_steps c.number g) run
+pub front_sound : {N : Type 0} (t : KnownTable) (fields : Inside N) → IsSoundMachine t fields → (now : KnownMachine) → machine_of fields ≡ now → (c : KnownCpu) → Visits t now c
+    → (g : ℕ) → HoldsPage t now c.number g → c.fresh ≡ [] → 1 ≤ length c.list → (run : KnownRun) → Notes t (machine_of fields).run (take_front_steps c.number g) run
     → IsSoundMachine {N = N} t (record fields { past = run.past; watch = run.watch })
 front_sound {N} t fields ok now same c visit g page none some run noted =
-    sound_same t fields ok run (front_left t (machine_of fields) c (subst (λ (x : KnownMachine). Visits t (visit_state x c)) (sym same) visit) g
-    (subst (λ (x : KnownMachine). HoldsPage t (visit_state x c) g) (sym same) page) none some run noted)
+    sound_same t fields ok run (front_left t (machine_of fields) c (subst (λ (x : KnownMachine). Visits t x c) (sym same) visit) g
+    (subst (λ (x : KnownMachine). HoldsPage t x c.number g) (sym same) page) none some run noted)

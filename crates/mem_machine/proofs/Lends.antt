@@ -62,7 +62,7 @@ unheaded (Lent q) is = refl
 unheaded (Head unit) is = is
 unheaded (Tail g) is = refl
 
-module _ (t : KnownTable) (m : KnownMachine) (c : KnownCpu) (ok : IsConsistent t m) (visit : Visits t (visit_state m c)) (f : ℕ) (inside : f < t.frames)
+module _ (t : KnownTable) (m : KnownMachine) (c : KnownCpu) (ok : IsConsistent t m) (visit : Visits t m c) (f : ℕ) (inside : f < t.frames)
     (r : FrameState) (was : frame_state_group (frame_state_at m.frame_states f) ≡ None) (now : frame_state_group r ≡ None)
     (ph : ℕ → Phase) (phases_are : (y : ℕ) → hide_phase (ph y) ≡ phase_hidden (frame_state_at (slice_set m.frame_states f r) y))
     (part : Part) (told : told_pages part ≡ told_pages ((local_of t m).parts c.number)) (book : part.book ≡ ((local_of t m).parts c.number).book)
@@ -140,7 +140,7 @@ module _ (t : KnownTable) (m : KnownMachine) (c : KnownCpu) (ok : IsConsistent t
 abbrev lend_state : State → ℕ → ℕ → State
 lend_state s p f = fold after_made s (lend_steps p f)
 
-module _ (t : KnownTable) (m : KnownMachine) (c : KnownCpu) (ok : IsConsistent t m) (visit : Visits t (visit_state m c)) (f : ℕ) (inside : f < t.frames)
+module _ (t : KnownTable) (m : KnownMachine) (c : KnownCpu) (ok : IsConsistent t m) (visit : Visits t m c) (f : ℕ) (inside : f < t.frames)
     (free : frame_state_at m.frame_states f ≡ Free) where
   framed : is_frame (local_of t m).zone f ≡ true
   framed = ap (λ (z : Zone). is_frame z f) (zone_seen t m.run.past) ∙ lt-ltb f t.frames inside
@@ -191,7 +191,7 @@ module _ (t : KnownTable) (m : KnownMachine) (c : KnownCpu) (ok : IsConsistent t
 
 -- ---- of the machine as it was seen before
 
-module _ (t : KnownTable) (m now : KnownMachine) (same : m ≡ now) (c : KnownCpu) (visit : Visits t (visit_state now c)) (ok : IsConsistent t m) (f : ℕ) (inside : f < t.frames)
+module _ (t : KnownTable) (m now : KnownMachine) (same : m ≡ now) (c : KnownCpu) (visit : Visits t now c) (ok : IsConsistent t m) (f : ℕ) (inside : f < t.frames)
     (free_now : frame_state_at now.frame_states f ≡ Free) where
   free_here : frame_state_at m.frame_states f ≡ Free
   free_here = ap (λ (x : KnownMachine). frame_state_at x.frame_states f) same ∙ free_now
@@ -222,7 +222,7 @@ module _ (t : KnownTable) (m now : KnownMachine) (same : m ≡ now) (c : KnownCp
       ap (λ (x : ℕ). get_or before x false) index ∙ ap (λ (l : List Bool). get_or l f false) was ∙ free_at m.frame_states f below ∙ ap is_free_state free_here
 
 -- the number of a visited CPU fits a byte
-pub number_low : (t : KnownTable) (m now : KnownMachine) → m ≡ now → (c : KnownCpu) → Visits t (visit_state now c) → c.number ≤ t.cpus
+pub number_low : (t : KnownTable) (m now : KnownMachine) → m ≡ now → (c : KnownCpu) → Visits t now c → c.number ≤ t.cpus
 number_low t m now same c visit = (number_range t m c (visits_here t m now same c visit)).1
 
 -- the steps were made, and the watch took them
@@ -261,7 +261,7 @@ block_inside frame_states blocks before free k b was zero_is taken takes =
     taken_free before free frame_states b.at was (subst (λ (x : Block). TakesFrames before x free) (front_is k b blocks taken zero_is) takes)
 
 -- that frame is lent
-module _ (t : KnownTable) (m now : KnownMachine) (same : m ≡ now) (c : KnownCpu) (visit : Visits t (visit_state now c)) (ok : IsConsistent t m)
+module _ (t : KnownTable) (m now : KnownMachine) (same : m ≡ now) (c : KnownCpu) (visit : Visits t now c) (ok : IsConsistent t m)
     (before free : List Bool) (k : ℕ) (b : Block) (f : ℕ) (was : before ≡ free_of m.frame_states) (zero_is : k ≡ 0)
     (taken : IsFrontOfSmallest m.blocks k b) (takes : TakesFrames before b free) (at : f ≡ b.at) where
   block : b ≡ record { at = f; order = 0 }

@@ -17,8 +17,7 @@ use Rattle.lru_lists.specs.declared.record.LruList.TheVariants.{Inactive, Active
 use Rattle.lru_lists.specs.declared.lru.Lru.{Lru}
 use Rattle.lru_lists.specs.Queue.{link_at, is_among, units_of, list_without}
 use Rattle.lru_lists.specs.Lists.{AreLinked, AllLinked, OthersStayLinked, ChangesOwn, Touches, list_of, list_at, home_in, queue_of, entries_of, entry_of, inactive_of, active_of}
-use Rattle.lru_lists.specs.Lists.{changed_at}
-use Rattle.lru_lists.specs.Lists.{entries_without, dirtied, marked}
+use Rattle.lru_lists.specs.Lists.{changed_at, dirtied, entries_without, marked}
 use Rattle.lru_lists.specs.declared.lru.Touched.{Touched}
 use Rattle.lru_lists.specs.declared.lru.Touched.TheVariants as touch
 use Rattle.mem_machine.specs.declared.frame_state.FrameState.{FrameState}

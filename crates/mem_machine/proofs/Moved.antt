@@ -233,7 +233,7 @@ own_moved s c own part ph references list fresh back same on_list is_fresh is_ba
 
 -- ---- the visit
 
-module _ (t : KnownTable) (m : KnownMachine) (c : KnownCpu) (visit : Visits t (visit_state m c)) where
+module _ (t : KnownTable) (m : KnownMachine) (c : KnownCpu) (visit : Visits t m c) where
   -- what is known of the CPU in each step
   pub is_visited : (f : ℕ) → is_frame (local_of t m).zone f ≡ true → IsVisited (local_of t m) c.number f
   is_visited f framed = record {
@@ -304,7 +304,7 @@ module _ (t : KnownTable) (m : KnownMachine) (c : KnownCpu) (visit : Visits t (v
       noted = noted;
     }
 
-    pub visit_moved : x.hold ≡ (local_of t m).hold → HasOwn x d → d.number ≡ c.number → Visits t (visit_state n d)
+    pub visit_moved : x.hold ≡ (local_of t m).hold → HasOwn x d → d.number ≡ c.number → Visits t n d
     visit_moved hold own same = record {
       held = noted.grew.held visit.held;
       who = noted.grew.holder visit.held ∙ visit.who ∙ sym same;
@@ -336,5 +336,5 @@ pub record AllMoved (t : KnownTable) (now : KnownMachine) (c : KnownCpu) (Does :
   pub sums_are : AreBooked t.cpus (left_by t n.run.past).parts sums
   pub owners_are : AreOwners t.cpus (left_by t n.run.past).parts owners
   pub does : Does (visit_state now c) (visit_state n d)
-  pub visit : Visits t (visit_state n d)
+  pub visit : Visits t n d
   pub makes : Makes t now steps n

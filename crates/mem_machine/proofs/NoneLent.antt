@@ -32,7 +32,7 @@ unlisted true g p = refl
 unlisted false g p = refl
 
 -- the CPU that holds the lock has no frame that is lent to it, if it has no listed and no fresh frame
-pub none_lent : (t : KnownTable) (m : KnownMachine) (c : KnownCpu) → IsConsistent t m → Holds t (visit_state m c) → c.list ≡ [] → c.fresh ≡ [] → NoneLentTo c.number m.frame_states
+pub none_lent : (t : KnownTable) (m : KnownMachine) (c : KnownCpu) → IsConsistent t m → Holds t m c → c.list ≡ [] → c.fresh ≡ [] → NoneLentTo c.number m.frame_states
 none_lent t m c ok holds no_list no_fresh f is =
     let p = (cpu_past m.run.past).number in
     let u = state_of (zone_of_boot t) (cpu_past m.run.past).seen in

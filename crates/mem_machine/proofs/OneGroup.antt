@@ -54,7 +54,7 @@ read_on now g lru is f i at list home =
     ap (λ (x : ℕ × ℕ). list_of now.links x.0 x.1) (λ j. (is.owner j, at j))
     ∙ ap (λ (h : Option Home). list_at h g) home ∙ place_here g list
 
--- the first unit of a list, and the one behind another, as they are read
+-- the first unit of a list, and the one after another, as they are read
 pub oldest_is : (m now : KnownMachine) → m ≡ now → (g : ℕ) (lru : Lru) → AreRead now g lru → (list : LruList) (unit : Option Entry)
     → unit ≡ first_entry (entries_of m.links lru list) → unit ≡ first_entry (entries_in now g list)
 oldest_is m now same g lru is list unit read = read ∙ (λ j. first_entry (entries_of (same j).links (sym is.are j) list))

@@ -31,7 +31,7 @@ use Rattle.mem_machine.specs.declared.machine.Machine.TheInside.{Inside}
 use Rattle.mem_machine.specs.Booked.{AreBooked, AreOwners}
 use Rattle.mem_machine.specs.Following.{FollowsSteps}
 use Rattle.mem_machine.specs.Kept.{IsSoundMachine, machine_of}
-use Rattle.mem_machine.specs.Local.{Makes, StaysVisited, Visits, lock_holder, local_of, visit_state}
+use Rattle.mem_machine.specs.Local.{Makes, StaysVisited, Visits, lock_holder, local_of}
 use Rattle.mem_machine.specs.Machines.{KnownMachine, IsConsistent, IsShownBy, frames_charged, is_killed, left_by, pages_booked}
 use Rattle.mem_machine.specs.Noted.{KnownRun, MayTake, MayTakeAll, Notes, after_made}
 use Rattle.mem_machine.specs.Paying.{HasRoomFor, MayCharge}
@@ -90,7 +90,7 @@ module _ (t : KnownTable) (m : KnownMachine) (u : State) (ok : IsShownBy t m u) 
 
 -- ---- the steps
 
-module _ (t : KnownTable) (m : KnownMachine) (c : KnownCpu) (ok : IsConsistent t m) (facts : AreCharges m.ledger) (visit : Visits t (visit_state m c)) (none : c.fresh ≡ [])
+module _ (t : KnownTable) (m : KnownMachine) (c : KnownCpu) (ok : IsConsistent t m) (facts : AreCharges m.ledger) (visit : Visits t m c) (none : c.fresh ≡ [])
     (drained : IsDrained t m c.number) where
   shown : IsShownBy t m (hide (local_of t m))
   shown = shown_seen t m ok visit.held
@@ -207,7 +207,7 @@ module _ (t : KnownTable) (m : KnownMachine) (c : KnownCpu) (ok : IsConsistent t
         fill_makes = makes_as t m (record m { ledger = with_charge m.ledger g k; run = run }) c.number (fill_steps c.number g k) visit.held visit.who noted
             (subst (IsLocalRun c.number (local_of t m) (fill_steps c.number g k)) (sym ends) fill_leads) fill_follows refl
 
-        pub fill_visit : Visits t (visit_state (record m { ledger = with_charge m.ledger g k; run = run }) c)
+        pub fill_visit : Visits t (record m { ledger = with_charge m.ledger g k; run = run }) c
         fill_visit = stays_visited t m (record m { ledger = with_charge m.ledger g k; run = run }) (fill_steps c.number g k) noted
             (ap (λ (s : State). s.hold) ends) (λ p. subst (HasSameLists p (local_of t m)) (sym ends) (fill_lists p)) c visit
 
@@ -237,12 +237,12 @@ module _ (t : KnownTable) (m : KnownMachine) (ok : IsConsistent t m) (facts : Ar
 
 -- what is known of the machine before it
 pub record KnowsFill (t : KnownTable) (m : KnownMachine) (c : KnownCpu) (g k : ℕ) : Type 0 where
-  pub visit : Visits t (visit_state m c)
+  pub visit : Visits t m c
   pub drained : IsDrained t m c.number
   pub there : has_group m.ledger.groups g ≡ true
   pub alive : is_killed m.killed g ≡ false
 
-pub knows_fill : (t : KnownTable) (m now : KnownMachine) → m ≡ now → (c : KnownCpu) (g k : ℕ) → Visits t (visit_state now c) → MayCharge now g k → IsDrained t now c.number
+pub knows_fill : (t : KnownTable) (m now : KnownMachine) → m ≡ now → (c : KnownCpu) (g k : ℕ) → Visits t now c → MayCharge now g k → IsDrained t now c.number
     → KnowsFill t m c g k
 knows_fill t m now same c g k visit charges drained =
     subst (λ (x : KnownMachine). KnowsFill t x c g k) (sym same) (record { visit = visit; drained = drained; there = charges.there; alive = charges.alive })
@@ -293,7 +293,7 @@ module _ {N : Type 0} (t : KnownTable) (fields : Inside N) (ok : IsSoundMachine 
 pub record AllFilled (t : KnownTable) (now : KnownMachine) (c : KnownCpu) (g k : ℕ) (after : KnownMachine) : Type 0 where
   pub fills : Fills t c.number g k now after
   pub steps : Makes t now (fill_steps c.number g k) after
-  pub visit : Visits t (visit_state after c)
+  pub visit : Visits t after c
 
 pub filled_now : (t : KnownTable) (m now : KnownMachine) → m ≡ now → (c : KnownCpu) (g k : ℕ) → IsConsistent t m → AreCharges m.ledger → KnowsFill t m c g k → c.fresh ≡ []
     → room.PathHasRoom m.ledger.groups (current_of m.ledger) g k → (run : KnownRun) → Notes t m.run (fill_steps c.number g k) run → (l : Ledger) → l ≡ with_charge m.ledger g k
@@ -320,6 +320,6 @@ module _ {N : Type 0} (t : KnownTable) (fields : Inside N) (ok : IsSoundMachine 
   refused_now now was = subst (λ (x : KnownMachine × Ledger). RefusesGrant t g k over x.0 (record before { ledger = x.1; run = run })) (λ i. (was i, sym same i))
       (refused_here t before ok.consistent facts knows.visit.held g k over knows.there knows.alive low run noted)
 
-  pub refused_visits : Visits t (visit_state (machine_of {N = N} (record fields { charges = charges; past = run.past; watch = run.watch })) c)
-  refused_visits = subst (λ (l : Ledger). Visits t (visit_state (record before { ledger = l; run = run }) c)) (sym same)
+  pub refused_visits : Visits t (machine_of {N = N} (record fields { charges = charges; past = run.past; watch = run.watch })) c
+  refused_visits = subst (λ (l : Ledger). Visits t (record before { ledger = l; run = run }) c) (sym same)
       (refused_visit t before ok.consistent facts knows.visit.held g k over knows.there knows.alive low run noted c knows.visit)

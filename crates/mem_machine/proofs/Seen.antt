@@ -37,7 +37,7 @@ phase_as c part g f (Lent q) group fresh back =
 phase_as c part g f (Head unit) group fresh back = ap (λ (l : List ℕ). cond (nat_le 1 (times f l)) (phase.Head unit (BackAt c.number)) (phase.Head unit Live)) back
 phase_as c part g f (Tail h) group fresh back = refl
 
-module _ (t : KnownTable) (m : KnownMachine) (c : KnownCpu) (ok : IsConsistent t m) (holds : Holds t (visit_state m c)) where
+module _ (t : KnownTable) (m : KnownMachine) (c : KnownCpu) (ok : IsConsistent t m) (holds : Holds t m c) where
   -- what was seen, whole
   abbrev whole : State
   whole = state_of (zone_of_boot t) (cpu_past m.run.past).seen

@@ -23,7 +23,7 @@ use Rattle.mem_machine.specs.declared.frame_state.FrameState.TheVariants.{Free, 
 use Rattle.mem_machine.specs.Booked.{AreBooked, AreOwners}
 use Rattle.mem_machine.specs.FrameStates.{frame_state_at, frame_state_group, free_of, is_free_state}
 use Rattle.mem_machine.specs.Lending.{UnlistsOne}
-use Rattle.mem_machine.specs.Local.{Visits, local_of, visit_state}
+use Rattle.mem_machine.specs.Local.{Visits, local_of}
 use Rattle.mem_machine.specs.Machines.{KnownMachine, IsConsistent, left_by}
 use Rattle.mem_machine.specs.Noted.{KnownRun, MayTakeAll, Notes}
 use Rattle.mem_machine.specs.Steps.{cpu_makes, unlist_steps, zone_makes}
@@ -37,7 +37,7 @@ use Rattle.mem_machine.proofs.OwnFrames.{HasFrame}
 use Rattle.mem_machine.proofs.Records.{free_given}
 use Rattle.mem_machine.proofs.Sight.{shown_seen}
 
-module _ (t : KnownTable) (m : KnownMachine) (c : KnownCpu) (ok : IsConsistent t m) (visit : Visits t (visit_state m c)) (f : ℕ) (rest : List ℕ) (front : c.list ≡ f ∷ rest) where
+module _ (t : KnownTable) (m : KnownMachine) (c : KnownCpu) (ok : IsConsistent t m) (visit : Visits t m c) (f : ℕ) (rest : List ℕ) (front : c.list ≡ f ∷ rest) where
   mine : HasFrame (local_of t m) c.number (phase.Lent c.number OnList) f
   mine = front_here t m c visit f rest front
 
@@ -88,8 +88,8 @@ module _ (t : KnownTable) (m : KnownMachine) (c : KnownCpu) (ok : IsConsistent t
 
 -- ---- of the machine as it was seen before
 
-module _ (t : KnownTable) (m now : KnownMachine) (same : m ≡ now) (c : KnownCpu) (visit : Visits t (visit_state now c)) (ok : IsConsistent t m) where
-  here : Visits t (visit_state m c)
+module _ (t : KnownTable) (m now : KnownMachine) (same : m ≡ now) (c : KnownCpu) (visit : Visits t now c) (ok : IsConsistent t m) where
+  here : Visits t m c
   here = visits_here t m now same c visit
 
   unlist_may : (f : ℕ) (rest : List ℕ) → c.list ≡ f ∷ rest → MayTakeAll t m.run.past (unlist_steps c.number f)

@@ -12,8 +12,8 @@ use Rattle.mem_machine.specs.Local.{lock_holder, Makes}
 use Rattle.mem_machine.specs.Machines.{KnownMachine}
 use Rattle.mem_machine.specs.Interleaving.{zone_of, Shows, IsInterleaving}
 
--- for each group that exists after the run, the ledger has the peak that the group reached in the run, and the counts of
--- the events that the run noted
+-- for each group that exists after the run, the ledger has the peak that the group reached in the run, and the counts
+-- of the events that the run noted
 pub record AgreesWithRun (table : KnownTable) (run : Run) (ledger : Ledger) : Type 0 where
   pub peak : (group : ℕ) → has_group (state_of (zone_of table) run).groups group ≡ true
       → IsPeak (zone_of table) run group (peak_of ledger group)

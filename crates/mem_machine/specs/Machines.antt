@@ -171,8 +171,9 @@ abbrev pub pages_booked : ℕ → (ℕ → Part) → ℕ → ℕ
 pages_booked cpus parts group = sum_to (cpus + 1) (λ cpu. booked group (parts cpu))
 
 -- The machine's fields are what this state shows. The record of each frame is its phase. The zone has one reference on
--- each frame that is on a list, and no other. No page is pending, unreported or unabsorbed, and the pages booked to each
--- stock fit a stock word. The own charge of a group is the frames charged to it and the pages booked to its stocks.
+-- each frame that is on a list, and no other. No page is pending, unreported or unabsorbed, and the pages booked to
+-- each stock fit a stock word. The own charge of a group is the frames charged to it and the pages booked to its
+-- stocks.
 pub record IsShownBy (table : KnownTable) (machine : KnownMachine) (state : State) : Type 0 where
   pub groups : state.groups ≡ machine.ledger.groups
   pub killed : (group : ℕ) → state.killed group ≡ is_killed machine.killed group

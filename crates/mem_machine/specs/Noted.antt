@@ -20,8 +20,8 @@ pub record KnownRun : Type 0 where
 abbrev pub after_made : State → Step × Answer → State
 after_made s made = after s made.0.seat made.0.action made.1
 
--- The pasts have grown by these steps: if a CPU held the lock, it still does, and sees what the steps make of what it saw.
--- Then both pasts, the zone's and the CPU's, have these steps after what they had, in this order.
+-- The pasts have grown by these steps: if a CPU held the lock, it still does, and sees what the steps make of what it
+-- saw. Then both pasts, the zone's and the CPU's, have these steps after what they had, in this order.
 pub record PastsGrowBy (table : KnownTable) (before : KnownPasts) (steps : Run) (later : KnownPasts) : Type 0 where
   pub held : IsHeld table before → IsHeld table later
   pub holder : IsHeld table before → (cpu_past later).number ≡ (cpu_past before).number

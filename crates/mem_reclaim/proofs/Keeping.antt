@@ -10,7 +10,7 @@ use Rattle.lru_lists.specs.declared.record.Home.{Home}
 use Rattle.lru_lists.specs.Queue.{link_at}
 use Rattle.lru_lists.specs.Lists.{SameOwners, owner_of}
 use Rattle.cpu_part.specs.Cpus.{KnownCpu}
-use Rattle.mem_machine.specs.Machines.{KnownMachine, home_of, left_by, visit_state}
+use Rattle.mem_machine.specs.Machines.{KnownMachine, home_of, left_by}
 use Rattle.mem_machine.specs.Local.{Makes, Visits}
 use Rattle.boot_words.specs.Pasts.{IsHeld, local_by_pasts, own_past}
 use Rattle.mem_machine.specs.Noted.{KnownRun}
@@ -99,7 +99,7 @@ on_path_low : (b : Bool) (n pages : ℕ) → n ≤ cond b (n + pages) n
 on_path_low true n pages = omega arith
 on_path_low false n pages = omega arith
 
-module _ (t : KnownTable) (m n : KnownMachine) (f : ℕ) (visit : (c : KnownCpu) → Visits t (visit_state m c) → Visits t (visit_state n c)) (held : IsHeld t m.run.past) where
+module _ (t : KnownTable) (m n : KnownMachine) (f : ℕ) (visit : (c : KnownCpu) → Visits t m c → Visits t n c) (held : IsHeld t m.run.past) where
   keeps_missed : MissesUnit m n → Makes t m (evict_steps f None) n → Keeps t m n
   keeps_missed is runs =
       let links : n.links ≡ m.links = ap (λ (x : KnownMachine). x.links) is in

@@ -34,7 +34,7 @@ abbrev pub MissedOrLeft : KnownMachine → ℕ → LruList → KnownMachine → 
 MissedOrLeft m g list now todo = (f : ℕ) → home_of now.links f ≡ Some (record { owner = g; list = list }) → (link_at now.links f).is_dirty ≡ false
     → (has_unit f todo ≡ true) ⊎ (misses_of m f < misses_of now f)
 
--- Some units stayed, some are still to be met, and some moved behind them
+-- Some units stayed, some are still to be met, and some moved after them
 pub record ScanSoFar (t : KnownTable) (spares_marked : Bool) (g : ℕ) (list : LruList) (want : ℕ) (m : KnownMachine) (i freed : ℕ) (next : Option Entry)
     (now : KnownMachine) : Type 0 where
   pub stayed : List Entry

@@ -168,8 +168,7 @@ pub fn kill<N: BootName>(
     ensures drained { IfSome result (λ killed.
         All (λ g. AreOwnDrained N.frames g machine.new) (kill_set machine.old killed)) }
     ensures stocks { OnlyDrains N.frames machine.old machine.new }
-    ensures none_kept { IfSome result (λ killed.
-        All (λ g. HasNoKeptUnit g machine.new) (kill_set machine.old killed)) }
+    ensures none_kept { IfSome result (λ killed. All (λ g. HasNoKeptUnit g machine.new) (kill_set machine.old killed)) }
     ensures keeps { OnlyReleases N.frames machine.old machine.new }
 {
     let victim = victim(machine, group)?;

@@ -19,7 +19,7 @@ use Rattle.mem_machine.specs.Steps.{open_steps, shut_steps}
 use Rattle.mem_reclaim.specs.Moves.{has_kill, kills_in}
 use Rattle.mem_reclaim.proofs.KillSets.{kills_both, quiet_kills}
 use Rattle.mem_machine.specs.Transitions.{Transition, transition}
-use Rattle.mem_system.specs.declared.command.Reply.TheVariants as reply
+use Rattle.mem_system.specs.declared.command.ReplyWithText.TheVariants as reply
 use Rattle.mem_system.specs.CommandLaws.{EndsLeaveEmptyWords, OnlyCommandsKill, OnlyReclaimFallsShort, ReleasesCutLists}
 use Rattle.mem_system.specs.Commands.{ListStaysWithin}
 use Rattle.mem_system.specs.Releases.{ListsFrame, ReturnsFrames}

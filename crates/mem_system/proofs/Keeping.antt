@@ -7,7 +7,7 @@ use Rattle.group_tree.specs.Groups.{has_group, has_child}
 use Rattle.group_charge.specs.Charges.{current_of}
 use Rattle.cpu_part.specs.Cpus.{KnownCpu}
 use Rattle.mem_machine.specs.Machines.{KnownMachine, with_run}
-use Rattle.mem_machine.specs.Local.{KeepsVisit, Makes, Visits, visit_state}
+use Rattle.mem_machine.specs.Local.{KeepsVisit, Makes, Visits}
 use Rattle.mem_machine.specs.Steps.{drain_stocks_steps, set_max_steps}
 use Rattle.mem_machine.specs.Stocks.{AreDrained, DrainsSubtree, of_subtree}
 use Rattle.mem_machine.specs.Transitions.{BySteps, transition}
@@ -24,7 +24,7 @@ use Rattle.mem_system.specs.Files.{SetsLimit, with_limit_of}
 use Rattle.mem_system.proofs.Found.{found_there}
 
 -- a call on the machine alone keeps the visit if the CPU is visited after it
-pub keeps_visit : (t : KnownTable) (m n : KnownMachine) (c : KnownCpu) → Visits t (visit_state n c) → KeepsVisit t (visit_state m c) (visit_state n c)
+pub keeps_visit : (t : KnownTable) (m n : KnownMachine) (c : KnownCpu) → Visits t n c → KeepsVisit t c n c
 keeps_visit t m n c v = record { visit = v; number = refl; back = refl }
 
 -- ---- a usage that is lowered

@@ -1,4 +1,4 @@
--- No kill of a command comes before everything else was tried. Serves `serve`.
+-- No kill of a command comes before everything else was tried. Serves `serve_outcome`.
 use Rattle.std.proofs.Common.{◌≡◌, ℕ, ◌+◌, ◌≤◌, ◌^◌, Bool, true, false, Option, Some, None, List, [], ◌∷◌, ◌++◌, refl, sym, ap, ◌∙◌, subst, inl, inr, arith}
 use Rattle.std.specs.Prelude.{Result, Ok, Err, nat_le}
 use Rattle.std.specs.List.{flat_map}
@@ -34,10 +34,10 @@ use Rattle.mem_alloc.specs.NoRash.{NoRashKill}
 use Rattle.mem_alloc.proofs.Calm.{back_calm}
 use Rattle.mem_alloc.proofs.NoRash.{Passes, RashFree, drained_on, keeps_pass, missed_since, passes_both, passes_same, rash_both, rash_quiet, tame_kills}
 use Rattle.mem_alloc.proofs.NoRashAllocs.{block_no_rash, frame_no_rash, no_kill_both}
-use Rattle.mem_system.specs.declared.command.Cmd.{Cmd}
-use Rattle.mem_system.specs.declared.command.Cmd.TheVariants.{Mkdir, Rmdir, Write, Read, Settle, Owner, Release, Alloc}
-use Rattle.mem_system.specs.declared.command.Reply.{Reply}
-use Rattle.mem_system.specs.declared.command.Reply.TheVariants as reply
+use Rattle.mem_system.specs.declared.command.LockedCommand.{LockedCommand}
+use Rattle.mem_system.specs.declared.command.LockedCommand.TheVariants.{Mkdir, Rmdir, Write, Read, Settle, Owner, Release, Alloc}
+use Rattle.mem_system.specs.declared.command.ReplyWithText.{ReplyWithText}
+use Rattle.mem_system.specs.declared.command.ReplyWithText.TheVariants as reply
 use Rattle.mem_system.specs.Groups.{MakesGroup, Removes}
 use Rattle.mem_system.specs.Files.{IsFileOf, IsLimitFor, SetsFile, SetsLimit, Writes, with_high_of, with_limit_of}
 use Rattle.mem_system.specs.Usage.{LowersUsage, LowersAbove, LowersByKills, LowersToHigh, KeepsToLimit, with_high_told}
@@ -49,7 +49,7 @@ use Rattle.mem_system.proofs.Found.{found_there}
 
 -- ---- commands that kill nobody
 
-makes_quiet : (path : List ℕ) (said : Reply) (call : Transition KnownMachine) → MakesGroup path said call → has_kill call.steps ≡ false
+makes_quiet : (path : List ℕ) (said : ReplyWithText) (call : Transition KnownMachine) → MakesGroup path said call → has_kill call.steps ≡ false
 makes_quiet path (reply.Group n) call h = ap has_kill h.steps_are
 makes_quiet path (reply.Refused fault) call h = ap has_kill h.1.steps_are
 makes_quiet path other call h = absurd h
@@ -66,7 +66,7 @@ high_quiet g (Some high) call h = elim (cases_lt high (current_of call.before.le
   | inr within ↦ ap has_kill (h.within within).steps_are
 ]
 
-removes_quiet : (path : List ℕ) (said : Reply) (call : Transition KnownMachine) → Removes path said call → has_kill call.steps ≡ false
+removes_quiet : (path : List ℕ) (said : ReplyWithText) (call : Transition KnownMachine) → Removes path said call → has_kill call.steps ≡ false
 removes_quiet path reply.Done call h =
     ap has_kill h.steps_are
     ∙ no_kill_both h.lowering (remove_steps h.group) (lowers_quiet h.group 0 (transition call.table call.before h.lowering h.emptied) h.lowers) refl
@@ -90,7 +90,7 @@ returns_quiet sizes f call h =
     ] in
     ap has_kill h.steps_are ∙ no_kill_both (release_steps f released.Returned) h.listing refl listed
 
-releases_quiet : (sizes : Config) (f : ℕ) (said : Reply) (call : Transition VisitState) → ReleasesFrame sizes f said call → has_kill call.steps ≡ false
+releases_quiet : (sizes : Config) (f : ℕ) (said : ReplyWithText) (call : Transition VisitState) → ReleasesFrame sizes f said call → has_kill call.steps ≡ false
 releases_quiet sizes f (reply.Left left) call h = ap has_kill h.steps_are
 releases_quiet sizes f reply.Returned call h = returns_quiet sizes f call h
 releases_quiet sizes f (reply.Refused fault.NotKept) call h = ap has_kill h.does.stays.steps_are
@@ -172,7 +172,7 @@ module _ (t : KnownTable) (MayAsk : List Group → ℕ → ℕ → Type 0) (s : 
     set_no_rash g Reclaim steps n is h = quiet steps (ap has_kill h.steps_are ∙ h.reclaims.moves.no_kill)
     set_no_rash g file steps n is h = absurd h
 
-    writes_no_rash : (said : Reply) (steps : Run) (n : KnownMachine) → Writes path name value said (transition t s steps n) → NoRashKill t MayAsk s steps
+    writes_no_rash : (said : ReplyWithText) (steps : Run) (n : KnownMachine) → Writes path name value said (transition t s steps n) → NoRashKill t MayAsk s steps
     writes_no_rash reply.Done steps n h = set_no_rash h.group h.file steps n h.is_file h.sets
     writes_no_rash (reply.Refused fault) steps n h = elim h [
       | inl r ↦ quiet steps (ap has_kill r.1.steps_are)
@@ -196,7 +196,7 @@ module _ (t : KnownTable) (MayAsk : List Group → ℕ → ℕ → Type 0) (s : 
           block_no_rash t MayAsk s c held h.group order (λ over below few. asks h.group over h.found below few) answer steps n (h.allocates.block block)
     ]
 
-    allocates_no_rash : (said : Reply) (steps : Run) (n : VisitState) → Allocates sizes path order said (transition t (visit_state s c) steps n)
+    allocates_no_rash : (said : ReplyWithText) (steps : Run) (n : VisitState) → Allocates sizes path order said (transition t (visit_state s c) steps n)
         → NoRashKill t MayAsk s steps
     allocates_no_rash (reply.Frame f) steps n h = allocates_for (Ok f) steps n h
     allocates_no_rash (reply.OverLimit g text) steps n h = allocates_for (Err (Over g)) steps n h.0
@@ -209,7 +209,7 @@ module _ (t : KnownTable) (MayAsk : List Group → ℕ → ℕ → Type 0) (s : 
 -- ---- all commands
 
 module _ (t : KnownTable) (sizes : Config) (s : KnownMachine) (c : KnownCpu) (held : IsHeld t s.run.past) where
-  pub obeys_no_rash : (cmd : Cmd) (said : Reply) (steps : Run) (n : VisitState) → Executes sizes cmd said (transition t (visit_state s c) steps n)
+  pub obeys_no_rash : (cmd : LockedCommand) (said : ReplyWithText) (steps : Run) (n : VisitState) → Executes sizes cmd said (transition t (visit_state s c) steps n)
       → NoRashKill t (MayAskFor cmd s.ledger.groups) s steps
   obeys_no_rash (Mkdir path) said steps n h =
       quiet t (MayAskFor (Mkdir path) s.ledger.groups) s held steps (makes_quiet path.now said (transition t s steps n.machine) h.does)

@@ -7,7 +7,7 @@ use Rattle.mem_machine.specs.Machines.{KnownMachine}
 use Rattle.mem_machine.specs.Local.{Makes}
 use Rattle.mem_machine.specs.Transitions.{BySteps, transition}
 use Rattle.mem_machine.proofs.Followed.{makes_none}
-use Rattle.mem_system.specs.declared.command.Reply.TheVariants.{Refused}
+use Rattle.mem_system.specs.declared.command.ReplyWithText.TheVariants.{Refused}
 use Rattle.mem_system.specs.Files.{HasNoFile, Writes}
 use Rattle.mem_system.specs.Groups.{Removes}
 use Rattle.mem_system.specs.Leaves.{HasNoLeaf}

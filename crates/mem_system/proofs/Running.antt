@@ -1,4 +1,4 @@
--- How the pasts of the zone and of a CPU go through visits. Serves `serve` and the visits at the end of a system.
+-- How the pasts of the zone and of a CPU go through visits. Serves `serve_outcome` and the visits at the end of a system.
 use Rattle.std.proofs.Common.{◌≡◌, ℕ, List, [], ◌∷◌, ◌++◌, Some, length, refl, sym, ap, ◌∙◌, subst, inr, append_assoc}
 use Rattle.std.specs.Prelude.{◌⊎◌, slice_get, slice_set}
 use Rattle.frame_word.specs.Seats.{KnownTable}
@@ -69,7 +69,7 @@ visit_under_lock_gains t Does m c n d v zone =
     visit_gains (own_past m.run.past) (own_past c.past) (between_locks p steps) (own_past n.run.past) (own_past d.past) v.run.zone_grew v.run.cpu_grew zone
     (λ other some ne. of_two_seats p (between_locks p steps) (inr refl, locked_of_two p a steps b leads) other some (λ is. ne (is ∙ sym v.run.number)))
 
--- the first past behind others, and what stands there when it is another
+-- the first past after others, and what stands there when it is another
 at_front : (before : List Past) (p : Past) (rest : List Past) → slice_get (before ++ p ∷ rest) (length before) ≡ Some p
 at_front [] p rest = refl
 at_front (x ∷ before) p rest = at_front before p rest

@@ -16,8 +16,8 @@ use Rattle.mem_reclaim.specs.Moves.{FreesBySteps}
 use Rattle.mem_reclaim.specs.Rounds.{ReclaimsAmount}
 use Rattle.mem_reclaim.specs.Staying.{Keeps, MissedAll}
 use Rattle.mem_machine.specs.Transitions.{BySteps, Transition, transition}
-use Rattle.mem_system.specs.declared.command.Reply.{Reply}
-use Rattle.mem_system.specs.declared.command.Reply.TheVariants.{Done, Refused}
+use Rattle.mem_system.specs.declared.command.ReplyWithText.{ReplyWithText}
+use Rattle.mem_system.specs.declared.command.ReplyWithText.TheVariants.{Done, Refused}
 use Rattle.mem_system.specs.Files.{IsFileOf, RefusesValue, Writes, WritesTo, with_high_of}
 use Rattle.mem_system.specs.Usage.{LowersToHigh}
 
@@ -73,14 +73,14 @@ refused_at t path name value g file fault m is why = record {
 
 -- what a write to the file does, by its path and its name
 written_by : (t : KnownTable) (path name value : List ℕ) (g : ℕ) (file : File) (call : Transition KnownMachine)
-    → IsFileOf call.before.ledger.groups path name g file → (reply : Reply) → WritesTo file value g reply call → Writes path name value reply call
+    → IsFileOf call.before.ledger.groups path name g file → (reply : ReplyWithText) → WritesTo file value g reply call → Writes path name value reply call
 written_by t path name value g file call is Done sets = record { group = g; file = file; is_file = is; sets = sets }
 written_by t path name value g file call is (Refused fault) (inl refused) =
     inl (inr (record { group = g; file = file; is_file = is; refuses = refused.0 }), refused.1)
 written_by t path name value g file call is (Refused fault) (inr short) = inr (record { group = g; file = file; is_file = is; falls = short })
 written_by t path name value g file call is other none = absurd none
 
-pub written_at : (t : KnownTable) (path name value : List ℕ) (g : ℕ) (file : File) (m n : KnownMachine) (reply : Reply)
+pub written_at : (t : KnownTable) (path name value : List ℕ) (g : ℕ) (file : File) (m n : KnownMachine) (reply : ReplyWithText)
     → IsFileOf m.ledger.groups path name g file → BySteps Makes t (WritesTo file value g reply) m n
     → BySteps Makes t (Writes path name value reply) m n
 written_at t path name value g file m n reply is made = record {

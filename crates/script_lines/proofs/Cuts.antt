@@ -46,7 +46,7 @@ is_cut text end more none here =
     = rw (← next) (ap (λ t. take end text ++ t) (sym space) ∙ take-append-drop end text) in
     (more, record { parts = sym parts; no_space = none })
 
--- and the slice behind that place is the rest
+-- and the slice after that place is the rest
 pub cut_slice : (text : List ℕ) (end : ℕ) → IsCutAt text end
     → IsCut text (take end text) (take (length text - (end + 1)) (drop (end + 1) text))
 cut_slice text end is = rw (take_rest text (end + 1)) is.1

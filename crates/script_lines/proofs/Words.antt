@@ -19,7 +19,7 @@ word_no_space text end is k d h = (is.bytes k d h).0
 pub word_bytes : (text : List ℕ) (end : ℕ) → IsWordEnd text end → AreBytes (take end text)
 word_bytes text end is k d h = (is.bytes k d h).1
 
--- a text is cut behind its first word
+-- a text is cut after its first word
 pub word_cut : (text : List ℕ) (end : ℕ) → IsWordEnd text end → end < length text
     → IsCut text (take end text) (take (length text - (end + 1)) (drop (end + 1) text))
 word_cut text end is more = cut_at text end more (word_no_space text end is) (is.stop more)

@@ -52,7 +52,7 @@ no_line sizes had_go text asks none good = elim (good.says asks) [
 
 -- ---- a beginning of a word, a space and a rest
 
--- the first text ends in the word, or behind the space
+-- the first text ends in the word, or after the space
 abbrev IsFrontOf : (front rest word t : List ℕ) → Type 0
 IsFrontOf front rest word t =
     ((x : List ℕ) × (word ≡ front ++ x) × (rest ≡ x ++ 32 ∷ t)) ⊎ ((y : List ℕ) × (front ≡ word ++ 32 ∷ y) × (t ≡ y ++ rest))
@@ -85,7 +85,7 @@ graphic_left front rest is k d h =
     let long = length-append front rest in
     subst (λ (b : ℕ). (32 < b) × (b < 127)) (get_or_append_left front rest d k h) (is.graphic k d (omega arith))
 
--- a beginning of a path is one with a slash behind it
+-- a beginning of a path is one with a slash after it
 path_more : (front rest : List ℕ) → IsPathText (front ++ rest) → IsPathText (front ++ 47 ∷ [])
 path_more front rest is = record {
   some = let long = length-append front (47 ∷ []) in omega arith;
@@ -103,7 +103,7 @@ value_left front rest =
     let same = ap (digits_value 10) (take-append_seam front rest) in
     omega arith
 
--- a beginning of a number is one itself, or with a 0 behind it
+-- a beginning of a number is one itself, or with a 0 after it
 number_more : (front rest : List ℕ) (n : ℕ) → WritesNumber (front ++ rest) n
     → (m : ℕ) × (m ≤ n) × (WritesNumber (front ++ []) m ⊎ WritesNumber (front ++ 48 ∷ []) m)
 number_more [] rest n is = (0, omega arith, inr nought)

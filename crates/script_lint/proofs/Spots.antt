@@ -16,7 +16,7 @@ use Rattle.script_lint.specs.declared.finding.Cause.TheVariants.{NumberOutOfRang
 use Rattle.script_lint.specs.declared.finding.Cause.TheVariants.{InputTooLong, LineTooLong, SecondGo}
 use Rattle.script_lint.specs.declared.finding.Spot.{Spot}
 
--- what goes on behind more of a text goes on behind less of it
+-- what goes on after more of a text goes on after less of it
 goes_on_sooner : (Form : List ℕ → Type 0) (text : List ℕ) (m n : ℕ) → m ≤ n → GoesOn Form (take n text) → GoesOn Form (take m text)
 goes_on_sooner Form text m n le on =
     let front : take m (take n text) ≡ take m text = take-take m n text le in

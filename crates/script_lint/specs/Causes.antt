@@ -44,7 +44,7 @@ abbrev pub until_space : List ℕ → List ℕ
 until_space [] = []
 until_space (b ∷ bs) = if b == 32 then [] else b ∷ until_space bs
 
--- the word behind so many spaces
+-- the word after so many spaces
 abbrev pub word_behind : ℕ → List ℕ → List ℕ
 word_behind zero text = until_space text
 word_behind (suc n) text = word_behind n (after_space text)
@@ -121,7 +121,7 @@ is_unknown_command text place =
     && (not (is_gap (byte_at text place))
     || ((byte_at text place == 32 || byte_at text place == 10) && not (is_known (after_space (take place text)))))
 
--- a space, and a word before and behind it
+-- a space, and a word before and after it
 abbrev pub is_between_words : List ℕ → ℕ → Bool
 is_between_words text place =
     (byte_at text place == 32) && not (is_gap (byte_before text place)) && not (is_gap (byte_at text (place + 1)))

@@ -6,7 +6,7 @@ use Rattle.script_lines.specs.declared.verb.Form.TheVariants.{Alone, Path, PathF
 use Rattle.script_lines.specs.declared.verb.Form.TheVariants.{Frame}
 use Rattle.script_lines.specs.declared.verb.Verb.{Verb}
 
--- the words behind the name of a command of this form
+-- the words after the name of a command of this form
 abbrev pub words_text : Form → List ℕ
 words_text Alone = codes ""
 words_text Path = codes " PATH"
@@ -16,7 +16,7 @@ words_text PathOrder = codes " PATH ORDER"
 words_text Group = codes " GROUP"
 words_text Frame = codes " FRAME"
 
--- the form of this command behind the CPU's number; of a line, if there is no command
+-- the form of this command after the CPU's number; of a line, if there is no command
 abbrev pub form_text_of : Option Verb → List ℕ
 form_text_of None = codes "a line is P COMMAND or go"
 form_text_of (Some verb) = name_of_verb verb ++ words_text (form_of_verb verb)

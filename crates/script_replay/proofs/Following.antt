@@ -34,8 +34,8 @@ use Rattle.mem_history.specs.Leading.{IsPart, put_answer}
 use Rattle.mem_history.proofs.Wholes.{lines_follow, parts_after, the_same_is_shown}
 use Rattle.mem_history.proofs.Fast.{fast_lines_follow}
 use Rattle.mem_history.proofs.Leading.{fast_calls_lead}
-use Rattle.mem_system.specs.declared.command.Cmd.{Cmd}
-use Rattle.mem_system.specs.declared.command.Reply.{Reply}
+use Rattle.mem_system.specs.declared.command.LockedCommand.{LockedCommand}
+use Rattle.mem_system.specs.declared.command.ReplyWithText.{ReplyWithText}
 use Rattle.mem_system.specs.Cpus.{CpuInRun, seat_of}
 use Rattle.mem_system.specs.Locked.{KnownLocked}
 use Rattle.mem_system.specs.Visits.{transition, LockedState, locked_state, IsServed}
@@ -132,7 +132,7 @@ module _ (t : KnownTable) (run : Run) (locked : KnownLocked) (cpus : List KnownC
 
   -- served under the lock, by a CPU with this part, which found behind the lock what the run shows
   served_follows : (seen : CpuInRun) → seen.part ≡ c.part → (found : KnownLocked) → left_by t found.machine.run.past ≡ left_by t m.run.past
-      → found.machine.ledger ≡ m.ledger → (cmd : Cmd) (reply : Reply) (after : LockedState) → (is : IsServed t cmd reply (locked_state found seen) after)
+      → found.machine.ledger ≡ m.ledger → (cmd : LockedCommand) (reply : ReplyWithText) (after : LockedState) → (is : IsServed t cmd reply (locked_state found seen) after)
       → IsLegalOn (under_lock seen.part.number is.steps) → Follows (under_lock seen.part.number is.steps) after
   served_follows seen same found left ledger cmd reply after is legal =
       let n = after.locked.machine in

@@ -17,7 +17,7 @@ use Rattle.script_lines.specs.declared.line.Line.TheVariants.{Go, At}
 use Rattle.script_replay.specs.Answers.{AddsText, ServesCommand}
 use Rattle.script_replay.specs.Lines.{SystemState, system_state, ServesLine, ServesAll, StopsAt, number_in_script}
 use Rattle.script_replay.specs.History.{StopsFor}
-use Rattle.script_replay.specs.declared.owned_replay.Stopped.TheVariants.{NotLegal}
+use Rattle.script_replay.specs.declared.replays.Stopped.TheVariants.{NotLegal}
 use Rattle.script_replay.specs.Ranges.{LineInRange}
 use Rattle.script_replay.specs.declared.form.Form.{Form}
 use Rattle.script_replay.specs.Numbers.{numbered_text, text_with_number}

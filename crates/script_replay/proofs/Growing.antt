@@ -1,4 +1,4 @@
--- How pasts grow by steps and by what others did. Serves `visit_answers`, `own_lines`, and the looks at all pasts.
+-- How pasts grow by steps and by what others did. Serves `visits`, `cpu_lines`, and the looks at all pasts.
 use Rattle.std.proofs.Common.{◌≡◌, ◌∙◌, ℕ, true, [], ◌∷◌, ◌++◌, append_assoc, append-nil, ap, refl, subst, sym}
 use Rattle.boot_words.specs.declared.past.Past.{Past}
 use Rattle.boot_words.specs.Growth.{GrewByAll, SeesMore, changes_nothing}

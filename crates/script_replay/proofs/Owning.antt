@@ -10,7 +10,7 @@ use Rattle.script_lines.specs.declared.line.Line.{Line}
 use Rattle.script_lines.specs.declared.line.Line.TheVariants.{Go, At}
 use Rattle.script_replay.specs.Numbers.{SaysNumbered}
 use Rattle.script_replay.specs.Ranges.{LineInRange}
-use Rattle.script_replay.specs.Own.{LineCommandInRange, ServesOwn, ServesOwnBySteps, ServesOwnLine, TellsCommand, ToldCpu, told_cpu, worker}
+use Rattle.script_replay.specs.CpuLines.{LineCommandInRange, ServesOwn, ServesOwnBySteps, ServesOwnLine, TellsCommand, ToldCpu, told_cpu, worker}
 use Rattle.script_replay.proofs.InOrder.{in_order_end, in_order_line}
 use Rattle.script_replay.proofs.Growing.{all_grew, grew_both}
 

@@ -1,4 +1,4 @@
--- What a command says as a value. Serves `value_calls`.
+-- What a command says as a value. Serves `calls`.
 use Rattle.std.proofs.Common.{◌≡◌, ◌-◌, ℕ, false, Some, List, [], append-nil, arith, get_or, refl, sym}
 use Rattle.std.specs.Prelude.{length, slice_set}
 use Rattle.std.specs.List.{slice_get}

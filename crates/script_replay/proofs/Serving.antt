@@ -26,7 +26,7 @@ use Rattle.script_replay.specs.declared.answer_value.AnswerValue.{AnswerValue}
 use Rattle.script_replay.specs.declared.answer_value.AnswerValue.TheVariants as value
 use Rattle.script_replay.specs.Answers.{AddsText, AnswersAlone, AnswersLocked, Gains, OnlySaw, AnswersCommand, AnswersUnlocked, IsAnswerText, IsSettledText, IsTriedInVain, NeedsLock}
 use Rattle.script_replay.specs.Answers.{OnlyWatched, ServesAnswer, ServesUnderLock, TakesNoLock, explanation_if, is_noted, steps_alone}
-use Rattle.script_replay.specs.Commands.{OnlySettles, cmd_of, frame_path, head_named, is_tried, path_removed}
+use Rattle.script_replay.specs.Commands.{OnlySettles, locked_command_of, frame_path, head_named, is_tried, path_removed}
 use Rattle.script_replay.specs.Reasons.{borrower_of, fault_in, refusal_reason_text, reasoned_text}
 use Rattle.script_replay.specs.Terms.{Terms}
 use Rattle.script_replay.specs.ValueAnswers.{answer_of}
@@ -83,7 +83,7 @@ none_got n g NoStock before after none gains = gains
 none_got n g (Got f) before after none gains = absurd (none f refl)
 
 -- a command that isn't one under the lock, and needs the lock, only settles its CPU
-pub only_settles : (command : Command) (c d : CpuInRun) → cmd_of command ≡ None → NeedsLock command c d → OnlySettles command
+pub only_settles : (command : Command) (c d : CpuInRun) → locked_command_of command ≡ None → NeedsLock command c d → OnlySettles command
 only_settles (Fast group) c d none is = absurd is
 only_settles (Get frame) c d none is = absurd is
 only_settles (Put frame) c d none is = absurd is

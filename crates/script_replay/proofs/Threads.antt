@@ -5,8 +5,8 @@ use Rattle.mem_system.specs.Boots.{KnownSystem}
 use Rattle.mem_system.specs.Cpus.{CpuInRun}
 use Rattle.step_rules.specs.After.{Run}
 use Rattle.script_lines.specs.declared.line.Line.{Line}
-use Rattle.script_replay.specs.Own.{KnownWorker, ServesOwn, worker}
-use Rattle.script_replay.specs.Each.{AreAllAnswers, heading, workers_from}
+use Rattle.script_replay.specs.CpuLines.{KnownWorker, ServesOwn, worker}
+use Rattle.script_replay.specs.Threads.{AreAllAnswers, heading, workers_from}
 
 -- the workers of two slices
 pub workers_both : (p : ℕ) (front back : List CpuInRun) (lines : List Line) (numbered : Bool)

@@ -16,8 +16,8 @@ use Rattle.step_rules.specs.declared.step.Action.TheVariants.{Lock, Unlock}
 use Rattle.step_rules.specs.declared.step.Answer.TheVariants as step_answer
 use Rattle.mem_machine.specs.Steps.{cpu_makes}
 use Rattle.mem_history.specs.Whole.{under_lock}
-use Rattle.mem_system.specs.declared.command.Cmd.{Cmd}
-use Rattle.mem_system.specs.declared.command.Reply.{Reply}
+use Rattle.mem_system.specs.declared.command.LockedCommand.{LockedCommand}
+use Rattle.mem_system.specs.declared.command.ReplyWithText.{ReplyWithText}
 use Rattle.mem_system.specs.Cpus.{CpuInRun}
 use Rattle.mem_system.specs.Locked.{KnownLocked}
 use Rattle.mem_system.specs.Visits.{IsServed, locked_state}
@@ -50,7 +50,7 @@ module _ (t : KnownTable) (is_explained : Bool) (command : Command) (before foun
     (in_run : (own_past c.past).number ≡ c.part.number) (zone : (own_past before.machine.run.past).number ≡ 0)
     (lock : OnlyWatched (cpu_makes number Lock step_answer.Done ∷ []) (locked_with_unit_notes before is_explained) found) (unlock : OnlyWatched (cpu_makes number Unlock step_answer.Done ∷ []) left after) where
   -- the zone's past and the CPU's gained the steps, which the watch took
-  visit_made : (asked : Cmd) (reply : Reply) → (served : IsServed t asked reply (locked_state found c) (locked_state left d))
+  visit_made : (asked : LockedCommand) (reply : ReplyWithText) → (served : IsServed t asked reply (locked_state found c) (locked_state left d))
       → Gains (under_lock c.part.number served.steps) (locked_state before c) (locked_state after d)
   visit_made asked reply served =
       let p = c.part.number in

@@ -31,9 +31,9 @@ use Rattle.mem_machine.specs.Noted.{KnownRun}
 use Rattle.mem_machine.specs.Steps.{cpu_makes}
 use Rattle.mem_history.specs.Whole.{under_lock}
 use Rattle.mem_history.specs.Leading.{put_answer}
-use Rattle.mem_system.specs.declared.command.Cmd.{Cmd}
-use Rattle.mem_system.specs.declared.command.Cmd.TheVariants as cmd
-use Rattle.mem_system.specs.declared.command.Reply.{Reply}
+use Rattle.mem_system.specs.declared.command.LockedCommand.{LockedCommand}
+use Rattle.mem_system.specs.declared.command.LockedCommand.TheVariants as cmd
+use Rattle.mem_system.specs.declared.command.ReplyWithText.{ReplyWithText}
 use Rattle.mem_system.specs.Cpus.{CpuInRun}
 use Rattle.mem_system.specs.Locked.{KnownLocked}
 use Rattle.mem_system.specs.Shown.{UnitsAt}
@@ -46,7 +46,7 @@ use Rattle.reply_texts.specs.declared.steps.UnlockedAnswer.TheVariants as unlock
 use Rattle.script_lines.specs.declared.line.Command.{Command}
 use Rattle.script_lines.specs.declared.line.Command.TheVariants.{Alloc, Fast, Release, Get, Put, Settle}
 use Rattle.script_lines.specs.declared.line.Command.TheVariants.{Blocks, Show, Stock, Units}
-use Rattle.script_replay.specs.Commands.{OnlySettles, cmd_of, head_named, path_removed}
+use Rattle.script_replay.specs.Commands.{OnlySettles, locked_command_of, head_named, path_removed}
 use Rattle.script_replay.specs.Reasons.{borrower_of, reasoned_text}
 use Rattle.script_replay.specs.Terms.{Terms}
 
@@ -207,17 +207,18 @@ AnswersUnlocked command call answer =
 
 -- ---- under the lock
 
--- what a command is answered that is served under the lock: the reply to its `Cmd`, or that its CPU was only settled
-abbrev pub IsAnswerOf : Command → (asked : Cmd) (reply : Reply) → LineAnswer → Type 0
-IsAnswerOf command asked reply (answer.Served said) = (cmd_of command ≡ Some asked) × (said ≡ reply)
+-- what a command is answered that is served under the lock: the reply to its `LockedCommand`, or that its CPU was only
+-- settled
+abbrev pub IsAnswerOf : Command → (asked : LockedCommand) (reply : ReplyWithText) → LineAnswer → Type 0
+IsAnswerOf command asked reply (answer.Served said) = (locked_command_of command ≡ Some asked) × (said ≡ reply)
 IsAnswerOf command asked reply answer.Settled = OnlySettles command × (asked ≡ cmd.Settle)
 IsAnswerOf command asked reply (answer.Unlocked said) = ⊥
 
 -- the command was served under the lock with this answer
 pub record AnswersLocked (table : KnownTable) (command : Command) (answer : LineAnswer) (before after : LockedState)
     : Type 0 where
-  pub asked : Cmd
-  pub reply : Reply
+  pub asked : LockedCommand
+  pub reply : ReplyWithText
   pub is_answer : IsAnswerOf command asked reply answer
   pub served : IsServed table asked reply before after
 
@@ -252,8 +253,8 @@ IsTriedInVain (Alloc path zero) before seen = GetsNoneFast path.now before seen
 IsTriedInVain command before seen = NeedsLock command before.cpu seen
 
 -- the command was tried in vain without the lock, which left `seen`, and then served under it
-pub record RepliesServed (is_explained : Bool) (command : Command) (reply : Reply) (call : Transition LockedState)
-    : Type 0 where
+pub record RepliesServed (is_explained : Bool) (command : Command) (reply : ReplyWithText)
+    (call : Transition LockedState) : Type 0 where
   pub seen : LockedState
   pub tried : IsTriedInVain command call.before seen.cpu
   pub only_saw : OnlySaw call.table [] call.before.locked seen.locked

@@ -13,8 +13,8 @@ use Rattle.mem_system.specs.Cpus.{parts_of}
 use Rattle.mem_system.specs.Visits.{transition}
 use Rattle.script_lines.specs.declared.line.Line.{Line}
 use Rattle.script_lines.specs.declared.line.Line.TheVariants.{Go}
-use Rattle.script_replay.specs.declared.owned_replay.Stopped.{Stopped}
-use Rattle.script_replay.specs.declared.owned_replay.Stopped.TheVariants.{NoMemory, NotLegal}
+use Rattle.script_replay.specs.declared.replays.Stopped.{Stopped}
+use Rattle.script_replay.specs.declared.replays.Stopped.TheVariants.{NoMemory, NotLegal}
 use Rattle.script_replay.specs.Lines.{SystemState, RunGoesOn, ServesAll, ServesLine, StopsAt, WritesLineOnTerms}
 use Rattle.script_replay.specs.Lines.{number_in_script, steps_of_served}
 use Rattle.script_replay.specs.Terms.{Terms}

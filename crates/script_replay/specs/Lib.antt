@@ -8,6 +8,6 @@ pub mod Reasons
 pub mod Terms
 pub mod ValueAnswers
 pub mod Visits
-pub mod Each
-pub mod Own
+pub mod Threads
+pub mod CpuLines
 pub mod Runs

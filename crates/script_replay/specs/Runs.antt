@@ -6,7 +6,7 @@ use Rattle.script_lines.specs.declared.line.Line.{Line}
 use Rattle.script_lines.specs.declared.line.Line.TheVariants.{Go, At}
 use Rattle.mem_system.specs.Boots.{KnownSystem}
 use Rattle.script_replay.specs.Visits.{VisitsAll}
-use Rattle.script_replay.specs.Each.{AreAllAnswers, workers_from}
+use Rattle.script_replay.specs.Threads.{AreAllAnswers, workers_from}
 
 -- the place of the first `go`, if the lines begin at `place`; `last` if there is no `go`
 abbrev pub go_or : ℕ → ℕ → List Line → ℕ

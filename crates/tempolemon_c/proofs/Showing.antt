@@ -3,7 +3,7 @@ use Rattle.std.proofs.Common.{◌≡◌, ◌∙◌, ℕ, ◌≤◌, Some, None, 
 use Rattle.std.specs.Prelude.{IfSome, IsSomeAnd, Option}
 use Rattle.std.proofs.lemmas.Option.{none-some}
 use Rattle.control_files.specs.declared.file.File.{File}
-use Rattle.mem_system.specs.declared.command.Reply.{Reply}
+use Rattle.mem_system.specs.declared.command.ReplyWithText.{ReplyWithText}
 use Rattle.mem_system.specs.declared.outcome.Outcome.TheVariants as outcome
 use Rattle.group_charge.specs.Charges.{Ledger}
 use Rattle.reply_texts.specs.LineAnswer.{LineAnswer}
@@ -46,7 +46,7 @@ module _ (group : ℕ) (file : File) (shown : FileText) (before after : Option L
       → IfSome before (ReturnsValue (Served (outcome.Text group file)) status out old new)
   tells status out old new out_so =
       subst (λ (b : Option LiveBoot). IfSome b (ReturnsValue (Served (outcome.Text group file)) status out old new))
-      (sym on.was) (subst (λ (r : Reply). ReturnsAnswer (answer.Served r) status out old new) on.done.reply_is out_so)
+      (sym on.was) (subst (λ (r : ReplyWithText). ReturnsAnswer (answer.Served r) status out old new) on.done.reply_is out_so)
 
 module _ (cpu : ℕ) (asked : Call) (value : AnswerValue) (before mid : Option LiveBoot)
     (on : OnBoot (λ frames from to. CallsLive frames cpu asked from to (call.Served value)) before mid) where

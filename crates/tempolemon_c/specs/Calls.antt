@@ -2,8 +2,8 @@
 use Rattle.std.specs.Prelude.{◌≡◌, ◌≢◌, ◌⊎◌, ◌↔◌, ℕ, ◌%◌, ◌^◌, ◌<◌, ◌≤◌, List, [], Option, None, length}
 use Rattle.std.specs.Borrow.{Bor}
 use Rattle.frame_word.specs.Seats.{KnownTable}
-use Rattle.mem_system.specs.declared.command.Reply.{Reply}
-use Rattle.mem_system.specs.declared.command.Reply.TheVariants as reply
+use Rattle.mem_system.specs.declared.command.ReplyWithText.{ReplyWithText}
+use Rattle.mem_system.specs.declared.command.ReplyWithText.TheVariants as reply
 use Rattle.mem_system.specs.declared.outcome.Outcome.{Outcome}
 use Rattle.mem_system.specs.declared.outcome.Outcome.TheVariants as outcome
 use Rattle.reply_texts.specs.LineAnswer.{LineAnswer}
@@ -52,7 +52,7 @@ HasNoText (value.Served outcome) = IsPlainOutcome outcome
 HasNoText other = Unit {0}
 
 -- what a buffer gets of a reply: the text of a file, and of all else nothing
-abbrev pub PutsReply : Reply → (old new : List ℕ) → Type 0
+abbrev pub PutsReply : ReplyWithText → (old new : List ℕ) → Type 0
 PutsReply (reply.Text text) old new = PutsText text old new
 PutsReply other old new = new ≡ old
 

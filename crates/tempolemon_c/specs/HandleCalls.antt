@@ -6,8 +6,8 @@ use Rattle.group_tree.specs.declared.group.Group.{Group}
 use Rattle.group_tree.specs.Groups.{has_group, path_of}
 use Rattle.group_charge.specs.Charges.{Ledger}
 use Rattle.control_files.specs.declared.file.File.{File}
-use Rattle.mem_system.specs.declared.command.Reply.{Reply}
-use Rattle.mem_system.specs.declared.command.Reply.TheVariants as reply
+use Rattle.mem_system.specs.declared.command.ReplyWithText.{ReplyWithText}
+use Rattle.mem_system.specs.declared.command.ReplyWithText.TheVariants as reply
 use Rattle.mem_system.specs.declared.outcome.Outcome.TheVariants as outcome
 use Rattle.mem_system.specs.Outcomes.{HasItsGroups, reply_of}
 use Rattle.reply_texts.specs.LineAnswer.{LineAnswer}
@@ -107,7 +107,7 @@ abbrev pub GroupHasFiles : (group : ℕ) → File → KnownLive → Type 0
 GroupHasFiles group file live = HasItsGroups live.state.locked.machine.ledger (outcome.Text group file)
 
 -- what a file shows, as the reply to a read of it
-abbrev pub file_reply : FileText → Reply
+abbrev pub file_reply : FileText → ReplyWithText
 file_reply (file_text.Text text) = reply.Text text
 file_reply (file_text.Refused fault) = reply.Refused fault
 

@@ -138,7 +138,7 @@ last_before n bits b e node old h is same here found =
           }
     ]
 
--- a block before the first of its order stands behind the head
+-- a block before the first of its order comes after the head
 behind_head : (n : ℕ) (blocks : List Block) (links : List Link) (k at node : ℕ) → AreRings n blocks links → k < 11
     → node ≡ head_of n k → at < next_of links (head_of n k) → IsLastBefore n blocks k node at
 behind_head n blocks links k at node rings l is lt =
@@ -203,7 +203,7 @@ removed n bits links links' b p q h c ep eq join =
       change,
     )
 
--- ---- the first block of an order, and the one behind another
+-- ---- the first block of an order, and the one after another
 
 block_same : (b : Block) (k x : ℕ) → b.at ≡ x → b.order ≡ k → record { at = x; order = k } ≡ b
 block_same b k x e o =

@@ -25,8 +25,8 @@ use Rattle.mem_system.specs.DirtyAllocs.{ServesDirtyAlloc}
 use Rattle.mem_system.specs.Locked.{SeenBehindLock}
 use Rattle.mem_system.specs.Shown.{SettlesCaller}
 use Rattle.mem_system.specs.Visits.{IsServed, IsVisited, LockedState, ServesFrameOutcome, ServesOutcome}
-use Rattle.mem_system.specs.declared.command.Cmd.TheVariants as cmd
-use Rattle.mem_system.specs.declared.command.Reply.TheVariants as reply
+use Rattle.mem_system.specs.declared.command.LockedCommand.TheVariants as cmd
+use Rattle.mem_system.specs.declared.command.ReplyWithText.TheVariants as reply
 use Rattle.mem_system.specs.declared.outcome.Outcome.{Outcome}
 use Rattle.zone_threads.specs.Homes.{KnownHome, OnCpu}
 use Rattle.zone_threads.specs.declared.calls.Call.{Call}

@@ -7,7 +7,7 @@ use Rattle.mem_system.specs.Cpus.{CpuInRun}
 use Rattle.mem_system.specs.Locked.{KnownLocked}
 use Rattle.script_replay.specs.Lines.{ServesAll, SystemState, system_state}
 use Rattle.script_replay.specs.Terms.{boot_tables, numbered_terms}
-use Rattle.script_replay.specs.Each.{AreAllAnswers, workers_from}
+use Rattle.script_replay.specs.Threads.{AreAllAnswers, workers_from}
 use Rattle.script_replay.proofs.Running.{go_least}
 use Rattle.load_run.specs.Ending.{EndsHeld, boot_end_text}
 use Rattle.load_run.specs.Survey.{SeesAllPasts}

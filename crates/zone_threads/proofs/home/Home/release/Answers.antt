@@ -3,7 +3,7 @@ use Rattle.std.proofs.Common.{◌≡◌, ◌∙◌, ℕ, Some, refl, rules, subs
 use Rattle.zone_blocks.specs.declared.config.Config.{Config}
 use Rattle.frame_word.specs.Seats.{KnownTable}
 use Rattle.mem_system.specs.Cpus.{CpuInRun}
-use Rattle.mem_system.specs.declared.command.Cmd.TheVariants as cmd
+use Rattle.mem_system.specs.declared.command.LockedCommand.TheVariants as cmd
 use Rattle.mem_system.specs.declared.outcome.Outcome.{Outcome}
 use Rattle.mem_system.specs.Visits.{IsVisited, ServesOutcome}
 use Rattle.zone_threads.specs.Calling.{MissesDrop, Then}
