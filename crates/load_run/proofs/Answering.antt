@@ -12,8 +12,7 @@ use Rattle.zone_blocks.specs.Config.{IsValidConfig}
 use Rattle.script_lines.specs.declared.line.Line.{Line}
 use Rattle.script_lines.specs.Script.{IsScript}
 use Rattle.load_options.specs.declared.task.Options.{Options}
-use Rattle.load_run.specs.Answers.{AreAnswers, IsAnswered, IsWritten}
-use Rattle.load_run.specs.Refusals.{answered_status}
+use Rattle.load_run.specs.{AreAnswers, IsAnswered, IsWritten, answered_status}
 use Rattle.script_replay.specs.Ranges.{LineInRange}
 use Rattle.script_replay.proofs.InRange.{script_there}
 

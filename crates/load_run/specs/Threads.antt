@@ -1,18 +1,13 @@
 -- The steps of all threads as one legal run, and what it shows of each visit and of what was found.
 use Rattle.std.specs.Prelude.{◌≡◌, ℕ, ◌++◌, true}
 use Rattle.frame_word.specs.Seats.{KnownTable}
-use Rattle.step_rules.specs.After.{Run, state_of}
-use Rattle.step_rules.specs.State.{State, is_unheld}
-use Rattle.step_rules.specs.Reaches.{own_steps}
-use Rattle.boot_words.specs.Hidden.{hide}
-use Rattle.boot_words.specs.Pasts.{KnownPasts, own_past}
-use Rattle.mem_machine.specs.Interleaving.{zone_of}
-use Rattle.mem_machine.specs.Machines.{KnownMachine, IsShownBy}
+use Rattle.step_rules.specs.{Run, state_of, is_unheld, own_steps}
+use Rattle.step_rules.specs.State.{State}
+use Rattle.boot_words.specs.{hide, KnownPasts, own_past}
+use Rattle.mem_machine.specs.{zone_of, KnownMachine, IsShownBy}
 use Rattle.mem_system.specs.declared.command.LockedCommand.{LockedCommand}
 use Rattle.mem_system.specs.declared.command.ReplyWithText.{ReplyWithText}
-use Rattle.mem_system.specs.Cpus.{CpuInRun, between_locks}
-use Rattle.mem_system.specs.Locked.{IsSound, KnownLocked}
-use Rattle.mem_system.specs.Visits.{IsServed, LockedState}
+use Rattle.mem_system.specs.{CpuInRun, between_locks, IsSound, KnownLocked, IsServed, LockedState}
 use Rattle.script_replay.specs.Visits.{GrewByChanges}
 
 -- the run begins with these steps

@@ -4,32 +4,24 @@ use Rattle.std.proofs.Common.{◌≡◌, ℕ, zero, suc, ◌+◌, ◌-◌, ◌<�
 use Rattle.std.proofs.Common.{arith, length-append}
 use Rattle.std.specs.Prelude.{Result, Ok, Err, IsErr, IfErr, OnOk}
 use Rattle.std.proofs.lemmas.List.{append_assoc, append-nil}
-use Rattle.zone_blocks.specs.Areas.{HasNoneFrom}
+use Rattle.zone_blocks.specs.{HasNoneFrom, IsValidConfig}
 use Rattle.frame_word.specs.Seats.{KnownTable}
 use Rattle.stock_word.specs.declared.view.Stock.TheVariants.{HeldBy}
 use Rattle.cpu_part.specs.Cpus.{KnownCpu}
 use Rattle.zone_blocks.specs.declared.config.Config.{Config}
-use Rattle.zone_blocks.specs.Config.{IsValidConfig}
 use Rattle.step_rules.specs.After.{Run}
 use Rattle.group_charge.specs.declared.note.Note.TheVariants.{Zone}
-use Rattle.mem_machine.specs.Machines.{KnownMachine, is_killed, with_note, with_run}
-use Rattle.boot_words.specs.Pasts.{IsHeld}
-use Rattle.mem_machine.specs.Local.{Makes, VisitMakes, Visits, visit_state}
-use Rattle.mem_machine.specs.Lending.{LendsMany, Refills}
-use Rattle.mem_machine.specs.Paying.{HoldsPage, MayCharge, PaysForFront}
-use Rattle.mem_machine.specs.Showing.{stock_now}
-use Rattle.mem_machine.specs.Stocks.{Drains, Fills, stock_group}
-use Rattle.mem_machine.specs.Steps.{drain_steps, refill_steps, take_front_steps}
+use Rattle.mem_machine.specs.{KnownMachine, is_killed, with_note, with_run, Makes, VisitMakes, Visits, visit_state, LendsMany, Refills, HoldsPage}
+use Rattle.mem_machine.specs.{MayCharge, PaysForFront, stock_now, Drains, Fills, stock_group, drain_steps, refill_steps, take_front_steps, BySteps}
+use Rattle.mem_machine.specs.{Finds, transition}
+use Rattle.boot_words.specs.{IsHeld, stock_in}
 use Rattle.mem_machine.proofs.StocksKept.{filled_stock, has_stock_step, stock_kept, stock_left}
-use Rattle.boot_words.specs.Words.{stock_in}
 use Rattle.mem_reclaim.specs.Staying.{Keeps}
 use Rattle.mem_alloc.specs.declared.faults.AllocFault.{AllocFault}
 use Rattle.mem_alloc.specs.declared.faults.AllocFault.TheVariants.{Over, NoFrames, RequesterKilled}
-use Rattle.mem_machine.specs.Transitions.{BySteps, Finds, transition}
-use Rattle.mem_alloc.specs.Room.{IsRefusedAt, IsRefusedFor, MakesRoom}
-use Rattle.mem_alloc.specs.Charging.{ChargesAfterDrain, ChargesNoBatch, ChargesOne, DrainsStock, FillsBatch, FillsDrainedStock, FillsStock, LacksBatch, PaysForFrame}
-use Rattle.mem_alloc.specs.Rounds.{FailsInRounds}
-use Rattle.mem_alloc.specs.Frames.{AllocatesFrame, FillsList, HasNoFreeFrame, LendsBatch, LendsNoFrame, RefillsInRounds, RefillsList}
+use Rattle.mem_alloc.specs.{IsRefusedAt, IsRefusedFor, MakesRoom, ChargesAfterDrain, ChargesNoBatch, ChargesOne, DrainsStock, FillsBatch}
+use Rattle.mem_alloc.specs.{FillsDrainedStock, FillsStock, LacksBatch, PaysForFrame, FailsInRounds, AllocatesFrame, FillsList, HasNoFreeFrame}
+use Rattle.mem_alloc.specs.{LendsBatch, LendsNoFrame, RefillsInRounds, RefillsList}
 use Rattle.mem_alloc.proofs.Making.{answer_is}
 use Rattle.mem_alloc.proofs.Lowering.{Lowers, lowers_none, lowers_both, run_lowers}
 use Rattle.mem_alloc.proofs.Killing.{relieves_lower}

@@ -7,13 +7,8 @@ use Rattle.cpu_part.specs.Cpus.{KnownCpu}
 use Rattle.step_rules.specs.After.{Run}
 use Rattle.group_charge.specs.declared.note.Note.{Note}
 use Rattle.group_charge.specs.declared.note.Note.TheVariants.{Zone}
-use Rattle.mem_machine.specs.Machines.{KnownMachine, with_note}
-use Rattle.mem_machine.specs.Local.{Makes, VisitMakes, Visits, VisitState, visit_state}
-use Rattle.mem_reclaim.specs.Wanted.{progress}
-use Rattle.mem_reclaim.specs.Moves.{FreesBySteps}
-use Rattle.mem_reclaim.specs.Rounds.{ReclaimsRound}
-use Rattle.mem_reclaim.specs.Staying.{Keeps, MissedAll}
-use Rattle.mem_machine.specs.Transitions.{BySteps, Transition, transition}
+use Rattle.mem_machine.specs.{KnownMachine, with_note, Makes, VisitMakes, Visits, VisitState, visit_state, BySteps, Transition, transition}
+use Rattle.mem_reclaim.specs.{progress, FreesBySteps, ReclaimsRound, Keeps, MissedAll}
 use Rattle.mem_alloc.specs.Rounds.{AfterZoneNote, FailsInRounds, FreesInRound, MakesRound, SucceedsInRounds}
 use Rattle.mem_alloc.proofs.Lowering.{Lowers, lowers_none, lowers_both, keeps_lower}
 use Rattle.mem_machine.proofs.Followed.{makes_both, makes_none}

@@ -1,13 +1,9 @@
 -- How pages for single frames are charged, through the CPU's stock.
 use Rattle.std.specs.Prelude.{◌≡◌, ◌⊎◌, ℕ, Result, Ok, Err}
 use Rattle.zone_blocks.specs.declared.config.Config.{Config}
-use Rattle.mem_machine.specs.Machines.{KnownMachine, LacksRoom, with_run}
-use Rattle.mem_machine.specs.Stocks.{Drains, Fills, stock_group}
-use Rattle.mem_machine.specs.Steps.{drain_steps, fill_steps, over_steps}
-use Rattle.mem_machine.specs.Paying.{HoldsPage}
-use Rattle.mem_machine.specs.Local.{Makes, VisitState}
+use Rattle.mem_machine.specs.{KnownMachine, LacksRoom, with_run, Drains, Fills, stock_group, drain_steps, fill_steps, over_steps, HoldsPage, Makes}
+use Rattle.mem_machine.specs.{VisitState, Finds, InTurn, MachineStays, OfMachineAlone, Stays, Transition}
 use Rattle.mem_alloc.specs.declared.faults.AllocFault.{AllocFault}
-use Rattle.mem_machine.specs.Transitions.{Finds, InTurn, MachineStays, OfMachineAlone, Stays, Transition}
 use Rattle.mem_alloc.specs.High.{PathHasHighRoom}
 use Rattle.mem_alloc.specs.Room.{AfterRoom, IsRefusedFor}
 

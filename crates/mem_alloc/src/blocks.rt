@@ -2,10 +2,8 @@
 
 ghost use Rattle.std.specs.Prelude.{◌≡◌, ◌^◌, ◌≤◌, [], length, Err, IsTrue};
 ghost use Rattle.group_tree.specs.Groups.{has_group};
-ghost use Rattle.mem_machine.specs.Local.{KeepsVisit, VisitDoes, Visits};
-ghost use Rattle.mem_machine.specs.Paying.{IsOfSize, MayCharge};
+ghost use Rattle.mem_machine.specs.{KeepsVisit, VisitDoes, Visits, IsOfSize, MayCharge, IsSettled};
 ghost use Rattle.mem_alloc.specs.declared.faults.AllocFault.TheVariants.{NoFrames};
-ghost use Rattle.mem_machine.specs.Settling.{IsSettled};
 ghost use Rattle.mem_alloc.specs.Blocks.{AllocatesBlock, ChargesBlock, MakesTakeRounds, MayHaveBlock, TakesAfterDrain};
 
 use crate::faults::AllocFault;

@@ -3,11 +3,8 @@
 ghost use Rattle.std.specs.Prelude.{◌≡◌, ◌↔◌, [], IsTrue, false, true, OnOk};
 ghost use Rattle.zone_blocks.specs.Config.{IsValidConfig};
 ghost use Rattle.group_tree.specs.Groups.{has_group};
-ghost use Rattle.mem_machine.specs.Machines.{is_killed};
-ghost use Rattle.mem_machine.specs.Local.{Holds, Makes, VisitDoes, Visits};
-ghost use Rattle.mem_machine.specs.Paying.{HoldsPage, IsOfSize, MayCharge};
-ghost use Rattle.mem_machine.specs.Stocks.{FitsStock, IsDrained};
-ghost use Rattle.mem_machine.specs.Transitions.{BySteps};
+ghost use Rattle.mem_machine.specs.{is_killed, Holds, Makes, VisitDoes, Visits, HoldsPage, IsOfSize, MayCharge};
+ghost use Rattle.mem_machine.specs.{FitsStock, IsDrained, BySteps};
 ghost use Rattle.mem_alloc.specs.Charging.{ChargesOne, FillsBatch, FillsDrainedStock, LacksBatch, PaysForFrame};
 
 use crate::faults::AllocFault;

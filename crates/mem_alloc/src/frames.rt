@@ -3,11 +3,8 @@
 ghost use Rattle.std.specs.Prelude.{◌≡◌, ◌+◌, ◌<◌, ◌≤◌, [], ◌∷◌, length, IsTrue, false, MatchResult, OnOk, IfOk, OnErr};
 ghost use Rattle.zone_blocks.specs.Config.{IsValidConfig};
 ghost use Rattle.group_tree.specs.Groups.{has_group};
-ghost use Rattle.mem_machine.specs.Local.{KeepsVisit, VisitDoes, Visits};
-ghost use Rattle.mem_machine.specs.Paying.{HoldsPage, IsOfSize};
-ghost use Rattle.mem_machine.specs.Showing.{stock_now};
-ghost use Rattle.mem_machine.specs.Settling.{IsSettled};
-ghost use Rattle.mem_machine.specs.Lending.{HasListRoom};
+ghost use Rattle.mem_machine.specs.{KeepsVisit, VisitDoes, Visits, HoldsPage, IsOfSize, stock_now, IsSettled};
+ghost use Rattle.mem_machine.specs.{HasListRoom};
 ghost use Rattle.mem_alloc.specs.Frames.{AllocatesFrame, FillsList, MakesRefillRounds, RefillsInRounds};
 
 use crate::charging::pay_for_frame;

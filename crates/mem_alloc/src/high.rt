@@ -3,8 +3,7 @@
 ghost use Rattle.std.specs.Prelude.{◌≡◌, ◌↔◌, IsTrue};
 ghost use Rattle.group_tree.specs.Groups.{has_group};
 ghost use Rattle.boot_words.specs.Pasts.{IsHeld};
-ghost use Rattle.mem_machine.specs.Local.{Makes};
-ghost use Rattle.mem_machine.specs.Transitions.{BySteps};
+ghost use Rattle.mem_machine.specs.{Makes, BySteps};
 ghost use Rattle.mem_reclaim.specs.Staying.{Keeps};
 ghost use Rattle.mem_alloc.specs.High.{KeepsToHigh, PathHasHighRoom, ReclaimsHigh, has_high_room, high_of};
 

@@ -2,39 +2,29 @@
 use Rattle.std.proofs.Common.{true, false, ◌≡◌, ℕ, ◌^◌, ◌<◌, ◌==◌, Bool, Option, None, List, [], ◌∷◌, length, get_or, refl, sym, ap, ◌∙◌, subst, arith}
 use Rattle.std.proofs.lemmas.List.{get_or_default}
 use Rattle.zone_blocks.specs.declared.block.Block.{Block}
-use Rattle.zone_blocks.specs.Areas.{AreMaximalBlocks}
-use Rattle.zone_blocks.specs.Zone.{GivesFrames}
+use Rattle.zone_blocks.specs.{AreMaximalBlocks, GivesFrames}
 use Rattle.frame_word.specs.Seats.{KnownTable}
 use Rattle.group_charge.specs.Charges.{Ledger, with_uncharge}
 use Rattle.group_charge.proofs.CallerLemmas.{uncharge_peaks, uncharge_events}
-use Rattle.boot_words.specs.Hidden.{hide, hide_phase}
-use Rattle.boot_words.specs.Pasts.{IsHeld, IsHolder, MakesStep, MayMake}
-use Rattle.cpu_part.specs.Calls.{PassesBackUnit}
-use Rattle.cpu_part.specs.Cpus.{KnownCpu}
+use Rattle.boot_words.specs.{hide, hide_phase, IsHeld, IsHolder, MakesStep, MayMake}
+use Rattle.cpu_part.specs.{PassesBackUnit, KnownCpu}
 use Rattle.step_rules.specs.declared.phase.ChargedUnit.{ChargedUnit}
 use Rattle.step_rules.specs.declared.phase.Stage.TheVariants.{AwaitsReturn, BackAt}
 use Rattle.step_rules.specs.declared.phase.Phase.TheVariants as phase
 use Rattle.step_rules.specs.declared.step.Action.TheVariants.{PassBack, Collect, Return}
 use Rattle.step_rules.specs.declared.step.Answer.TheVariants.{Done}
-use Rattle.step_rules.specs.Invariant.{told_pages}
-use Rattle.step_rules.specs.State.{Part, State, Zone, one_if, times, with_at}
-use Rattle.step_rules.specs.After.{without_unit}
-use Rattle.step_rules.specs.Reaches.{IsLocalRun}
+use Rattle.step_rules.specs.{told_pages, Part, Zone, one_if, times, with_at, without_unit, IsLocalRun}
+use Rattle.step_rules.specs.State.{State}
 use Rattle.step_rules.proofs.Lists.{times_same, without_front, without_none}
 use Rattle.step_rules.proofs.SoundSteps.{below_frames}
 use Rattle.step_watch.specs.Watched.{Watches}
 use Rattle.mem_machine.specs.declared.frame_state.FrameState.{FrameState}
 use Rattle.mem_machine.specs.declared.frame_state.FrameState.TheVariants.{Head}
 use Rattle.mem_machine.specs.declared.counts.Counts.{Counts}
-use Rattle.mem_machine.specs.Booked.{AreBooked, AreOwners}
-use Rattle.mem_machine.specs.FrameStates.{frame_state_at, free_of, phase_hidden}
-use Rattle.mem_machine.specs.Machines.{KnownMachine, IsConsistent, IsShownBy, BalancesCounts, home_of, left_by, pages_booked}
-use Rattle.mem_machine.specs.Local.{Visits, local_of}
-use Rattle.mem_machine.specs.Noted.{AreLocal, KnownRun, MayTake, Notes}
+use Rattle.mem_machine.specs.{AreBooked, AreOwners, frame_state_at, free_of, phase_hidden, KnownMachine, IsConsistent, IsShownBy, BalancesCounts}
+use Rattle.mem_machine.specs.{home_of, left_by, pages_booked, Visits, local_of, AreLocal, KnownRun, MayTake, Notes, FreesFrames, ReturnsBack}
+use Rattle.mem_machine.specs.{return_steps, with_last_put}
 use Rattle.mem_machine.specs.Steps.{zone_makes, cpu_makes}
-use Rattle.mem_machine.specs.Freeing.{FreesFrames}
-use Rattle.mem_machine.specs.Settling.{ReturnsBack, return_steps}
-use Rattle.mem_machine.specs.Counts.{with_last_put}
 use Rattle.mem_machine.proofs.Balances.{balanced_last_put}
 use Rattle.mem_machine.proofs.Counted.{comes_back}
 use Rattle.mem_machine.proofs.Followed.{follows_still}

@@ -15,32 +15,19 @@ use Rattle.step_rules.specs.declared.phase.Way.TheVariants.{OnList}
 use Rattle.step_rules.specs.declared.phase.Phase.TheVariants.{Lent}
 use Rattle.step_rules.specs.declared.step.Action.TheVariants.{Consume}
 use Rattle.step_rules.specs.declared.step.Answer.TheVariants.{Took}
-use Rattle.step_rules.specs.State.{Part, State, Zone, front_of, is_cpu, one_if, sum_to, times, visits}
-use Rattle.step_rules.specs.Usage.{is_in_subtree}
-use Rattle.step_rules.specs.After.{Run, after, consumed, paid, with_part, with_phase}
-use Rattle.step_rules.specs.Legal.{IsAnswer, is_legal}
-use Rattle.step_rules.specs.Laws.{IsLocalStep}
-use Rattle.step_rules.specs.Views.{other_part_seen}
+use Rattle.step_rules.specs.{Part, Zone, front_of, is_cpu, one_if, times, visits, is_in_subtree, Run, after, consumed, paid, with_part, with_phase}
+use Rattle.step_rules.specs.{IsAnswer, is_legal, IsLocalStep, other_part_seen}
+use Rattle.step_rules.specs.State.{State, sum_to}
 use Rattle.step_rules.proofs.Basics.{at_each, at_same}
 use Rattle.step_rules.proofs.Lists.{front_stands, length_last, times_same}
-use Rattle.boot_words.specs.Hidden.{hide, hide_phase}
-use Rattle.boot_words.specs.Pasts.{KnownPasts, MakesStep, MayMake, cpu_past}
-use Rattle.boot_words.specs.Seats.{zone_of_boot}
-use Rattle.boot_words.specs.Words.{stock_in, stock_said}
-use Rattle.cpu_part.specs.Calls.{TakesFront}
-use Rattle.cpu_part.specs.Cpus.{KnownCpu}
-use Rattle.cpu_part.specs.Known.{HasOwn}
+use Rattle.boot_words.specs.{hide, hide_phase, KnownPasts, MakesStep, MayMake, cpu_past, zone_of_boot, stock_in, stock_said}
+use Rattle.cpu_part.specs.{TakesFront, KnownCpu, HasOwn}
 use Rattle.cpu_part.proofs.Owning.{own_took}
 use Rattle.step_watch.specs.Watched.{KnownWatch, Watches, cpu_makes}
 use Rattle.mem_machine.specs.declared.machine.Machine.TheInside.{Inside}
-use Rattle.mem_machine.specs.FrameStates.{frame_state_at, frame_state_group}
-use Rattle.mem_machine.specs.Kept.{IsSoundMachine, machine_of}
-use Rattle.mem_machine.specs.Local.{Makes, Visits, local_of, visit_state}
-use Rattle.mem_machine.specs.Machines.{KnownMachine, IsConsistent, left_by}
-use Rattle.mem_machine.specs.Noted.{KnownRun, Notes, after_made}
-use Rattle.mem_machine.specs.Paying.{HasRoomFor, HoldsPage, IsOfSize, PaysForFront}
-use Rattle.mem_machine.specs.Showing.{stock_now}
-use Rattle.mem_machine.specs.Steps.{take_front_steps}
+use Rattle.mem_machine.specs.{frame_state_at, frame_state_group, IsSoundMachine, machine_of, Makes, Visits, local_of, visit_state, KnownMachine}
+use Rattle.mem_machine.specs.{IsConsistent, left_by, KnownRun, Notes, after_made, HasRoomFor, HoldsPage, IsOfSize, PaysForFront, stock_now}
+use Rattle.mem_machine.specs.{take_front_steps}
 use Rattle.mem_machine.proofs.Followed.{follows_same}
 use Rattle.mem_machine.proofs.Ledgers.{ledger_visit_state}
 use Rattle.mem_machine.proofs.Made.{holder_is_cpu, makes_as, one_leads, zone_seen}

@@ -8,19 +8,12 @@ use Rattle.step_rules.specs.declared.step.Step.{Step}
 use Rattle.step_rules.specs.declared.step.Action.TheVariants.{OpenVisit, ShutVisit}
 use Rattle.step_rules.specs.declared.step.Answer.{Answer}
 use Rattle.step_rules.specs.declared.step.Answer.TheVariants.{Done}
-use Rattle.step_rules.specs.Invariant.{told_pages}
-use Rattle.step_rules.specs.Laws.{IsLocalStep}
-use Rattle.step_rules.specs.Legal.{is_legal}
-use Rattle.step_rules.specs.State.{State, is_held_by, visits}
+use Rattle.step_rules.specs.{told_pages, IsLocalStep, is_legal, is_held_by, visits}
+use Rattle.step_rules.specs.State.{State}
 use Rattle.boot_words.specs.Hidden.{hide}
-use Rattle.cpu_part.specs.Cpus.{KnownCpu}
-use Rattle.cpu_part.specs.Known.{HasOwn}
-use Rattle.mem_machine.specs.Counting.{counts_along}
-use Rattle.mem_machine.specs.Kept.{IsSoundMachine, machine_of}
-use Rattle.mem_machine.specs.Local.{Holds, IsShut, Makes, Visits, lock_holder, local_of}
-use Rattle.mem_machine.specs.Machines.{KnownMachine, IsShownBy, with_run}
-use Rattle.mem_machine.specs.Noted.{KnownRun, Notes, after_made}
-use Rattle.mem_machine.specs.Steps.{open_steps, shut_steps}
+use Rattle.cpu_part.specs.{KnownCpu, HasOwn}
+use Rattle.mem_machine.specs.{counts_along, IsSoundMachine, machine_of, Holds, IsShut, Makes, Visits, lock_holder, local_of, KnownMachine, IsShownBy}
+use Rattle.mem_machine.specs.{with_run, KnownRun, Notes, after_made, open_steps, shut_steps}
 use Rattle.mem_machine.specs.declared.machine.Machine.TheInside.{Inside}
 use Rattle.mem_machine.proofs.Followed.{are_still, follows_same}
 use Rattle.mem_machine.proofs.Hiding.{nothing_passes_here}

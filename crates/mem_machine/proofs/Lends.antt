@@ -7,8 +7,7 @@ use Rattle.std.proofs.lemmas.Bool.{and_from, cases_eq, lt-ltb}
 use Rattle.std.proofs.lemmas.List.{get_or-set_other, get_or-set_same, length-set}
 use Rattle.std.proofs.lemmas.Option.{none-some}
 use Rattle.zone_blocks.specs.declared.block.Block.{Block}
-use Rattle.zone_blocks.specs.Areas.{AreMaximalBlocks, HasNoneFrom, IsFree, IsFrontOfSmallest}
-use Rattle.zone_blocks.specs.Zone.{TakesFrames}
+use Rattle.zone_blocks.specs.{AreMaximalBlocks, HasNoneFrom, IsFree, IsFrontOfSmallest, TakesFrames}
 use Rattle.frame_word.specs.Seats.{KnownTable}
 use Rattle.lru_lists.specs.declared.record.Home.{Home}
 use Rattle.step_rules.specs.declared.phase.Way.TheVariants.{OnList, PassingOut}
@@ -17,28 +16,18 @@ use Rattle.step_rules.specs.declared.phase.Phase.TheVariants as phase
 use Rattle.step_rules.specs.declared.step.Action.TheVariants.{PassOut, TakeIn}
 use Rattle.step_rules.specs.declared.step.Answer.TheVariants.{Done}
 use Rattle.step_rules.specs.Phases as phases
-use Rattle.step_rules.specs.Invariant.{told_pages}
-use Rattle.step_rules.specs.State.{Part, State, Zone, is_frame, with_at}
-use Rattle.step_rules.specs.Legal.{is_legal}
-use Rattle.step_rules.specs.After.{Run, after, with_listed}
-use Rattle.step_rules.specs.Reaches.{IsLocalRun}
+use Rattle.step_rules.specs.{told_pages, Part, Zone, is_frame, with_at, is_legal, Run, after, with_listed, IsLocalRun}
+use Rattle.step_rules.specs.State.{State}
 use Rattle.step_rules.proofs.Basics.{at_other, at_same}
-use Rattle.boot_words.specs.Composed.{AreLegal, MakesInTurn}
-use Rattle.boot_words.specs.Hidden.{hide, hide_phase}
-use Rattle.boot_words.specs.Pasts.{KnownPasts, IsHeld}
+use Rattle.boot_words.specs.{AreLegal, MakesInTurn, hide, hide_phase, KnownPasts, IsHeld}
 use Rattle.cpu_part.specs.Cpus.{KnownCpu}
 use Rattle.cpu_part.proofs.CallerLemmas.{makes_each}
 use Rattle.step_watch.specs.Watched.{KnownWatch, Watches}
 use Rattle.mem_machine.specs.declared.frame_state.FrameState.{FrameState}
 use Rattle.mem_machine.specs.declared.frame_state.FrameState.TheVariants.{Free, Lent, Head, Tail}
-use Rattle.mem_machine.specs.Booked.{AreBooked, AreOwners}
-use Rattle.mem_machine.specs.Counting.{counts_along}
-use Rattle.mem_machine.specs.FrameStates.{frame_state_at, frame_state_group, free_of, head_group_of, is_free_state, phase_hidden}
-use Rattle.mem_machine.specs.Lending.{LendsFrame, LendsNone, LendsOne}
-use Rattle.mem_machine.specs.Local.{Visits, local_of, visit_state}
-use Rattle.mem_machine.specs.Machines.{KnownMachine, VisitState, FitsFrameState, IsConsistent, IsShownBy, home_of, left_by, pages_booked}
-use Rattle.mem_machine.specs.Noted.{AreLocal, KnownRun, Notes, after_made}
-use Rattle.mem_machine.specs.Steps.{lend_steps}
+use Rattle.mem_machine.specs.{AreBooked, AreOwners, counts_along, frame_state_at, frame_state_group, free_of, head_group_of, is_free_state}
+use Rattle.mem_machine.specs.{phase_hidden, LendsFrame, LendsNone, LendsOne, Visits, local_of, visit_state, KnownMachine, VisitState, FitsFrameState}
+use Rattle.mem_machine.specs.{IsConsistent, IsShownBy, home_of, left_by, pages_booked, AreLocal, KnownRun, Notes, after_made, lend_steps}
 use Rattle.mem_machine.proofs.Followed.{are_still, follows_same}
 use Rattle.mem_machine.proofs.HandOvers.{IsVisited}
 use Rattle.mem_machine.proofs.Hiding.{is_free_seen}

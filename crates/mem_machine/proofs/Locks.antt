@@ -7,27 +7,20 @@ use Rattle.step_rules.specs.declared.phase.Hold.{Hold}
 use Rattle.step_rules.specs.declared.phase.Hold.TheVariants.{HeldBy, Unheld}
 use Rattle.step_rules.specs.declared.step.Action.TheVariants.{Unlock}
 use Rattle.step_rules.specs.declared.step.Answer.TheVariants.{Done}
-use Rattle.step_rules.specs.State.{Part, State, Zone, is_cpu, is_held_by}
-use Rattle.step_rules.specs.After.{Run, state_of}
-use Rattle.step_rules.specs.Views.{seen_by}
+use Rattle.step_rules.specs.{Part, Zone, is_cpu, is_held_by, Run, state_of, seen_by}
+use Rattle.step_rules.specs.State.{State}
 use Rattle.step_rules.proofs.CoverParts.{own_part, own_reference}
 use Rattle.step_rules.proofs.Runs.{state_more}
 use Rattle.step_rules.proofs.Sums.{all_each}
 use Rattle.group_tree.specs.Bounds.{most_groups}
-use Rattle.boot_words.specs.Locks.{LeavesFree}
-use Rattle.boot_words.specs.Sight.{HasSameLists}
-use Rattle.boot_words.specs.Pasts.{KnownPasts, IsHeld, IsZonePast, Locks, MayMake, Meets, Unlocks, cpu_past, local_by_pasts, own_past}
-use Rattle.boot_words.specs.Seats.{zone_of_boot}
+use Rattle.boot_words.specs.{LeavesFree, HasSameLists, KnownPasts, IsHeld, IsZonePast, MayMake, Meets, Unlocks, cpu_past, local_by_pasts, own_past}
+use Rattle.boot_words.specs.{zone_of_boot, IsAwayCpu, KnownCpuSeat, state_left}
+use Rattle.boot_words.specs.Pasts.{Locks}
 use Rattle.boot_words.proofs.Owning.{lists_are_own}
-use Rattle.boot_words.specs.Cpus.{IsAwayCpu, KnownCpuSeat, state_left}
-use Rattle.cpu_part.specs.Cpus.{KnownCpu}
-use Rattle.cpu_part.specs.Known.{HasOwn, KnowsItsPart}
+use Rattle.cpu_part.specs.{KnownCpu, HasOwn, KnowsItsPart}
 use Rattle.mem_machine.specs.declared.machine.Machine.TheInside.{Inside}
-use Rattle.mem_machine.specs.Booked.{AreBooked, AreOwners}
-use Rattle.mem_machine.specs.Kept.{IsSoundMachine, machine_of}
-use Rattle.mem_machine.specs.Machines.{KnownMachine, IsConsistent, IsShownBy, left_by, with_past}
-use Rattle.mem_machine.specs.Local.{Holds, IsShut, local_of}
-use Rattle.mem_machine.specs.Resting.{Rests}
+use Rattle.mem_machine.specs.{AreBooked, AreOwners, IsSoundMachine, machine_of, KnownMachine, IsConsistent, IsShownBy, left_by, with_past, Holds}
+use Rattle.mem_machine.specs.{IsShut, local_of, Rests}
 use Rattle.mem_machine.proofs.Hiding.{none_passes}
 use Rattle.mem_machine.proofs.Made.{holder_is_cpu, own_same, zone_seen}
 use Rattle.mem_machine.proofs.Sight.{left_seen, shown_seen}

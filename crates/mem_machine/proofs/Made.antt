@@ -7,23 +7,14 @@ use Rattle.step_rules.specs.declared.phase.Hold.{Hold}
 use Rattle.step_rules.specs.declared.phase.Hold.TheVariants.{Unheld, HeldBy, Visiting}
 use Rattle.step_rules.specs.declared.step.Step.{Step}
 use Rattle.step_rules.specs.declared.step.Answer.{Answer}
-use Rattle.step_rules.specs.State.{State, Zone, is_cpu, may_zone_act, visits}
-use Rattle.step_rules.specs.Laws.{IsLocalStep}
-use Rattle.step_rules.specs.After.{Run}
-use Rattle.step_rules.specs.Reaches.{IsLocalRun}
-use Rattle.step_rules.specs.Views.{holds_lock}
+use Rattle.step_rules.specs.State.{State}
+use Rattle.step_rules.specs.{Zone, is_cpu, may_zone_act, visits, IsLocalStep, Run, IsLocalRun, holds_lock}
 use Rattle.step_rules.proofs.Freeing.{zone_of_run}
 use Rattle.step_rules.proofs.Keeping.{keepers_are_there}
-use Rattle.boot_words.specs.Pasts.{KnownPasts, IsHeld, cpu_past, local_by_pasts}
-use Rattle.boot_words.specs.Seats.{zone_of_boot}
-use Rattle.boot_words.specs.Sight.{HasSameLists}
-use Rattle.cpu_part.specs.Cpus.{KnownCpu}
-use Rattle.cpu_part.specs.Known.{HasOwn}
-use Rattle.mem_machine.specs.Counting.{counts_along}
-use Rattle.mem_machine.specs.Following.{FollowsSteps}
-use Rattle.mem_machine.specs.Noted.{KnownRun, Notes, after_made}
-use Rattle.mem_machine.specs.Machines.{KnownMachine}
-use Rattle.mem_machine.specs.Local.{Holds, Makes, StaysVisited, Visits, lock_holder, local_of}
+use Rattle.boot_words.specs.{KnownPasts, IsHeld, cpu_past, local_by_pasts, zone_of_boot, HasSameLists}
+use Rattle.cpu_part.specs.{KnownCpu, HasOwn}
+use Rattle.mem_machine.specs.{counts_along, FollowsSteps, KnownRun, Notes, after_made, KnownMachine, Holds, Makes, StaysVisited, Visits, lock_holder}
+use Rattle.mem_machine.specs.{local_of}
 
 -- who holds the lock may act for the zone
 holder_acts : (p : ℕ) (hold : Hold) → holds_lock p hold ≡ true → may_zone_act hold 0 ≡ true

@@ -8,10 +8,8 @@ use Rattle.zone_blocks.specs.Areas.{HasNoneFrom}
 use Rattle.frame_word.specs.Seats.{KnownTable}
 use Rattle.cpu_part.specs.Cpus.{KnownCpu}
 use Rattle.step_rules.specs.After.{Run}
-use Rattle.mem_machine.specs.Machines.{KnownMachine, VisitStateStays, OneByOne}
-use Rattle.mem_machine.specs.Local.{Visits, Makes, VisitState, visit_state}
-use Rattle.mem_machine.specs.Lending.{LendsOne, LendsNone, LendsByStep, Refills, UnlistsOne, UnlistsNone, UnlistsMany, UnlistsByStep}
-use Rattle.mem_machine.specs.Steps.{lend_steps, unlist_steps, drain_list_steps}
+use Rattle.mem_machine.specs.{KnownMachine, VisitStateStays, OneByOne, Visits, Makes, VisitState, visit_state, LendsOne, LendsNone, LendsByStep}
+use Rattle.mem_machine.specs.{Refills, UnlistsOne, UnlistsNone, UnlistsMany, UnlistsByStep, lend_steps, unlist_steps, drain_list_steps}
 use Rattle.mem_machine.proofs.Followed.{makes_none, makes_both}
 
 -- a visit state that stays

@@ -10,9 +10,8 @@ use Rattle.lru_lists.specs.declared.record.LruList.{LruList}
 use Rattle.lru_lists.specs.declared.lru.Lru.{Lru}
 use Rattle.lru_lists.specs.Lists.{OthersStayLinked, OneOfAllChanges, AreLinked, AllLinked, ChangesOwn, SameOwners, Ages, owner_of, list_of, list_at, entries_of}
 use Rattle.lru_lists.specs.Lists.{inactive_of, active_of, entries_without, entry_of, marked, first_entry, entry_after}
-use Rattle.mem_machine.specs.Machines.{KnownMachine, IsConsistent, OthersStay, UnlistedStay, home_of, lists_at, entries_in, no_lists, lists_of}
-use Rattle.mem_machine.specs.Ageing.{AgesGroup, RenewsUnit}
-use Rattle.mem_machine.specs.Local.{Makes}
+use Rattle.mem_machine.specs.{KnownMachine, IsConsistent, OthersStay, UnlistedStay, home_of, lists_at, entries_in, no_lists, lists_of, AgesGroup}
+use Rattle.mem_machine.specs.{RenewsUnit, Makes}
 use Rattle.mem_machine.proofs.Listed.{lists_consistent, others_stay, place_here, unlisted_stay}
 use Rattle.mem_machine.proofs.Followed.{makes_stay}
 

@@ -11,32 +11,21 @@ use Rattle.group_charge.specs.Charges.{Ledger, AreCharges, current_of, pages_of,
 use Rattle.group_charge.proofs.CallerLemmas.{charge_pages}
 use Rattle.step_rules.specs.declared.step.Action.TheVariants.{Fill, Grant}
 use Rattle.step_rules.specs.declared.step.Answer.TheVariants.{Done, Granted, Over}
-use Rattle.step_rules.specs.Invariant.{told_pages}
-use Rattle.step_rules.specs.State.{Part, State, with_at}
-use Rattle.step_rules.specs.Legal.{is_legal, is_of_group, takes_fill}
-use Rattle.step_rules.specs.After.{Run, filled, state_of, with_part}
-use Rattle.step_rules.specs.Reaches.{IsLocalRun}
-use Rattle.step_rules.specs.Views.{other_part_seen}
+use Rattle.step_rules.specs.{told_pages, Part, with_at, is_legal, is_of_group, takes_fill, Run, filled, state_of, with_part, IsLocalRun}
+use Rattle.step_rules.specs.{other_part_seen}
+use Rattle.step_rules.specs.State.{State}
 use Rattle.step_rules.proofs.Basics.{at_each}
 use Rattle.step_rules.proofs.CoverParts.{own_part}
 use Rattle.step_rules.proofs.SoundSteps.{cpu_range}
-use Rattle.boot_words.specs.Hidden.{hide}
-use Rattle.boot_words.specs.Pasts.{IsHeld, KnownPasts, MakesStep, cpu_past}
-use Rattle.boot_words.specs.Seats.{zone_of_boot}
-use Rattle.boot_words.specs.Sight.{HasSameLists}
+use Rattle.boot_words.specs.{hide, IsHeld, KnownPasts, MakesStep, cpu_past, zone_of_boot, HasSameLists}
 use Rattle.boot_words.proofs.Returning.{none_booked}
 use Rattle.cpu_part.specs.Cpus.{KnownCpu}
 use Rattle.step_watch.specs.Watched.{KnownWatch, Watches}
 use Rattle.mem_machine.specs.declared.machine.Machine.TheInside.{Inside}
-use Rattle.mem_machine.specs.Booked.{AreBooked, AreOwners}
-use Rattle.mem_machine.specs.Following.{FollowsSteps}
-use Rattle.mem_machine.specs.Kept.{IsSoundMachine, machine_of}
-use Rattle.mem_machine.specs.Local.{Makes, StaysVisited, Visits, lock_holder, local_of}
-use Rattle.mem_machine.specs.Machines.{KnownMachine, IsConsistent, IsShownBy, frames_charged, is_killed, left_by, pages_booked}
-use Rattle.mem_machine.specs.Noted.{KnownRun, MayTake, MayTakeAll, Notes, after_made}
-use Rattle.mem_machine.specs.Paying.{HasRoomFor, MayCharge}
-use Rattle.mem_machine.specs.Steps.{fill_steps, over_steps, zone_makes}
-use Rattle.mem_machine.specs.Stocks.{Fills, HasDrained, IsDrained, RefusesGrant}
+use Rattle.mem_machine.specs.{AreBooked, AreOwners, FollowsSteps, IsSoundMachine, machine_of, Makes, StaysVisited, Visits, lock_holder, local_of}
+use Rattle.mem_machine.specs.{KnownMachine, IsConsistent, IsShownBy, frames_charged, is_killed, left_by, pages_booked, KnownRun, MayTake, MayTakeAll}
+use Rattle.mem_machine.specs.{Notes, after_made, HasRoomFor, MayCharge, fill_steps, over_steps, Fills, HasDrained, IsDrained, RefusesGrant}
+use Rattle.mem_machine.specs.Steps.{zone_makes}
 use Rattle.mem_machine.proofs.AtTable.{made_at}
 use Rattle.mem_machine.proofs.Booking.{books_more, sums_more}
 use Rattle.mem_machine.proofs.Followed.{follows_same, same_events}

@@ -12,12 +12,10 @@ use Rattle.step_rules.specs.State.{Part, State, with_at}
 use Rattle.step_rules.specs.After.{absorbed, with_report, without_frame}
 use Rattle.step_rules.proofs.Basics.{at_each}
 use Rattle.boot_words.specs.Pasts.{IsHeld}
-use Rattle.mem_machine.specs.Booked.{AreOwners}
-use Rattle.mem_machine.specs.Machines.{KnownMachine, is_killed, left_by, stock_group}
-use Rattle.mem_machine.specs.Local.{Makes, Visits, group_of_fresh, local_of, number_or_0, visit_state}
-use Rattle.mem_machine.specs.Noted.{after_made}
-use Rattle.mem_machine.specs.Settling.{FindsNoneBack, FindsNoneFresh, HandsOver, KeepsFresh, DropsFresh, SettlesFresh, SettlesAllFresh, ReturnsBack, ReturnsAllBack, LeavesOthers, Settles}
-use Rattle.mem_machine.specs.Settling.{collect_steps, fresh_steps, is_fresh_killed, return_steps, settle_steps}
+use Rattle.mem_machine.specs.{AreOwners, KnownMachine, is_killed, left_by, stock_group, Makes, Visits, group_of_fresh, local_of, number_or_0}
+use Rattle.mem_machine.specs.{visit_state, after_made, FindsNoneBack, FindsNoneFresh, HandsOver, KeepsFresh, DropsFresh, SettlesFresh}
+use Rattle.mem_machine.specs.{SettlesAllFresh, ReturnsBack, ReturnsAllBack, LeavesOthers, Settles, collect_steps, fresh_steps, is_fresh_killed}
+use Rattle.mem_machine.specs.{return_steps, settle_steps}
 use Rattle.mem_machine.proofs.Followed.{makes_both, makes_none}
 use Rattle.mem_machine.proofs.Made.{visits_here}
 use Rattle.mem_machine.proofs.Moved.{fresh_group_here, number_range}

@@ -14,15 +14,10 @@ use Rattle.step_rules.specs.State.{Part, State, Stock, with_at}
 use Rattle.step_rules.specs.After.{Run, after, filled, with_back}
 use Rattle.step_rules.proofs.Basics.{at_each, at_same}
 use Rattle.step_rules.proofs.Runs.{after_illegal}
-use Rattle.boot_words.specs.Pasts.{IsHeld}
-use Rattle.boot_words.specs.Words.{stock_in, stock_said}
-use Rattle.cpu_part.specs.Cpus.{KnownCpu}
-use Rattle.cpu_part.specs.Known.{HasOwn}
-use Rattle.mem_machine.specs.Local.{Makes, Visits, local_of}
-use Rattle.mem_machine.specs.Machines.{KnownMachine, part_at, stock_group}
-use Rattle.mem_machine.specs.Noted.{after_made}
-use Rattle.mem_machine.specs.Showing.{stock_now}
-use Rattle.mem_machine.specs.Stocks.{AreDrainedIf, Fills, HasDrained, IsDrained, StockTest}
+use Rattle.boot_words.specs.{IsHeld, stock_in, stock_said}
+use Rattle.cpu_part.specs.{KnownCpu, HasOwn}
+use Rattle.mem_machine.specs.{Makes, Visits, local_of, KnownMachine, part_at, stock_group, after_made, stock_now, AreDrainedIf, Fills, HasDrained}
+use Rattle.mem_machine.specs.{IsDrained, StockTest}
 use Rattle.mem_machine.proofs.Sight.{left_seen}
 
 -- the step may change a stock

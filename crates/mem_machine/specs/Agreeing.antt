@@ -2,12 +2,9 @@
 use Rattle.std.specs.Prelude.{◌≡◌, ℕ, ◌++◌, true}
 use Rattle.frame_word.specs.Seats.{KnownTable}
 use Rattle.group_tree.specs.declared.event.EventKey.{EventKey}
-use Rattle.group_tree.specs.Events.{count_of}
-use Rattle.group_tree.specs.Groups.{has_group}
+use Rattle.group_tree.specs.{count_of, has_group}
 use Rattle.group_charge.specs.Charges.{Ledger, peak_of, events_of, events_local_of}
-use Rattle.step_rules.specs.After.{Run, state_of}
-use Rattle.step_rules.specs.Peaks.{IsPeak}
-use Rattle.step_rules.specs.Events.{events_in, events_local_in}
+use Rattle.step_rules.specs.{Run, state_of, IsPeak, events_in, events_local_in}
 use Rattle.mem_machine.specs.Local.{lock_holder, Makes}
 use Rattle.mem_machine.specs.Machines.{KnownMachine}
 use Rattle.mem_machine.specs.Interleaving.{zone_of, Shows, IsInterleaving}

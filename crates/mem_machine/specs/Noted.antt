@@ -5,10 +5,8 @@ use Rattle.frame_word.specs.Seats.{KnownTable}
 use Rattle.step_rules.specs.declared.step.Step.{Step}
 use Rattle.step_rules.specs.declared.step.Answer.{Answer}
 use Rattle.step_rules.specs.State.{State}
-use Rattle.step_rules.specs.After.{Run, after}
-use Rattle.step_rules.specs.Laws.{IsLocalStep}
-use Rattle.boot_words.specs.Pasts.{KnownPasts, IsHeld, MakesStep, cpu_past, local_by_pasts, own_past}
-use Rattle.boot_words.specs.Growth.{GrewByAll}
+use Rattle.step_rules.specs.{Run, after, IsLocalStep}
+use Rattle.boot_words.specs.{KnownPasts, IsHeld, MakesStep, cpu_past, local_by_pasts, own_past, GrewByAll}
 use Rattle.step_watch.specs.Watched.{KnownWatch, Watches}
 
 -- the zone's past, which has that of the lock's holder too, and the watch

@@ -2,13 +2,11 @@
 use Rattle.std.specs.Prelude.{ℕ, List, ◌++◌, map}
 use Rattle.frame_word.specs.Seats.{KnownTable}
 use Rattle.stock_word.specs.declared.view.Stock.{Stock}
-use Rattle.boot_words.specs.Words.{stock_in}
+use Rattle.boot_words.specs.{stock_in, own_past, zone_of_boot}
 use Rattle.lru_lists.specs.declared.record.Entry.{Entry}
 use Rattle.lru_lists.specs.declared.record.LruList.{LruList}
 use Rattle.lru_lists.specs.declared.record.LruList.TheVariants.{Inactive, Active}
 use Rattle.step_rules.specs.After.{state_of}
-use Rattle.boot_words.specs.Pasts.{own_past}
-use Rattle.boot_words.specs.Seats.{zone_of_boot}
 use Rattle.mem_machine.specs.Local.{local_of}
 -- the units of one of the group's lists, from the oldest to the newest
 pub use Rattle.mem_machine.specs.Machines.{entries_in}

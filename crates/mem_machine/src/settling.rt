@@ -2,8 +2,7 @@
 
 ghost use Rattle.std.specs.Prelude.{◌≡◌, ◌≢◌, ◌-◌, ◌≤◌, ℕ, List, [], ◌∷◌, true, Some, slice_set};
 ghost use Rattle.std.specs.List.{slice_index_or};
-ghost use Rattle.boot_words.specs.Composed.{AreLegal};
-ghost use Rattle.boot_words.specs.Pasts.{local_by_pasts, IsHeld, IsHolder};
+ghost use Rattle.boot_words.specs.{AreLegal, local_by_pasts, IsHeld, IsHolder};
 ghost use Rattle.mem_machine.specs.Machines.{is_killed, stock_group};
 ghost use Rattle.mem_machine.specs.Local.{Makes, Visits, visit_state};
 ghost use Rattle.mem_machine.specs.Noted.{Notes};

@@ -1,6 +1,5 @@
 -- How a group is killed, and how its kept units are released.
-use Rattle.std.specs.Prelude.{◌≡◌, ◌≢◌, ℕ, ◌+◌, ◌-◌, ◌≤◌, true, false, Option, Some, None, List, [], ◌∷◌, ◌++◌}
-use Rattle.std.specs.Prelude.{Bool, length, slice_set}
+use Rattle.std.specs.Prelude.{◌≡◌, ◌≢◌, ℕ, ◌+◌, ◌-◌, ◌≤◌, true, false, Option, Some, None, List, [], ◌∷◌, ◌++◌, Bool, length, slice_set}
 use Rattle.std.specs.List.{fold}
 use Rattle.frame_word.specs.Seats.{KnownTable}
 use Rattle.group_tree.specs.Groups.{is_oom_group}
@@ -12,13 +11,9 @@ use Rattle.step_rules.specs.After.{Run}
 use Rattle.mem_machine.specs.declared.releasing.Released.{Released}
 use Rattle.group_charge.specs.declared.note.Note.{Note}
 use Rattle.group_charge.specs.declared.note.Note.TheVariants as note
-use Rattle.mem_machine.specs.Noted.{KnownRun}
-use Rattle.mem_machine.specs.Machines.{HeadsKeptUnit, KnownMachine, active_in, home_of, inactive_in, part_at, with_run}
-use Rattle.mem_machine.specs.Local.{Makes, StaysVisited, local_of}
-use Rattle.mem_machine.specs.Machines.{with_note}
-use Rattle.mem_machine.specs.Releasing.{Releases, release_steps}
-use Rattle.mem_machine.specs.Steps.{Drain, drain_stocks_steps, kill_steps, note_group_kill_steps}
-use Rattle.mem_machine.specs.Stocks.{DrainsAllIf, IsDrained, of_group, stock_group}
+use Rattle.mem_machine.specs.{KnownRun, HeadsKeptUnit, KnownMachine, active_in, home_of, inactive_in, part_at, with_run, Makes, StaysVisited}
+use Rattle.mem_machine.specs.{local_of, with_note, Releases, release_steps, Drain, drain_stocks_steps, kill_steps, note_group_kill_steps, DrainsAllIf}
+use Rattle.mem_machine.specs.{IsDrained, of_group, stock_group}
 use Rattle.mem_reclaim.specs.Moves.{Rises, has_kill, kills_in, missed_in, misses_of, returned_in}
 use Rattle.mem_reclaim.specs.declared.noting.CountsBeforeKill.{CountsBeforeKill}
 use Rattle.mem_reclaim.specs.declared.sets.Killed.{Killed}

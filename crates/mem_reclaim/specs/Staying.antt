@@ -6,10 +6,8 @@ use Rattle.group_charge.specs.Charges.{current_of}
 use Rattle.lru_lists.specs.declared.record.Link.{Link}
 use Rattle.lru_lists.specs.declared.record.Home.{Home}
 use Rattle.lru_lists.specs.declared.record.LruList.{LruList}
-use Rattle.lru_lists.specs.Queue.{link_at}
-use Rattle.lru_lists.specs.Lists.{owner_of}
-use Rattle.mem_machine.specs.Machines.{HeadsKeptUnit, KnownMachine, home_of, part_at}
-use Rattle.mem_machine.specs.Local.{StaysVisited, local_of}
+use Rattle.lru_lists.specs.{link_at, owner_of}
+use Rattle.mem_machine.specs.{HeadsKeptUnit, KnownMachine, home_of, part_at, StaysVisited, local_of}
 use Rattle.mem_reclaim.specs.Moves.{misses_of}
 
 -- the frame heads a kept unit that is dirty

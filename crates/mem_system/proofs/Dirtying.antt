@@ -8,39 +8,27 @@ use Rattle.frame_word.specs.Seats.{KnownTable}
 use Rattle.zone_blocks.specs.declared.config.Config.{Config}
 use Rattle.group_tree.specs.declared.fault.Fault.TheVariants.{NotKept}
 use Rattle.step_rules.specs.declared.step.Action.TheVariants.{Consume}
-use Rattle.step_rules.specs.After.{Run, after, paid}
-use Rattle.step_rules.specs.Legal.{is_legal}
-use Rattle.step_rules.specs.Reaches.{IsLocalRun}
-use Rattle.step_rules.specs.State.{Part, State, Zone, times}
+use Rattle.step_rules.specs.{Run, after, paid, is_legal, IsLocalRun, Part, Zone, times}
+use Rattle.step_rules.specs.State.{State}
 use Rattle.step_rules.proofs.Basics.{at_same}
 use Rattle.step_rules.proofs.Lists.{times_same}
 use Rattle.step_rules.proofs.SoundSteps.{below_frames}
-use Rattle.boot_words.specs.Pasts.{cpu_past}
-use Rattle.boot_words.specs.Seats.{zone_of_boot}
+use Rattle.boot_words.specs.{cpu_past, zone_of_boot}
 use Rattle.lru_lists.specs.declared.record.Home.{Home}
-use Rattle.mem_machine.specs.Machines.{IsConsistent, KnownMachine, home_of, is_killed, with_run}
-use Rattle.mem_machine.specs.Lending.{LendsMany}
-use Rattle.mem_machine.specs.Local.{VisitState, local_of, lock_holder, number_or_0, visit_state}
-use Rattle.mem_machine.specs.Settling.{ReturnsAllBack, SettlesAllFresh, is_fresh_killed, settle_steps}
-use Rattle.mem_machine.specs.Steps.{open_steps, shut_steps, take_front_steps}
-use Rattle.mem_machine.specs.Stocks.{stock_group}
-use Rattle.mem_machine.specs.Transitions.{Transition, transition}
+use Rattle.mem_machine.specs.{IsConsistent, KnownMachine, home_of, is_killed, with_run, LendsMany, VisitState, local_of, lock_holder, number_or_0}
+use Rattle.mem_machine.specs.{visit_state, ReturnsAllBack, SettlesAllFresh, is_fresh_killed, settle_steps, open_steps, shut_steps, take_front_steps}
+use Rattle.mem_machine.specs.{stock_group, Transition, transition}
 use Rattle.mem_machine.proofs.Listing.{home_inside}
 use Rattle.mem_machine.proofs.Made.{zone_seen}
 use Rattle.mem_machine.proofs.OwnFrames.{fresh_own}
 use Rattle.mem_reclaim.proofs.Grown.{parts_after}
-use Rattle.mem_alloc.specs.Blocks.{AllocatesBlock, FindsNoBlock, TakesFreeBlock}
-use Rattle.mem_alloc.specs.Charging.{LacksBatch, PaysForFrame}
-use Rattle.mem_alloc.specs.Frames.{AllocatesFrame, FillsList, LendsBatch, LendsNoFrame}
-use Rattle.mem_alloc.specs.Room.{MakesRoom, PreparesCharge}
-use Rattle.mem_alloc.specs.Rounds.{SucceedsInRounds}
+use Rattle.mem_alloc.specs.{AllocatesBlock, FindsNoBlock, TakesFreeBlock, LacksBatch, PaysForFrame, AllocatesFrame, FillsList, LendsBatch}
+use Rattle.mem_alloc.specs.{LendsNoFrame, MakesRoom, PreparesCharge, SucceedsInRounds}
 use Rattle.mem_system.specs.declared.command.LockedCommand.{LockedCommand}
 use Rattle.mem_system.specs.declared.command.LockedCommand.TheVariants.{Alloc, Dirty}
 use Rattle.mem_system.specs.declared.command.ReplyWithText.{ReplyWithText}
 use Rattle.mem_system.specs.declared.command.ReplyWithText.TheVariants.{Done, Frame, Refused}
-use Rattle.mem_system.specs.Allocations.{FreshOf}
-use Rattle.mem_system.specs.Units.{NotesDirt}
-use Rattle.mem_system.specs.Visits.{IsServed, LockedState, begun, visit_state_of, with_run_at}
+use Rattle.mem_system.specs.{FreshOf, NotesDirt, IsServed, LockedState, begun, visit_state_of, with_run_at}
 
 -- the frame heads a kept unit
 abbrev pub IsHome : KnownMachine → ℕ → Type 0

@@ -8,8 +8,7 @@ use Rattle.step_rules.specs.After.{Run}
 use Rattle.mem_machine.specs.Machines.{KnownMachine}
 use Rattle.mem_reclaim.specs.declared.sets.Killed.{Killed}
 use Rattle.control_files.specs.Limit.{ReadsAs}
-use Rattle.mem_alloc.specs.KillLaws.{IsOverLimit}
-use Rattle.mem_alloc.specs.Laws.{WasLast}
+use Rattle.mem_alloc.specs.{IsOverLimit, WasLast}
 use Rattle.mem_alloc.proofs.ComingLast.{kills_come_last}
 use Rattle.mem_alloc.proofs.KillLaws.{die_with_their_sets, over_limit}
 use Rattle.mem_system.specs.declared.command.LockedCommand.{LockedCommand}

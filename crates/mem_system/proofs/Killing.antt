@@ -7,8 +7,7 @@ use Rattle.frame_word.specs.Seats.{KnownTable}
 use Rattle.boot_words.specs.Pasts.{IsHeld}
 use Rattle.group_tree.specs.declared.group.Group.{Group}
 use Rattle.group_tree.specs.declared.fault.Fault.TheVariants as fault
-use Rattle.group_tree.specs.Groups.{in_subtree, limit_of, number_at, with_limit}
-use Rattle.group_tree.specs.Room.{fits_limit}
+use Rattle.group_tree.specs.{in_subtree, limit_of, number_at, with_limit, fits_limit}
 use Rattle.group_tree.proofs.CallerLemmas.{limit_of-limited}
 use Rattle.group_charge.specs.Charges.{current_of}
 use Rattle.zone_blocks.specs.declared.config.Config.{Config}
@@ -17,20 +16,14 @@ use Rattle.control_files.specs.declared.file.File.TheVariants.{Max, High, OomGro
 use Rattle.cpu_part.specs.Cpus.{KnownCpu}
 use Rattle.step_rules.specs.After.{Run}
 use Rattle.mem_machine.specs.declared.releasing.Released.TheVariants as released
-use Rattle.mem_machine.specs.Machines.{KnownMachine, with_run}
-use Rattle.mem_machine.specs.Local.{VisitState, visit_state}
-use Rattle.mem_machine.specs.Releasing.{release_steps}
-use Rattle.mem_machine.specs.Settling.{return_all_steps, all_fresh_steps, fresh_steps, is_fresh_killed, return_steps, settle_steps}
-use Rattle.mem_machine.specs.Steps.{drain_stocks_steps, lend_steps, open_steps, remove_steps, set_max_steps, shut_steps}
-use Rattle.mem_machine.specs.Stocks.{of_subtree}
-use Rattle.mem_machine.specs.Transitions.{Transition, transition}
+use Rattle.mem_machine.specs.{KnownMachine, with_run, VisitState, visit_state, release_steps, return_all_steps, all_fresh_steps, fresh_steps}
+use Rattle.mem_machine.specs.{is_fresh_killed, return_steps, settle_steps, drain_stocks_steps, lend_steps, open_steps, remove_steps, set_max_steps}
+use Rattle.mem_machine.specs.{shut_steps, of_subtree, Transition, transition}
 use Rattle.mem_reclaim.specs.Moves.{has_kill}
 use Rattle.mem_reclaim.proofs.LettingGo.{drains_leave, quiet_drains}
 use Rattle.mem_alloc.specs.declared.faults.AllocFault.{AllocFault}
 use Rattle.mem_alloc.specs.declared.faults.AllocFault.TheVariants.{Over, NoFrames, RequesterKilled}
-use Rattle.mem_alloc.specs.Kills.{has_room_at}
-use Rattle.mem_alloc.specs.Room.{with_limit_noted}
-use Rattle.mem_alloc.specs.NoRash.{NoRashKill}
+use Rattle.mem_alloc.specs.{has_room_at, with_limit_noted, NoRashKill}
 use Rattle.mem_alloc.proofs.Calm.{back_calm}
 use Rattle.mem_alloc.proofs.NoRash.{Passes, RashFree, drained_on, keeps_pass, missed_since, passes_both, passes_same, rash_both, rash_quiet, tame_kills}
 use Rattle.mem_alloc.proofs.NoRashAllocs.{block_no_rash, frame_no_rash, no_kill_both}
@@ -38,13 +31,9 @@ use Rattle.mem_system.specs.declared.command.LockedCommand.{LockedCommand}
 use Rattle.mem_system.specs.declared.command.LockedCommand.TheVariants.{Mkdir, Rmdir, Write, Read, Settle, Owner, Release, Alloc}
 use Rattle.mem_system.specs.declared.command.ReplyWithText.{ReplyWithText}
 use Rattle.mem_system.specs.declared.command.ReplyWithText.TheVariants as reply
-use Rattle.mem_system.specs.Groups.{MakesGroup, Removes}
-use Rattle.mem_system.specs.Files.{IsFileOf, IsLimitFor, SetsFile, SetsLimit, Writes, with_high_of, with_limit_of}
-use Rattle.mem_system.specs.Usage.{LowersUsage, LowersAbove, LowersByKills, LowersToHigh, KeepsToLimit, with_high_told}
-use Rattle.mem_system.specs.Allocations.{Allocates, AllocatesFor}
-use Rattle.mem_system.specs.Releases.{CutsList, ListsFrame, ReleasesFrame, ReturnsFrames}
-use Rattle.mem_system.specs.Asks.{MayAskFor}
-use Rattle.mem_system.specs.Commands.{Executes}
+use Rattle.mem_system.specs.{MakesGroup, Removes, IsFileOf, IsLimitFor, SetsFile, SetsLimit, Writes, with_high_of, with_limit_of, LowersUsage}
+use Rattle.mem_system.specs.{LowersAbove, LowersByKills, LowersToHigh, KeepsToLimit, with_high_told, Allocates, AllocatesFor, CutsList, ListsFrame}
+use Rattle.mem_system.specs.{ReleasesFrame, ReturnsFrames, MayAskFor, Executes}
 use Rattle.mem_system.proofs.Found.{found_there}
 
 -- ---- commands that kill nobody

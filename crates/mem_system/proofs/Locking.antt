@@ -9,11 +9,8 @@ use Rattle.step_rules.specs.declared.step.Action.TheVariants.{Lock, Unlock}
 use Rattle.step_rules.specs.declared.step.Answer.TheVariants.{Done}
 use Rattle.step_watch.specs.Watched.{KnownWatch, Watches}
 use Rattle.step_watch.proofs.Watching.{watches_none, watches_both}
-use Rattle.mem_machine.specs.Machines.{KnownMachine, left_by, part_at, with_past, with_run, with_watch}
-use Rattle.mem_machine.specs.Noted.{KnownRun}
-use Rattle.mem_machine.specs.FrameStates.{frame_state_at}
-use Rattle.mem_machine.specs.Local.{Holds, VisitState, VisitMakes, visit_state}
-use Rattle.mem_machine.specs.Stocks.{HasDrained}
+use Rattle.mem_machine.specs.{KnownMachine, left_by, part_at, with_past, with_run, with_watch, KnownRun, frame_state_at, Holds, VisitState}
+use Rattle.mem_machine.specs.{VisitMakes, visit_state, HasDrained}
 use Rattle.mem_machine.specs.Steps.{cpu_makes}
 use Rattle.mem_machine.proofs.Sight.{left_seen}
 use Rattle.mem_system.specs.Commands.{Transition, BySteps}

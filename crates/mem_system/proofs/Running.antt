@@ -9,20 +9,16 @@ use Rattle.step_rules.specs.declared.step.Answer.TheVariants.{Done}
 use Rattle.step_rules.specs.State.{State}
 use Rattle.step_rules.specs.After.{Run, after}
 use Rattle.boot_words.specs.declared.past.Past.{Past}
-use Rattle.boot_words.specs.Runs.{GrewBy}
-use Rattle.boot_words.specs.Rule.{AllOf}
-use Rattle.boot_words.specs.Pasts.{KnownPasts, Locks, Unlocks, cpu_past, own_past}
-use Rattle.boot_words.specs.Growth.{GainsSteps, IsRunSoFar}
+use Rattle.boot_words.specs.{GrewBy, AllOf, KnownPasts, Unlocks, cpu_past, own_past, GainsSteps, IsRunSoFar}
+use Rattle.boot_words.specs.Pasts.{Locks}
 use Rattle.boot_words.proofs.Grown.{all_grew_both}
 use Rattle.boot_words.proofs.Holding.{append_none}
 use Rattle.boot_words.proofs.Gaining.{gains_go_on, of_two_seats, visit_gains}
-use Rattle.mem_machine.specs.Machines.{KnownMachine, with_run}
-use Rattle.mem_machine.specs.Noted.{PastsGrowBy}
-use Rattle.mem_machine.specs.Local.{IsLocalRun, VisitState, local_of}
+use Rattle.mem_machine.specs.{KnownMachine, with_run, PastsGrowBy, VisitState, local_of}
+use Rattle.mem_machine.specs.Local.{IsLocalRun}
 use Rattle.mem_machine.specs.Steps.{cpu_makes}
 use Rattle.mem_system.specs.Commands.{Transition}
-use Rattle.mem_system.specs.Cpus.{CpuInRun, VisitsInRun, between_locks, pasts_of}
-use Rattle.mem_system.specs.Ends.{ForEachCpu, VisitsUnderLock, machine_and_cpu, steps_of_visits}
+use Rattle.mem_system.specs.{CpuInRun, VisitsInRun, between_locks, pasts_of, ForEachCpu, VisitsUnderLock, machine_and_cpu, steps_of_visits}
 
 -- A visit in the run: the CPU takes the lock, the pasts grow by these steps, and the CPU releases the lock.
 pub visit_in_run : (t : KnownTable) (p : ℕ) (steps : Run) (zone past held held' zone' past' : KnownPasts) → (own_past past).number ≡ p

@@ -5,27 +5,17 @@ use Rattle.std.proofs.lemmas.Bool.{false≢true}
 use Rattle.frame_word.specs.Seats.{KnownTable}
 use Rattle.step_rules.specs.declared.phase.Hold.{Hold}
 use Rattle.step_rules.specs.declared.phase.Hold.TheVariants.{HeldBy, Unheld, Visiting}
-use Rattle.step_rules.specs.State.{Part, is_unheld, visits}
-use Rattle.step_rules.specs.After.{Run, state_of}
-use Rattle.boot_words.specs.Cpus.{KnownCpuSeat}
-use Rattle.boot_words.specs.Pasts.{IsHeld, Locks, Unlocks, own_past}
-use Rattle.boot_words.specs.Seats.{zone_of_boot}
-use Rattle.cpu_part.specs.Cpus.{KnownCpu}
-use Rattle.cpu_part.specs.Known.{KnowsItsPart}
-use Rattle.mem_machine.specs.Machines.{KnownMachine, is_killed, with_past, with_run, without_notes}
-use Rattle.mem_machine.specs.Local.{Holds, IsShut, Makes, number_or_0, visit_state}
-use Rattle.mem_machine.specs.Resting.{Rests}
-use Rattle.mem_machine.specs.Settling.{Settles, fresh_steps, return_all_steps, settle_steps}
-use Rattle.mem_machine.specs.Steps.{open_steps, shut_steps}
-use Rattle.mem_machine.specs.Transitions.{transition}
+use Rattle.step_rules.specs.{Part, is_unheld, visits, Run, state_of}
+use Rattle.boot_words.specs.{KnownCpuSeat, IsHeld, Unlocks, own_past, zone_of_boot}
+use Rattle.boot_words.specs.Pasts.{Locks}
+use Rattle.cpu_part.specs.{KnownCpu, KnowsItsPart}
+use Rattle.mem_machine.specs.{KnownMachine, is_killed, with_past, with_run, without_notes, Holds, IsShut, Makes, number_or_0, visit_state, Rests}
+use Rattle.mem_machine.specs.{Settles, fresh_steps, return_all_steps, settle_steps, open_steps, shut_steps, transition}
 use Rattle.mem_machine.proofs.Followed.{makes_both}
 use Rattle.mem_reclaim.proofs.Grown.{held_after, misses_after}
 use Rattle.mem_system.specs.declared.command.LockedCommand.{LockedCommand}
 use Rattle.mem_system.specs.declared.command.ReplyWithText.{ReplyWithText}
-use Rattle.mem_system.specs.Commands.{Executes}
-use Rattle.mem_system.specs.Cpus.{cpu_in_run}
-use Rattle.mem_system.specs.Locked.{AllShut, CountsItsRun, KnownLocked}
-use Rattle.mem_system.specs.Visits.{IsServed, locked_state, visit_steps}
+use Rattle.mem_system.specs.{Executes, cpu_in_run, AllShut, CountsItsRun, KnownLocked, IsServed, locked_state, visit_steps}
 use Rattle.mem_system.proofs.Counted.{visit_counted}
 use Rattle.mem_system.proofs.Killing.{around_quiet, obeys_no_rash}
 use Rattle.mem_system.proofs.Locking.{part_locked, run_twice}

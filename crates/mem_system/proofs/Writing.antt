@@ -4,22 +4,15 @@ use Rattle.group_tree.specs.declared.fault.Fault.{Fault}
 use Rattle.group_tree.specs.declared.fault.Fault.TheVariants.{Again, BadLimit, BadNumber}
 use Rattle.control_files.specs.declared.file.File.{File}
 use Rattle.control_files.specs.declared.file.File.TheVariants.{Current, Max, High, Peak, Events, EventsLocal, OomGroup, Reclaim}
-use Rattle.control_files.specs.Files.{is_writable}
-use Rattle.control_files.specs.Flag.{IsNoFlagText}
-use Rattle.control_files.specs.Limit.{ReadsAmount, ReadsAs, IsNoAmountText, IsNoLimitText, IsTooGreat}
+use Rattle.control_files.specs.{is_writable, IsNoFlagText, ReadsAmount, ReadsAs, IsNoAmountText, IsNoLimitText, IsTooGreat}
 use Rattle.frame_word.specs.Seats.{KnownTable}
-use Rattle.mem_machine.specs.Machines.{KnownMachine}
-use Rattle.mem_machine.specs.Local.{Makes}
+use Rattle.mem_machine.specs.{KnownMachine, Makes, BySteps, Transition, transition}
 use Rattle.mem_machine.proofs.Followed.{makes_both, makes_none}
 use Rattle.group_charge.specs.Charges.{current_of}
-use Rattle.mem_reclaim.specs.Moves.{FreesBySteps}
-use Rattle.mem_reclaim.specs.Rounds.{ReclaimsAmount}
-use Rattle.mem_reclaim.specs.Staying.{Keeps, MissedAll}
-use Rattle.mem_machine.specs.Transitions.{BySteps, Transition, transition}
+use Rattle.mem_reclaim.specs.{FreesBySteps, ReclaimsAmount, Keeps, MissedAll}
 use Rattle.mem_system.specs.declared.command.ReplyWithText.{ReplyWithText}
 use Rattle.mem_system.specs.declared.command.ReplyWithText.TheVariants.{Done, Refused}
-use Rattle.mem_system.specs.Files.{IsFileOf, RefusesValue, Writes, WritesTo, with_high_of}
-use Rattle.mem_system.specs.Usage.{LowersToHigh}
+use Rattle.mem_system.specs.{IsFileOf, RefusesValue, Writes, WritesTo, with_high_of, LowersToHigh}
 
 pub refused_limit : (value : List ℕ) (fault : Fault) → (fault ≡ BadNumber) ⊎ (fault ≡ BadLimit) → (fault ≡ BadNumber → IsTooGreat value)
     → (fault ≡ BadLimit → IsNoLimitText value) → RefusesValue Max value fault

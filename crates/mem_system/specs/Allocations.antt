@@ -3,12 +3,10 @@ use Rattle.std.specs.Prelude.{◌≡◌, ◌≢◌, ℕ, zero, ◌<◌, ◌≤�
 use Rattle.group_tree.specs.declared.fault.Fault.TheVariants as fault
 use Rattle.group_tree.specs.Groups.{number_at, path_of}
 use Rattle.zone_blocks.specs.declared.config.Config.{Config}
-use Rattle.mem_machine.specs.Local.{VisitState}
+use Rattle.mem_machine.specs.{VisitState, Transition, Stays}
 use Rattle.mem_alloc.specs.declared.faults.AllocFault.{AllocFault}
 use Rattle.mem_alloc.specs.declared.faults.AllocFault.TheVariants.{Over, NoFrames, RequesterKilled}
-use Rattle.mem_machine.specs.Transitions.{Transition, Stays}
-use Rattle.mem_alloc.specs.Frames.{AllocatesFrame}
-use Rattle.mem_alloc.specs.Blocks.{AllocatesBlock}
+use Rattle.mem_alloc.specs.{AllocatesFrame, AllocatesBlock}
 use Rattle.mem_system.specs.declared.outcome.Outcome.{Outcome}
 use Rattle.mem_system.specs.declared.outcome.Outcome.TheVariants as outcome
 use Rattle.mem_system.specs.declared.command.ReplyWithText.{ReplyWithText}

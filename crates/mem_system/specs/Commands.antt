@@ -4,16 +4,13 @@ use Rattle.frame_word.specs.Seats.{KnownTable}
 use Rattle.cpu_part.specs.Cpus.{KnownCpu}
 use Rattle.zone_blocks.specs.declared.config.Config.{Config}
 use Rattle.zone_blocks.specs.Config.{IsValidConfig}
-use Rattle.mem_machine.specs.Local.{VisitState, Visits}
-use Rattle.mem_machine.specs.Machines.{KnownMachine}
+use Rattle.mem_machine.specs.{VisitState, Visits, KnownMachine}
 -- a call, described by the state before it, its steps and the state after it
-pub use Rattle.mem_machine.specs.Transitions.{Transition, transition, of_machine, OfMachine, OfMachineAlone, BySteps}
-pub use Rattle.mem_machine.specs.Transitions.{MachineStays, Stays}
+pub use Rattle.mem_machine.specs.Transitions.{Transition, transition, of_machine, OfMachine, OfMachineAlone, BySteps, MachineStays, Stays}
 pub use Rattle.mem_machine.specs.Settling.{IsSettled}
 pub use Rattle.mem_reclaim.specs.Moves.{CountsMisses}
 use Rattle.mem_system.specs.declared.command.LockedCommand.{LockedCommand}
-use Rattle.mem_system.specs.declared.command.LockedCommand.TheVariants.{Mkdir, Rmdir, Write, Read, Settle, Owner}
-use Rattle.mem_system.specs.declared.command.LockedCommand.TheVariants.{Touch, Dirty, Clean, Release, Alloc}
+use Rattle.mem_system.specs.declared.command.LockedCommand.TheVariants.{Mkdir, Rmdir, Write, Read, Settle, Owner, Touch, Dirty, Clean, Release, Alloc}
 use Rattle.mem_system.specs.declared.command.ReplyWithText.{ReplyWithText}
 use Rattle.mem_system.specs.declared.command.ReplyWithText.TheVariants.{Done}
 use Rattle.mem_system.specs.Boots.{IsSizedAs}

@@ -4,9 +4,7 @@ use Rattle.group_tree.specs.Groups.{make_fault}
 use Rattle.group_tree.specs.declared.fault.Fault.TheVariants.{Busy}
 use Rattle.group_charge.specs.Charges.{current_of, with_group_removed}
 use Rattle.step_rules.specs.After.{Run}
-use Rattle.mem_machine.specs.Machines.{KnownMachine, AddsGroup}
-use Rattle.mem_machine.specs.Steps.{make_steps, remove_steps}
-use Rattle.mem_machine.specs.Transitions.{Transition, MachineStays, transition}
+use Rattle.mem_machine.specs.{KnownMachine, AddsGroup, make_steps, remove_steps, Transition, MachineStays, transition}
 use Rattle.mem_system.specs.declared.command.ReplyWithText.{ReplyWithText}
 use Rattle.mem_system.specs.declared.command.ReplyWithText.TheVariants.{Group, Done, Refused}
 use Rattle.mem_system.specs.Leaves.{IsLeafAt, HasNoLeaf}

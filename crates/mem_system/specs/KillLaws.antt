@@ -10,8 +10,7 @@ use Rattle.step_rules.specs.declared.step.Answer.{Answer}
 use Rattle.step_rules.specs.declared.step.Step.{Step}
 use Rattle.step_rules.specs.After.{Run}
 use Rattle.mem_machine.specs.Machines.{KnownMachine}
-use Rattle.mem_alloc.specs.KillLaws.{DiesWithItsSet}
-use Rattle.mem_alloc.specs.Laws.{ComesLast}
+use Rattle.mem_alloc.specs.{DiesWithItsSet, ComesLast}
 use Rattle.mem_system.specs.declared.command.LockedCommand.{LockedCommand}
 use Rattle.mem_system.specs.declared.command.LockedCommand.TheVariants.{Alloc, Write}
 use Rattle.mem_system.specs.declared.command.ReplyWithText.{ReplyWithText}

@@ -4,12 +4,8 @@ use Rattle.group_tree.specs.declared.fault.Fault.TheVariants.{NotKept}
 use Rattle.zone_blocks.specs.declared.config.Config.{Config}
 use Rattle.step_rules.specs.After.{Run}
 use Rattle.mem_machine.specs.declared.releasing.Released.TheVariants as released
-use Rattle.mem_machine.specs.Machines.{KnownMachine}
-use Rattle.mem_machine.specs.Local.{VisitState, visit_state}
-use Rattle.mem_machine.specs.Releasing.{LeavesReferences, ReturnsUnit, release_steps}
-use Rattle.mem_machine.specs.Lending.{LendsFrame, UnlistsMany}
-use Rattle.mem_machine.specs.Steps.{lend_steps, drain_list_steps}
-use Rattle.mem_machine.specs.Transitions.{Transition, OfMachineAlone, Stays, transition}
+use Rattle.mem_machine.specs.{KnownMachine, VisitState, visit_state, LeavesReferences, ReturnsUnit, release_steps, LendsFrame, UnlistsMany}
+use Rattle.mem_machine.specs.{lend_steps, drain_list_steps, Transition, OfMachineAlone, Stays, transition}
 use Rattle.mem_system.specs.declared.command.ReplyWithText.{ReplyWithText}
 use Rattle.mem_system.specs.declared.command.ReplyWithText.TheVariants.{Left, Returned, Refused}
 use Rattle.mem_system.specs.Units.{HeadsNoUnit}

@@ -2,9 +2,7 @@
 use Rattle.std.specs.Prelude.{◌≡◌, ℕ, Bool, None, []}
 use Rattle.group_tree.specs.declared.fault.Fault.TheVariants.{NotKept}
 use Rattle.lru_lists.specs.declared.lru.Touched.TheVariants as touched
-use Rattle.mem_machine.specs.Machines.{KnownMachine, HeadsKeptUnit, home_of}
-use Rattle.mem_machine.specs.Marks.{TouchesUnit, Dirties}
-use Rattle.mem_machine.specs.Transitions.{Transition, MachineStays}
+use Rattle.mem_machine.specs.{KnownMachine, HeadsKeptUnit, home_of, TouchesUnit, Dirties, Transition, MachineStays}
 use Rattle.mem_system.specs.declared.command.ReplyWithText.{ReplyWithText}
 use Rattle.mem_system.specs.declared.command.ReplyWithText.TheVariants.{Done, Marked, Active, Refused}
 

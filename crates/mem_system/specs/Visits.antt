@@ -6,12 +6,8 @@ use Rattle.zone_blocks.specs.declared.config.Config.{Config}
 use Rattle.boot_words.specs.Pasts.{Locks, Unlocks}
 use Rattle.group_tree.specs.Groups.{number_at}
 use Rattle.step_rules.specs.After.{Run}
-use Rattle.mem_machine.specs.Machines.{KnownMachine, with_run, without_notes}
-use Rattle.mem_machine.specs.Local.{VisitState, visit_state, Holds, IsShut, Makes}
-use Rattle.mem_machine.specs.Noted.{KnownRun}
-use Rattle.mem_machine.specs.Settling.{Settles, settle_steps}
-use Rattle.mem_machine.specs.Showing.{stock_left}
-use Rattle.mem_machine.specs.Steps.{open_steps, shut_steps}
+use Rattle.mem_machine.specs.{KnownMachine, with_run, without_notes, VisitState, visit_state, Holds, IsShut, Makes, KnownRun, Settles, settle_steps}
+use Rattle.mem_machine.specs.{stock_left, open_steps, shut_steps}
 use Rattle.mem_reclaim.specs.Moves.{has_kill}
 -- a call, described by the state before it, its steps and the state after it
 pub use Rattle.mem_machine.specs.Transitions.{Transition, transition}

@@ -3,12 +3,7 @@
 ghost use Rattle.std.specs.Prelude.{◌≡◌, ◌≢◌, ◌+◌, ◌<◌, ◌≤◌, ◌↔◌, [], length, Ok, IfOk, IfSome, IsTrue, MatchOption};
 ghost use Rattle.std.specs.Prelude.{MatchResult};
 ghost use Rattle.frame_word.specs.declared.answers.Get.TheVariants.{Zero};
-ghost use Rattle.boot_words.specs.Growth.{GrewByAll};
-ghost use Rattle.boot_words.specs.Calls.{RacesAt};
-ghost use Rattle.boot_words.specs.Cpus.{IsAwayCpu};
-ghost use Rattle.boot_words.specs.Opening.{cpu_at_first};
-ghost use Rattle.boot_words.specs.Pasts.{own_past};
-ghost use Rattle.boot_words.specs.Seats.{zone_of_boot};
+ghost use Rattle.boot_words.specs.{GrewByAll, RacesAt, IsAwayCpu, cpu_at_first, own_past, zone_of_boot};
 ghost use Rattle.stock_word.specs.declared.view.Stock.TheVariants.{NoGroup};
 ghost use Rattle.stock_word.specs.Stock.{HasWord};
 ghost use Rattle.group_tree.specs.declared.fault.Fault.TheVariants.{PinsFull};

@@ -2,11 +2,10 @@
 //! visit is made under the lock.
 
 ghost use Rattle.std.specs.Prelude.{◌≡◌, [], All};
-ghost use Rattle.mem_machine.specs.Resting.{Rests};
+ghost use Rattle.mem_machine.specs.{Rests, Holds, IsShut, VisitDoes};
 ghost use Rattle.mem_system.specs.Ends.{Empties, ForEachCpu, SettlesInVisit, VisitsUnderLock};
-ghost use Rattle.mem_system.specs.Cpus.{parts_of};
 ghost use Rattle.mem_system.specs.Ends.{IsEmptied, IsSettledUnpinned, LendsAndFillsNone, machine_and_cpu, pins_of_all};
-ghost use Rattle.mem_machine.specs.Local.{Holds, IsShut, VisitDoes};
+ghost use Rattle.mem_system.specs.Cpus.{parts_of};
 
 use crate::cpus::Cpu;
 use cpu_part::{BootName, CpuLists, Tables};

@@ -4,8 +4,7 @@ ghost use Rattle.std.specs.Prelude.{◌≡◌, ◌↔◌, ◌<◌, ◌≤◌, Is
 ghost use Rattle.zone_blocks.specs.Config.{IsValidConfig};
 ghost use Rattle.step_rules.specs.declared.phase.ChargedUnit.{ChargedUnit};
 ghost use Rattle.mem_machine.specs.declared.frame_state.FrameState.TheVariants.{Free, Head};
-ghost use Rattle.mem_machine.specs.FrameStates.{frame_state_at};
-ghost use Rattle.mem_machine.specs.Local.{KeepsVisit, VisitDoes, Visits};
+ghost use Rattle.mem_machine.specs.{frame_state_at, KeepsVisit, VisitDoes, Visits};
 ghost use Rattle.mem_system.specs.Outcomes.{ComesTo, HasItsGroups};
 ghost use Rattle.mem_system.specs.Releases.{CutsList, ListsFrame, ReleasesFrame};
 ghost use Rattle.mem_system.specs.Commands.{ListStaysWithin};

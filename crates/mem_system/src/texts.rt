@@ -1,8 +1,7 @@
 //! The texts of the machine that a settled CPU gets.
 
 ghost use Rattle.std.specs.Prelude.{◌≡◌, IfOk};
-ghost use Rattle.machine_texts.specs.Blocks.{blocks_text};
-ghost use Rattle.machine_texts.specs.Show.{show_text};
+ghost use Rattle.machine_texts.specs.{blocks_text, show_text};
 ghost use Rattle.mem_system.specs.Shown.{ReadsUnderLock, SettlesCaller};
 ghost use Rattle.mem_system.specs.Commands.{IsSettled};
 ghost use Rattle.mem_system.specs.Visits.{EndsVisit, locked_state};

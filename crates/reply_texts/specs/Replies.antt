@@ -6,8 +6,7 @@ use Rattle.group_tree.specs.declared.fault.Fault.TheVariants as fault
 use Rattle.group_tree.specs.Faults.{name_of, number_of}
 use Rattle.machine_texts.specs.Characters.{characters}
 use Rattle.mem_system.specs.declared.command.ReplyWithText.{ReplyWithText}
-use Rattle.mem_system.specs.declared.command.ReplyWithText.TheVariants.{Group, Frame, Done, Text, Free, Lent, Charged}
-use Rattle.mem_system.specs.declared.command.ReplyWithText.TheVariants.{Marked, Active, Left, Returned}
+use Rattle.mem_system.specs.declared.command.ReplyWithText.TheVariants.{Group, Frame, Done, Text, Free, Lent, Charged, Marked, Active, Left, Returned}
 use Rattle.mem_system.specs.declared.command.ReplyWithText.TheVariants.{OverLimit, Refused}
 
 -- the words of a refusal: its number and its name

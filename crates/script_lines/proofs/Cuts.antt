@@ -5,8 +5,7 @@ use Rattle.std.proofs.lemmas.Bool.{cases_lt}
 use Rattle.std.proofs.lemmas.List.{get_or-take, get_or_append_left, length-take-le, take-append-drop, take_rest}
 use Rattle.std.proofs.lemmas.Str.Parse.{digit_from_value}
 use Rattle.std.specs.Str.Parse.{AllDigits}
-use Rattle.script_lines.specs.Places.{IsPathEnd}
-use Rattle.script_lines.specs.Script.{IsCut, IsCutAt, IsPathText}
+use Rattle.script_lines.specs.{IsPathEnd, IsCut, IsCutAt, IsPathText}
 
 -- the text has no space
 abbrev pub NoSpace : List ℕ → Type 0

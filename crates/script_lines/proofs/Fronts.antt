@@ -3,8 +3,7 @@ use Rattle.std.proofs.Common.{◌≡◌, ℕ, ◌+◌, ◌-◌, ◌<◌, ◌≤�
 use Rattle.std.proofs.lemmas.Bool.{cases_lt}
 use Rattle.std.proofs.lemmas.List.{drop-take, get_or-take, length-drop, take-take, take_all, take_rest}
 use Rattle.std.specs.List.{onto_first, slice_split}
-use Rattle.script_lines.specs.Places.{IsFrontOf}
-use Rattle.script_lines.specs.Script.{texts_of}
+use Rattle.script_lines.specs.{IsFrontOf, texts_of}
 
 -- a text begins with itself
 pub front_whole : (text : List ℕ) → IsFrontOf text text

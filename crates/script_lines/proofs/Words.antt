@@ -3,10 +3,7 @@ use Rattle.std.proofs.Common.{◌≡◌, ◌≢◌, ℕ, ◌+◌, ◌-◌, ◌<�
 use Rattle.std.proofs.Math.Seq.{get_or-append_seam}
 use Rattle.std.proofs.lemmas.List.{get_or-take, get_or_default, length-take-le, take_all}
 use Rattle.std.proofs.lemmas.Bool.Decides.{eqb_tells}
-use Rattle.script_lines.specs.Names.{IsWordEnd, is_word}
-use Rattle.script_lines.specs.Places.{IsFrontOf}
-use Rattle.script_lines.specs.Script.{BeginsWithName, IsCut}
-use Rattle.script_lines.specs.Verb.{name_of_verb}
+use Rattle.script_lines.specs.{IsWordEnd, is_word, IsFrontOf, BeginsWithName, IsCut, name_of_verb}
 use Rattle.script_lines.specs.declared.verb.Verb.{Verb}
 use Rattle.script_lines.proofs.Codes.{AreBytes}
 use Rattle.script_lines.proofs.Cuts.{NoSpace, cut_at, cut_once, no_cut}

@@ -25,8 +25,7 @@ use Rattle.script_lines.proofs.Cuts.{cut_once, digits_no_space, no_cut}
 use Rattle.script_lines.proofs.Forms.{form_of, its_form, made}
 use Rattle.script_lines.proofs.Readings.{begins, command_parts, is_command, request_no_go}
 use Rattle.script_lines.proofs.Verbs.{in_all, name_no_space}
-use Rattle.script_lint.specs.Ends.{IsNamedBy, ends, example_text}
-use Rattle.script_lint.specs.Lines.{GoesOn, HasValidCounts, IsGoodText, IsRequest}
+use Rattle.script_lint.specs.{IsNamedBy, ends, example_text, GoesOn, HasValidCounts, IsGoodText, IsRequest}
 
 -- the text of a `go`
 pub go_text : (text : List ℕ) → is_go text ≡ true → text ≡ codes "go"

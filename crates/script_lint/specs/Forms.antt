@@ -2,8 +2,7 @@
 use Rattle.std.specs.Prelude.{ℕ, Option, None, Some, List, ◌++◌, codes}
 use Rattle.script_lines.specs.Verb.{form_of_verb, name_of_verb}
 use Rattle.script_lines.specs.declared.verb.Form.{Form}
-use Rattle.script_lines.specs.declared.verb.Form.TheVariants.{Alone, Path, PathFile, PathFileValue, PathOrder, Group}
-use Rattle.script_lines.specs.declared.verb.Form.TheVariants.{Frame}
+use Rattle.script_lines.specs.declared.verb.Form.TheVariants.{Alone, Path, PathFile, PathFileValue, PathOrder, Group, Frame}
 use Rattle.script_lines.specs.declared.verb.Verb.{Verb}
 
 -- the words after the name of a command of this form

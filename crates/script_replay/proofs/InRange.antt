@@ -12,8 +12,7 @@ use Rattle.script_lines.specs.declared.line.Line.{Line}
 use Rattle.script_lines.specs.declared.line.Line.TheVariants.{Go, At}
 use Rattle.script_lines.specs.Script.{IsCommandText, IsLineText, IsScript, asking_texts, texts_of}
 use Rattle.script_lines.specs.Verb.{Arguments, Frame, Group, IsNameWith, its_verb, name_of_verb, words_of_command}
-use Rattle.script_replay.specs.Commands.{locked_command_of, head_named}
-use Rattle.script_replay.specs.Ranges.{ArgumentsInRange, CommandInRange, LineInRange}
+use Rattle.script_replay.specs.{locked_command_of, head_named, ArgumentsInRange, CommandInRange, LineInRange}
 
 -- what the command's text names is in range
 said_in_range : (sizes : Config) (name : List ℕ) (arguments : Arguments) (text : List ℕ) → IsNameWith sizes name arguments text

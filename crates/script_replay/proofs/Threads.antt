@@ -1,12 +1,10 @@
 -- The answers of the workers of two slices of CPUs, in one text. Serves `run_from`, `run_both`, `run_at_most_one`.
 use Rattle.std.proofs.Common.{Result, Ok, Err, IfOk, Bool, ◌≡◌, ◌∙◌, ℕ, ◌+◌, List, [], ◌∷◌, ◌++◌, length, get_or, append_assoc, append-nil, ap, refl, subst, sym, arith}
 use Rattle.std.specs.Prelude.{Vec, slice_set}
-use Rattle.mem_system.specs.Boots.{KnownSystem}
-use Rattle.mem_system.specs.Cpus.{CpuInRun}
+use Rattle.mem_system.specs.{KnownSystem, CpuInRun}
 use Rattle.step_rules.specs.After.{Run}
 use Rattle.script_lines.specs.declared.line.Line.{Line}
-use Rattle.script_replay.specs.CpuLines.{KnownWorker, ServesOwn, worker}
-use Rattle.script_replay.specs.Threads.{AreAllAnswers, heading, workers_from}
+use Rattle.script_replay.specs.{KnownWorker, ServesOwn, worker, AreAllAnswers, heading, workers_from}
 
 -- the workers of two slices
 pub workers_both : (p : ℕ) (front back : List CpuInRun) (lines : List Line) (numbered : Bool)

@@ -5,12 +5,9 @@ use Rattle.std.specs.declared.string.String.{String}
 use Rattle.std.proofs.lemmas.Option.{none-some, slice_get_read}
 use Rattle.frame_word.specs.Seats.{KnownTable}
 use Rattle.step_rules.specs.After.{Run}
-use Rattle.mem_system.specs.Cpus.{CpuInRun, between_locks}
+use Rattle.mem_system.specs.{CpuInRun, between_locks, KnownSystem, IsSound, KnownLocked, IsServed, locked_state}
 use Rattle.mem_system.specs.declared.command.LockedCommand.{LockedCommand}
 use Rattle.mem_system.specs.declared.command.ReplyWithText.{ReplyWithText}
-use Rattle.mem_system.specs.Boots.{KnownSystem}
-use Rattle.mem_system.specs.Locked.{IsSound, KnownLocked}
-use Rattle.mem_system.specs.Visits.{IsServed, locked_state}
 use Rattle.reply_texts.specs.Answers.{unlocked_text}
 use Rattle.reply_texts.specs.LineAnswer.{LineAnswer}
 use Rattle.reply_texts.specs.declared.steps.UnlockedAnswer.{UnlockedAnswer}
@@ -18,15 +15,12 @@ use Rattle.script_lines.specs.declared.line.Command.{Command}
 use Rattle.script_lines.specs.declared.line.Command.TheVariants.{Alloc}
 use Rattle.script_lines.specs.declared.line.Line.{Line}
 use Rattle.script_lines.specs.declared.line.Line.TheVariants.{At}
-use Rattle.script_replay.specs.Answers.{AddsText, AnswersAlone, AnswersLocked, IsAnswerText, MakesAlone, NeedsLock, steps_alone, steps_tried}
-use Rattle.script_replay.specs.Commands.{OnlySettles, locked_command_of, frame_path, is_tried}
-use Rattle.script_replay.specs.Visits.{AnswersAloneBySteps, AnswersWithoutVisit, GrewByChanges, NeedsVisit, ServesByVisits, TriesInVain, WritesByVisit}
-use Rattle.script_replay.specs.Visits.{VisitsLine, VisitsAll}
-use Rattle.script_replay.specs.Lines.{StopsAt}
+use Rattle.script_replay.specs.{AddsText, AnswersAlone, AnswersLocked, IsAnswerText, MakesAlone, NeedsLock, steps_alone, steps_tried, OnlySettles}
+use Rattle.script_replay.specs.{locked_command_of, frame_path, is_tried, AnswersAloneBySteps, AnswersWithoutVisit, GrewByChanges, NeedsVisit}
+use Rattle.script_replay.specs.{ServesByVisits, TriesInVain, WritesByVisit, VisitsLine, VisitsAll, StopsAt, LineInRange}
 use Rattle.script_replay.proofs.Growing.{all_grew, alone_grew, grew_both}
 use Rattle.script_replay.proofs.InOrder.{in_order_line}
 use Rattle.script_replay.proofs.Serving.{only_settles, untried}
-use Rattle.script_replay.specs.Ranges.{LineInRange}
 
 -- ---- the steps
 

@@ -1,6 +1,6 @@
 -- The lines of one CPU among those of all.
 use Rattle.std.specs.Prelude.{◌≡◌, ℕ, Bool, ◌==◌, MatchBool, List, [], ◌++◌}
-use Rattle.mem_system.specs.Cpus.{CpuInRun}
+use Rattle.mem_system.specs.{CpuInRun, KnownSystem}
 use Rattle.step_rules.specs.After.{Run}
 use Rattle.script_lines.specs.declared.line.Command.{Command}
 use Rattle.script_lines.specs.declared.line.Line.{Line}
@@ -8,7 +8,6 @@ use Rattle.script_lines.specs.declared.line.Line.TheVariants.{Go, At}
 use Rattle.script_replay.specs.Lines.{InOrder}
 use Rattle.script_replay.specs.Numbers.{SaysNumbered}
 use Rattle.script_replay.specs.Ranges.{CommandInRange}
-use Rattle.mem_system.specs.Boots.{KnownSystem}
 use Rattle.script_replay.specs.Visits.{GrewByChanges, VisitsBySteps}
 
 -- the frames and groups that a line names are in range, whichever its CPU; `go` names nothing

@@ -1,10 +1,9 @@
 -- The answers of one thread for each CPU.
 use Rattle.std.specs.Prelude.{◌≡◌, ℕ, ◌+◌, Bool, List, [], ◌∷◌, ◌++◌, codes}
 use Rattle.std.specs.Fmt.{decimal}
-use Rattle.mem_system.specs.Cpus.{CpuInRun}
+use Rattle.mem_system.specs.{CpuInRun, KnownSystem}
 use Rattle.step_rules.specs.After.{Run}
 use Rattle.script_lines.specs.declared.line.Line.{Line}
-use Rattle.mem_system.specs.Boots.{KnownSystem}
 use Rattle.script_replay.specs.CpuLines.{KnownWorker, ServesOwn, worker}
 
 -- a worker for each of these parts, whose CPUs are numbered from this number on

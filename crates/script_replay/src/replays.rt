@@ -1,8 +1,7 @@
 //! Serving lines one after the other, by value of what lies behind the lock.
 
 ghost use Rattle.std.specs.Prelude.{◌≡◌, All, length, true};
-ghost use Rattle.mem_system.specs.Locked.{IsSound};
-ghost use Rattle.mem_system.specs.Visits.{locked_state};
+ghost use Rattle.mem_system.specs.{IsSound, locked_state};
 ghost use Rattle.step_watch.specs.Watched.{has_legal_steps};
 ghost use Rattle.script_replay.specs.declared.replays.Stopped.TheVariants.{NoMemory};
 ghost use Rattle.script_replay.specs.Answers.{AddsText, ServesCommand};

@@ -3,8 +3,7 @@
 #![tactic(auto)]
 
 ghost use Rattle.std.specs.Prelude.{◌≡◌, IfOk};
-ghost use Rattle.mem_system.specs.Commands.{IsOfZone};
-ghost use Rattle.mem_system.specs.Ending.{HasEnded};
+ghost use Rattle.mem_system.specs.{IsOfZone, HasEnded};
 
 use anyhow::{Context, Result, anyhow};
 use cpu_part::BootName;

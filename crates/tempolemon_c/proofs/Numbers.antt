@@ -6,8 +6,7 @@ use Rattle.reply_texts.specs.LineAnswer.{LineAnswer}
 use Rattle.reply_texts.specs.LineAnswer as answer
 use Rattle.reply_texts.specs.declared.steps.UnlockedAnswer.TheVariants as unlocked
 use Rattle.host_memory.proofs.Numbers.{number_low}
-use Rattle.tempolemon_c.specs.Statuses.{most_refusal}
-use Rattle.tempolemon_c.specs.Kinds.{reply_status, status_of}
+use Rattle.tempolemon_c.specs.{most_refusal, reply_status, status_of}
 
 reply_low : (reply : ReplyWithText) → reply_status reply ≤ most_refusal
 reply_low (reply.OverLimit group path) = omega arith

@@ -14,13 +14,9 @@ use Rattle.script_replay.specs.declared.answer_value.AnswerValue.TheVariants.{Se
 use Rattle.tempolemon_c.specs.declared.calls.Call.{Call}
 use Rattle.tempolemon_c.specs.declared.calls.CallAnswer.TheVariants as call
 use Rattle.tempolemon_c.specs.declared.calls.FileText.{FileText}
-use Rattle.tempolemon_c.specs.HandleCalls.{CallsLive, ShowsFile, file_reply}
-use Rattle.tempolemon_c.specs.Known.{KnownLive}
+use Rattle.tempolemon_c.specs.{CallsLive, ShowsFile, file_reply, KnownLive, CallsInto, HasGroupsBehind, PutsAnswer, ReturnsAnswer, ReturnsValue}
+use Rattle.tempolemon_c.specs.{LiveBoot, OnBoot, live_boot, most_refusal, result_of, status_of}
 use Rattle.host_memory.specs.declared.typed_result.TypedResult.{TypedResult}
-use Rattle.tempolemon_c.specs.Calls.{CallsInto, HasGroupsBehind, PutsAnswer, ReturnsAnswer, ReturnsValue}
-use Rattle.tempolemon_c.specs.Handles.{LiveBoot, OnBoot, live_boot}
-use Rattle.tempolemon_c.specs.Statuses.{most_refusal}
-use Rattle.tempolemon_c.specs.Kinds.{result_of, status_of}
 use Rattle.tempolemon_c.proofs.Numbers.{status_low}
 
 -- the result of what isn't a text doesn't depend on the boot

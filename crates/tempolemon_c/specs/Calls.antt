@@ -21,9 +21,7 @@ use Rattle.script_replay.specs.ValueAnswers.{NamesItsGroups, answer_of}
 use Rattle.script_replay.specs.declared.answer_value.AnswerValue.{AnswerValue}
 use Rattle.script_replay.specs.declared.answer_value.AnswerValue.TheVariants as value
 use Rattle.tempolemon_c.specs.Handles.{LiveBoot, OnBoot}
-use Rattle.host_memory.specs.Buffers.{PutsText}
-use Rattle.host_memory.specs.Kinds.{no_result}
-use Rattle.host_memory.specs.Statuses.{bad_cpu, bad_frame, bad_group, done, not_live, small_buffer}
+use Rattle.host_memory.specs.{PutsText, no_result, bad_cpu, bad_frame, bad_group, done, not_live, small_buffer}
 use Rattle.host_memory.specs.declared.typed_result.TypedResult.{TypedResult}
 use Rattle.tempolemon_c.specs.Kinds.{result_of, status_of}
 use Rattle.tempolemon_c.specs.Statuses.{IsNotServedStatus, most_refusal}

@@ -1,9 +1,8 @@
 -- What a call means, and what it does to a live boot.
 use Rattle.std.specs.Prelude.{◌≡◌, ◌⊎◌, ℕ, ◌≤◌, List, Some, false}
 use Rattle.frame_word.specs.Seats.{KnownTable}
-use Rattle.group_tree.specs.Bounds.{most_groups}
+use Rattle.group_tree.specs.{most_groups, has_group, path_of}
 use Rattle.group_tree.specs.declared.group.Group.{Group}
-use Rattle.group_tree.specs.Groups.{has_group, path_of}
 use Rattle.group_charge.specs.Charges.{Ledger}
 use Rattle.control_files.specs.declared.file.File.{File}
 use Rattle.mem_system.specs.declared.command.ReplyWithText.{ReplyWithText}
@@ -13,9 +12,7 @@ use Rattle.mem_system.specs.Outcomes.{HasItsGroups, reply_of}
 use Rattle.reply_texts.specs.LineAnswer.{LineAnswer}
 use Rattle.script_lines.specs.declared.line.Command.{Command}
 use Rattle.script_lines.specs.declared.line.Command.TheVariants as cmd
-use Rattle.script_replay.specs.Commands.{HasValueAnswer}
-use Rattle.script_replay.specs.Ranges.{CommandInRange, CpuCommandInRange}
-use Rattle.script_replay.specs.ValueAnswers.{NamesItsGroups, SaysCommand, answer_of}
+use Rattle.script_replay.specs.{HasValueAnswer, CommandInRange, CpuCommandInRange, NamesItsGroups, SaysCommand, answer_of}
 use Rattle.tempolemon_c.specs.Known.{KnownLive}
 use Rattle.tempolemon_c.specs.Commands.{SameButState}
 use Rattle.tempolemon_c.specs.declared.calls.Call.{Call}

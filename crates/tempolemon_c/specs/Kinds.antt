@@ -9,8 +9,7 @@ use Rattle.reply_texts.specs.LineAnswer.{LineAnswer}
 use Rattle.reply_texts.specs.LineAnswer as answer
 use Rattle.reply_texts.specs.declared.steps.UnlockedAnswer.{UnlockedAnswer}
 use Rattle.reply_texts.specs.declared.steps.UnlockedAnswer.TheVariants as unlocked
-use Rattle.host_memory.specs.Kinds.{get_result, put_result, result_with}
-use Rattle.host_memory.specs.Statuses.{done, over_limit}
+use Rattle.host_memory.specs.{get_result, put_result, result_with, done, over_limit}
 use Rattle.host_memory.specs.declared.typed_result.TypedResult.{TypedResult}
 
 -- the result of a reply

@@ -5,8 +5,7 @@ use Rattle.group_tree.specs.declared.fault.Fault.TheVariants.{NoGroup}
 use Rattle.control_files.specs.Text.{longest_text}
 use Rattle.mem_system.specs.declared.command.LockedCommand.{LockedCommand}
 use Rattle.mem_system.specs.declared.command.LockedCommand.TheVariants as cmd
-use Rattle.zone_threads.specs.Calling.{Calls, AnswersRead}
-use Rattle.zone_threads.specs.Shown.{ReadsText}
+use Rattle.zone_threads.specs.{Calls, AnswersRead, ReadsText}
 use Rattle.zone_threads.specs.declared.calls.Call.{Call}
 use Rattle.zone_threads.specs.declared.calls.Call.TheVariants.{AllocBlock, AllocFrame, Visit}
 use Rattle.zone_threads.specs.declared.calls.CallAnswer.{CallAnswer}
@@ -17,10 +16,7 @@ use Rattle.zone_threads.specs.declared.texts.TextAnswer.{TextAnswer}
 use Rattle.zone_threads.specs.declared.texts.TextAnswer.TheVariants as text
 use Rattle.zone_threads.specs.declared.texts.TextCall.{TextCall}
 use Rattle.zone_threads.specs.declared.texts.TextCall.TheVariants.{Units}
-use Rattle.host_memory.specs.Buffers.{ExceedsBuffer, FillsBuffer}
-use Rattle.host_memory.specs.Buffers.{PutsText}
-use Rattle.host_memory.specs.Kinds.{no_result}
-use Rattle.host_memory.specs.Statuses.{done, no_memory, not_live, small_buffer}
+use Rattle.host_memory.specs.{ExceedsBuffer, FillsBuffer, PutsText, no_result, done, no_memory, not_live, small_buffer}
 use Rattle.host_memory.specs.declared.typed_result.TypedResult.{TypedResult}
 use Rattle.tempolemon_threads.specs.Kinds.{read_result, read_status, call_result_of, call_status_of}
 use Rattle.tempolemon_threads.specs.Statuses.{busy}

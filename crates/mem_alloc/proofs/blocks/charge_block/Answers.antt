@@ -3,11 +3,8 @@ use Rattle.std.specs.Prelude.{Err, IfErr}
 use Rattle.group_tree.specs.Groups.{has_group}
 use Rattle.group_tree.proofs.CallerLemmas.{in_subtree-above}
 use Rattle.cpu_part.specs.Cpus.{KnownCpu}
-use Rattle.mem_machine.specs.Machines.{KnownMachine}
-use Rattle.mem_machine.specs.Local.{Makes, Visits}
-use Rattle.mem_machine.specs.Transitions.{BySteps}
-use Rattle.mem_alloc.specs.High.{ReclaimsHigh}
-use Rattle.mem_alloc.specs.Room.{HasMadeRoom, IsRoomAnswer, RelievesLimit, has_room_at}
+use Rattle.mem_machine.specs.{KnownMachine, Makes, Visits, BySteps}
+use Rattle.mem_alloc.specs.{ReclaimsHigh, HasMadeRoom, IsRoomAnswer, RelievesLimit, has_room_at}
 use Rattle.mem_alloc.proofs.Lowering.{Lowers, lowers_both, usages_fall, run_lowers}
 use Rattle.mem_alloc.proofs.Killing.{relieving_lowers}
 use Rattle.mem_alloc.proofs.Making.{answer_is, so_far_more, so_far_none, so_far_over}

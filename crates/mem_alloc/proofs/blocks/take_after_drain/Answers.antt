@@ -1,11 +1,9 @@
 use Rattle.std.proofs.Common.{◌+◌, ◌^◌, ◌<◌, sym, ap, ◌∙◌, subst}
-use Rattle.group_tree.specs.Groups.{has_group}
-use Rattle.group_tree.specs.Room.{PathHasRoom}
+use Rattle.group_tree.specs.{has_group, PathHasRoom}
 use Rattle.group_charge.specs.Charges.{current_of}
 use Rattle.cpu_part.specs.Cpus.{KnownCpu}
 use Rattle.group_charge.specs.declared.note.Note.TheVariants.{Zone}
-use Rattle.mem_machine.specs.Machines.{KnownMachine, is_killed, with_note}
-use Rattle.mem_machine.specs.Local.{Visits, visit_state}
+use Rattle.mem_machine.specs.{KnownMachine, is_killed, with_note, Visits, visit_state}
 use Rattle.mem_alloc.specs.Blocks.{MakesTakeRounds, MayHaveBlock}
 use Rattle.mem_alloc.proofs.Rounding.{noted_visit, zone_noted}
 use Rattle.mem_alloc.proofs.Taking.{is_refused, is_none, by_none, back_part, never_over, noted_room}

@@ -3,9 +3,7 @@ use Rattle.std.proofs.lemmas.Bool.{lt-ltb, ltb-true}
 use Rattle.frame_word.specs.Seats.{KnownTable}
 use Rattle.stock_word.specs.declared.view.Stock.TheVariants.{HeldBy}
 use Rattle.stock_word.specs.Stock.{stock_pages_of}
-use Rattle.mem_machine.specs.Machines.{KnownMachine}
-use Rattle.mem_machine.specs.Paying.{HoldsPage}
-use Rattle.mem_machine.specs.Showing.{stock_now}
+use Rattle.mem_machine.specs.{KnownMachine, HoldsPage, stock_now}
 use Rattle.mem_alloc.proofs.charging.holds_page.Goals as goal
 
 -- a stock of the group with some pages has a page and the others

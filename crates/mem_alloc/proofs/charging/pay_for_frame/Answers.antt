@@ -2,10 +2,7 @@ use Rattle.std.proofs.Common.{ℕ, sym, ap, ◌∙◌, subst}
 use Rattle.std.proofs.lemmas.Bool.{false≢true}
 use Rattle.group_tree.specs.Groups.{has_group}
 use Rattle.boot_words.specs.Pasts.{IsHeld}
-use Rattle.mem_machine.specs.Machines.{IsCpuOf, KnownMachine, is_killed}
-use Rattle.mem_machine.specs.Local.{Visits}
-use Rattle.mem_machine.specs.Paying.{HoldsPage}
-use Rattle.mem_machine.specs.Stocks.{IsDrained}
+use Rattle.mem_machine.specs.{IsCpuOf, KnownMachine, is_killed, Visits, HoldsPage, IsDrained}
 use Rattle.mem_machine.proofs.DrainingAll.{drained_now, drained_trees}
 use Rattle.mem_machine.proofs.Moved.{number_range}
 use Rattle.mem_alloc.proofs.Filling.{charged_page, pays_anew, pays_none}

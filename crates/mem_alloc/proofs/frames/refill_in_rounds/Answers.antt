@@ -1,8 +1,6 @@
 use Rattle.std.proofs.Common.{sym, ap, ◌∙◌, subst}
 use Rattle.group_charge.specs.declared.note.Note.TheVariants.{Zone}
-use Rattle.mem_machine.specs.Machines.{KnownMachine}
-use Rattle.mem_machine.specs.Local.{Visits, visit_state}
-use Rattle.mem_machine.specs.Showing.{stock_now}
+use Rattle.mem_machine.specs.{KnownMachine, Visits, visit_state, stock_now}
 use Rattle.mem_alloc.specs.Frames.{MakesRefillRounds}
 use Rattle.mem_alloc.proofs.Rounding.{noted_visit, zone_noted}
 use Rattle.mem_alloc.proofs.frames.refill_in_rounds.Goals as goal

@@ -8,11 +8,7 @@ use Rattle.mem_machine.specs.Machines.{KnownMachine}
 use Rattle.mem_system.specs.declared.command.LockedCommand.TheVariants.{Alloc}
 use Rattle.mem_system.specs.declared.outcome.Outcome.{Outcome}
 use Rattle.mem_system.specs.declared.command.ReplyWithText.{ReplyWithText}
-use Rattle.mem_system.specs.Cpus.{CpuInRun, cpu_in_run}
-use Rattle.mem_system.specs.Locked.{KnownLocked}
-use Rattle.mem_system.specs.Allocations.{outcome_of}
-use Rattle.mem_system.specs.Outcomes.{HasItsGroups, reply_of}
-use Rattle.mem_system.specs.Visits.{locked_state, IsServed}
+use Rattle.mem_system.specs.{CpuInRun, cpu_in_run, KnownLocked, outcome_of, HasItsGroups, reply_of, locked_state, IsServed}
 use Rattle.mem_system.proofs.Lost.{no_unit_is_lost}
 use Rattle.mem_system.proofs.Visiting.{GoesThrough, counted, forgotten_holds, forgotten_shut, resting_shut, served}
 use Rattle.mem_system.proofs.Staying.{settled_groups}

@@ -1,8 +1,7 @@
 use Rattle.std.proofs.Common.{take}
 use Rattle.std.specs.String.{string_bytes}
 use Rattle.step_rules.specs.After.{Run}
-use Rattle.script_replay.specs.Terms.{boot_tables}
-use Rattle.script_replay.specs.CpuLines.{ServesOwn, worker}
+use Rattle.script_replay.specs.{boot_tables, ServesOwn, worker}
 use Rattle.script_replay.proofs.cpu_lines.serve_own.Given as goal
 
 abbrev pub invariant-loop-line : goal.invariant-loop-line

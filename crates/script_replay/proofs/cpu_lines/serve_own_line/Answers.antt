@@ -1,6 +1,5 @@
 use Rattle.std.proofs.Common.{◌≡◌, ◌==◌, false, rules}
-use Rattle.script_replay.specs.CpuLines.{ServesOwnBySteps}
-use Rattle.script_replay.specs.Terms.{boot_tables}
+use Rattle.script_replay.specs.{ServesOwnBySteps, boot_tables}
 use Rattle.script_replay.proofs.Owning.{go_skipped, other_skipped}
 use Rattle.script_replay.proofs.Telling.{nothing_added}
 use Rattle.script_replay.proofs.cpu_lines.serve_own_line.Goals as goal

@@ -4,8 +4,7 @@ use Rattle.group_tree.specs.Groups.{has_group, number_at}
 use Rattle.group_tree.specs.declared.group.Group.{Group}
 use Rattle.mem_machine.specs.Showing.{stock_left}
 use Rattle.mem_system.specs.declared.command.LockedCommand.TheVariants as cmd
-use Rattle.mem_system.specs.Locked.{KnownLocked}
-use Rattle.mem_system.specs.Outcomes.{reply_of}
+use Rattle.mem_system.specs.{KnownLocked, reply_of}
 use Rattle.script_lines.specs.declared.line.Command.TheVariants.{Alloc, Settle}
 use Rattle.script_replay.specs.declared.answer_value.AnswerValue.TheVariants.{Served}
 use Rattle.script_replay.proofs.UnderLock.{groups_locked, value_locked}

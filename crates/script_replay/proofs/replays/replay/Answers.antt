@@ -1,7 +1,6 @@
 use Rattle.std.proofs.Common.{ap, rules}
 use Rattle.std.specs.String.{string_bytes}
-use Rattle.script_replay.specs.Lines.{ServesAll, ServesLine, SystemState, system_state}
-use Rattle.script_replay.specs.Terms.{form_terms}
+use Rattle.script_replay.specs.{ServesAll, ServesLine, SystemState, system_state, form_terms}
 use Rattle.script_replay.proofs.Going.{keeps_stop}
 use Rattle.script_replay.proofs.InOrder.{in_order_end, in_order_line}
 use Rattle.script_replay.proofs.Telling.{at_error}

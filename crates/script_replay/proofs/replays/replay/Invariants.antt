@@ -1,7 +1,6 @@
 use Rattle.std.proofs.Common.{take}
 use Rattle.std.specs.String.{string_bytes}
-use Rattle.script_replay.specs.Lines.{ServesAll, system_state}
-use Rattle.script_replay.specs.Terms.{form_terms}
+use Rattle.script_replay.specs.{ServesAll, system_state, form_terms}
 use Rattle.script_replay.proofs.replays.replay.Given as goal
 
 abbrev pub invariant-loop-line : goal.invariant-loop-line

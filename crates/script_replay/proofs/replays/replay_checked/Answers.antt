@@ -1,8 +1,7 @@
 use Rattle.std.proofs.Common.{ap, rules}
 use Rattle.std.specs.String.{string_bytes}
 use Rattle.std.proofs.lemmas.Result.{err_from_is_err_and}
-use Rattle.script_replay.specs.Lines.{ServesAll, ServesLine, SystemState, system_state}
-use Rattle.script_replay.specs.Terms.{form_terms}
+use Rattle.script_replay.specs.{ServesAll, ServesLine, SystemState, system_state, form_terms}
 use Rattle.script_replay.proofs.Going.{keeps_stop, stops_illegal}
 use Rattle.script_replay.proofs.InOrder.{in_order_end, in_order_line}
 use Rattle.script_replay.proofs.Seeing.{replayed_legally}

@@ -1,8 +1,7 @@
 use Rattle.std.proofs.Common.{◌≡◌, true, take}
 use Rattle.std.specs.String.{string_bytes}
 use Rattle.step_watch.specs.Watched.{has_legal_steps}
-use Rattle.script_replay.specs.Lines.{ServesAll, system_state}
-use Rattle.script_replay.specs.Terms.{form_terms}
+use Rattle.script_replay.specs.{ServesAll, system_state, form_terms}
 use Rattle.script_replay.proofs.replays.replay_checked.Given as goal
 
 abbrev pub invariant-loop-next : goal.invariant-loop-next

@@ -1,9 +1,6 @@
 use Rattle.std.proofs.Common.{sym, subst}
-use Rattle.mem_system.specs.Locked.{KnownLocked}
-use Rattle.mem_system.specs.Visits.{locked_state}
-use Rattle.script_replay.specs.Answers.{AddsText, ServesCommand}
-use Rattle.script_replay.specs.Terms.{terms}
-use Rattle.script_replay.specs.ValueAnswers.{answer_of}
+use Rattle.mem_system.specs.{KnownLocked, locked_state}
+use Rattle.script_replay.specs.{AddsText, ServesCommand, terms, answer_of}
 use Rattle.script_replay.proofs.Serving.{value_settles}
 use Rattle.script_replay.proofs.replays.serve_at_cpu.Goals as goal
 

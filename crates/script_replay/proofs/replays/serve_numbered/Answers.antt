@@ -1,6 +1,5 @@
 use Rattle.std.proofs.Common.{◌≡◌, rules}
-use Rattle.script_replay.specs.Lines.{number_in_script, system_state}
-use Rattle.script_replay.specs.Numbers.{numbered_text}
+use Rattle.script_replay.specs.{number_in_script, system_state, numbered_text}
 use Rattle.script_replay.proofs.Going.{number_added, numbered_keeps}
 use Rattle.script_replay.proofs.replays.serve_numbered.Goals as goal
 

@@ -1,7 +1,6 @@
 use Rattle.std.proofs.Common.{◌≡◌, ◌++◌, IfOk, refl, rules}
 use Rattle.std.proofs.lemmas.Result.{IfOk-at_ok}
-use Rattle.script_replay.specs.Threads.{workers_from}
-use Rattle.script_replay.specs.Terms.{boot_tables}
+use Rattle.script_replay.specs.{workers_from, boot_tables}
 use Rattle.script_replay.proofs.Threads.{Answers, both_answer, halves_answer}
 use Rattle.script_replay.proofs.threads.+halves.Goals as goal
 

@@ -1,9 +1,7 @@
 use Rattle.std.proofs.Common.{◌≡◌, Some, rules, subst, sym}
 use Rattle.std.specs.Prelude.{IfNone, IfSome}
 use Rattle.script_lines.specs.declared.line.Command.{Command}
-use Rattle.script_replay.specs.Commands.{frame_path}
-use Rattle.script_replay.specs.Terms.{boot_tables}
-use Rattle.script_replay.specs.Visits.{AnswersAloneBySteps, NeedsVisit}
+use Rattle.script_replay.specs.{frame_path, boot_tables, AnswersAloneBySteps, NeedsVisit}
 use Rattle.script_replay.proofs.Serving.{frame_is}
 use Rattle.script_replay.proofs.Visiting.{tried_alone, tried_in_vain}
 use Rattle.script_replay.proofs.visits.answer_alone.Goals as goal

@@ -1,7 +1,6 @@
 use Rattle.std.proofs.Common.{ap}
 use Rattle.std.specs.String.{string_bytes}
-use Rattle.script_replay.specs.Terms.{boot_tables}
-use Rattle.script_replay.specs.Visits.{VisitsLine}
+use Rattle.script_replay.specs.{boot_tables, VisitsLine}
 use Rattle.script_replay.proofs.InOrder.{in_order_end, in_order_line}
 use Rattle.script_replay.proofs.Visiting.{visits_stop}
 use Rattle.script_replay.proofs.Telling.{at_error}

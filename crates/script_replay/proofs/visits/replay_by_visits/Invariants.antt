@@ -1,7 +1,6 @@
 use Rattle.std.proofs.Common.{take}
 use Rattle.std.specs.String.{string_bytes}
-use Rattle.script_replay.specs.Terms.{boot_tables}
-use Rattle.script_replay.specs.Visits.{VisitsAll}
+use Rattle.script_replay.specs.{boot_tables, VisitsAll}
 use Rattle.script_replay.proofs.visits.replay_by_visits.Given as goal
 
 abbrev pub invariant-loop-line : goal.invariant-loop-line

@@ -1,7 +1,6 @@
 use Rattle.std.proofs.Common.{ℕ, [], ap, refl, subst, sym}
-use Rattle.cpu_part.specs.Cpus.{KnownCpu}
+use Rattle.cpu_part.specs.{KnownCpu, FastAnswers}
 use Rattle.cpu_part.specs.declared.answers.Fast.TheVariants.{Got}
-use Rattle.cpu_part.specs.Calls.{FastAnswers}
 use Rattle.reply_texts.specs.declared.steps.UnlockedAnswer.TheVariants as unlocked
 use Rattle.script_lines.specs.declared.line.Command.TheVariants.{Fast}
 use Rattle.script_replay.specs.Answers.{MakesAlone, steps_alone}

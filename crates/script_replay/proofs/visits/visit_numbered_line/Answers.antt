@@ -1,7 +1,5 @@
 use Rattle.std.proofs.Common.{◌≡◌, refl, rules}
-use Rattle.script_replay.specs.Numbers.{numbered_text}
-use Rattle.script_replay.specs.Terms.{boot_tables}
-use Rattle.script_replay.specs.Visits.{ServesByVisits}
+use Rattle.script_replay.specs.{numbered_text, boot_tables, ServesByVisits}
 use Rattle.script_replay.proofs.Telling.{with_number}
 use Rattle.script_replay.proofs.visits.visit_numbered_line.Goals as goal
 

@@ -1,7 +1,6 @@
 use Rattle.std.proofs.Common.{rules}
 use Rattle.reply_texts.specs.Answers.{unlocked_text}
-use Rattle.script_replay.specs.Terms.{boot_tables}
-use Rattle.script_replay.specs.Visits.{AnswersAloneBySteps, NeedsVisit}
+use Rattle.script_replay.specs.{boot_tables, AnswersAloneBySteps, NeedsVisit}
 use Rattle.script_replay.proofs.Visiting.{said_alone, said_by_visit, visit_settles}
 use Rattle.script_replay.proofs.visits.visit_text.Goals as goal
 

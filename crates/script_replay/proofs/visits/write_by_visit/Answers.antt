@@ -1,8 +1,6 @@
 use Rattle.std.proofs.Common.{◌∙◌, ap}
-use Rattle.mem_system.specs.Locked.{KnownLocked}
-use Rattle.mem_system.specs.Visits.{locked_state}
-use Rattle.script_replay.specs.Terms.{boot_tables}
-use Rattle.script_replay.specs.ValueAnswers.{answer_of}
+use Rattle.mem_system.specs.{KnownLocked, locked_state}
+use Rattle.script_replay.specs.{boot_tables, answer_of}
 use Rattle.script_replay.proofs.Serving.{locked_settles}
 use Rattle.script_replay.proofs.Visiting.{visit_written}
 use Rattle.script_replay.proofs.visits.write_by_visit.Goals as goal

@@ -1,8 +1,5 @@
 use Rattle.std.proofs.Common.{subst, sym, rules}
-use Rattle.mem_machine.specs.Kept.{machine_of}
-use Rattle.mem_machine.specs.Local.{Visits}
-use Rattle.mem_machine.specs.Machines.{KnownMachine}
-use Rattle.mem_machine.specs.Paying.{HoldsPage}
+use Rattle.mem_machine.specs.{machine_of, Visits, KnownMachine, HoldsPage}
 use Rattle.mem_machine.proofs.Fronts.{front_may, front_noted, front_paid, front_sound}
 use Rattle.mem_machine.proofs.machine.Machine.take_front.Goals as goal
 

@@ -10,11 +10,9 @@ use Rattle.mem_system.specs.declared.command.LockedCommand.TheVariants as cmd
 use Rattle.mem_system.specs.declared.command.ReplyWithText.{ReplyWithText}
 use Rattle.mem_system.specs.declared.command.ReplyWithText.TheVariants as reply
 use Rattle.mem_system.specs.declared.outcome.Outcome.{Outcome}
-use Rattle.mem_system.specs.Outcomes.{HasItsGroups, reply_of, text_reply}
-use Rattle.mem_system.specs.Visits.{IsServed, IsVisited, ServesOutcome, locked_state}
+use Rattle.mem_system.specs.{HasItsGroups, reply_of, text_reply, IsServed, IsVisited, ServesOutcome, locked_state}
 use Rattle.zone_threads.specs.declared.calls.ReadAnswer.{ReadAnswer}
-use Rattle.zone_threads.specs.Calling.{IsReadUnderLock}
-use Rattle.zone_threads.specs.Homes.{KnownBehind}
+use Rattle.zone_threads.specs.{IsReadUnderLock, KnownBehind}
 use Rattle.zone_threads.proofs.behind.Behind.read.Goals.{in-Ok, in-Err}
 use Rattle.zone_threads.proofs.behind.Behind.read.Goals as goal
 

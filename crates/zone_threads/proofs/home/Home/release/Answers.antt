@@ -6,8 +6,7 @@ use Rattle.mem_system.specs.Cpus.{CpuInRun}
 use Rattle.mem_system.specs.declared.command.LockedCommand.TheVariants as cmd
 use Rattle.mem_system.specs.declared.outcome.Outcome.{Outcome}
 use Rattle.mem_system.specs.Visits.{IsVisited, ServesOutcome}
-use Rattle.zone_threads.specs.Calling.{MissesDrop, Then}
-use Rattle.zone_threads.specs.Homes.{KnownHome, OnCpu}
+use Rattle.zone_threads.specs.{MissesDrop, Then, KnownHome, OnCpu}
 use Rattle.zone_threads.proofs.home.Home.release.Goals as goal
 
 same_cpu : (a b : CpuInRun) → Some a ≡ Some b → a ≡ b
