@@ -30,7 +30,7 @@ const topLives = run => run.top ??= run.lives.filter(life => life.number || run.
 const isInView = (life, view) => life.from <= view[1] && (life.until ?? Infinity) >= view[0];
 
 const curves = new WeakMap();
-/** The lives of each path, one behind the other, as one life: its curves end as a group is removed, and begin again. */
+/** The lives of each path, one after the other, as one life: its curves end as a group is removed, and begin again. */
 function curvesOf(lives) {
   if (!curves.has(lives)) curves.set(lives, joinedLives(lives));
   return curves.get(lives);
