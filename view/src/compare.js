@@ -91,6 +91,8 @@ function drawWarnings() {
 }
 function closeSecond() {
   Object.assign(page, { other: null, otherLog: "", differs: [], timeX: null, zoneKey: "" });
+  showRuns();
+  measure();
   draw();
 }
 /** The same line of the other run: its position, or -1 if that run has no such line. */
@@ -157,6 +159,7 @@ function* livesHere(other, places) {
     lives.has(life.path) ? lives.get(life.path).push(its) : lives.set(life.path, [its]);
     if (at % 256 === 0) yield at / other.lives.length;
   }
+  for (const its of lives.values()) yield curvesOf(its) && 1;
   return lives;
 }
 /** What two runs have at the same line: the answers, the kills, and usage, limit and peak of each group; what differs comes first. */

@@ -1,7 +1,7 @@
 use Rattle.std.proofs.Common.{◌≡◌, ◌++◌, IfOk, refl, rules}
 use Rattle.std.proofs.lemmas.Result.{IfOk-at_ok}
 use Rattle.script_replay.specs.{workers_from, boot_tables}
-use Rattle.script_replay.proofs.Threads.{Answers, both_answer, halves_answer}
+use Rattle.script_replay.proofs.Workers.{Answers, both_answer, halves_answer}
 use Rattle.script_replay.proofs.threads.+halves.Goals as goal
 
 pub run_both-returns : goal.run_both-returns

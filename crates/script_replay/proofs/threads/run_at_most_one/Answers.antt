@@ -1,7 +1,7 @@
 use Rattle.std.proofs.Common.{◌≡◌, ap, get_or, length, rules}
 use Rattle.mem_system.specs.Cpus.{CpuInRun}
 use Rattle.script_replay.specs.Terms.{boot_tables}
-use Rattle.script_replay.proofs.Threads.{only_answers}
+use Rattle.script_replay.proofs.Workers.{only_answers}
 use Rattle.script_replay.proofs.threads.run_at_most_one.Goals as goal
 
 pub returns : goal.returns
