@@ -242,7 +242,10 @@ impl<N: BootName> Home<N> {
         };
         let served = behind.write_pages(&zone.tables, cpu, group, file, pages);
         zone.lock.put_back(behind, loan);
-        served.ok_or(Missed::NoGroup)
+        let Some(written) = served else {
+            return Err(Missed::NoGroup);
+        };
+        Ok(written)
     }
 }
 

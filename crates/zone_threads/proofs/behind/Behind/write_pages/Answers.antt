@@ -20,8 +20,8 @@ returns-clause-served g c =
         name = c.as_bytes-file.result;
         value = c.as_bytes-value.result;
         path_is = named;
-        name_is = c.as_bytes-file.ensures ∙ c.name.ensures;
-        value_is = c.as_bytes-value.ensures.text ∙ c.write_limit.ensures.text;
+        name_is = c.as_bytes-file.ensures.value ∙ c.name.ensures;
+        value_is = c.as_bytes-value.ensures.text ∙ c.write_limit-value.ensures.text;
         serves = done.ensures.served;
       };
       sound_after = record { quiet = c.prove_quiet-2.ensures.quiet; consistent = c.prove_quiet-2.ensures.consistent; charges = c.prove_quiet-2.ensures.charges };
