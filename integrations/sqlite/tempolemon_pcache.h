@@ -19,8 +19,8 @@ enum { TEMPOLEMON_PCACHE_TEXT = 257 };
 /* Has SQLite use this page cache, with so many bytes for the pages of all databases: 1 MiB to 2 GiB. */
 const char *tempolemon_pcache_install(size_t bytes);
 
-/* What this thread opens from now on belongs to this tenant, which is made if there is none: a name of 1 to 31 letters, digits,
- * `-` and `_`. At first it is "main". A tenant stays until sqlite3_shutdown. */
+/* What this thread opens from now on belongs to this tenant, which is made if there is none: a name of 1 to 31 bytes, none of
+ * them a slash or a space. At first it is "main". A tenant stays until sqlite3_shutdown. */
 const char *tempolemon_pcache_tenant(const char *name);
 
 /* Limits the pages of a tenant, which is made if there is none, to so many bytes: at least 256 KiB. */
