@@ -1,19 +1,18 @@
 /* A page cache for SQLite (sqlite3_pcache_methods2) on the library for threads: see README.md.
  *
  * Frame k is the 4 KiB at arena + 4096 * k. A page of a database is a unit: a frame, or a block if it is larger. Each cache
- * is a group /db/TENANT/cN below its tenant's. Its cache_size is its memory.high, the tenant's limit a memory.max, the budget
- * the memory.max of /db. The zone has twice as many frames, so that blocks are found between pinned pages.
+ * is a group /db/TENANT/cN, and has the CPU of that number: SQLite makes one call at a time on a cache. The zone has twice as
+ * many frames as /db may use, so that blocks are found between pinned pages.
  *
  * A page is pinned by a reference, or by its mark as dirty: a new one, and one for which its CPU has no reference left. A page
- * that isn't pinned is clean and has no reference: any allocation may reclaim it, and says nothing. So each frame has a tag: the
- * group and the key of its page. A hit takes a reference, which keeps the unit what it is, and then pins the page if the tag is
- * still right. A fresh frame can't be referenced, so it gets its tag before it is settled. A block can be, so `births` says
- * that one may lack its tag: then the hit asks for the owner.
- *
- * SQLite makes one call at a time on a cache. So each cache has a CPU, that of its group's number, and no lock.
+ * that isn't pinned is clean, and any allocation may reclaim it, and says nothing. So each frame has a tag: the group and the
+ * key of its page. A hit takes a reference, which keeps the unit what it is, and pins the page if the tag is still right.
+ * A fresh frame can't be referenced: it gets its tag before it is settled. A block can be, so `births` says that one may lack
+ * its tag: then the hit asks for the owner.
  *
  * If a limit has no room even after reclaim, the library kills. So each pin is counted before, and is refused if more than the
- * limit less SLACK would be pinned. SLACK is for references of hits on frames that are another tenant's by now.
+ * limit less SLACK would be pinned. SLACK is for references of hits on frames that are another tenant's by now. A cache's first
+ * BASE frames are counted when it is made, so that most hits leave alone what all threads write.
  */
 #define _GNU_SOURCE
 #include "tempolemon_pcache.h"
@@ -28,8 +27,7 @@
 
 #include "tempolemon_threads.h"
 
-/* The address sanitizer refuses pages that aren't pinned. The thread sanitizer doesn't see what the library orders: who unpins a
- * page is done with it before its frame is somebody's again. */
+/* The address sanitizer refuses what isn't pinned. The thread sanitizer doesn't see that who unpins a page is done with it. */
 #if defined(__SANITIZE_ADDRESS__)
 #include <sanitizer/asan_interface.h>
 #define OPEN(it, frames) __asan_unpoison_memory_region((it)->page.pBuf, (size_t)(frames)*FRAME)
@@ -43,9 +41,9 @@
 #define SHUT(it, frames) ((void)(it))
 #endif
 
-enum { FRAME = 4096, EXTRA = 256, GROUPS = 64, TOP = 1, NO_FRAME = -1 };
+enum { FRAME = 4096, EXTRA = 256, GROUPS = 64, TOP = 1 };
 enum { LEAST_BUDGET = 256, MOST_BUDGET = 524288, LEAST_LIMIT = 64, NO_LIMIT = INT32_MAX }; /* in frames */
-enum { MOST_REFERENCES = 250, SLACK = 32, ROUND = 16, SAMPLES = 16, SPARE = 8 };
+enum { MOST_REFERENCES = 250, SLACK = 32, BASE = 8, ROUND = 16, SAMPLES = 16 };
 enum { NO_FRAMES = 16, LESS_RECLAIMED = 17 }; /* refusals: of an allocation, of memory.reclaim */
 
 typedef struct {
@@ -53,6 +51,7 @@ typedef struct {
     _Atomic uint64_t tag;     /* the cache's group, the key (32 bits), is it pinned (1 bit); 0 if the frame is nobody's */
     _Atomic uint32_t used;    /* the clock when its last use was noted */
     bool is_marked;           /* pinned by its mark */
+    uint64_t extra[EXTRA / 8];
 } frame_page;
 
 typedef struct {
@@ -61,25 +60,23 @@ typedef struct {
     _Atomic uint32_t limit, pinned; /* of a tenant and of /db, in frames */
 } group;
 
-typedef struct {
-    uint32_t key, frame;
-} entry;
+typedef struct { uint32_t key, frame; } entry;
 
 struct sqlite3_pcache {
     tempolemon_cpu *cpu;
     group *tenant;
     entry *table; /* by open addressing; key 0 is none. The page is gone if the frame's tag isn't the key's */
     uint32_t mask, count, number, order, frames, references;
-    uint32_t size, high, pinned, counted; /* in pages: the cache_size, memory.high, what is pinned and what is counted so */
-    uint32_t unreported;                  /* frames that were allocated since the clock was set forward */
+    uint32_t size, pinned; /* in pages: the cache_size, and what is pinned */
     bool is_purgeable;
 };
 
 static struct {
-    _Atomic uint32_t budget, clock, births; /* in frames, except births */
-    uint32_t frames, serial;                /* frames of the zone */
+    _Atomic uint32_t budget, clock, births; /* frames that may be used and that were allocated; blocks being allocated */
+    uint32_t frames, serial;                /* of the zone; of the newest cache */
     frame_page *pages;
     unsigned char *arena;
+    size_t size; /* of the mapping */
     tempolemon_zone zone;
     tempolemon_cpu cpus[GROUPS]; /* the first is for all that isn't a cache's */
     pthread_mutex_t mutex;       /* of that, and of the groups but for limit and pinned */
@@ -94,8 +91,8 @@ static void need(uint8_t status) {
     abort();
 }
 
-typedef uint8_t call_on_frame(tempolemon_cpu *, uint32_t, tempolemon_result *);
-static tempolemon_result serve(call_on_frame *call, tempolemon_cpu *cpu, uint32_t frame) {
+static tempolemon_result serve(uint8_t (*call)(tempolemon_cpu *, uint32_t, tempolemon_result *), tempolemon_cpu *cpu,
+                               uint32_t frame) {
     tempolemon_result result;
     need(call(cpu, frame, &result));
     return result;
@@ -129,97 +126,61 @@ static uint8_t read_text(const char *path, const char *file, char text[TEMPOLEMO
     return status;
 }
 
-/* ---- The count of pinned pages */
-
-/* Counts frames as pinned, or refuses. Unless it is urgent, half of the limit is left for others. The limit is read again at the
- * end, since it may have been lowered meanwhile. */
-static bool add_pinned(group *to, uint32_t frames, bool is_urgent) {
-    uint32_t seen = to->pinned;
-    do
-        if (seen + frames > (is_urgent ? to->limit - SLACK : to->limit / 2)) return false;
-    while (!atomic_compare_exchange_weak(&to->pinned, &seen, seen + frames));
-    if (seen + frames + SLACK <= to->limit) return true;
-    to->pinned -= frames;
-    return false;
-}
-
-/* Counts a page before it is pinned, or refuses. */
-static bool count_pin(sqlite3_pcache *cache, bool is_urgent) {
-    if (cache->pinned == cache->counted) {
-        if (!add_pinned(cache->tenant, cache->frames, is_urgent)) return false;
-        if (!add_pinned(&pool.groups[TOP], cache->frames, is_urgent)) {
-            cache->tenant->pinned -= cache->frames;
-            return false;
-        }
-        cache->counted++;
+/* Counts frames as pinned, or refuses. Unless it is urgent, half of each limit is left for others. A limit is read after the
+ * frames are counted, and lowered before the count is read: so one of both sees the other. */
+static bool count(group *tenant, uint32_t frames, bool is_urgent) {
+    group *const both[] = {tenant, &pool.groups[TOP]};
+    for (int at = 0; at < 2; at++) {
+        const uint32_t sum = (both[at]->pinned += frames), limit = both[at]->limit;
+        if (sum <= (is_urgent ? limit - SLACK : limit / 2)) continue;
+        for (; at >= 0; at--) both[at]->pinned -= frames;
+        return false;
     }
-    cache->pinned++;
     return true;
 }
-
-/* Uncounts what isn't pinned any more, but for some pages: so most hits leave alone what all threads write. */
-static void uncount(sqlite3_pcache *cache, uint32_t spare) {
-    if (cache->counted <= cache->pinned + spare) return;
-    const uint32_t frames = (cache->counted - cache->pinned - spare) * cache->frames;
-    cache->counted = cache->pinned + spare;
-    cache->tenant->pinned -= frames;
+static void uncount(group *tenant, uint32_t frames) {
+    tenant->pinned -= frames;
     pool.groups[TOP].pinned -= frames;
 }
-
-/* Sets memory.high to the cache_size, or to what has to be pinned: reclaim would try that in vain at each allocation. */
-static void set_high(sqlite3_pcache *cache, uint32_t pages) {
-    cache->high = pages > cache->size ? pages : cache->size;
-    if (cache->is_purgeable) write_frames(cache->cpu, cache->number, "memory.high", (uint64_t)cache->high * cache->frames);
-}
-
-static void uncount_pin(sqlite3_pcache *cache) {
-    const uint32_t limit = cache->tenant->limit < pool.budget ? cache->tenant->limit : pool.budget;
+static bool count_pin(sqlite3_pcache *cache, bool is_urgent) {
+    if (++cache->pinned * cache->frames <= BASE || count(cache->tenant, cache->frames, is_urgent)) return true;
     cache->pinned--;
-    uncount(cache, (limit / 1024 < SPARE ? limit / 1024 : SPARE) / cache->frames);
-    if (cache->high > cache->size && cache->pinned <= cache->size / 2) set_high(cache, 0);
+    return false;
 }
-
-/* ---- Pins */
+static void uncount_pin(sqlite3_pcache *cache) {
+    if (cache->pinned-- * cache->frames > BASE) uncount(cache->tenant, cache->frames);
+}
 
 static uint64_t tag_of(const sqlite3_pcache *cache, uint32_t key) { return (uint64_t)cache->number << 33 | (uint64_t)key << 1; }
-
-static bool hold(tempolemon_cpu *cpu, uint32_t frame) {
-    uint8_t kind;
-    do kind = serve(tempolemon_on_get, cpu, frame).kind;
-    while (kind == TEMPOLEMON_RACED);
-    return kind == TEMPOLEMON_HELD;
+static bool retag(uint32_t frame, uint64_t from, uint64_t to) {
+    return atomic_compare_exchange_strong(&pool.pages[frame].tag, &from, to);
 }
 
+static bool hold(tempolemon_cpu *cpu, uint32_t frame) {
+    uint8_t kind = TEMPOLEMON_RACED;
+    while (kind == TEMPOLEMON_RACED) kind = serve(tempolemon_on_get, cpu, frame).kind;
+    return kind == TEMPOLEMON_HELD;
+}
 static void let_go(tempolemon_cpu *cpu, uint32_t frame) {
     tempolemon_result result;
     if (serve(tempolemon_on_put, cpu, frame).kind == TEMPOLEMON_LAST) need(tempolemon_on_settle(cpu, &result));
 }
 
-/* Whether a unit on which the cache has a reference, and whose tag it has just pinned, has its page. A block of another cache
- * may lack its tag yet. That cache sets it before it lowers `births`: so the tag is read after that. */
-static bool has_page(const sqlite3_pcache *cache, uint32_t frame, uint64_t tag) {
-    if (pool.births && serve(tempolemon_on_owner, cache->cpu, frame).number != cache->number) return false;
-    return pool.pages[frame].tag == tag;
-}
-
-/* Takes the tag from a frame whose page is gone or can't be pinned. */
-static void lose(uint32_t frame, uint64_t tag) { atomic_compare_exchange_strong(&pool.pages[frame].tag, &tag, 0); }
-
 /* Counts and pins a page that isn't pinned. If that can't be done, the cache has lost it. */
 static bool pin(sqlite3_pcache *cache, uint32_t frame, uint64_t tag) {
     frame_page *page = &pool.pages[frame];
-    uint64_t seen = tag;
     const bool is_counted = count_pin(cache, true), is_held = is_counted && hold(cache->cpu, frame);
-    if (is_held && atomic_compare_exchange_strong(&page->tag, &seen, tag | 1) && has_page(cache, frame, tag | 1)) {
+    bool is_pinned = is_held && retag(frame, tag, tag | 1);
+    /* a block sets its tag before it lowers `births`, so the tag is read again after that */
+    if (is_pinned && pool.births) is_pinned = serve(tempolemon_on_owner, cache->cpu, frame).number == cache->number;
+    if (is_pinned && page->tag == (tag | 1)) {
         OPEN(page, cache->frames);
         page->is_marked = cache->references == MOST_REFERENCES;
         cache->references += !page->is_marked;
-        if (page->is_marked) serve(tempolemon_on_dirty, cache->cpu, frame);
-        if (page->is_marked) let_go(cache->cpu, frame);
+        if (page->is_marked) serve(tempolemon_on_dirty, cache->cpu, frame), let_go(cache->cpu, frame);
         return true;
     }
-    lose(frame, tag);
-    lose(frame, tag | 1);
+    (void)(retag(frame, tag, 0) || retag(frame, tag | 1, 0));
     if (is_held) let_go(cache->cpu, frame);
     if (is_counted) uncount_pin(cache);
     return false;
@@ -237,46 +198,33 @@ static void end_pin(sqlite3_pcache *cache, uint32_t frame, uint64_t tag) {
     uncount_pin(cache);
 }
 
-/* ---- Which cache pays
- *
- * Reclaim takes the groups by number, so at a limit that caches share one of them would always pay. So before such a limit is
- * reached, pages of the cache are reclaimed that has the least recently used page of some that are looked at. */
-
+/* Makes room before a limit is reached. Reclaim takes the groups by number, so at a limit that caches share one of them would
+ * always pay. So pages of the cache are reclaimed that has the least recently used page of some that are looked at. */
 static void see_to(uint32_t number, uint32_t limit) {
     static uint64_t seed = 1;
     char text[TEMPOLEMON_PCACHE_TEXT];
     need(read_text(pool.groups[number].path, "memory.current", text));
     const uint64_t wanted = strtoull(text, NULL, 10) / FRAME + 2 * ROUND;
-    if (wanted <= limit) return;
     uint32_t victim = 0, age = 0;
-    for (int seen = 0, tries = 0; seen < SAMPLES && tries < 8 * SAMPLES; tries++) {
+    for (int tries = 0, seen = 0; wanted > limit && seen < SAMPLES && tries < 8 * SAMPLES; tries++) {
         seed = seed * 6364136223846793005u + 1442695040888963407u;
-        const uint32_t frame = (uint32_t)((seed >> 32) * pool.frames >> 32);
+        const uint32_t frame = (uint32_t)((seed >> 32) * pool.frames >> 32), idle = pool.clock - pool.pages[frame].used;
         const uint64_t tag = pool.pages[frame].tag;
-        const uint32_t owner = (uint32_t)(tag >> 33), idle = pool.clock - pool.pages[frame].used;
+        const uint32_t owner = (uint32_t)(tag >> 33);
         if (!tag || tag & 1 || (number != TOP && number != pool.groups[owner].parent) || (seen++, idle < age)) continue;
-        if (hold(&pool.cpus[0], frame)) {
-            let_go(&pool.cpus[0], frame);
-            age = idle;
-            victim = owner;
-        } else {
-            lose(frame, tag); /* it was reclaimed */
-        }
+        if (hold(&pool.cpus[0], frame)) let_go(&pool.cpus[0], frame), age = idle, victim = owner;
+        else retag(frame, tag, 0); /* it was reclaimed */
     }
     if (victim) write_frames(&pool.cpus[0], victim, "memory.reclaim", wanted - limit);
 }
 
-/* Sets the clock forward, and sees to the limits, unless another thread does so already. */
-static void tick(sqlite3_pcache *cache) {
-    pool.clock += cache->unreported;
-    cache->unreported = 0;
+/* Sees to the limits, unless another thread does so already. */
+static void see_to_limits(const sqlite3_pcache *cache) {
     if (pthread_mutex_trylock(&pool.mutex)) return;
     see_to(TOP, pool.budget);
     if (cache->tenant->caches > 1) see_to((uint32_t)(cache->tenant - pool.groups), cache->tenant->limit);
     pthread_mutex_unlock(&pool.mutex);
 }
-
-/* ---- The table of a cache */
 
 /* The entry of this key, or the free one where it belongs. */
 static entry *find(const sqlite3_pcache *cache, uint32_t key) {
@@ -306,9 +254,7 @@ static bool make_room(sqlite3_pcache *cache) {
     const uint32_t slots = (cache->mask + 1) * (live > cache->mask / 4 ? 2 : 1);
     entry *table = calloc(slots, sizeof *table);
     if (!table) return false;
-    cache->table = table;
-    cache->mask = slots - 1;
-    cache->count = 0;
+    cache->table = table, cache->mask = slots - 1, cache->count = 0;
     for (const entry *it = old; it < end; it++)
         if (tag_at(cache, it)) insert(cache, *it);
     free((void *)old);
@@ -321,21 +267,18 @@ static void drop(sqlite3_pcache *cache, const entry *it) {
     if (tag & 1 || (tag && pin(cache, it->frame, tag))) end_pin(cache, it->frame, 0);
 }
 
-/* ---- Pages */
-
-/* Allocates a unit with this tag, which is pinned by its mark: its frame, or NO_FRAME. */
-static int64_t allocate(const sqlite3_pcache *cache, uint64_t tag) {
+/* Allocates a unit with this tag, which is pinned by its mark: its page, or NULL. */
+static frame_page *allocate(const sqlite3_pcache *cache, uint64_t tag) {
     tempolemon_result result;
-    uint8_t status;
-    pool.births += cache->order > 0;
-    if (cache->order) status = tempolemon_on_alloc_dirty(cache->cpu, cache->number, cache->order, &result);
-    else status = tempolemon_on_alloc(cache->cpu, cache->number, 0, &result);
+    if (cache->order) pool.births++;
+    const uint8_t status = cache->order ? tempolemon_on_alloc_dirty(cache->cpu, cache->number, cache->order, &result)
+                                        : tempolemon_on_alloc(cache->cpu, cache->number, 0, &result);
     if (status == TEMPOLEMON_DONE) pool.pages[result.number].tag = tag;
-    pool.births -= cache->order > 0;
-    if (status == TEMPOLEMON_OVER_LIMIT || status == NO_FRAMES) return NO_FRAME;
+    if (cache->order) pool.births--;
+    if (status == TEMPOLEMON_OVER_LIMIT || status == NO_FRAMES) return NULL;
     need(status);
     if (!cache->order) serve(tempolemon_on_dirty, cache->cpu, (uint32_t)result.number);
-    return (int64_t)result.number;
+    return &pool.pages[result.number];
 }
 
 /* A page that isn't in the cache, or NULL. */
@@ -343,43 +286,32 @@ static sqlite3_pcache_page *add_page(sqlite3_pcache *cache, uint32_t key, bool i
     const uint64_t tag = tag_of(cache, key) | 1;
     if (!is_urgent && cache->is_purgeable && cache->pinned + cache->pinned / 8 >= cache->size) return NULL;
     if (!make_room(cache) || !count_pin(cache, is_urgent)) return NULL;
-    if (cache->pinned > cache->high) set_high(cache, cache->pinned + cache->pinned / 8 + 8);
-    cache->unreported += cache->frames;
-    if (cache->unreported >= ROUND) tick(cache);
-    int64_t frame = allocate(cache, tag);
-    if (frame == NO_FRAME && is_urgent) { /* perhaps no block is free before all clean pages are reclaimed */
+    const uint32_t now = pool.clock += cache->frames;
+    if (now / ROUND != (now - cache->frames) / ROUND) see_to_limits(cache);
+    frame_page *page = allocate(cache, tag);
+    if (!page && is_urgent) { /* perhaps no block is free before all clean pages are reclaimed */
         write_frames(cache->cpu, TOP, "memory.reclaim", pool.frames);
-        frame = allocate(cache, tag);
+        page = allocate(cache, tag);
     }
-    if (frame == NO_FRAME) {
-        uncount_pin(cache);
-        return NULL;
-    }
-    frame_page *page = &pool.pages[frame];
-    insert(cache, (entry){key, (uint32_t)frame});
+    if (!page) return uncount_pin(cache), NULL;
     OPEN(page, cache->frames);
+    insert(cache, (entry){key, (uint32_t)(page - pool.pages)});
     page->is_marked = true;
-    page->used = pool.clock;
-    memset(page->page.pExtra, 0, EXTRA);
+    page->used = now;
+    memset(page->extra, 0, EXTRA);
     return &page->page;
 }
-
-/* Notes that a page was used, unless few frames were allocated since that was last noted: it takes the lock. */
-static void note_use(const sqlite3_pcache *cache, uint32_t frame) {
-    const uint32_t now = atomic_load_explicit(&pool.clock, memory_order_relaxed);
-    if (now - atomic_load_explicit(&pool.pages[frame].used, memory_order_relaxed) < pool.budget / 16) return;
-    atomic_store_explicit(&pool.pages[frame].used, now, memory_order_relaxed);
-    serve(tempolemon_on_touch, cache->cpu, frame);
-}
-
-/* ---- What SQLite calls */
 
 static sqlite3_pcache_page *fetch(sqlite3_pcache *cache, unsigned key, int create) {
     const entry *it = find(cache, key);
     const uint64_t tag = tag_at(cache, it);
-    if (tag && !(tag & 1) && pin(cache, it->frame, tag)) note_use(cache, it->frame);
-    else if (!(tag & 1)) return create ? add_page(cache, key, create == 2) : NULL;
-    return &pool.pages[it->frame].page;
+    frame_page *page = &pool.pages[it->frame];
+    if (tag & 1) return &page->page;
+    if (!tag || !pin(cache, it->frame, tag)) return create ? add_page(cache, key, create == 2) : NULL;
+    /* it takes the lock to note that a page was used, so that isn't noted again before many frames are allocated */
+    const uint32_t now = pool.clock;
+    if (now - page->used >= pool.budget / 16) serve(tempolemon_on_touch, cache->cpu, it->frame), page->used = now;
+    return &page->page;
 }
 
 static void unpin(sqlite3_pcache *cache, sqlite3_pcache_page *page, int is_discarded) {
@@ -403,39 +335,35 @@ static void truncate_cache(sqlite3_pcache *cache, unsigned limit) {
 
 static void set_size(sqlite3_pcache *cache, int pages) {
     cache->size = pages > 0 ? (uint32_t)pages : 0;
-    set_high(cache, 0);
+    if (cache->is_purgeable) write_frames(cache->cpu, cache->number, "memory.high", (uint64_t)cache->size * cache->frames);
 }
 
 static int count_pages(sqlite3_pcache *cache) { return (int)cache->count; }
-
 static void shrink(sqlite3_pcache *cache) { write_frames(cache->cpu, cache->number, "memory.reclaim", pool.frames); }
 
 static sqlite3_pcache *create(int page_size, int extra, int is_purgeable) {
     sqlite3_pcache *cache = calloc(1, sizeof *cache);
     entry *table = calloc(64, sizeof *table);
-    uint32_t tenant = 0;
     char path[80];
     pthread_mutex_lock(&pool.mutex);
-    if (cache && table && extra <= EXTRA) tenant = group_at(tenant_path, TOP);
     snprintf(path, sizeof path, "%s/c%u", tenant_path, ++pool.serial);
-    const uint32_t number = tenant ? group_at(path, tenant) : 0;
-    if (number) {
-        *cache = (sqlite3_pcache){&pool.cpus[number], &pool.groups[tenant], table, .mask = 63, .number = number, .frames = 1};
-        cache->is_purgeable = is_purgeable;
-        for (; (int)cache->frames * FRAME < page_size; cache->frames *= 2) cache->order++;
-        cache->tenant->caches++;
-    }
+    const uint32_t tenant = cache && table && extra <= EXTRA ? group_at(tenant_path, TOP) : 0;
+    const bool is_counted = tenant && count(&pool.groups[tenant], BASE, true);
+    const uint32_t number = is_counted ? group_at(path, tenant) : 0;
+    pool.groups[tenant].caches += number != 0;
+    if (is_counted && !number) uncount(&pool.groups[tenant], BASE);
     pthread_mutex_unlock(&pool.mutex);
-    if (number) return cache;
-    free(table);
-    free(cache);
-    return NULL;
+    if (!number) return free(table), free(cache), NULL;
+    *cache = (sqlite3_pcache){&pool.cpus[number], &pool.groups[tenant], table, .mask = 63, .number = number, .frames = 1};
+    cache->is_purgeable = is_purgeable;
+    for (; (int)cache->frames * FRAME < page_size; cache->frames *= 2) cache->order++;
+    return cache;
 }
 
 static void destroy(sqlite3_pcache *cache) {
     tempolemon_result result;
     truncate_cache(cache, 1);
-    uncount(cache, 0);
+    uncount(cache->tenant, BASE);
     pthread_mutex_lock(&pool.mutex);
     char *path = pool.groups[cache->number].path;
     while (tempolemon_on_rmdir(&pool.cpus[0], path, strlen(path), &result) != TEMPOLEMON_DONE)
@@ -447,21 +375,18 @@ static void destroy(sqlite3_pcache *cache) {
     free(cache);
 }
 
-/* The mapping has the pages, a few bytes that SQLite may read beyond the last, all extras, and what is known of each page. */
-static size_t mapping_size(void) { return FRAME + (size_t)pool.frames * (FRAME + EXTRA + sizeof *pool.pages); }
-
 static int start(void *unused) {
     (void)unused;
     pool.frames = 2 * pool.budget;
     const uint32_t wanted = pool.budget / 4096, batch = wanted < 1 ? 1 : wanted > 32 ? 32 : wanted;
     const tempolemon_sizes sizes = {.frames = pool.frames, .cpus = GROUPS, .batch = batch, .high = 2 * batch, .stock = batch};
     if (tempolemon_zone_boot(&sizes, &pool.zone) != TEMPOLEMON_DONE) return SQLITE_NOMEM;
-    pool.arena = mmap(NULL, mapping_size(), PROT_READ | PROT_WRITE, MAP_PRIVATE | MAP_ANONYMOUS | MAP_NORESERVE, -1, 0);
+    pool.size = FRAME + (size_t)pool.frames * (FRAME + sizeof *pool.pages); /* SQLite may read a few bytes beyond a page */
+    pool.arena = mmap(NULL, pool.size, PROT_READ | PROT_WRITE, MAP_PRIVATE | MAP_ANONYMOUS | MAP_NORESERVE, -1, 0);
     if (pool.arena == MAP_FAILED) return SQLITE_NOMEM;
-    unsigned char *extras = pool.arena + (size_t)pool.frames * FRAME + FRAME;
-    pool.pages = (frame_page *)(extras + (size_t)pool.frames * EXTRA);
+    pool.pages = (frame_page *)(pool.arena + FRAME + (size_t)pool.frames * FRAME);
     for (uint32_t at = 0; at < pool.frames; at++) {
-        pool.pages[at].page = (sqlite3_pcache_page){pool.arena + (size_t)at * FRAME, extras + (size_t)at * EXTRA};
+        pool.pages[at].page = (sqlite3_pcache_page){pool.arena + (size_t)at * FRAME, pool.pages[at].extra};
         SHUT(&pool.pages[at], 1);
     }
     for (uint32_t at = 0; at < GROUPS; at++) need(tempolemon_take(&pool.zone, at + 1, &pool.cpus[at]));
@@ -478,11 +403,9 @@ static void stop(void *unused) {
     need(tempolemon_zone_end(&pool.zone, &report));
     if (report.held || report.free != report.frames) need(UINT8_MAX); /* a frame is missing */
     for (uint32_t at = 0; at < pool.frames; at++) OPEN(&pool.pages[at], 1);
-    munmap(pool.arena, mapping_size());
+    munmap(pool.arena, pool.size);
     memset(pool.groups, 0, sizeof pool.groups);
 }
-
-/* ---- What the program calls */
 
 const char *tempolemon_pcache_install(size_t bytes) {
     static const sqlite3_pcache_methods2 methods = {1,     NULL,  start,          stop,    create, set_size, count_pages, fetch,
@@ -492,35 +415,29 @@ const char *tempolemon_pcache_install(size_t bytes) {
     return sqlite3_config(SQLITE_CONFIG_PCACHE2, &methods) == SQLITE_OK ? NULL : "SQLite is initialized already";
 }
 
-/* Finds or makes a tenant, and sets its limit if it isn't 0. */
-static const char *set_tenant(const char *name, uint32_t limit, char path[64]) {
+/* Finds or makes a tenant. Sets its limit; or if that is 0, this thread opens databases for it. */
+static const char *set_tenant(const char *name, uint32_t limit) {
+    char path[64];
     if (!*name || strlen(name) > 31 || strchr(name, '/')) return "a tenant's name has 1 to 31 bytes without /";
     if (sqlite3_initialize() != SQLITE_OK || !pool.zone.is_live) return "this page cache isn't installed";
-    snprintf(path, 64, "/db/%s", name);
+    snprintf(path, sizeof path, "/db/%s", name);
     pthread_mutex_lock(&pool.mutex);
-    const uint32_t number = group_at(path, TOP);
+    const uint32_t number = group_at(path, TOP), before = pool.groups[number].limit;
     const char *why = number ? NULL : "no group of this name can be made";
     if (number && limit) {
-        const uint32_t before = atomic_exchange(&pool.groups[number].limit, limit); /* more isn't pinned from now on */
-        if (pool.groups[number].pinned + SLACK > limit) why = "statements have pinned more than that";
-        if (why) pool.groups[number].limit = before;
-        else write_frames(&pool.cpus[0], number, "memory.max", limit);
+        pool.groups[number].limit = limit; /* more isn't pinned from now on */
+        if (pool.groups[number].pinned + SLACK <= limit) write_frames(&pool.cpus[0], number, "memory.max", limit);
+        else why = "its databases have pinned more than that", pool.groups[number].limit = before;
     }
+    if (number && !limit) strcpy(tenant_path, path);
     pthread_mutex_unlock(&pool.mutex);
     return why;
 }
 
-const char *tempolemon_pcache_tenant(const char *name) {
-    char path[64];
-    const char *why = set_tenant(name, 0, path);
-    if (!why) strcpy(tenant_path, path);
-    return why;
-}
-
+const char *tempolemon_pcache_tenant(const char *name) { return set_tenant(name, 0); }
 const char *tempolemon_pcache_limit(const char *name, size_t bytes) {
-    char path[64];
     if (bytes / FRAME < LEAST_LIMIT) return "a limit is at least 256K";
-    return set_tenant(name, bytes / FRAME < NO_LIMIT ? (uint32_t)(bytes / FRAME) : NO_LIMIT, path);
+    return set_tenant(name, bytes / FRAME < NO_LIMIT ? (uint32_t)(bytes / FRAME) : NO_LIMIT);
 }
 
 const char *tempolemon_pcache_read(const char *of, const char *file, char text[TEMPOLEMON_PCACHE_TEXT]) {
