@@ -113,13 +113,14 @@ static void change(worker *me, sqlite3 *db) {
 }
 
 static void make_transaction(worker *me, sqlite3 *db) {
-    int depth = 0;
+    uint32_t depth = 0;
     run(me, db, "begin");
     for (uint32_t left = 1 + draw(me, 8); left > 0; left--) {
         const uint32_t what = draw(me, 10);
-        if (what == 0) run(me, db, "savepoint s%d", depth++);
-        else if (what == 1 && depth) run(me, db, "rollback to s%u", draw(me, (uint32_t)depth));
-        else if (what == 2 && depth) run(me, db, "release s%d", --depth);
+        if (what == 1 && depth) depth = 1 + draw(me, depth); /* a rollback to a savepoint removes those after it */
+        if (what == 0) run(me, db, "savepoint s%u", depth++);
+        else if (what == 1 && depth) run(me, db, "rollback to s%u", depth - 1);
+        else if (what == 2 && depth) run(me, db, "release s%u", --depth);
         else change(me, db);
     }
     run(me, db, draw(me, 3) ? "commit" : "rollback");
