@@ -34,8 +34,8 @@
 #define SHUT(it, frames) __asan_poison_memory_region((it)->page.pBuf, (size_t)(frames)*FRAME)
 #elif defined(__SANITIZE_THREAD__)
 #include <sanitizer/tsan_interface.h>
-#define OPEN(it, frames) __tsan_acquire(it)
-#define SHUT(it, frames) __tsan_release(it)
+#define OPEN(it, frames) for (uint32_t at_ = 0; at_ < (frames); at_++) __tsan_acquire(&(it)[at_])
+#define SHUT(it, frames) for (uint32_t at_ = 0; at_ < (frames); at_++) __tsan_release(&(it)[at_])
 #else
 #define OPEN(it, frames) ((void)(it))
 #define SHUT(it, frames) ((void)(it))
@@ -387,7 +387,7 @@ static int start(void *unused) {
     pool.pages = (frame_page *)(pool.arena + FRAME + (size_t)pool.frames * FRAME);
     for (uint32_t at = 0; at < pool.frames; at++) {
         pool.pages[at].page = (sqlite3_pcache_page){pool.arena + (size_t)at * FRAME, pool.pages[at].extra};
-        SHUT(&pool.pages[at], 1);
+        SHUT(&pool.pages[at], 1u);
     }
     for (uint32_t at = 0; at < GROUPS; at++) need(tempolemon_take(&pool.zone, at + 1, &pool.cpus[at]));
     (void)group_at("/db", 0); /* TOP, the first */
@@ -402,7 +402,7 @@ static void stop(void *unused) {
     for (uint32_t at = 0; at < GROUPS; at++) need(tempolemon_return(&pool.cpus[at]));
     need(tempolemon_zone_end(&pool.zone, &report));
     if (report.held || report.free != report.frames) need(UINT8_MAX); /* a frame is missing */
-    for (uint32_t at = 0; at < pool.frames; at++) OPEN(&pool.pages[at], 1);
+    for (uint32_t at = 0; at < pool.frames; at++) OPEN(&pool.pages[at], 1u);
     munmap(pool.arena, pool.size);
     memset(pool.groups, 0, sizeof pool.groups);
 }

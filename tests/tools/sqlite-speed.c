@@ -9,10 +9,11 @@
  * an index, 10 % of 200 rows, 15 % transactions of 10 changes. Each database may have PAGES. It prints the CPU time of an operation
  * in microseconds, the percentage of hits, and how many pages an operation fetched.
  *
- * hits: eight databases of 50,000 rows below a budget of BUDGET pages, by one thread. 80 % of 400,000 reads by an index are of one
- * database, the others of the seven others, by a Zipf law of exponent 0.8. With SCANNER 1, one of the others is scanned too. LIMIT
- * is the limit of its tenant in pages, or 0. After the first quarter hits are counted, those of the scanner apart. It prints the
- * percentages of hits of all but the scanner, and of the hot database.
+ * hits: eight databases of 50,000 rows (4,000 pages) below a budget of BUDGET pages, by one thread. 80 % of 400,000 reads by an
+ * index are of one database, the others of the seven others, by a Zipf law of exponent 0.8. With SCANNER 1 there are 100,000, and
+ * after each eighth one 400 rows of another database are scanned, round and round. LIMIT is the limit of its tenant in pages, or 0.
+ * After the first quarter hits are counted, but not those of the database that is scanned. It prints the percentages of hits of
+ * all, and of the hot database.
  */
 #define _GNU_SOURCE
 #include <math.h>
@@ -145,7 +146,7 @@ static void measure_hits(int is_tempolemon, long budget, long each, int has_scan
     enum { ROWS = 50000, HOT = 0, SCANNER = 1 };
     static double sums[ROWS];
     sqlite3 *dbs[DATABASES];
-    sqlite3_stmt *reads[DATABASES], *scan = NULL;
+    sqlite3_stmt *read[DATABASES], *scan = NULL;
     (void)budget;
     for (int at = 0; at < DATABASES; at++) {
         char name[16];
@@ -154,18 +155,19 @@ static void measure_hits(int is_tempolemon, long budget, long each, int has_scan
         if (!why && is_tempolemon && limit && at == SCANNER) why = tempolemon_pcache_limit(name, (size_t)limit * PAGE);
         if (why) exit((fprintf(stderr, "%s\n", why), EXIT_FAILURE));
         dbs[at] = make(at, ROWS, each);
-        reads[at] = prepare(dbs[at], "select length(v) from t where k = ?");
+        read[at] = prepare(dbs[at], "select length(v) from t where k = ?");
     }
     scan = prepare(dbs[SCANNER], "select sum(length(v)) from t where id between ?1 and ?1 + 400");
     for (int at = 0; at < ROWS; at++) sums[at] = (at ? sums[at - 1] : 0) + 1 / pow(at + 1, 0.8);
     uint64_t seed = 123456789;
     long hits = 0, misses = 0, hot_hits = 0, hot_misses = 0;
-    for (int at = 0; at < READS; at++) {
+    const int reads = has_scanner ? READS / 4 : READS;
+    for (int at = 0; at < reads; at++) {
         const uint64_t drawn = draw(&seed);
         const int db = drawn % 100 < 80 ? HOT : 1 + (int)((drawn >> 8) % (DATABASES - 1));
         const double wanted = (double)(drawn >> 11) / 9007199254740992.0 * sums[ROWS - 1];
         int low = 0, high = ROWS - 1;
-        if (at == READS / 4)
+        if (at == reads / 4)
             for (int each_db = 0; each_db < DATABASES; each_db++)
                 (void)(count(dbs[each_db], SQLITE_DBSTATUS_CACHE_HIT) + count(dbs[each_db], SQLITE_DBSTATUS_CACHE_MISS));
         if (has_scanner && at % 8 == 0) step(scan, (int64_t)at / 8 * 400 % ROWS, 0);
@@ -174,13 +176,13 @@ static void measure_hits(int is_tempolemon, long budget, long each, int has_scan
             if (sums[middle] < wanted) low = middle + 1;
             else high = middle;
         }
-        step(reads[db], (int64_t)((uint32_t)low * 2654435761u % ROWS) * 7919 % 1000003, 0);
+        step(read[db], (int64_t)((uint32_t)low * 2654435761u % ROWS) * 7919 % 1000003, 0);
     }
     for (int at = 0; at < DATABASES; at++) {
         const long hit = count(dbs[at], SQLITE_DBSTATUS_CACHE_HIT), miss = count(dbs[at], SQLITE_DBSTATUS_CACHE_MISS);
         if (at == HOT) hot_hits = hit, hot_misses = miss;
         if (!has_scanner || at != SCANNER) hits += hit, misses += miss;
-        sqlite3_finalize(reads[at]);
+        sqlite3_finalize(read[at]);
         if (at == SCANNER) sqlite3_finalize(scan);
         sqlite3_close(dbs[at]);
     }
