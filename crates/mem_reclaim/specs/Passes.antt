@@ -1,12 +1,10 @@
 -- Reclaim in two passes over the groups of a subtree, by ascending number.
 use Rattle.std.specs.Prelude.{ℕ, Bool, true, false, List, [], ◌∷◌, filter}
 use Rattle.std.specs.List.{range_with_len}
-use Rattle.group_tree.specs.Bounds.{most_groups}
+use Rattle.group_tree.specs.{most_groups, in_subtree}
 use Rattle.group_tree.specs.declared.group.Group.{Group}
-use Rattle.group_tree.specs.Groups.{in_subtree}
 use Rattle.lru_lists.specs.declared.record.LruList.TheVariants.{Inactive, Active}
-use Rattle.mem_machine.specs.Machines.{KnownMachine}
-use Rattle.mem_machine.specs.Ageing.{AgesGroup}
+use Rattle.mem_machine.specs.{KnownMachine, AgesGroup}
 use Rattle.mem_reclaim.specs.Wanted.{Progress, Reclaiming, WhileWanted, progress}
 use Rattle.mem_reclaim.specs.Units.{ScansList}
 

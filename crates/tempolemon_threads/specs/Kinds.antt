@@ -7,8 +7,7 @@ use Rattle.zone_threads.specs.declared.calls.CallAnswer.{CallAnswer}
 use Rattle.zone_threads.specs.declared.calls.CallAnswer.TheVariants as answer
 use Rattle.zone_threads.specs.declared.calls.ReadAnswer.{ReadAnswer}
 use Rattle.zone_threads.specs.declared.calls.ReadAnswer.TheVariants as read
-use Rattle.host_memory.specs.Kinds.{get_result, no_result, put_result, result_with}
-use Rattle.host_memory.specs.Statuses.{bad_frame, bad_group, done, over_limit}
+use Rattle.host_memory.specs.{get_result, no_result, put_result, result_with, bad_frame, bad_group, done, over_limit}
 use Rattle.host_memory.specs.declared.typed_result.TypedResult.{TypedResult}
 use Rattle.tempolemon_threads.specs.Statuses.{busy}
 
@@ -39,6 +38,8 @@ abbrev pub call_result_of : CallAnswer → TypedResult
 call_result_of answer.Busy = no_result
 call_result_of answer.NoFrame = no_result
 call_result_of answer.NoGroup = no_result
+call_result_of (answer.Pages pages) = result_with 22 pages
+call_result_of answer.NoLimit = result_with 23 0
 call_result_of (answer.Served outcome) = outcome_result outcome
 call_result_of (answer.Taken frame) = result_with 3 frame
 call_result_of answer.Listed = result_with 13 0

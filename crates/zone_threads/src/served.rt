@@ -2,20 +2,20 @@
 
 ghost use Rattle.std.specs.Prelude.{◌≡◌, IfNone, IfSome, IsTrue};
 ghost use Rattle.group_tree.specs.Groups.{has_group};
-ghost use Rattle.mem_system.specs.Commands.{IsOfZone};
-ghost use Rattle.mem_system.specs.Shown.{SettlesCaller};
-ghost use Rattle.mem_system.specs.Visits.{IsVisited, ServesFrameOutcome, ServesOutcome};
+ghost use Rattle.mem_system.specs.{IsOfZone, SettlesCaller, IsVisited, ServesFrameOutcome, ServesOutcome};
 ghost use Rattle.zone_threads.specs.Calling.{NoGroupBehindLock, IsMissingIn, IsReadUnderLock, ServesBlock};
-ghost use Rattle.zone_threads.specs.Calling.{ServesDirtyUnit};
+ghost use Rattle.zone_threads.specs.Calling.{ReadsPages, SaysPages, ServesDirtyUnit, ServesPages};
 
 use crate::behind::Behind;
-use crate::calls::{ReadAnswer, ReadCall};
-use control_files::file::file_text;
+use crate::calls::{CallAnswer, GroupPages, ReadAnswer, ReadCall};
+use control_files::file::{File, file_text};
+use control_files::limit::{Limit, write_limit};
 use cpu_part::{BootName, Tables};
 use group_charge::charges::Charges;
 use group_tree::group::GroupId;
 use mem_system::{
-    Cmd, Cpu, Outcome, serve_dirty_alloc, serve_frame_outcome, serve_outcome, settle,
+    Cpu, LockedCommand, Outcome, serve_dirty_alloc, serve_frame_outcome, serve_outcome,
+    serve_settle,
 };
 
 /// Why nothing was allocated under the lock.
@@ -30,7 +30,12 @@ pub enum Missed {
 impl<N: BootName> Behind<N> {
     /// Serves a command of a CPU, as `mem_system::serve_outcome` does.
     #[inline(always)]
-    pub fn serve(&mut self, tables: &Tables<N>, cpu: &mut Cpu<N>, cmd: &Cmd<'_>) -> Outcome
+    pub fn serve(
+        &mut self,
+        tables: &Tables<N>,
+        cpu: &mut Cpu<N>,
+        cmd: &LockedCommand<'_>,
+    ) -> Outcome
         requires { IsOfZone N.frames cmd.now }
         ensures { IsVisited N.frames self.old.locked.sizes (ServesOutcome N.frames cmd.now result)
             cpu.old cpu.new }
@@ -86,7 +91,12 @@ impl<N: BootName> Behind<N> {
         };
         let path = *self.locked.charges().tree().path_of(group);
         let path = path.as_bytes();
-        let outcome = serve_outcome(&mut self.locked, tables, cpu, &Cmd::Alloc { path, order });
+        let outcome = serve_outcome(
+            &mut self.locked,
+            tables,
+            cpu,
+            &LockedCommand::Alloc { path, order },
+        );
         self.locked.prove_quiet();
         Some(outcome)
     }
@@ -116,13 +126,61 @@ impl<N: BootName> Behind<N> {
         Some(outcome)
     }
 
+    /// Reads a number of pages of the group of this number. The CPU isn't settled.
+    pub fn read_pages(
+        &mut self,
+        tables: &Tables<N>,
+        cpu: &mut Cpu<N>,
+        group: u32,
+        which: GroupPages,
+    ) -> CallAnswer
+        ensures { ReadsPages N.frames group which result cpu.old cpu.new }
+    {
+        self.locked.prove_quiet();
+        let answer = pages_read(self.locked.charges(), group, which);
+        self.locked.meet(tables, cpu);
+        self.locked.prove_quiet();
+        answer
+    }
+
+    /// Writes so many pages, or no limit, to this file of the group of this number; `None` if there is none.
+    pub fn write_pages(
+        &mut self,
+        tables: &Tables<N>,
+        cpu: &mut Cpu<N>,
+        group: u32,
+        file: File,
+        pages: Limit,
+    ) -> Option<Outcome>
+        ensures served { IfSome result (λ outcome.
+            IsVisited N.frames self.old.locked.sizes (ServesPages N.frames group file pages outcome)
+            cpu.old cpu.new) }
+        ensures none { IfNone result (NoGroupBehindLock N.frames group cpu.old cpu.new) }
+    {
+        self.locked.prove_quiet();
+        let Some(group) = find_group(self.locked.charges(), group) else {
+            self.locked.meet(tables, cpu);
+            self.locked.prove_quiet();
+            return None;
+        };
+        let path = *self.locked.charges().tree().path_of(group);
+        let path = path.as_bytes();
+        let value = write_limit(pages);
+        let value = value.as_bytes();
+        let file = file.name().as_bytes();
+        let cmd = LockedCommand::Write { path, file, value };
+        let outcome = serve_outcome(&mut self.locked, tables, cpu, &cmd);
+        self.locked.prove_quiet();
+        Some(outcome)
+    }
+
     /// Settles a CPU.
     #[inline(always)]
     pub fn settle(&mut self, tables: &Tables<N>, cpu: &mut Cpu<N>)
         ensures { IsVisited N.frames self.old.locked.sizes (SettlesCaller N.frames) cpu.old cpu.new }
     {
         self.locked.prove_quiet();
-        settle(&mut self.locked, tables, cpu);
+        serve_settle(&mut self.locked, tables, cpu);
         self.locked.prove_quiet();
     }
 
@@ -132,7 +190,12 @@ impl<N: BootName> Behind<N> {
     {
         let ReadCall { path, file } = *asked;
         self.locked.prove_quiet();
-        let outcome = serve_outcome(&mut self.locked, tables, cpu, &Cmd::Read { path, file });
+        let outcome = serve_outcome(
+            &mut self.locked,
+            tables,
+            cpu,
+            &LockedCommand::Read { path, file },
+        );
         self.locked.prove_quiet();
         if let Outcome::Refused(fault) = outcome {
             return ReadAnswer::Refused(fault);
@@ -159,4 +222,23 @@ fn find_group(charges: &Charges, number: u32) -> Option<GroupId>
         return None;
     }
     Some(group)
+}
+
+// Reads a number of pages of the group of this number.
+fn pages_read(charges: &Charges, number: u32, which: GroupPages) -> CallAnswer
+    ensures { SaysPages charges.now number which result }
+{
+    let Some(group) = find_group(charges, number) else {
+        return CallAnswer::NoGroup;
+    };
+    let pages = match which {
+        GroupPages::Usage => Some(charges.current(group)),
+        GroupPages::Peak => Some(charges.peak(group)),
+        GroupPages::Max => charges.max(group),
+        GroupPages::High => charges.settings(group).high,
+    };
+    match pages {
+        Some(pages) => CallAnswer::Pages(pages),
+        None => CallAnswer::NoLimit,
+    }
 }

@@ -1,24 +1,27 @@
 //! The calls that are served under the lock.
 
 ghost use Rattle.std.specs.Prelude.{◌≡◌, ◌↔◌, IfNone, IfSome, IsSome, IsTrue, MatchResult};
-ghost use Rattle.mem_system.specs.Commands.{IsOfZone, NamesFrameBelow};
-ghost use Rattle.mem_system.specs.Visits.{IsVisited, ServesFrameOutcome, ServesOutcome};
+ghost use Rattle.mem_system.specs.{IsOfZone, NamesFrameBelow, IsVisited, ServesFrameOutcome, ServesOutcome};
 ghost use Rattle.zone_threads.specs.Calling.{Calls, IfMissing, AnswersRead, ServesBlock, ServesDirtyUnit};
+ghost use Rattle.zone_threads.specs.Calling.{ServesPages};
 ghost use Rattle.zone_threads.specs.Homes.{OnCpu};
 ghost use Rattle.zone_threads.specs.Shown.{ReadsText};
-ghost use Rattle.zone_threads.specs.declared.calls.Call.TheVariants.{AllocBlock, AllocDirty, Settle, Visit};
+ghost use Rattle.zone_threads.specs.declared.calls.Call.TheVariants.{AllocBlock, AllocDirty, ReadPages, Settle, Visit};
+ghost use Rattle.zone_threads.specs.declared.calls.Call.TheVariants.{WritePages};
 
-use crate::calls::{CallAnswer, ReadAnswer, ReadCall};
+use crate::calls::{CallAnswer, GroupPages, ReadAnswer, ReadCall};
 use crate::home::Home;
 use crate::served::Missed;
 use crate::texts::{TextAnswer, TextCall};
+use control_files::file::File;
+use control_files::limit::Limit;
 use cpu_part::BootName;
-use mem_system::{Cmd, Outcome};
+use mem_system::{LockedCommand, Outcome};
 use std::alloc::Global;
 
 impl<N: BootName> Home<N> {
     /// Serves a command under the lock.
-    pub fn visit(&mut self, cmd: &Cmd<'_>) -> CallAnswer
+    pub fn visit(&mut self, cmd: &LockedCommand<'_>) -> CallAnswer
         requires some { IsSome self.old.cpu }
         ensures { Calls N.frames (Visit cmd.now) self.old self.new result }
     {
@@ -50,6 +53,35 @@ impl<N: BootName> Home<N> {
     {
         match self.serve_dirty(group, order) {
             Ok(served) => CallAnswer::Served(served),
+            Err(Missed::Busy) => CallAnswer::Busy,
+            Err(Missed::NoGroup) => CallAnswer::NoGroup,
+        }
+    }
+
+    /// Reads a number of pages of the group of this number under the lock.
+    pub fn read_pages(&mut self, group: u32, which: GroupPages) -> CallAnswer
+        requires some { IsSome self.old.cpu }
+        ensures { Calls N.frames (ReadPages group which) self.old self.new result }
+    {
+        let zone = &*self.zone;
+        let Some(cpu) = &mut self.cpu else {
+            unreachable!()
+        };
+        let Some((mut behind, loan)) = zone.take() else {
+            return CallAnswer::Busy;
+        };
+        let answer = behind.read_pages(&zone.tables, cpu, group, which);
+        zone.lock.put_back(behind, loan);
+        answer
+    }
+
+    /// Writes so many pages, or no limit, to this file of the group of this number under the lock.
+    pub fn write_pages(&mut self, group: u32, file: File, pages: Limit) -> CallAnswer
+        requires some { IsSome self.old.cpu }
+        ensures { Calls N.frames (WritePages group file pages) self.old self.new result }
+    {
+        match self.serve_pages(group, file, pages) {
+            Ok(written) => CallAnswer::Served(written),
             Err(Missed::Busy) => CallAnswer::Busy,
             Err(Missed::NoGroup) => CallAnswer::NoGroup,
         }
@@ -106,7 +138,7 @@ impl<N: BootName> Home<N> {
     }
 
     // Serves a command under the lock; `None` if another thread has it.
-    pub(crate) fn serve(&mut self, cmd: &Cmd<'_>) -> Option<Outcome>
+    pub(crate) fn serve(&mut self, cmd: &LockedCommand<'_>) -> Option<Outcome>
         requires some { IsSome self.old.cpu }
         requires of_zone { IsOfZone N.frames cmd.now }
         ensures served { IfSome result (λ outcome.
@@ -192,18 +224,41 @@ impl<N: BootName> Home<N> {
             Some(outcome) => Ok(outcome),
         }
     }
+
+    // Writes pages to a file under the lock.
+    fn serve_pages(&mut self, group: u32, file: File, pages: Limit) -> Result<Outcome, Missed>
+        requires some { IsSome self.old.cpu }
+        ensures { MatchResult result
+            (λ outcome. OnCpu (IsVisited N.frames self.old.sizes (ServesPages N.frames group file pages outcome))
+            self.old self.new)
+            (λ missed. IfMissing N.frames group missed self.old self.new) }
+    {
+        let zone = &*self.zone;
+        let Some(cpu) = &mut self.cpu else {
+            unreachable!()
+        };
+        let Some((mut behind, loan)) = zone.take() else {
+            return Err(Missed::Busy);
+        };
+        let served = behind.write_pages(&zone.tables, cpu, group, file, pages);
+        zone.lock.put_back(behind, loan);
+        let Some(written) = served else {
+            return Err(Missed::NoGroup);
+        };
+        Ok(written)
+    }
 }
 
 // Whether each frame that the command names is one of so many.
-fn is_of_zone(cmd: &Cmd<'_>, frames: u32) -> bool
+fn is_of_zone(cmd: &LockedCommand<'_>, frames: u32) -> bool
     ensures { IsTrue result ↔ NamesFrameBelow frames cmd.now }
 {
     match *cmd {
-        Cmd::Owner { frame } => frame < frames,
-        Cmd::Touch { frame } => frame < frames,
-        Cmd::Dirty { frame } => frame < frames,
-        Cmd::Clean { frame } => frame < frames,
-        Cmd::Release { frame } => frame < frames,
+        LockedCommand::Owner { frame } => frame < frames,
+        LockedCommand::Touch { frame } => frame < frames,
+        LockedCommand::Dirty { frame } => frame < frames,
+        LockedCommand::Clean { frame } => frame < frames,
+        LockedCommand::Release { frame } => frame < frames,
         _ => true,
     }
 }
