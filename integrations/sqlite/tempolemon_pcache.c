@@ -54,9 +54,10 @@ typedef struct {
     uint64_t extra[EXTRA / 8];
 } frame_page;
 
-typedef struct {
+typedef struct group {
     char path[80];
-    uint32_t parent, caches;        /* a cache's tenant; how many caches a tenant has */
+    struct group *parent;
+    uint32_t caches;                /* how many a tenant has */
     _Atomic uint32_t limit, pinned; /* of a tenant and of /db, in frames */
 } group;
 
@@ -76,7 +77,6 @@ static struct {
     uint32_t frames, serial;                /* of the zone; of the newest cache */
     frame_page *pages;
     unsigned char *arena;
-    size_t size; /* of the mapping */
     tempolemon_zone zone;
     tempolemon_cpu cpus[GROUPS]; /* the first is for all that isn't a cache's */
     pthread_mutex_t mutex;       /* of that, and of the groups but for limit and pinned */
@@ -99,7 +99,7 @@ static tempolemon_result serve(uint8_t (*call)(tempolemon_cpu *, uint32_t, tempo
 }
 
 /* Finds a group or makes it, under the pool's mutex: its number, or 0 if all are taken. */
-static uint32_t group_at(const char *path, uint32_t parent) {
+static uint32_t group_at(const char *path, group *parent) {
     tempolemon_result result;
     for (uint32_t at = 1; at < GROUPS; at++)
         if (!strcmp(pool.groups[at].path, path)) return at;
@@ -200,29 +200,29 @@ static void end_pin(sqlite3_pcache *cache, uint32_t frame, uint64_t tag) {
 
 /* Makes room before a limit is reached. Reclaim takes the groups by number, so at a limit that caches share one of them would
  * always pay. So pages of the cache are reclaimed that has the least recently used page of some that are looked at. */
-static void see_to(uint32_t number, uint32_t limit) {
+static void see_to(const group *of) {
     static uint64_t seed = 1;
     char text[TEMPOLEMON_PCACHE_TEXT];
-    need(read_text(pool.groups[number].path, "memory.current", text));
+    need(read_text(of->path, "memory.current", text));
     const uint64_t wanted = strtoull(text, NULL, 10) / FRAME + 2 * ROUND;
     uint32_t victim = 0, age = 0;
-    for (int tries = 0, seen = 0; wanted > limit && seen < SAMPLES && tries < 8 * SAMPLES; tries++) {
+    for (int tries = 0, seen = 0; wanted > of->limit && seen < SAMPLES && tries < 8 * SAMPLES; tries++) {
         seed = seed * 6364136223846793005u + 1442695040888963407u;
         const uint32_t frame = (uint32_t)((seed >> 32) * pool.frames >> 32), idle = pool.clock - pool.pages[frame].used;
         const uint64_t tag = pool.pages[frame].tag;
         const uint32_t owner = (uint32_t)(tag >> 33);
-        if (!tag || tag & 1 || (number != TOP && number != pool.groups[owner].parent) || (seen++, idle < age)) continue;
+        if (!tag || tag & 1 || (of != &pool.groups[TOP] && of != pool.groups[owner].parent) || (seen++, idle < age)) continue;
         if (hold(&pool.cpus[0], frame)) let_go(&pool.cpus[0], frame), age = idle, victim = owner;
         else retag(frame, tag, 0); /* it was reclaimed */
     }
-    if (victim) write_frames(&pool.cpus[0], victim, "memory.reclaim", wanted - limit);
+    if (victim) write_frames(&pool.cpus[0], victim, "memory.reclaim", wanted - of->limit);
 }
 
 /* Sees to the limits, unless another thread does so already. */
 static void see_to_limits(const sqlite3_pcache *cache) {
     if (pthread_mutex_trylock(&pool.mutex)) return;
-    see_to(TOP, pool.budget);
-    if (cache->tenant->caches > 1) see_to((uint32_t)(cache->tenant - pool.groups), cache->tenant->limit);
+    see_to(&pool.groups[TOP]);
+    if (cache->tenant->caches > 1 && cache->tenant->limit < NO_LIMIT) see_to(cache->tenant);
     pthread_mutex_unlock(&pool.mutex);
 }
 
@@ -347,9 +347,9 @@ static sqlite3_pcache *create(int page_size, int extra, int is_purgeable) {
     char path[80];
     pthread_mutex_lock(&pool.mutex);
     snprintf(path, sizeof path, "%s/c%u", tenant_path, ++pool.serial);
-    const uint32_t tenant = cache && table && extra <= EXTRA ? group_at(tenant_path, TOP) : 0;
+    const uint32_t tenant = cache && table && extra <= EXTRA ? group_at(tenant_path, &pool.groups[TOP]) : 0;
     const bool is_counted = tenant && count(&pool.groups[tenant], BASE, true);
-    const uint32_t number = is_counted ? group_at(path, tenant) : 0;
+    const uint32_t number = is_counted ? group_at(path, &pool.groups[tenant]) : 0;
     pool.groups[tenant].caches += number != 0;
     if (is_counted && !number) uncount(&pool.groups[tenant], BASE);
     pthread_mutex_unlock(&pool.mutex);
@@ -381,8 +381,8 @@ static int start(void *unused) {
     const uint32_t wanted = pool.budget / 4096, batch = wanted < 1 ? 1 : wanted > 32 ? 32 : wanted;
     const tempolemon_sizes sizes = {.frames = pool.frames, .cpus = GROUPS, .batch = batch, .high = 2 * batch, .stock = batch};
     if (tempolemon_zone_boot(&sizes, &pool.zone) != TEMPOLEMON_DONE) return SQLITE_NOMEM;
-    pool.size = FRAME + (size_t)pool.frames * (FRAME + sizeof *pool.pages); /* SQLite may read a few bytes beyond a page */
-    pool.arena = mmap(NULL, pool.size, PROT_READ | PROT_WRITE, MAP_PRIVATE | MAP_ANONYMOUS | MAP_NORESERVE, -1, 0);
+    const size_t size = FRAME + (size_t)pool.frames * (FRAME + sizeof *pool.pages); /* SQLite may read beyond a page */
+    pool.arena = mmap(NULL, size, PROT_READ | PROT_WRITE, MAP_PRIVATE | MAP_ANONYMOUS | MAP_NORESERVE, -1, 0);
     if (pool.arena == MAP_FAILED) return SQLITE_NOMEM;
     pool.pages = (frame_page *)(pool.arena + FRAME + (size_t)pool.frames * FRAME);
     for (uint32_t at = 0; at < pool.frames; at++) {
@@ -390,7 +390,7 @@ static int start(void *unused) {
         SHUT(&pool.pages[at], 1u);
     }
     for (uint32_t at = 0; at < GROUPS; at++) need(tempolemon_take(&pool.zone, at + 1, &pool.cpus[at]));
-    (void)group_at("/db", 0); /* TOP, the first */
+    (void)group_at("/db", NULL); /* TOP, the first */
     pool.groups[TOP].limit = pool.budget;
     write_frames(&pool.cpus[0], TOP, "memory.max", pool.budget);
     return SQLITE_OK;
@@ -403,7 +403,7 @@ static void stop(void *unused) {
     need(tempolemon_zone_end(&pool.zone, &report));
     if (report.held || report.free != report.frames) need(UINT8_MAX); /* a frame is missing */
     for (uint32_t at = 0; at < pool.frames; at++) OPEN(&pool.pages[at], 1u);
-    munmap(pool.arena, pool.size);
+    munmap(pool.arena, (size_t)((unsigned char *)&pool.pages[pool.frames] - pool.arena));
     memset(pool.groups, 0, sizeof pool.groups);
 }
 
@@ -422,7 +422,7 @@ static const char *set_tenant(const char *name, uint32_t limit) {
     if (sqlite3_initialize() != SQLITE_OK || !pool.zone.is_live) return "this page cache isn't installed";
     snprintf(path, sizeof path, "/db/%s", name);
     pthread_mutex_lock(&pool.mutex);
-    const uint32_t number = group_at(path, TOP), before = pool.groups[number].limit;
+    const uint32_t number = group_at(path, &pool.groups[TOP]), before = pool.groups[number].limit;
     const char *why = number ? NULL : "no group of this name can be made";
     if (number && limit) {
         pool.groups[number].limit = limit; /* more isn't pinned from now on */

@@ -2,10 +2,11 @@
  *
  *     sqlite-storm plain|tempolemon FOLDER SEED [ROUNDS]
  *
- * 6 threads of 3 tenants each make ROUNDS (100) random turns on databases of their own, with pages of 512 to 65,536 bytes, two
- * connections, WAL or a journal, savepoints, spill, VACUUM, backups and temporary tables, and then on a database that all share.
- * A thread's line has a hash of all rows and statuses that it got. An odd seed has databases in memory and no spill, and room for
- * that; an even one has neither, and tight limits. SQLITE_NOMEM ends the run with 1, and so does a database that isn't intact.
+ * 6 threads of 3 tenants each make ROUNDS (100) random turns on databases of their own, with pages of 512 to 65,536 bytes,
+ * two connections, WAL or a journal, savepoints, spill, VACUUM, backups and temporary tables, and then on a database that all
+ * share. A thread's line has a hash of all rows and statuses that it got. An odd seed has databases in memory and no spill,
+ * and room for that; an even one has neither, and tight limits. SQLITE_NOMEM ends the run with 1, and so does a database that
+ * isn't intact.
  */
 #define _GNU_SOURCE
 #include <pthread.h>
@@ -74,7 +75,8 @@ static void run(worker *me, sqlite3 *db, const char *form, ...) {
         if (status == SQLITE_OK && statement) {
             while ((status = sqlite3_step(statement)) == SQLITE_ROW) {
                 mix_row(me, statement);
-                if (strstr(sqlite3_sql(statement), "integrity") && strcmp((const char *)sqlite3_column_text(statement, 0), "ok")) fail(me, db, text);
+                const bool is_check = strstr(sqlite3_sql(statement), "integrity") != NULL;
+                if (is_check && strcmp((const char *)sqlite3_column_text(statement, 0), "ok")) fail(me, db, text);
             }
             sqlite3_finalize(statement);
         }
@@ -99,15 +101,21 @@ static void change(worker *me, sqlite3 *db) {
     case 0:
     case 1:
     case 2:
-        run(me, db, SERIES "insert or replace into t select x, (x * 7919 + %u) %% 10007, printf('%%0*d', %u + x %% 50, x * %u) from c",
-            from, to, key, width, key + 1);
+        run(me, db, SERIES "insert or replace into t select x, (x * 7919 + %u) %% 10007, "
+                    "printf('%%0*d', %u + x %% 50, x * %u) from c", from, to, key, width, key + 1);
         break;
-    case 3: run(me, db, "update t set v = v || %u, k = (k + %u) %% 10007 where id between %u and %u", key, key, from, to); break;
+    case 3:
+        run(me, db, "update t set v = v || %u, k = (k + %u) %% 10007 where id between %u and %u", key, key, from, to);
+        break;
     case 4: run(me, db, "delete from t where id between %u and %u", from, to); break;
     case 5: run(me, db, "select id, k, v from t where k = %u order by id", key * 10); break;
     case 6: run(me, db, "select count(*), sum(k), sum(length(v)), max(v) from t where id > %u", from); break;
-    case 7: run(me, db, "select count(*), sum(a.k) from t a join t b on b.id = a.k where a.id between %u and %u", from, to); break;
-    case 8: run(me, db, "insert or replace into big values(%u, zeroblob(%u))", key % 8, 1 + draw(me, draw(me, 4) ? 9000 : 90000)); break;
+    case 7:
+        run(me, db, "select count(*), sum(a.k) from t a join t b on b.id = a.k where a.id between %u and %u", from, to);
+        break;
+    case 8:
+        run(me, db, "insert or replace into big values(%u, zeroblob(%u))", key % 8, 1 + draw(me, draw(me, 4) ? 9000 : 90000));
+        break;
     case 9: run(me, db, "select id, length(x), hex(substr(x, %u, 20)) from big order by id", width * 10); break;
     }
 }
@@ -149,8 +157,8 @@ static void take_turn(worker *me) {
     case 2: run(me, me->two, "pragma cache_spill = %u", is_roomy ? draw(me, 2) : 1 + draw(me, 30)); break;
     case 3: sqlite3_db_release_memory(draw(me, 2) ? me->one : me->two); break;
     case 4:
-        run(me, me->one, "create temp table if not exists tt as select * from t limit 0; delete from tt; insert into tt select * from t "
-                         "where id %% 5 = 0; select count(*), sum(k) from tt; delete from tt where rowid %% 3");
+        run(me, me->one, "create temp table if not exists tt as select * from t limit 0; delete from tt; insert into tt "
+                         "select * from t where id %% 5 = 0; select count(*), sum(k) from tt; delete from tt where rowid %% 3");
         break;
     case 5:
     case 6: run(me, me->two, "select count(*), sum(k), sum(length(v)) from t"); break;
@@ -174,8 +182,8 @@ static void share(worker *me) {
     const uint64_t hash = me->hash;
     for (int round = 0; round < rounds; round++) {
         const uint32_t from = draw(me, 1000);
-        run(me, db, "begin immediate; update n set x = x + 1 where id between %u and 1000; update n set x = x - 1 where id = %u; commit",
-            from, draw(me, 2000));
+        run(me, db, "begin immediate; update n set x = x + 1 where id between %u and 1000; "
+                    "update n set x = x - 1 where id = %u; commit", from, draw(me, 2000));
         run(me, db, "select sum(x) from n where id <= %u", draw(me, 3000));
     }
     me->hash = hash;
@@ -221,7 +229,8 @@ static void install(worker *me) {
 
 /* Tells what the groups went through, on standard error. */
 static void tell(void) {
-    static const char *const groups[] = {"", "t0", "t1", "t2"}, *const files[] = {"memory.current", "memory.peak", "memory.events"};
+    static const char *const groups[] = {"", "t0", "t1", "t2"};
+    static const char *const files[] = {"memory.current", "memory.peak", "memory.events"};
     for (int group = 0; group < 4; group++)
         for (int file = 0; file < 3; file++) {
             char text[TEMPOLEMON_PCACHE_TEXT];
@@ -243,7 +252,8 @@ int main(int count, char **words) {
     if (is_tempolemon) install(&boss);
     snprintf(boss.path, sizeof boss.path, "%s/shared.db", folder);
     boss.one = open_at(&boss, boss.path, 20);
-    run(&boss, boss.one, "pragma page_size = 2048; pragma journal_mode = wal; create table n(id integer primary key, x int, pad text); "
+    run(&boss, boss.one, "pragma page_size = 2048; pragma journal_mode = wal; "
+                         "create table n(id integer primary key, x int, pad text); "
                          SERIES "insert into n select x, 0, printf('%%0100d', x) from c", 0, 3000);
     for (int at = 0; at < THREADS; at++) {
         workers[at] = (worker){.number = at, .hash = 14695981039346656037u};

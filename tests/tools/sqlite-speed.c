@@ -1,19 +1,19 @@
-/* What databases get of a page cache, on databases of its own in a folder; the script sqlite-speed beside this builds and runs it:
+/* What databases get of a page cache; the script sqlite-speed beside this builds and runs it:
  *
  *     sqlite-speed CACHE FOLDER time THREADS PAGES
  *     sqlite-speed CACHE FOLDER hits BUDGET SCANNER LIMIT
  *
  * CACHE is `own` (SQLite's, a cache_size for each database), `unified` (SQLite's, one LRU list for all pages) or `tempolemon`.
  *
- * time: THREADS threads, each with a database of 60,000 rows (4,800 pages), make 20,000 operations: 45 % reads by number, 30 % by
- * an index, 10 % of 200 rows, 15 % transactions of 10 changes. Each database may have PAGES. It prints the CPU time of an operation
- * in microseconds, the percentage of hits, and how many pages an operation fetched.
+ * time: THREADS threads, each with a database of 60,000 rows (4,800 pages), make 20,000 operations: 45 % reads by number,
+ * 30 % by an index, 10 % of 200 rows, 15 % transactions of 10 changes. Each database may have PAGES. It prints the CPU time of
+ * an operation in microseconds, the percentage of hits, and how many pages an operation fetched.
  *
- * hits: eight databases of 50,000 rows (4,000 pages) below a budget of BUDGET pages, by one thread. 80 % of 400,000 reads by an
- * index are of one database, the others of the seven others, by a Zipf law of exponent 0.8. With SCANNER 1 there are 100,000, and
- * after each eighth one 400 rows of another database are scanned, round and round. LIMIT is the limit of its tenant in pages, or 0.
- * After the first quarter hits are counted, but not those of the database that is scanned. It prints the percentages of hits of
- * all, and of the hot database.
+ * hits: eight databases of 50,000 rows (4,000 pages) below a budget of BUDGET pages, by one thread. 80 % of 400,000 reads by
+ * an index are of one database, the others of the seven others, by a Zipf law of exponent 0.8. With SCANNER 1 there are
+ * 100,000, and after each eighth one 400 rows of another database are scanned, round and round. LIMIT is the limit of its
+ * tenant in pages, or 0. After the first quarter hits are counted, but not those of the database that is scanned. It prints
+ * the percentages of hits of all, and of the hot database.
  */
 #define _GNU_SOURCE
 #include <math.h>
@@ -58,7 +58,8 @@ static sqlite3 *make(int number, int rows, long pages) {
     run(db, "pragma page_size = 4096; pragma journal_mode = wal; pragma synchronous = off; pragma cache_size = %ld", pages);
     run(db, "create table t(id integer primary key, k int, v text); create index tk on t(k); "
             "with recursive c(x) as (select 0 union all select x + 1 from c where x < %ld) "
-            "insert into t select x, x * 7919 %% 1000003, printf('%%0200d', x) from c; pragma wal_checkpoint(truncate)", rows - 1);
+            "insert into t select x, x * 7919 %% 1000003, printf('%%0200d', x) from c; pragma wal_checkpoint(truncate)",
+        rows - 1);
     return db;
 }
 
@@ -186,7 +187,8 @@ static void measure_hits(int is_tempolemon, long budget, long each, int has_scan
         if (at == SCANNER) sqlite3_finalize(scan);
         sqlite3_close(dbs[at]);
     }
-    printf("%.1f %.1f\n", 100.0 * (double)hits / (double)(hits + misses), 100.0 * (double)hot_hits / (double)(hot_hits + hot_misses));
+    printf("%.1f %.1f\n", 100.0 * (double)hits / (double)(hits + misses),
+           100.0 * (double)hot_hits / (double)(hot_hits + hot_misses));
 }
 
 /* Has SQLite keep all pages in one list, in a buffer of so many. */
