@@ -27,6 +27,7 @@ keeps_none t m = record {
   stocks = λ p. refl;
   killed = refl;
   groups = refl;
+  settings = refl;
   hold = refl;
   usage = λ g. omega arith;
   visit = λ c v. v;
@@ -49,6 +50,7 @@ keeps_both t a b c p q = record {
   stocks = λ x. q.stocks x ∙ p.stocks x;
   killed = q.killed ∙ p.killed;
   groups = q.groups ∙ p.groups;
+  settings = q.settings ∙ p.settings;
   hold = q.hold ∙ p.hold;
   usage = λ g. let x = p.usage g in let y = q.usage g in omega (arith, x, y);
   visit = λ x v. q.visit x (p.visit x v);
@@ -80,6 +82,7 @@ keeps_owners t m n is owners =
       stocks = λ p. ap (λ (r : KnownRun). (left_by t r.past).parts p) same;
       killed = ap (λ (x : KnownMachine). x.killed) is;
       groups = ap (λ (x : KnownMachine). x.ledger.groups) is;
+      settings = ap (λ (x : KnownMachine). x.ledger.settings) is;
       hold = ap (λ (r : KnownRun). (local_by_pasts t r.past).hold) same;
       usage = λ g. let e = ap (λ (x : KnownMachine). current_of x.ledger g) is in omega (arith, e);
       visit = λ c v. visit_same t m n c same v;
@@ -107,6 +110,7 @@ module _ (t : KnownTable) (m n : KnownMachine) (f : ℕ) (visit : (c : KnownCpu)
         stocks = λ p. parts_after t m (evict_steps f None) n runs held p refl;
         killed = ap (λ (x : KnownMachine). x.killed) is;
         groups = ap (λ (x : KnownMachine). x.ledger.groups) is;
+        settings = ap (λ (x : KnownMachine). x.ledger.settings) is;
         hold = hold_after t m (evict_steps f None) n runs held refl;
         usage = λ g. let e = ap (λ (x : KnownMachine). current_of x.ledger g) is in omega (arith, e);
         visit = visit;
@@ -124,6 +128,7 @@ module _ (t : KnownTable) (m n : KnownMachine) (f : ℕ) (visit : (c : KnownCpu)
         stocks = λ p. parts_after t m (evict_steps f (Some pages)) n runs held p refl;
         killed = ap (λ (x : KnownMachine). x.killed) is.machine;
         groups = ap (λ (x : KnownMachine). x.ledger.groups) is.machine;
+        settings = ap (λ (x : KnownMachine). x.ledger.settings) is.machine;
         hold = hold_after t m (evict_steps f (Some pages)) n runs held refl;
         usage = λ g. let e = is.usage g in let low = on_path_low (in_subtree n.ledger.groups g is.unit.group) (current_of n.ledger g) pages in omega (arith, e, low);
         visit = visit;
