@@ -75,7 +75,7 @@ typedef struct {
 /* Boots a zone, replays a script on it, and ends the boot. The answers are those of `memcg replay`, byte for byte.
  *
  * The script has at most 1,048,576 bytes: the lines of docs/MANUAL.md. is_explained asks for why a line was refused and
- * what it drained, reclaimed and killed, behind its answer; is_audited asks for the report of the end, behind all
+ * what it drained, reclaimed and killed, after its answer; is_audited asks for the report of the end, after all
  * answers. answers is a buffer of `room` bytes. The text in it doesn't end with a null byte. script and answers may be empty, and
  * point to anything then except null.
  *

@@ -77,7 +77,7 @@ lint_file() {
     end_as "$((ends[0] ? ends[0] : ends[1]))"
 }
 
-# Says behind `bad line N` or `refused 14 BadConfig` why: the first bad line that `lint` finds in the kept script, for the
+# Says after `bad line N` or `refused 14 BadConfig` why: the first bad line that `lint` finds in the kept script, for the
 # same sizes, or what it says of the sizes. Unproved, that would take another minute.
 tell_reason() {
     local script=$1 word sizes=()

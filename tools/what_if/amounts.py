@@ -33,7 +33,7 @@ def read_limit(word):
 
 
 def amount_text(count):
-    """An amount in the greatest unit of which there is one, with one digit behind the point."""
+    """An amount in the greatest unit of which there is one, with one digit after the point."""
     power = max(0, min(6, (count.bit_length() - 1) // 10))
     digits = f"{count / 1024 ** power:.1f}".replace(".0", "")
     return f"{digits} {SUFFIXES[power]}iB" if power else f"{count} B"

@@ -6,9 +6,9 @@ from .paths import NODE
 from .usage import greatest_wanted
 
 COLUMNS = ["group", "wanted", "usage", "limit", "no room", "reclaimed", "died"]
-# Those of a report in which some group has a memory.high, behind "limit".
+# Those of a report in which some group has a memory.high, after "limit".
 HIGH_COLUMNS = ["high", "over", "above"]
-# The words of an explanation behind which the program's bytes stand, of which a frame has 4,096.
+# The words of an explanation after which the program's bytes stand, of which a frame has 4,096.
 AMOUNTS = ("usage", "need", "bytes")
 
 

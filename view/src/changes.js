@@ -16,7 +16,7 @@ function drainWords(run, line) {
   }
   return said;
 }
-/** What the steps of this position changed. The state is that behind it. */
+/** What the steps of this position changed. The state is that after it. */
 function changeWords(run, line) {
   const said = drainWords(run, line), path = group => run.path(group), usages = usageChanges(run), { flags, lists, pins, stocks, groups } = run.changes();
   if (usages.length) said.push(`Usage in pages: ${usages.map(([group, old, now]) => `${path(group)} ${old} → ${now}`).join(", ")}.`);

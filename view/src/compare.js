@@ -91,6 +91,8 @@ function drawWarnings() {
 }
 function closeSecond() {
   Object.assign(page, { other: null, otherLog: "", differs: [], timeX: null, zoneKey: "" });
+  showRuns();
+  measure();
   draw();
 }
 /** The same line of the other run: its position, or -1 if that run has no such line. */
@@ -104,7 +106,7 @@ const killsOf = run => run.eventsAt(run.position).filter(({ kind }) => kind === 
 /** The events of each position: what is the same in two runs in which the same happened. */
 const happenedAt = run => run.happenedAt ??= run.events.reduce((words, { kind, position, life, name }) =>
   words.set(position, `${words.get(position) ?? ""}${kind} ${life?.path ?? name}, `), new Map());
-/** The positions of lines that the other run answered otherwise or with other events, and of those behind which a group's usage, limit or memory.high is another one, and wasn't before. Kills are events. */
+/** The positions of lines that the other run answered otherwise or with other events, and of those after which a group's usage, limit or memory.high is another one, and wasn't before. Kills are events. */
 function* differences(run, other, otherLives) {
   const found = new Set(), [ours, theirs] = [run, other].map(happenedAt);
   for (let position = 1; position <= run.lines; position++) {
@@ -157,6 +159,7 @@ function* livesHere(other, places) {
     lives.has(life.path) ? lives.get(life.path).push(its) : lives.set(life.path, [its]);
     if (at % 256 === 0) yield at / other.lives.length;
   }
+  for (const its of lives.values()) yield curvesOf(its) && 1;
   return lives;
 }
 /** What two runs have at the same line: the answers, the kills, and usage, limit and peak of each group; what differs comes first. */
@@ -185,7 +188,7 @@ function drawRuns() {
     const differs = `${ours}` !== `${theirs}`, isWide = at < 2, values = isWide ? [[ours[0], 3], [theirs[0], 3]] : ours.flatMap((each, index) => [[each, 1], [theirs[index], 1]]);
     return make("tr", { className: differs ? "differs" : "" }, cell(`${differs ? "≠ " : ""}${name}`, "td", { className: "left" }), ...values.map(([value, colSpan]) => cell(value, "td", { colSpan })));
   });
-  byId("runs").replaceChildren(head([[`line ${number}`, 1, "left"], ["this run", 3, "left"], [`second run${its === number ? "" : `: no such line, so behind its line ${its}`}`, 3, "left"]]), ...rows.slice(0, 2),
+  byId("runs").replaceChildren(head([[`line ${number}`, 1, "left"], ["this run", 3, "left"], [`second run${its === number ? "" : `: no such line, so after its line ${its}`}`, 3, "left"]]), ...rows.slice(0, 2),
     head([["in " + (UNITS[page.unit][0]), 1, "left"], ["usage", 1, ""], ["2nd", 1, ""], ["limit", 1, ""], ["2nd", 1, ""], ["peak", 1, ""], ["2nd", 1, ""]]), ...rows.slice(2));
   byId("runs-why").replaceChildren(happenedOf(run, "This run"), its === number ? happenedOf(other, "Second run") : paragraph("", "The second run has no such line."));
   drawWhole(run, other);

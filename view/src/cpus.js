@@ -37,7 +37,7 @@ function stockWords(run, cpu) {
   return group < 0 ? "empty, never filled" : pages > 0 ? `${plural(pages, "prepaid page")} of ${path}` : `empty, its pages of ${path} were ${pages < 0 ? "drained" : "spent"}`;
 }
 const isAtEnd = run => run.position > 0 && run.position === run.lines && run.said(run.position).isEnd;
-/** What a CPU had behind the last line, before the end: each part in words and with its frames, or nothing. */
+/** What a CPU had after the last line, before the end: each part in words and with its frames, or nothing. */
 function heldWords(run, cpu) {
   const { lists, pins } = holdingsOf(run, cpu), pages = run.cells[run.STOCK_PAGES + cpu], some = list => list.slice(0, 8).join(", ") + (list.length > 8 ? ` and ${list.length - 8} more` : "");
   return [...(pages > 0 ? [stockWords(run, cpu)] : []), ...["on its list", "fresh", "back"].flatMap((name, at) => lists[at].length ? [`${name}: ${some(lists[at])}`] : []),
@@ -58,7 +58,7 @@ function heldBefore(run) {
 function heldOf(run) {
   if (!isAtEnd(run)) return [];
   const held = run.held ??= heldBefore(run), last = run.position - 1;
-  return [make("p", { className: "inline" }, make("button", { textContent: `Show the state behind line ${run.lineNumbers.at(last)}`, onclick: () => go(last) }), ", before the end."),
+  return [make("p", { className: "inline" }, make("button", { textContent: `Show the state after line ${run.lineNumbers.at(last)}`, onclick: () => go(last) }), ", before the end."),
     make("h4", { textContent: "What CPUs held then, and have given back" }), ...listOf("", "ul", held.length ? held.map(([cpu, words]) => make("li", { textContent: `CPU ${cpu}: ${words}.` })) : [make("li", { textContent: "No CPU held anything." })], 12).slice(1)];
 }
 /** What the lit CPU has, and the lines on which it took the lock. */
@@ -69,7 +69,7 @@ function drawCpu() {
   const { lists: [list, fresh, back], pins } = holdingsOf(run, cpu), locks = run.locks[cpu];
   const before = isAtEnd(run) ? (run.held ??= heldBefore(run)).find(([its]) => its === cpu)?.[1] ?? "nothing" : "";
   const frames = (title, heads, saidOf = head => `${head}`) => inlineOf(title, heads, head => [saidOf(head), () => pick(Array.isArray(head) ? head[0] : head)]);
-  box.replaceChildren(...(before ? [paragraph("inline", `CPU ${cpu} before the end, behind line ${run.lineNumbers.at(run.position - 1)}: ${before}. At the end:`)] : []),
+  box.replaceChildren(...(before ? [paragraph("inline", `CPU ${cpu} before the end, after line ${run.lineNumbers.at(run.position - 1)}: ${before}. At the end:`)] : []),
     paragraph("inline", `CPU ${cpu}: its stock is ${stockWords(run, cpu)}.`), frames("List, the next one first", list), frames("Fresh, the oldest first", fresh),
     frames("Back, freed when it settles", back), frames("Pins on", pins, ([head, count]) => count > 1 ? `${head} (${count} times)` : `${head}`),
     inlineOf(`Took the lock on ${plural(locks.length, "line")} (keys p and P)`, locks, position => [`${run.lineNumbers.at(position)}`, () => go(position)],

@@ -21,7 +21,7 @@ const EXPLAINED = [
   [/^# killed (\S+) returned (\d+) bytes (\d+) pinned (\d+) bytes (\d+) usage (\d+)$/, (path, freed, bytes, pinned, held, usage) =>
     `◆ ${path} is killed: ${plural(Number(freed), "unit")} freed (${bytesText(bytes)})${Number(pinned) ? `, ${pinned} ${pinned === "1" ? "stays, since it is" : "stay, since they are"} pinned (${bytesText(held)})` : ""}. The usage under the limit is then ${inPages(usage)}.`]
 ];
-/** Whether no victim comes behind this `# oom`: then no group was left that may die. */
+/** Whether no victim comes after this `# oom`: then no group was left that may die. */
 const isSpared = (notes, at) => /^# oom /.test(notes[at]) && !/^# victim /.test(notes[at + 1] ?? "");
 function noteWords(note, dirty, spared = false) {
   if (spared) return `Reclaim wasn't enough: out of memory at ${note.split(" ")[2]}. No group is left that may die.`;

@@ -61,7 +61,7 @@ class Follower {
     if (this.isEnd) return "nothing may follow the end";
     this.line = null;
   }
-  /** A comment behind the steps of a line. */
+  /** A comment after the steps of a line. */
   compare(text) {
     if (!this.line && !this.isEnd) return "no line of the script comes before it";
     if (this.state.holder) return `CPU ${this.state.holder} holds the lock`;
@@ -118,7 +118,7 @@ class Follower {
     return this.state.numbers.get(words[0]) ?? -1;
   }
   /**
-   * The pages that a write names. If the comment doesn't show its bytes, those of the explanation behind the steps; of
+   * The pages that a write names. If the comment doesn't show its bytes, those of the explanation after the steps; of
    * memory.high, if the answer is ok, those of the comment: then it hides spaces alone.
    */
   get amount() {
@@ -288,7 +288,7 @@ class Follower {
   }
   before() {
     if (!this.isOurs) return;
-    if (this.due) return "the answers come behind the steps of their line";
+    if (this.due) return "the answers come after the steps of their line";
     if (!this.line && !this.isEnd) return "no line of the script comes before it";
     const { state, reader, line } = this, action = ACTIONS[reader.action][0], { seat, a } = reader;
     if (seat && line && seat !== line.cpu) return `the line is CPU ${line.cpu}'s`;
@@ -621,7 +621,7 @@ class Follower {
 
   // Answers
 
-  /** The comments due behind a line: its answer and its explanation. null stands for one that can't be known. */
+  /** The comments due after a line: its answer and its explanation. null stands for one that can't be known. */
   answers(given) {
     if (this.isEnd) return this.locks === 2 * this.state.cpus ? this.report() : [`lock by CPU ${this.locks % this.state.cpus + 1}`];
     const { isCut, isVague } = this.line, isRefusal = isVague && !this.isSet && [12, 13].some(number => given === `# = ${refused(number)}`);

@@ -82,7 +82,7 @@ function saidOf(run, line) {
   children.push(...heldOf(run));
   children.push(make("p", { className: "answer-said" }, make("span", { className: "code" }, ...openable(line.answer, 1500)),
     said ? ` — ${said}` : ""));
-  if (run.fault?.position === run.position) children.unshift(paragraph("note-oom", `The log disagrees: ${run.fault.text}. Nothing behind is drawn.`));
+  if (run.fault?.position === run.position) children.unshift(paragraph("note-oom", `The log disagrees: ${run.fault.text}. Nothing after it is drawn.`));
   return children;
 }
 /** A text, of which so many bytes are shown at first. */

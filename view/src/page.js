@@ -25,16 +25,16 @@ const BESIDE_TIME = 500; // the pixels of the time line's title and buttons
 const EVENT_COLUMNS = 16 + 4 * 7 + 36 + 24 + 86, GROUP_SHARE = 0.15;
 
 let opening = 0;
-/** Does work piece by piece, so that the page can do other things; null if other work began meanwhile. */
+/** Does work piece by piece, so that the page can do other things, also before what follows; null if other work began meanwhile. */
 async function inPieces(work, name) {
   const mine = ++opening;
   badge("busy", `${name} …`);
   for (let step, since = performance.now();;) {
-    if ((step = work.next()).done) return step.value;
-    if (performance.now() - since < 40) continue;
-    badge("busy", `${name} … ${Math.floor(100 * step.value)} %`);
+    if (!(step = work.next()).done && performance.now() - since < 40) continue;
+    if (!step.done) badge("busy", `${name} … ${Math.floor(100 * step.value)} %`);
     await new Promise(resolve => setTimeout(resolve));
     if (mine !== opening) return null;
+    if (step.done) return step.value;
     since = performance.now();
   }
 }

@@ -43,7 +43,7 @@ class Reader {
   get text() {
     return this.log.slice(this.start, this.end);
   }
-  /** The next word is from `from` until `until`. It has a byte or more, and one space behind it or the end of the line. */
+  /** The next word is from `from` until `until`. It has a byte or more, and one space after it or the end of the line. */
   word() {
     const from = this.to;
     let until = from;

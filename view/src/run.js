@@ -28,8 +28,8 @@ class Numbers {
 
 /**
  * All that is drawn is cells of numbers. Each change of a cell is logged with the value before and after, so that any
- * moment is reached by going forward or back along that log. Position 0 is the boot, position P the state behind the Pth
- * line of the script; of a log that names no lines, behind the Pth step.
+ * moment is reached by going forward or back along that log. Position 0 is the boot, position P the state after the Pth
+ * line of the script; of a log that names no lines, after the Pth step.
  */
 class Run {
   constructor(state, log) {
@@ -316,7 +316,7 @@ class Run {
     if (peaks.at(-1)[1] !== group.peak) peaks.push([this.position, group.peak]);
   }
 
-  /** Keeps the moment at which a group's limit had least room: for pages that are needed, or behind a line. */
+  /** Keeps the moment at which a group's limit had least room: for pages that are needed, or after a line. */
   tighten({ number, max, current }, need) {
     const room = max - current - need;
     if (max >= 0 && current + need > 0 && !(room >= this.tight?.room)) this.tight = { room, max, usage: current, need, life: this.life(number), position: need ? this.lineNumbers.length - 1 : this.position };

@@ -14,7 +14,7 @@ function placeRows() {
 }
 
 /**
- * A list of which only the rows in sight are in the page. A row is made once; behind that only the choice of rows changes,
+ * A list of which only the rows in sight are in the page. A row is made once; after that only the choice of rows changes,
  * and which ones are unfolded: a row from `open` on has `more` pixels of such rows before it.
  */
 class Rows {

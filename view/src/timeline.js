@@ -30,7 +30,7 @@ const topLives = run => run.top ??= run.lives.filter(life => life.number || run.
 const isInView = (life, view) => life.from <= view[1] && (life.until ?? Infinity) >= view[0];
 
 const curves = new WeakMap();
-/** The lives of each path, one behind the other, as one life: its curves end as a group is removed, and begin again. */
+/** The lives of each path, one after the other, as one life: its curves end as a group is removed, and begin again. */
 function curvesOf(lives) {
   if (!curves.has(lives)) curves.set(lives, joinedLives(lives));
   return curves.get(lives);
@@ -146,22 +146,30 @@ function drawBounds(pen, life, view, x, y) {
   drawSteps(pen, life, life.peaks, view, x, y, { dash: [1, 3] });
 }
 const MOST_POINTS = 4000;
-/** Of many values at each pixel, the extremes, as a band: dashes would take long, and show nothing. */
+/** Of many values at each pixel, the extremes, as a line in each column of pixels, all drawn at once: dashes, or a call for each, would take long. */
 function drawBand(pen, pairs, view, x, y, width) {
   let before = -1, column = -1, low = Infinity, high = -1;
-  const fill = (from, until) => high >= 0 && pen.fillRect(from, y(high) - width / 2, until - from, y(low) - y(high) + width);
+  const add = (from, until) => {
+    for (let at = from + 0.5; high >= 0 && at < until; at++) {
+      pen.moveTo(at, y(high) - width / 2);
+      pen.lineTo(at, y(low) + width / 2);
+    }
+  };
+  pen.lineWidth = 1;
+  pen.beginPath();
   for (let index = Math.max(0, indexAt(pairs, view[0])); index < pairs.length && pairs[index][0] <= view[1]; index++) {
     const [position, pages] = pairs[index], here = Math.floor(x(position));
     if (here !== column) {
-      fill(column, column + 1);
+      add(column, column + 1);
       [low, high] = before < 0 ? [Infinity, -1] : [before, before];
-      if (column >= 0) fill(column + 1, here);
+      if (column >= 0) add(column + 1, here);
       column = here;
     }
     if (pages >= 0) [low, high] = [Math.min(low, pages), Math.max(high, pages)];
     before = pages;
   }
-  fill(column, column + 1);
+  add(column, column + 1);
+  pen.stroke();
   pen.globalAlpha = 1;
 }
 /** A stepped line of these pairs while the life is there. A value below 0 is none. Within half a pixel only extremes are drawn. */

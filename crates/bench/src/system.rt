@@ -8,7 +8,7 @@ use crate::tables::Table;
 use anyhow::{Context, Result, bail};
 use cpu_part::BootName;
 use group_tree::group::GroupId;
-use mem_system::{Boot, Cmd, Cpu, Held, NoGate, Reply, System, boot};
+use mem_system::{Boot, Cpu, Held, LockedCommand, NoGate, ReplyWithText, System, boot};
 use std::alloc::Global;
 use std::marker::Brand;
 use std::sync::Wait;
@@ -48,8 +48,8 @@ fn visit_here<N: BootName, R: Wait>(
     rt: &R,
     system: &System<N>,
     cpu: &mut Cpu<N>,
-    cmd: &Cmd<'_>,
-    reply: &mut Reply,
+    cmd: &LockedCommand<'_>,
+    reply: &mut ReplyWithText,
 )
     requires { IsOfZone N.frames cmd.now }
 {
@@ -57,10 +57,15 @@ fn visit_here<N: BootName, R: Wait>(
 }
 
 // Serves the command by a visit, and returns its reply.
-fn visit<N: BootName, R: Wait>(rt: &R, system: &System<N>, cpu: &mut Cpu<N>, cmd: &Cmd<'_>) -> Reply
+fn visit<N: BootName, R: Wait>(
+    rt: &R,
+    system: &System<N>,
+    cpu: &mut Cpu<N>,
+    cmd: &LockedCommand<'_>,
+) -> ReplyWithText
     requires { IsOfZone N.frames cmd.now }
 {
-    let mut reply = Reply::Done;
+    let mut reply = ReplyWithText::Done;
     visit_here(rt, system, cpu, cmd, &mut reply);
     reply
 }
@@ -70,8 +75,8 @@ fn visit_into<N: BootName, R: Wait>(
     rt: &R,
     system: &System<N>,
     cpu: &mut Cpu<N>,
-    cmd: &Cmd<'_>,
-    reply: &mut Reply,
+    cmd: &LockedCommand<'_>,
+    reply: &mut ReplyWithText,
 )
     requires { IsOfZone N.frames cmd.now }
 {
@@ -80,9 +85,9 @@ fn visit_into<N: BootName, R: Wait>(
 
 // Settles by a visit. The reply is matched and not passed on.
 fn settle_once<N: BootName, R: Wait>(rt: &R, system: &System<N>, cpu: &mut Cpu<N>) -> bool {
-    let mut reply = Reply::Done;
-    visit_here(rt, system, cpu, &Cmd::Settle, &mut reply);
-    matches!(reply, Reply::Done)
+    let mut reply = ReplyWithText::Done;
+    visit_here(rt, system, cpu, &LockedCommand::Settle, &mut reply);
+    matches!(reply, ReplyWithText::Done)
 }
 
 // Makes the group of the path.
@@ -92,8 +97,8 @@ fn make<N: BootName, R: Wait>(
     cpu: &mut Cpu<N>,
     path: &[u8],
 ) -> Result<GroupId> {
-    match visit(rt, system, cpu, &Cmd::Mkdir { path }) {
-        Reply::Group(group) => Ok(group),
+    match visit(rt, system, cpu, &LockedCommand::Mkdir { path }) {
+        ReplyWithText::Group(group) => Ok(group),
         _ => bail!("a group was not made"),
     }
 }
@@ -113,8 +118,8 @@ pub fn make_all<N: BootName, R: Wait>(
 /// Allocates one frame for the group of depth 1.
 pub fn alloc<N: BootName, R: Wait>(rt: &R, system: &System<N>, cpu: &mut Cpu<N>) -> Result<()> {
     let path = SHALLOW;
-    match visit(rt, system, cpu, &Cmd::Alloc { path, order: 0 }) {
-        Reply::Frame(_) => Ok(()),
+    match visit(rt, system, cpu, &LockedCommand::Alloc { path, order: 0 }) {
+        ReplyWithText::Frame(_) => Ok(()),
         _ => bail!("a frame was not allocated"),
     }
 }
@@ -125,18 +130,24 @@ fn alloc_and_release<N: BootName, R: Wait>(
     system: &System<N>,
     cpu: &mut Cpu<N>,
     path: &[u8],
-    reply: &mut Reply,
+    reply: &mut ReplyWithText,
 ) -> bool {
-    visit_into(rt, system, cpu, &Cmd::Alloc { path, order: 0 }, reply);
-    let Reply::Frame(number) = *reply else {
+    visit_into(
+        rt,
+        system,
+        cpu,
+        &LockedCommand::Alloc { path, order: 0 },
+        reply,
+    );
+    let ReplyWithText::Frame(number) = *reply else {
         return false;
     };
     let Some(frame) = system.tables().words.frame(number) else {
         return false;
     };
     let frame = frame.number();
-    visit_into(rt, system, cpu, &Cmd::Release { frame }, reply);
-    matches!(reply, Reply::Returned)
+    visit_into(rt, system, cpu, &LockedCommand::Release { frame }, reply);
+    matches!(reply, ReplyWithText::Returned)
 }
 
 // Allocates and releases a frame this many times.
@@ -148,7 +159,7 @@ fn alloc_and_release_all<N: BootName, R: Wait>(
     count: u32,
 ) -> bool {
     let mut all = true;
-    let mut reply = Reply::Done;
+    let mut reply = ReplyWithText::Done;
     for _ in 0..count {
         all &= alloc_and_release(rt, system, cpu, path, &mut reply);
     }
@@ -177,10 +188,10 @@ fn settle_into<N: BootName, R: Wait>(
     cpu: &mut Cpu<N>,
     count: u32,
 ) -> bool {
-    let mut reply = Reply::Free;
+    let mut reply = ReplyWithText::Free;
     for _ in 0..count {
-        visit_into(rt, system, cpu, &Cmd::Settle, &mut reply);
-        let Reply::Done = reply else {
+        visit_into(rt, system, cpu, &LockedCommand::Settle, &mut reply);
+        let ReplyWithText::Done = reply else {
             return false;
         };
     }
@@ -195,7 +206,7 @@ fn settle_by_value<N: BootName, R: Wait>(
     count: u32,
 ) -> bool {
     for _ in 0..count {
-        let Reply::Done = visit(rt, system, cpu, &Cmd::Settle) else {
+        let ReplyWithText::Done = visit(rt, system, cpu, &LockedCommand::Settle) else {
             return false;
         };
     }

@@ -1,7 +1,6 @@
 -- The set that words of 64 bits tell: for each call of `Bits`.
-use Rattle.std.proofs.Common.{◌≡◌, ◌≢◌, ℕ, ◌+◌, ◌*◌, ◌/◌, ◌%◌, ◌^◌, ◌<◌, ◌≤◌, ◌↔◌, Bool, true, false, List, Option}
-use Rattle.std.proofs.Common.{Some, None, is_some, length, get_or, set, replicate, eqb, eq-eqb, refl, sym, ap, ◌∙◌, inl}
-use Rattle.std.proofs.Common.{inr, arith, length-set}
+use Rattle.std.proofs.Common.{◌≡◌, ◌≢◌, ℕ, ◌+◌, ◌*◌, ◌/◌, ◌%◌, ◌^◌, ◌<◌, ◌≤◌, ◌↔◌, Bool, true, false, List, Option, Some, None, is_some, length}
+use Rattle.std.proofs.Common.{get_or, set, replicate, eqb, eq-eqb, refl, sym, ap, ◌∙◌, inl, inr, arith, length-set}
 use Rattle.std.specs.Option.{MatchOption}
 use Rattle.std.specs.Int.{bit_at, w64, trailing_zeros}
 use Rattle.std.proofs.lemmas.List.{get_or_past, same_lists, get_or-set_same, get_or-set_other, get_or-replicate, length-replicate}

@@ -6,7 +6,7 @@ use crate::life::{SIZES, answers, ends, expect_true};
 use cpu_part::BootName;
 use frame_word::{Frame, Get};
 use group_tree::group::GroupId;
-use mem_system::{Boot, Cmd, Cpu, Held, Reply, System, boot};
+use mem_system::{Boot, Cpu, Held, LockedCommand, ReplyWithText, System, boot};
 use std::alloc::Global;
 use std::marker::Brand;
 use std::process::Abort;
@@ -55,15 +55,27 @@ fn charges_and_pins<N: BootName, R: Wait + Abort>(rt: &R, system: &System<N>, cp
     let path: &[u8] = b"/a";
     let group = GroupId::of(1).expect(rt, "a group");
     let frame = first_frame(rt, system);
-    answers(rt, system, cpu, &Cmd::Mkdir { path }, &Reply::Group(group));
     answers(
         rt,
         system,
         cpu,
-        &Cmd::Alloc { path, order: 0 },
-        &Reply::Frame(0),
+        &LockedCommand::Mkdir { path },
+        &ReplyWithText::Group(group),
     );
-    answers(rt, system, cpu, &Cmd::Settle, &Reply::Done);
+    answers(
+        rt,
+        system,
+        cpu,
+        &LockedCommand::Alloc { path, order: 0 },
+        &ReplyWithText::Frame(0),
+    );
+    answers(
+        rt,
+        system,
+        cpu,
+        &LockedCommand::Settle,
+        &ReplyWithText::Done,
+    );
     let got = cpu.get(system.tables(), frame);
     expect_true(rt, got == Ok(Get::Held));
 }

@@ -6,7 +6,7 @@ use crate::life::{SIZES, expect_true, nothing_was_charged};
 use cpu_part::BootName;
 use group_tree::fault::Fault;
 use group_tree::group::GroupId;
-use mem_system::{Boot, Cmd, Reply, boot, end, serve};
+use mem_system::{Boot, LockedCommand, ReplyWithText, boot, end, serve_into};
 use std::alloc::Global;
 use std::marker::Brand;
 use std::process::Abort;
@@ -19,10 +19,12 @@ fn serves_by_value<N: BootName, R: Abort>(rt: &R, alloc: Global, boot: Boot)
     let path: &[u8] = b"/a";
     expect_true(rt, locked.find(path).is_none());
     if let Some(cpu) = cpus.first_mut() {
-        let made = serve(&mut locked, &tables, cpu, &Cmd::Mkdir { path });
-        expect_true(rt, GroupId::of(1).map(Reply::Group) == Some(made));
-        let again = serve(&mut locked, &tables, cpu, &Cmd::Mkdir { path });
-        expect_true(rt, again == Reply::Refused(Fault::Exists));
+        let mkdir = LockedCommand::Mkdir { path };
+        let mut reply = ReplyWithText::Done;
+        serve_into(&mut locked, &tables, cpu, &mkdir, &mut reply);
+        expect_true(rt, GroupId::of(1).map(ReplyWithText::Group) == Some(reply));
+        serve_into(&mut locked, &tables, cpu, &mkdir, &mut reply);
+        expect_true(rt, reply == ReplyWithText::Refused(Fault::Exists));
     }
     expect_true(rt, locked.find(path) == GroupId::of(1));
     match end(locked, tables, cpus) {

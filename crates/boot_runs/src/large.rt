@@ -4,7 +4,7 @@ ghost use Rattle.std.specs.Prelude.{◌≡◌};
 use crate::life::{answers, ends, expect_true};
 use cpu_part::{BootName, Dropped};
 use group_tree::group::GroupId;
-use mem_system::{Audit, Boot, Cmd, Cpu, Reply, System, boot};
+use mem_system::{Audit, Boot, Cpu, LockedCommand, ReplyWithText, System, boot};
 use std::alloc::Global;
 use std::marker::Brand;
 use std::process::Abort;
@@ -41,9 +41,15 @@ fn is_lent<N: BootName, R: Wait + Abort>(
 ) {
     let path: &[u8] = b"/a";
     let group = GroupId::of(1).expect(rt, "a group");
-    answers(rt, system, cpu, &Cmd::Mkdir { path }, &Reply::Group(group));
-    let alloc = Cmd::Alloc { path, order: 0 };
-    answers(rt, system, cpu, &alloc, &Reply::Frame(0));
+    answers(
+        rt,
+        system,
+        cpu,
+        &LockedCommand::Mkdir { path },
+        &ReplyWithText::Group(group),
+    );
+    let alloc = LockedCommand::Alloc { path, order: 0 };
+    answers(rt, system, cpu, &alloc, &ReplyWithText::Frame(0));
     let tables = system.tables();
     let paid = tables.words.frame(0).expect(rt, "a frame");
     assert!(rt; cpu.has_fresh(paid));

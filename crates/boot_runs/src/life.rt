@@ -5,7 +5,7 @@ ghost use Rattle.mem_system.specs.Commands.{IsOfZone};
 use cpu_part::BootName;
 use group_tree::fault::Fault;
 use group_tree::group::GroupId;
-use mem_system::{Audit, Boot, Cmd, Cpu, Reply, System, boot};
+use mem_system::{Audit, Boot, Cpu, LockedCommand, ReplyWithText, System, boot};
 use std::alloc::Global;
 use std::marker::Brand;
 use std::process::Abort;
@@ -28,7 +28,12 @@ pub fn expect_true(rt: &impl Abort, condition: bool) {
 
 // The reply to the CPU in a visit. This function drops the clauses of `System::visit`, so a caller that needs only
 // the reply doesn't pay for them.
-fn visit<N: BootName, R: Wait>(rt: &R, system: &System<N>, cpu: &mut Cpu<N>, cmd: &Cmd<'_>) -> Reply
+fn visit<N: BootName, R: Wait>(
+    rt: &R,
+    system: &System<N>,
+    cpu: &mut Cpu<N>,
+    cmd: &LockedCommand<'_>,
+) -> ReplyWithText
     requires { IsOfZone N.frames cmd.now }
 {
     system.visit(rt, cpu, cmd)
@@ -39,8 +44,8 @@ pub fn answers<N: BootName, R: Wait + Abort>(
     rt: &R,
     system: &System<N>,
     cpu: &mut Cpu<N>,
-    cmd: &Cmd<'_>,
-    reply: &Reply,
+    cmd: &LockedCommand<'_>,
+    reply: &ReplyWithText,
 )
     requires { IsOfZone N.frames cmd.now }
 {
@@ -57,8 +62,8 @@ fn reads_limit<N: BootName, R: Wait + Abort>(
 ) {
     let path: &[u8] = b"/a";
     let file: &[u8] = b"memory.max";
-    match visit(rt, system, cpu, &Cmd::Read { path, file }) {
-        Reply::Text(found) => expect_true(rt, found.as_bytes() == text),
+    match visit(rt, system, cpu, &LockedCommand::Read { path, file }) {
+        ReplyWithText::Text(found) => expect_true(rt, found.as_bytes() == text),
         _ => panic!(rt; "no text"),
     }
 }
@@ -70,11 +75,17 @@ fn makes_and_reads<N: BootName, R: Wait + Abort>(rt: &R, system: &System<N>, cpu
     let value: &[u8] = b"8K";
     let group = GroupId::of(1).expect(rt, "a group");
     expect_true(rt, system.find(rt, cpu, path).is_none());
-    answers(rt, system, cpu, &Cmd::Mkdir { path }, &Reply::Group(group));
+    answers(
+        rt,
+        system,
+        cpu,
+        &LockedCommand::Mkdir { path },
+        &ReplyWithText::Group(group),
+    );
     expect_true(rt, system.find(rt, cpu, path) == Some(group));
     reads_limit(rt, system, cpu, b"max\n");
-    let write = Cmd::Write { path, file, value };
-    answers(rt, system, cpu, &write, &Reply::Done);
+    let write = LockedCommand::Write { path, file, value };
+    answers(rt, system, cpu, &write, &ReplyWithText::Done);
     reads_limit(rt, system, cpu, b"8192\n");
 }
 
@@ -97,10 +108,16 @@ fn shows_all_free<N: BootName, R: Wait + Abort>(
 // CPU 2 finds the group and removes it.
 fn removes_group<N: BootName, R: Wait + Abort>(rt: &R, system: &System<N>, cpu: &mut Cpu<N>) {
     let path: &[u8] = b"/a";
-    let no_group = Reply::Refused(Fault::NoGroup);
+    let no_group = ReplyWithText::Refused(Fault::NoGroup);
     expect_true(rt, system.find(rt, cpu, path) == GroupId::of(1));
-    answers(rt, system, cpu, &Cmd::Rmdir { path }, &Reply::Done);
-    answers(rt, system, cpu, &Cmd::Rmdir { path }, &no_group);
+    answers(
+        rt,
+        system,
+        cpu,
+        &LockedCommand::Rmdir { path },
+        &ReplyWithText::Done,
+    );
+    answers(rt, system, cpu, &LockedCommand::Rmdir { path }, &no_group);
 }
 
 /// Shuts the system down, in which no CPU has a pin.

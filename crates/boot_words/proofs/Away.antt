@@ -8,15 +8,12 @@ use Rattle.step_rules.specs.declared.step.Action.{Action}
 use Rattle.step_rules.specs.declared.step.Action.TheVariants.{Lock, Unlock, OpenVisit, ShutVisit, Absorb, Fill}
 use Rattle.step_rules.specs.declared.step.Answer.{Answer}
 use Rattle.step_rules.specs.declared.step.Answer.TheVariants.{Illegal, Done}
-use Rattle.step_rules.specs.State.{State, at_boot, is_held_by, visits}
-use Rattle.step_rules.specs.Legal.{Allows, is_legal}
-use Rattle.step_rules.specs.After.{Run, after, state_of}
-use Rattle.step_rules.specs.Views.{holds_lock}
+use Rattle.step_rules.specs.State.{State}
+use Rattle.step_rules.specs.{at_boot, is_held_by, visits, Allows, is_legal, Run, after, state_of, holds_lock}
 use Rattle.step_rules.proofs.LegalTests.{absorb_tests, fill_tests, open_visit_tests, shut_visit_tests}
 use Rattle.step_rules.proofs.PhaseLemmas.{equal_test, visited}
 use Rattle.step_rules.proofs.Runs.{next, after_illegal, allowed, IsLegalFrom}
-use Rattle.boot_words.specs.Runs.{HasNoStepOf, books}
-use Rattle.boot_words.specs.Sight.{AwayStays, HasSameOrDrained}
+use Rattle.boot_words.specs.{HasNoStepOf, books, AwayStays, HasSameOrDrained}
 use Rattle.boot_words.proofs.Draining.{drained_twice, legal_behind, same_part, stock_step}
 use Rattle.boot_words.proofs.Owning.{fold_on}
 

@@ -14,11 +14,10 @@ use Rattle.step_rules.specs.declared.step.Action.{Action}
 use Rattle.step_rules.specs.declared.step.Action.TheVariants.{Collect, Consume, Credit, Freeze, Lock, PassBack, PassOut, PlaceBlock, Put, Return, TakeIn, Unfreeze}
 use Rattle.step_rules.specs.declared.step.Answer.{Answer}
 use Rattle.step_rules.specs.declared.step.Answer.TheVariants.{Done, Illegal, Last, Placed, Stocked, Took}
-use Rattle.step_rules.specs.Phases.{at_stage, collected, is_live_phase, passed_back, stage_after_last, stage_collected, stage_passed_back, unit_of}
-use Rattle.step_rules.specs.State.{State, Zone, at_boot, front_of, with_at}
-use Rattle.step_rules.specs.Legal.{Allows, IsMade}
-use Rattle.step_rules.specs.After.{Run, after, consumed, placed_phase, state_of, unit_size, IsLegalRun}
-use Rattle.step_rules.specs.Invariant.{KeepsInvariant}
+use Rattle.step_rules.specs.{at_stage, collected, is_live_phase, passed_back, stage_after_last, stage_collected, stage_passed_back, unit_of, Zone}
+use Rattle.step_rules.specs.{at_boot, front_of, with_at, Allows, IsMade, Run, after, consumed, placed_phase, state_of, unit_size, IsLegalRun}
+use Rattle.step_rules.specs.{KeepsInvariant}
+use Rattle.step_rules.specs.State.{State}
 use Rattle.step_rules.proofs.Basics.{at_each}
 use Rattle.step_rules.proofs.Freeing.{zone_of_run}
 use Rattle.step_rules.proofs.LegalTests.{put_tests}

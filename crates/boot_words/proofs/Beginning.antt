@@ -6,10 +6,8 @@ use mathlib.Core.Logic.{dite}
 use native.Mathlib.Decide.{ℕ_discrete}
 use Rattle.frame_word.specs.Totals.{sum_over}
 use Rattle.step_rules.specs.State.{Zone, one_if}
-use Rattle.boot_words.specs.Rule.{AllOf, frame_base, words_in, word_count, BeginsRun, RunRule, of_number}
-use Rattle.boot_words.specs.Runs.{no_past}
+use Rattle.boot_words.specs.{AllOf, frame_base, words_in, word_count, BeginsRun, RunRule, of_number, no_past, all_pasts, cpus_pasts}
 use Rattle.boot_words.proofs.Booting.{a_boot_has_words}
-use Rattle.boot_words.specs.Seats.{all_pasts, cpus_pasts}
 use Rattle.boot_words.proofs.Counting.{case_le, is_high, is_low, is_none, is_own}
 
 zeros : (n k : ℕ) → slice_index (replicate n 0) k ≡ 0

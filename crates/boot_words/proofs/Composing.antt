@@ -5,8 +5,7 @@ use Rattle.step_rules.specs.declared.step.Answer.{Answer}
 use Rattle.step_rules.specs.State.{Zone, State}
 use Rattle.step_rules.specs.After.{Run}
 use Rattle.boot_words.specs.declared.past.Past.{Past}
-use Rattle.boot_words.specs.Composed.{AreLegal, GrewInTurn, GrewUnderLock}
-use Rattle.boot_words.specs.Held.{HoldsLock, local_seen}
+use Rattle.boot_words.specs.{AreLegal, GrewInTurn, GrewUnderLock, HoldsLock, local_seen}
 
 pub set_over : {A : Type 0} (xs : List A) (i : ℕ) (x y : A) → set (set xs i x) i y ≡ set xs i y
 set_over [] i x y = refl

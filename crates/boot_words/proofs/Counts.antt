@@ -9,25 +9,20 @@ use Rattle.step_rules.specs.declared.step.Action.{Action}
 use Rattle.step_rules.specs.declared.step.Action.TheVariants.{Get, Put, Freeze, Unfreeze, Lock}
 use Rattle.step_rules.specs.declared.step.Answer.{Answer}
 use Rattle.step_rules.specs.declared.step.Answer.TheVariants.{Illegal, Done, Full, Held, Left, Last, Zero}
-use Rattle.step_rules.specs.Phases.{is_live_phase}
-use Rattle.step_rules.specs.State.{State, Zone, at_boot, is_unheld, live_references, may_zone_act}
-use Rattle.step_rules.specs.Legal.{Allows, IsMade, get_answer}
-use Rattle.step_rules.specs.Live.{LiveIsReferenced}
+use Rattle.step_rules.specs.{is_live_phase, Zone, at_boot, is_unheld, live_references, may_zone_act, Allows, IsMade, get_answer, LiveIsReferenced}
+use Rattle.step_rules.specs.{Run, after, state_of, IsLegalRun}
+use Rattle.step_rules.specs.State.{State}
 use Rattle.step_rules.specs.declared.step.Step.{Step}
 use Rattle.step_rules.proofs.Living.{live_are_referenced}
-use Rattle.boot_words.specs.Pasts.{own_past}
-use Rattle.boot_words.specs.Seats.{zone_of_boot}
+use Rattle.boot_words.specs.{own_past, zone_of_boot, HasNoStepOf, OthersFollow, NeverZero}
 use Rattle.boot_words.proofs.WordCounts.{held_answer}
 use Rattle.boot_words.proofs.Holding.{allowed_at, take_length}
-use Rattle.step_rules.specs.After.{Run, after, state_of, IsLegalRun}
 use Rattle.step_rules.proofs.Basics.{at_other}
 use Rattle.step_rules.proofs.LegalTests.{freeze_tests, unfreeze_tests}
 use Rattle.step_rules.proofs.LocalLaws.{no_illegal}
 use Rattle.step_rules.proofs.Runs.{after_illegal, allowed, legal_from, next, IsLegalFrom}
-use Rattle.boot_words.specs.Runs.{HasNoStepOf, OthersFollow}
 use Rattle.boot_words.proofs.Draining.{legal_behind}
 use Rattle.boot_words.proofs.Owning.{fold_on, lists_are_own}
-use Rattle.boot_words.specs.Laws.{NeverZero}
 
 -- ---- a seat's references
 no_zone : (s : State) (q : ℕ) → q ≢ 0 → may_zone_act s.hold q ≡ true → ⊥

@@ -4,10 +4,7 @@ use Rattle.std.proofs.lemmas.List.{append-nil}
 use Rattle.atomic_table.specs.Seated.{TableId}
 use Rattle.stock_word.proofs.Deals.{all_left}
 use Rattle.boot_words.specs.declared.past.Past.{Past}
-use Rattle.boot_words.specs.Runs.{no_past}
-use Rattle.boot_words.specs.Cpus.{KnownCpuSeat}
-use Rattle.boot_words.specs.Opening.{cpu_at_first, cpus_at_first}
-use Rattle.boot_words.specs.Seats.{cpus_pasts}
+use Rattle.boot_words.specs.{no_past, KnownCpuSeat, cpu_at_first, cpus_at_first, cpus_pasts}
 
 pub next_past : (pasts : List Past) (p n k : ℕ) → pasts ≡ cpus_pasts p n → n ≡ suc k → pasts ≡ no_past p ∷ cpus_pasts (p + 1) k
 next_past pasts p n k is more = is ∙ ap (cpus_pasts p) more

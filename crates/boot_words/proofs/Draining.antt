@@ -7,14 +7,12 @@ use Rattle.step_rules.specs.declared.step.Action.{Action}
 use Rattle.step_rules.specs.declared.step.Action.TheVariants.{Lock, Put, TakeIn, PassBack, Consume, Credit, Report, Absorb, Fill, DrainStock}
 use Rattle.step_rules.specs.declared.step.Answer.{Answer}
 use Rattle.step_rules.specs.declared.step.Answer.TheVariants.{Illegal, Done, Last, Took, Stocked, Pages}
-use Rattle.step_rules.specs.State.{State, Part, with_at, at_boot}
-use Rattle.step_rules.specs.Legal.{Allows, IsMade}
-use Rattle.step_rules.specs.After.{Run, after, state_of, with_back, drained}
+use Rattle.step_rules.specs.State.{State}
+use Rattle.step_rules.specs.{Part, with_at, at_boot, Allows, IsMade, Run, after, state_of, with_back, drained}
 use Rattle.step_rules.proofs.Basics.{at_other, at_each}
 use Rattle.step_rules.proofs.LocalLaws.{no_illegal}
 use Rattle.step_rules.proofs.Runs.{next, after_illegal, allowed, IsLegalFrom}
-use Rattle.boot_words.specs.Runs.{HasNoStepOf, BooksNothingOf, books}
-use Rattle.boot_words.specs.Sight.{HasSameOrDrained, StocksAreOwn}
+use Rattle.boot_words.specs.{HasNoStepOf, BooksNothingOf, books, HasSameOrDrained, StocksAreOwn}
 use Rattle.boot_words.proofs.Owning.{fold_on}
 
 pub same_part : (a b : Part) → b ≡ a → HasSameOrDrained a b

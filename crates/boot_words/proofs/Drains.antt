@@ -10,8 +10,7 @@ use Rattle.atomic_table.specs.Table.{State as Board}
 use Rattle.frame_word.specs.Seats.{KnownTable}
 use Rattle.stock_word.specs.declared.view.Stock.{Stock}
 use Rattle.stock_word.specs.declared.view.Stock.TheVariants.{NoGroup, HeldBy, DrainedOf}
-use Rattle.stock_word.specs.Stock.{HasWord, group_of, stock_pages_of, word_of}
-use Rattle.stock_word.specs.StockRule.{stock_index}
+use Rattle.stock_word.specs.{HasWord, group_of, stock_pages_of, word_of, stock_index}
 use Rattle.step_rules.specs.declared.step.Step.{Step}
 use Rattle.step_rules.specs.declared.step.Action.TheVariants.{DrainStock, Put}
 use Rattle.step_rules.specs.declared.step.Answer.TheVariants.{Pages}
@@ -21,13 +20,11 @@ use Rattle.step_rules.proofs.CoverParts.{part_seen}
 use Rattle.step_rules.proofs.Freeing.{zone_of_run}
 use Rattle.step_rules.proofs.LegalTests.{drain_stock_tests, put_tests}
 use Rattle.step_rules.proofs.SoundSteps.{below_frames, cpu_range}
-use Rattle.boot_words.specs.Words.{stock_in, stock_said, with_frame_word}
-use Rattle.boot_words.specs.Steps.{ChangesWords, OfGroup, OfNone, frame_word_at}
-use Rattle.boot_words.specs.Held.{put_answer_at, HoldsLock, local_seen}
+use Rattle.boot_words.specs.{stock_in, stock_said, with_frame_word, ChangesWords, frame_word_at, put_answer_at, HoldsLock, local_seen, frame_base}
+use Rattle.boot_words.specs.{words_in, run_rule, KnownPasts, IsHeld, IsHolder, MakesStep, MayMake, cpu_past, local_by_pasts, own_past, zone_of_boot}
+use Rattle.boot_words.specs.{MayChange}
+use Rattle.boot_words.specs.Steps.{OfGroup, OfNone}
 use Rattle.boot_words.specs.declared.past.Past.{Past}
-use Rattle.boot_words.specs.Rule.{frame_base, words_in, run_rule}
-use Rattle.boot_words.specs.Pasts.{KnownPasts, IsHeld, IsHolder, MakesStep, MayMake, cpu_past, local_by_pasts, own_past}
-use Rattle.boot_words.specs.Seats.{zone_of_boot, MayChange}
 use Rattle.boot_words.proofs.Parts.{frame_reads, words_set}
 use Rattle.boot_words.proofs.Putting.{less_one, put_changes}
 use Rattle.boot_words.proofs.StockSteps.{stock_is_at, stock_low, stock_words_set}

@@ -9,15 +9,10 @@ use Rattle.step_rules.specs.declared.step.Step.{Step}
 use Rattle.step_rules.specs.declared.step.Action.{Action}
 use Rattle.step_rules.specs.declared.step.Action.TheVariants.{Get, Put, Consume, Credit}
 use Rattle.step_rules.specs.declared.step.Answer.{Answer}
-use Rattle.step_rules.specs.State.{Zone}
-use Rattle.step_rules.specs.Legal.{is_legal}
-use Rattle.step_rules.specs.After.{Run, after, state_of, IsLegalRun}
+use Rattle.step_rules.specs.{Zone, is_legal, Run, after, state_of, IsLegalRun}
 use Rattle.step_rules.proofs.Runs.{state_more}
-use Rattle.boot_words.specs.Runs.{IsFast, GrewBy}
-use Rattle.boot_words.specs.Words.{IsRunOf}
-use Rattle.boot_words.specs.Steps.{ChangesWords}
+use Rattle.boot_words.specs.{IsFast, GrewBy, IsRunOf, ChangesWords, AllOf, words_in, BeginsRun, of_number, run_rule}
 use Rattle.boot_words.specs.declared.past.Past.{Past}
-use Rattle.boot_words.specs.Rule.{AllOf, words_in, BeginsRun, of_number, run_rule}
 use Rattle.boot_words.proofs.Grown.{grown, grown_legal}
 use Rattle.boot_words.proofs.Lasting.{fast_legality_lasts}
 use Rattle.boot_words.proofs.Each.{all_at}

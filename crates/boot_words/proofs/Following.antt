@@ -4,11 +4,9 @@ use Rattle.std.proofs.lemmas.Bool.{or_left, or_right}
 use Rattle.step_rules.specs.declared.step.Step.{Step}
 use Rattle.step_rules.specs.declared.step.Action.{Action}
 use Rattle.step_rules.specs.declared.step.Answer.{Answer}
-use Rattle.step_rules.specs.State.{Zone, State, Part, with_at, is_cpu, is_held_by, visits}
-use Rattle.step_rules.specs.Legal.{is_legal, IsAnswer, IsCounted}
-use Rattle.step_rules.specs.After.{Run, after, state_of}
-use Rattle.step_rules.specs.Laws.{pushed}
-use Rattle.step_rules.specs.Invariant.{KeepsInvariant, IsHomed}
+use Rattle.step_rules.specs.{Zone, Part, with_at, is_cpu, is_held_by, visits, is_legal, IsAnswer, IsCounted, Run, after, state_of, pushed}
+use Rattle.step_rules.specs.{KeepsInvariant, IsHomed}
+use Rattle.step_rules.specs.State.{State}
 use Rattle.step_rules.proofs.Basics.{at_each}
 use Rattle.step_rules.proofs.Keeping.{homed_run}
 use Rattle.step_rules.proofs.LocalLaws.{made_allows}

@@ -11,18 +11,15 @@ use Rattle.step_rules.specs.declared.step.Answer.{Answer}
 use Rattle.step_rules.specs.declared.step.Answer.TheVariants.{Illegal}
 use Rattle.step_rules.specs.declared.step.Action.{Action}
 use Rattle.step_rules.specs.declared.step.Action.TheVariants.{Lock, Unlock, OpenVisit, ShutVisit, Get, Put, Freeze, Unfreeze, PassOut, TakeIn, PassBack, Collect, Consume, Credit, Report, Absorb, Fill, DrainStock, Grant, Ungrant, PlaceBlock, Publish, Return, Note, NoteGroupKill, SetMax, SetFlag, Make, Remove, Kill}
-use Rattle.step_rules.specs.State.{Zone, State, is_cpu, is_unheld, may_zone_act}
-use Rattle.step_rules.specs.Legal.{is_legal, Allows}
-use Rattle.step_rules.specs.After.{Run, after, state_of, IsLegalRun}
+use Rattle.step_rules.specs.{Zone, is_cpu, is_unheld, may_zone_act, is_legal, Allows, Run, after, state_of, IsLegalRun}
+use Rattle.step_rules.specs.State.{State}
 use Rattle.step_rules.proofs.Freeing.{zone_of_run}
 use Rattle.step_rules.proofs.LegalTests.{lock_tests, unlock_tests, open_visit_tests, shut_visit_tests, get_tests, put_tests, freeze_tests, unfreeze_tests, pass_out_tests, take_in_tests, pass_back_tests, collect_tests, consume_tests, credit_tests, report_tests, absorb_tests, fill_tests, drain_stock_tests, grant_tests, ungrant_tests, place_block_tests, publish_tests, return_tests, set_max_tests, set_flag_tests, make_tests, remove_tests, kill_tests}
 use Rattle.step_rules.proofs.PhaseLemmas.{none_some}
 use Rattle.step_rules.proofs.Runs.{after_illegal, allowed, legal_more, state_more}
 use Rattle.boot_words.specs.declared.past.Past.{Past}
-use Rattle.boot_words.specs.Rule.{AllOf, IsPastOf}
-use Rattle.boot_words.specs.Runs.{GrewBy}
-use Rattle.boot_words.specs.Pasts.{KnownPasts, own_past, Meets}
-use Rattle.boot_words.specs.Growth.{GrewByAll, SeesMore, changes_nothing, changes_of, HasInOrder, AreChangesOf, GainsSteps, ABootHasNoSteps, GainsGoOn, TheRunSoFarIsLegal}
+use Rattle.boot_words.specs.{AllOf, IsPastOf, GrewBy, KnownPasts, own_past, Meets, GrewByAll, SeesMore, changes_nothing, changes_of, HasInOrder}
+use Rattle.boot_words.specs.{AreChangesOf, GainsSteps, ABootHasNoSteps, GainsGoOn, TheRunSoFarIsLegal}
 use Rattle.boot_words.proofs.Holding.{allowed_at, append_none}
 use Rattle.boot_words.proofs.Ordered.{changes_both, others_add_none, other_adds_none, without_none, has_none, without_both, has_behind, has_through, changes_in_order, as_many, IsSeatOfChange, only_quiet_are_left_out}
 

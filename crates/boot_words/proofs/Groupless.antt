@@ -10,10 +10,7 @@ use Rattle.step_rules.specs.State.{State, one_if, times}
 use Rattle.step_rules.proofs.LegalTests.{credit_tests}
 use Rattle.step_rules.proofs.PhaseLemmas.{fresh_is, none_some}
 use Rattle.step_rules.proofs.Runs.{sound_run}
-use Rattle.boot_words.specs.Pasts.{MayDo, own_past}
-use Rattle.boot_words.specs.Seats.{zone_of_boot}
-use Rattle.boot_words.specs.Cpus.{IsAwayCpu, KnownCpuSeat, state_left}
-use Rattle.boot_words.specs.Laws.{NoGroupNothingFresh}
+use Rattle.boot_words.specs.{MayDo, own_past, zone_of_boot, IsAwayCpu, KnownCpuSeat, state_left, NoGroupNothingFresh}
 use Rattle.boot_words.proofs.Drains.{group_by}
 
 -- the group of the stock that its past left

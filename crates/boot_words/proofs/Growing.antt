@@ -15,16 +15,13 @@ use Rattle.step_rules.specs.declared.step.Action.TheVariants.{Lock, OpenVisit, S
 use Rattle.step_rules.specs.declared.step.Answer.{Answer}
 use Rattle.step_rules.specs.declared.step.Answer.TheVariants.{Illegal}
 use Rattle.step_rules.specs.declared.step.Step.{Step}
-use Rattle.step_rules.specs.State.{State, Zone, at_boot, is_unheld, one_if}
-use Rattle.step_rules.specs.After.{Run, after, state_of}
-use Rattle.step_rules.specs.Laws.{is_of_lock}
-use Rattle.step_rules.specs.Views.{holds_lock}
+use Rattle.step_rules.specs.State.{State}
+use Rattle.step_rules.specs.{Zone, at_boot, is_unheld, one_if, Run, after, state_of, is_of_lock, holds_lock}
 use Rattle.step_rules.proofs.PhaseLemmas.{equal_test}
 use Rattle.step_rules.proofs.Runs.{after_illegal, next}
-use Rattle.boot_words.specs.Runs.{HasNoStepOf, IsFast, OthersFollow}
-use Rattle.boot_words.specs.Words.{IsRunOf}
+use Rattle.boot_words.specs.{HasNoStepOf, IsFast, OthersFollow, IsRunOf, AllOf, IsPastOf, LeavesLock, words_in, AreFast, HasLock, BeginsRun, RunRule}
+use Rattle.boot_words.specs.{of_number}
 use Rattle.boot_words.specs.declared.past.Past.{Past}
-use Rattle.boot_words.specs.Rule.{AllOf, IsPastOf, LeavesLock, words_in, AreFast, HasLock, BeginsRun, RunRule, of_number}
 use Rattle.boot_words.proofs.Grown.{grown}
 use Rattle.boot_words.proofs.Holding.{append_none}
 use Rattle.boot_words.proofs.Owning.{fold_on}

@@ -2,11 +2,9 @@
 use Rattle.std.proofs.Common.{[], ◌+◌, ◌∷◌, ◌++◌, subst}
 use Rattle.step_rules.specs.declared.step.Step.{Step}
 use Rattle.step_rules.specs.declared.step.Answer.{Answer}
-use Rattle.step_rules.specs.State.{Zone}
-use Rattle.step_rules.specs.After.{Run, IsLegalRun}
-use Rattle.boot_words.specs.Runs.{OthersFollow}
+use Rattle.step_rules.specs.{Zone, Run, IsLegalRun}
+use Rattle.boot_words.specs.{OthersFollow, GrewByAll}
 use Rattle.boot_words.specs.declared.past.Past.{Past}
-use Rattle.boot_words.specs.Growth.{GrewByAll}
 
 -- the past that has noted the step
 abbrev pub grown : Past → Run → Step × Answer → Past

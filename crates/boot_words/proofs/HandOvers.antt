@@ -18,10 +18,9 @@ use Rattle.step_rules.specs.declared.step.Answer.{Answer}
 use Rattle.step_rules.specs.declared.step.Answer.TheVariants.{Done, Illegal, Last, Placed, Stocked, Took}
 use Rattle.step_rules.specs.Phases.{FreshFrame, ListFrame, at_stage, collected, has_as, is_live_phase, passed_back, passes_back, passes_out, stage_after_last, unit_of}
 use Rattle.step_rules.specs.Phases as kinds
-use Rattle.step_rules.specs.State.{State, Zone, at_boot, free_in, front_of, is_unheld, one_if, with_at}
-use Rattle.step_rules.specs.Legal.{Allows, IsMade}
-use Rattle.step_rules.specs.After.{Run, after, consumed, placed_phase, state_of, unit_size, with_block, without_unit, IsLegalRun}
-use Rattle.step_rules.specs.Invariant.{KeepsInvariant}
+use Rattle.step_rules.specs.State.{State}
+use Rattle.step_rules.specs.{Zone, at_boot, free_in, front_of, is_unheld, one_if, with_at, Allows, IsMade, Run, after, consumed, placed_phase}
+use Rattle.step_rules.specs.{state_of, unit_size, with_block, without_unit, IsLegalRun, KeepsInvariant}
 use Rattle.step_rules.proofs.Basics.{at_each, at_other, at_same}
 use Rattle.step_rules.proofs.LegalTests.{collect_tests, consume_tests, credit_tests, freeze_tests, pass_back_tests, pass_out_tests, put_tests, return_tests, take_in_tests, unfreeze_tests}
 use Rattle.step_rules.proofs.LocalLaws.{no_illegal}

@@ -10,12 +10,10 @@ use Rattle.step_rules.specs.declared.step.Action.{Action}
 use Rattle.step_rules.specs.declared.step.Action.TheVariants.{Get, Put, Consume, Credit}
 use Rattle.step_rules.specs.declared.step.Answer.{Answer}
 use Rattle.step_rules.specs.declared.step.Answer.TheVariants.{Held, Left, Last, Took, Stocked}
-use Rattle.step_rules.specs.Phases.{FreshFrame, has_as, at_stage, stage_after_last}
-use Rattle.step_rules.specs.State.{State, Part, with_at, one_if, front_of, without, times}
-use Rattle.step_rules.specs.Legal.{is_legal, IsAnswer}
-use Rattle.step_rules.specs.After.{after, after_last, state_of, paid, credited, with_back, consumed}
-use Rattle.step_rules.specs.Views.{seen_by, other_part_seen}
-use Rattle.step_rules.specs.Invariant.{KeepsInvariant}
+use Rattle.step_rules.specs.Phases.{FreshFrame}
+use Rattle.step_rules.specs.{has_as, at_stage, stage_after_last, Part, with_at, one_if, front_of, without, times, is_legal, IsAnswer, after}
+use Rattle.step_rules.specs.{after_last, state_of, paid, credited, with_back, consumed, seen_by, other_part_seen, KeepsInvariant}
+use Rattle.step_rules.specs.State.{State}
 use Rattle.step_rules.proofs.Basics.{at_each, at_other, same_state}
 use Rattle.step_rules.proofs.LegalTests.{consume_tests, credit_tests, put_tests}
 use Rattle.step_rules.proofs.Lists.{length_last, length_without}
@@ -23,9 +21,7 @@ use Rattle.step_rules.proofs.Passing.{front_listed}
 use Rattle.step_rules.proofs.PhaseLemmas.{live_is, listed_is, fresh_is}
 use Rattle.step_rules.proofs.Referring.{changed, live_from_one}
 use Rattle.step_rules.proofs.Runs.{after_illegal, allowed, legal_more, sound_run, state_more}
-use Rattle.boot_words.specs.Runs.{IsFast}
-use Rattle.boot_words.specs.Hidden.{hide, hide_phase, show_own, zone_references}
-use Rattle.boot_words.specs.Sight.{FastIsHidden}
+use Rattle.boot_words.specs.{IsFast, hide, hide_phase, show_own, zone_references, FastIsHidden}
 use Rattle.boot_words.proofs.Showing.{sees_both}
 
 -- a frame in a phase that looks the same if it is hidden leaves the hidden phases as they are

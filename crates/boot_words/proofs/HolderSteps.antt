@@ -10,19 +10,15 @@ use Rattle.step_rules.specs.declared.step.Action.{Action}
 use Rattle.step_rules.specs.declared.step.Action.TheVariants.{Lock, Unlock, OpenVisit, ShutVisit}
 use Rattle.step_rules.specs.declared.step.Answer.{Answer}
 use Rattle.step_rules.specs.declared.step.Answer.TheVariants.{Done, Illegal}
-use Rattle.step_rules.specs.State.{Zone, State, is_held_by, visits}
-use Rattle.step_rules.specs.Legal.{is_legal}
-use Rattle.step_rules.specs.After.{Run, after, state_of, IsLegalRun}
-use Rattle.step_rules.specs.Views.{holds_lock, seen_by}
-use Rattle.step_rules.specs.Laws.{ShowsLocal, is_of_lock}
+use Rattle.step_rules.specs.{Zone, is_held_by, visits, is_legal, Run, after, state_of, IsLegalRun, holds_lock, seen_by, ShowsLocal, is_of_lock}
+use Rattle.step_rules.specs.State.{State}
 use Rattle.step_rules.proofs.LegalTests.{open_visit_tests, shut_visit_tests}
 use Rattle.step_rules.proofs.Own.{only_visit, own_after, own_legal}
 use Rattle.step_rules.proofs.PhaseLemmas.{equal_test}
 use Rattle.step_rules.proofs.Runs.{after_illegal, allowed, sound_run, state_more}
-use Rattle.boot_words.specs.Runs.{HasNoStepOf, OthersFollow}
+use Rattle.boot_words.specs.{HasNoStepOf, OthersFollow, HoldsLock, local_seen}
 use Rattle.boot_words.proofs.Holding.{allowed_at, still_shows}
 use Rattle.boot_words.specs.declared.past.Past.{Past}
-use Rattle.boot_words.specs.Held.{HoldsLock, local_seen}
 use Rattle.boot_words.proofs.Grown.{grown}
 
 -- ---- what the holder sees at the end of the run

@@ -4,13 +4,10 @@ use Rattle.std.specs.Prelude.{IfSome}
 use Rattle.std.specs.List.{slice_get}
 use Rattle.step_rules.specs.declared.step.Step.{Step}
 use Rattle.step_rules.specs.declared.step.Answer.{Answer}
-use Rattle.step_rules.specs.State.{Zone, State}
-use Rattle.step_rules.specs.Legal.{Allows}
-use Rattle.step_rules.specs.After.{Run, state_of, IsLegalRun}
-use Rattle.step_rules.specs.Laws.{ShowsLocal}
+use Rattle.step_rules.specs.{Zone, Allows, Run, state_of, IsLegalRun, ShowsLocal}
+use Rattle.step_rules.specs.State.{State}
 use Rattle.step_rules.proofs.LocalLaws.{own_step_is_legal, other_step_is_hidden}
-use Rattle.boot_words.specs.Runs.{HasNoStepOf}
-use Rattle.boot_words.specs.Sight.{HolderGoesOn}
+use Rattle.boot_words.specs.{HasNoStepOf, HolderGoesOn}
 
 at_length : (xs : Run) (y : Step × Answer) (ys : Run) → slice_get (xs ++ y ∷ ys) (length xs) ≡ Some y
 at_length [] y ys = refl

@@ -7,8 +7,7 @@ use mathlib.Core.Option.{some}
 use lib.ListN.{get_elem?}
 use Rattle.atomic_table.specs.Table.{State as Board, keeps}
 use Rattle.atomic_table.proofs.Lists.{set_again}
-use Rattle.frame_word.specs.ReferenceRule.{mark}
-use Rattle.frame_word.specs.Seats.{KnownTable}
+use Rattle.frame_word.specs.{mark, KnownTable}
 use Rattle.stock_word.specs.StockRule.{report_index}
 use Rattle.step_rules.specs.declared.phase.Phase.{Phase}
 use Rattle.step_rules.specs.declared.phase.Phase.TheVariants.{InZone, Lent, Head}
@@ -18,23 +17,19 @@ use Rattle.step_rules.specs.declared.step.Step.{Step}
 use Rattle.step_rules.specs.declared.step.Action.TheVariants.{Absorb, Collect, PassBack, PassOut, Report, TakeIn}
 use Rattle.step_rules.specs.declared.step.Answer.{Answer}
 use Rattle.step_rules.specs.declared.step.Answer.TheVariants.{Pages}
-use Rattle.step_rules.specs.Phases.{Kind, ListFrame, FreshFrame, BackFrame, has_as, is_free, is_live_phase}
-use Rattle.step_rules.specs.State.{Part, State, Zone, front_of, is_cpu, live_references}
-use Rattle.step_rules.specs.Legal.{is_legal, is_passable}
-use Rattle.step_rules.specs.After.{Run, state_of}
-use Rattle.step_rules.specs.Laws.{is_of_lock}
+use Rattle.step_rules.specs.{Kind, has_as, is_free, is_live_phase, Part, Zone, front_of, is_cpu, live_references, is_legal, is_passable, Run}
+use Rattle.step_rules.specs.{state_of, is_of_lock}
+use Rattle.step_rules.specs.Phases.{ListFrame, FreshFrame, BackFrame}
+use Rattle.step_rules.specs.State.{State}
 use Rattle.step_rules.proofs.CoverParts.{part_seen}
 use Rattle.step_rules.proofs.Freeing.{zone_of_run}
 use Rattle.step_rules.proofs.LegalTests.{pass_back_tests, pass_out_tests}
 use Rattle.step_rules.proofs.SoundSteps.{below_frames, cpu_range}
-use Rattle.boot_words.specs.Words.{Words, IsRunOf, with_report_word, word_in_phase}
-use Rattle.boot_words.specs.Steps.{ChangesWords, frame_word_at, report_word_at}
-use Rattle.boot_words.specs.Composed.{AreLegal, GrewInTurn, MakesInTurn, answered_done, lend_run, take_back_run}
-use Rattle.boot_words.specs.Held.{HoldsLock, local_seen}
+use Rattle.boot_words.specs.Words.{Words}
+use Rattle.boot_words.specs.{IsRunOf, with_report_word, word_in_phase, ChangesWords, frame_word_at, report_word_at, AreLegal, GrewInTurn, MakesInTurn}
+use Rattle.boot_words.specs.{answered_done, lend_run, take_back_run, HoldsLock, local_seen, frame_base, words_in, RunRule, run_rule, KnownPasts}
+use Rattle.boot_words.specs.{IsHeld, IsHolder, cpu_past, local_by_pasts, own_past, zone_of_boot, MayChange}
 use Rattle.boot_words.specs.declared.past.Past.{Past}
-use Rattle.boot_words.specs.Rule.{frame_base, words_in, RunRule, run_rule}
-use Rattle.boot_words.specs.Pasts.{KnownPasts, IsHeld, IsHolder, cpu_past, local_by_pasts, own_past}
-use Rattle.boot_words.specs.Seats.{zone_of_boot, MayChange}
 use Rattle.boot_words.proofs.Composing.{Midst, at_first, set_over, then_made}
 use Rattle.boot_words.proofs.WordCounts.{none_live}
 use Rattle.boot_words.proofs.Following.{stands_in}

@@ -5,21 +5,16 @@ use Rattle.step_rules.specs.declared.step.Action.{Action}
 use Rattle.step_rules.specs.declared.step.Action.TheVariants.{Get, Put}
 use Rattle.step_rules.specs.declared.step.Answer.{Answer}
 use Rattle.step_rules.specs.declared.step.Answer.TheVariants.{Full, Held, Left, Last, Zero}
-use Rattle.step_rules.specs.State.{State, with_at}
-use Rattle.step_rules.specs.After.{after, state_of, IsLegalRun, with_back}
-use Rattle.step_rules.specs.Views.{holds_lock}
+use Rattle.step_rules.specs.State.{State}
+use Rattle.step_rules.specs.{with_at, after, state_of, IsLegalRun, with_back, holds_lock}
 use Rattle.step_rules.proofs.Basics.{at_same}
 use Rattle.step_rules.proofs.Runs.{legal_from, state_more}
-use Rattle.boot_words.specs.Runs.{HasNoStepOf, IsFast}
+use Rattle.boot_words.specs.{HasNoStepOf, IsFast, stock_in, stock_said, KnownPasts, own_past, zone_of_boot}
 use Rattle.boot_words.proofs.Holding.{take_length}
-use Rattle.boot_words.specs.Words.{stock_in, stock_said}
-use Rattle.boot_words.specs.Pasts.{KnownPasts, own_past}
-use Rattle.boot_words.specs.Seats.{zone_of_boot}
 use Rattle.boot_words.proofs.Away.{away_stays}
 use Rattle.frame_word.specs.declared.answers.Get as gets
 use Rattle.frame_word.specs.declared.answers.Get.TheVariants as said
-use Rattle.boot_words.specs.Calls.{GetsReference, CpuMakes}
-use Rattle.boot_words.specs.Cpus.{IsAwayCpu, KnownCpuSeat, SawLast}
+use Rattle.boot_words.specs.{GetsReference, CpuMakes, IsAwayCpu, KnownCpuSeat, SawLast}
 use Rattle.boot_words.proofs.Growing.{fast_hold}
 use Rattle.boot_words.proofs.Prepaying.{saw_still}
 

@@ -4,15 +4,13 @@ use Rattle.std.specs.Prelude.{nat_le, nat_lt, not}
 use Rattle.std.proofs.lemmas.Bool.{ne_eqb}
 use Rattle.step_rules.specs.declared.step.Action.{Action}
 use Rattle.step_rules.specs.declared.step.Action.TheVariants.{Get, Put, Consume, Credit}
-use Rattle.step_rules.specs.Phases.{FreshFrame, has_as}
-use Rattle.step_rules.specs.State.{Zone, State, is_cpu, is_frame, is_unheld, may_zone_act, one_if, sum_to, times}
-use Rattle.step_rules.specs.Legal.{is_legal}
-use Rattle.step_rules.specs.After.{Run, state_of, IsLegalRun}
-use Rattle.step_rules.specs.Invariant.{KeepsInvariant}
+use Rattle.step_rules.specs.Phases.{FreshFrame}
+use Rattle.step_rules.specs.{has_as, Zone, is_cpu, is_frame, is_unheld, may_zone_act, one_if, sum_to, times, is_legal, Run, state_of, IsLegalRun}
+use Rattle.step_rules.specs.{KeepsInvariant}
+use Rattle.step_rules.specs.State.{State}
 use Rattle.step_rules.proofs.Freeing.{zone_of_run}
 use Rattle.step_rules.proofs.Runs.{legal_from, sound_run}
-use Rattle.boot_words.specs.Runs.{OthersFollow, IsFast}
-use Rattle.boot_words.specs.Sight.{HasSameLists, FastLegalityLasts}
+use Rattle.boot_words.specs.{OthersFollow, IsFast, HasSameLists, FastLegalityLasts}
 use Rattle.boot_words.proofs.Holding.{take_length}
 use Rattle.boot_words.proofs.Owning.{lists_are_own}
 

@@ -4,20 +4,14 @@ use Rattle.std.proofs.lemmas.Bool.{cases_Bool, ne_eqb}
 use Rattle.step_rules.specs.declared.step.Action.{Action}
 use Rattle.step_rules.specs.declared.step.Action.TheVariants.{Absorb, Fill}
 use Rattle.step_rules.specs.declared.step.Answer.{Answer}
-use Rattle.step_rules.specs.State.{Zone, one_if}
-use Rattle.step_rules.specs.After.{Run, state_of, IsLegalRun}
-use Rattle.step_rules.specs.Views.{holds_lock}
+use Rattle.step_rules.specs.{Zone, one_if, Run, state_of, IsLegalRun, holds_lock}
 use Rattle.step_rules.proofs.Runs.{legal_from}
-use Rattle.boot_words.specs.Hidden.{hide}
-use Rattle.boot_words.specs.Runs.{BooksNothingOf, HasNoStepOf, IsFast, books}
-use Rattle.boot_words.specs.Sight.{HasSameOrDrained}
+use Rattle.boot_words.specs.{hide, BooksNothingOf, HasNoStepOf, IsFast, books, HasSameOrDrained, AreFast, BeginsRun, times_made}
 use Rattle.boot_words.specs.declared.past.Past.{Past}
 use Rattle.boot_words.proofs.Away.{away_stays}
 use Rattle.boot_words.proofs.Draining.{stocks_are_own}
 use Rattle.boot_words.proofs.Hiding.{fast_is_hidden}
 use Rattle.boot_words.proofs.Holding.{allowed_at, append_none, take_length}
-use Rattle.boot_words.specs.Rule.{AreFast, BeginsRun}
-use Rattle.boot_words.specs.Shown.{times_made}
 
 legal_before : (zone : Zone) (xs ys : Run) → IsLegalRun zone (xs ++ ys) → IsLegalRun zone xs
 legal_before zone xs ys legal = subst (IsLegalRun zone) (take_length xs ys) (legal_from zone (xs ++ ys) (length xs) legal)

@@ -5,42 +5,33 @@ use Rattle.std.proofs.lemmas.Bool.{or_left}
 use Rattle.atomic_table.specs.Table.{keeps}
 use Rattle.frame_word.specs.Seats.{KnownTable}
 use Rattle.stock_word.specs.declared.view.Stock.{Stock}
-use Rattle.stock_word.specs.Stock.{HasWord, word_of}
-use Rattle.stock_word.specs.StockRule.{stock_index}
+use Rattle.stock_word.specs.{HasWord, word_of, stock_index}
 use Rattle.step_rules.specs.declared.phase.Hold.TheVariants.{HeldBy, Unheld}
 use Rattle.step_rules.specs.declared.step.Step.{Step}
 use Rattle.step_rules.specs.declared.step.Action.TheVariants.{Lock, Unlock}
 use Rattle.step_rules.specs.declared.step.Answer.{Answer}
 use Rattle.step_rules.specs.declared.step.Answer.TheVariants.{Done}
-use Rattle.step_rules.specs.Phases.{is_passing}
-use Rattle.step_rules.specs.State.{Zone, State, Part, all_to, is_cpu, is_held_by, is_unheld}
-use Rattle.step_rules.specs.Legal.{Allows, is_legal, no_page_pends}
-use Rattle.step_rules.specs.After.{state_of}
-use Rattle.step_rules.specs.Views.{holds_lock, other_part_seen, references_seen_by, seen_by}
+use Rattle.step_rules.specs.{is_passing, Zone, Part, all_to, is_cpu, is_held_by, is_unheld, Allows, is_legal, no_page_pends, state_of, holds_lock}
+use Rattle.step_rules.specs.{other_part_seen, references_seen_by, seen_by}
+use Rattle.step_rules.specs.State.{State}
 use Rattle.step_rules.proofs.CoverParts.{part_seen}
 use Rattle.step_rules.proofs.CoverPhases.{seen_through}
 use Rattle.step_rules.proofs.Freeing.{zone_of_run}
 use Rattle.step_rules.proofs.LegalTests.{unlock_tests}
 use Rattle.step_rules.proofs.Runs.{legal_more, state_more}
 use Rattle.step_rules.proofs.SoundSteps.{cpu_range}
-use Rattle.boot_words.specs.Runs.{OthersFollow, GrewBy, IsLegalLater}
-use Rattle.boot_words.specs.Words.{stock_in}
+use Rattle.boot_words.specs.{OthersFollow, GrewBy, IsLegalLater, stock_in, hide, hide_phase, zone_references, HasSameLists, AllOf, BeginsRun}
+use Rattle.boot_words.specs.{HoldsLock, local_seen, LeavesFree, KnownPasts, IsCpuPast, IsHeld, IsHolder, IsZonePast, MayMake, Unlocks, cpu_past}
+use Rattle.boot_words.specs.{local_by_pasts, first_past, own_past, second_past, zone_of_boot, MayChange, first_alone, rest_of, IsAwayCpu}
 use Rattle.boot_words.proofs.StockSteps.{stock_is_at, stock_low}
-use Rattle.boot_words.specs.Hidden.{hide, hide_phase, zone_references}
-use Rattle.boot_words.specs.Sight.{HasSameLists}
 use Rattle.boot_words.specs.declared.past.Past.{Past}
-use Rattle.boot_words.specs.Rule.{AllOf, BeginsRun}
-use Rattle.boot_words.specs.Held.{HoldsLock, local_seen}
-use Rattle.boot_words.specs.Locks.{LeavesFree}
-use Rattle.boot_words.specs.Pasts.{KnownPasts, IsCpuPast, IsHeld, IsHolder, IsZonePast, Locks, MayMake, Unlocks, cpu_past, local_by_pasts, first_past, own_past, second_past}
-use Rattle.boot_words.specs.Seats.{zone_of_boot, MayChange, first_alone, rest_of}
+use Rattle.boot_words.specs.Pasts.{Locks}
 use Rattle.boot_words.proofs.Grown.{grown, grown_legal}
 use Rattle.boot_words.proofs.Owning.{lists_are_own}
 use Rattle.boot_words.proofs.Resting.{zone_rests}
 use Rattle.boot_words.proofs.Each.{all_at}
 use Rattle.boot_words.proofs.HolderSteps.{same_seen}
 use Rattle.boot_words.specs.declared.word.Word.TheVariants.{Quiet, StockOf}
-use Rattle.boot_words.specs.Cpus.{IsAwayCpu}
 use Rattle.boot_words.proofs.Growing.{free_holder, past_of_run}
 use Rattle.boot_words.proofs.UnderLock.{fits_both, only_holder, plain_step, shows_end, stands_at}
 

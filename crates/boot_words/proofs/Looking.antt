@@ -1,32 +1,24 @@
 -- Loads under the lock that are no step.
 use Rattle.std.proofs.Common.{[], ◌≡◌, ℕ, ◌+◌, ◌<◌, ◌≤◌, true, List, ◌∷◌, refl, ap, sym, ◌∙◌, subst, arith}
 use Rattle.std.specs.Prelude.{slice_index, IfSome}
-use Rattle.frame_word.specs.ReferenceRule.{most_references}
-use Rattle.frame_word.specs.Seats.{KnownTable}
+use Rattle.frame_word.specs.{most_references, KnownTable}
 use Rattle.stock_word.specs.declared.view.Stock.{Stock}
 use Rattle.stock_word.specs.declared.view.Stock.TheVariants.{DrainedOf, HeldBy, NoGroup}
-use Rattle.stock_word.specs.Stock.{HasWord, group_of, word_of}
-use Rattle.stock_word.specs.StockRule.{stock_index}
-use Rattle.step_rules.specs.Phases.{is_live_phase}
-use Rattle.step_rules.specs.State.{State, Zone, live_references}
-use Rattle.step_rules.specs.After.{state_of}
+use Rattle.stock_word.specs.{HasWord, group_of, word_of, stock_index}
+use Rattle.step_rules.specs.{is_live_phase, Zone, live_references, state_of}
+use Rattle.step_rules.specs.State.{State}
 use Rattle.step_rules.proofs.Living.{live_are_referenced}
 use Rattle.step_rules.proofs.Referring.{live_from_one}
-use Rattle.boot_words.specs.Words.{stock_in}
-use Rattle.boot_words.specs.Held.{local_seen}
+use Rattle.boot_words.specs.{stock_in, local_seen, AllOf, BeginsRun, frame_base, words_in, LeavesFree, KnownPasts, IsHeld, IsHolder, IsZonePast}
+use Rattle.boot_words.specs.{cpu_past, local_by_pasts, own_past, zone_of_boot, MayChange, LoadsReferences}
 use Rattle.boot_words.specs.declared.past.Past.{Past}
-use Rattle.boot_words.specs.Rule.{AllOf, BeginsRun, frame_base, words_in}
 use Rattle.boot_words.proofs.Each.{all_at}
 use Rattle.boot_words.proofs.Growing.{past_of_run}
 use Rattle.boot_words.proofs.Resting.{zone_rests}
-use Rattle.boot_words.specs.Locks.{LeavesFree}
-use Rattle.boot_words.specs.Pasts.{KnownPasts, IsHeld, IsHolder, IsZonePast, cpu_past, local_by_pasts, own_past}
-use Rattle.boot_words.specs.Seats.{zone_of_boot, MayChange}
 use Rattle.boot_words.proofs.WordCounts.{live_word}
 use Rattle.boot_words.proofs.Following.{stands_in}
 use Rattle.boot_words.proofs.Parts.{frame_reads}
 use Rattle.boot_words.specs.declared.word.Word.TheVariants.{OfFrame, StockOf}
-use Rattle.boot_words.specs.Looking.{LoadsReferences}
 use Rattle.boot_words.proofs.Fast.{stays}
 use Rattle.boot_words.proofs.Visiting.{cpu_of_held, stock_held}
 use Rattle.boot_words.proofs.Drains.{StockFound, stock_found}

@@ -4,11 +4,8 @@ use Rattle.std.specs.Prelude.{not}
 use Rattle.std.proofs.lemmas.Bool.{cases_Bool, ne_eqb, eq-eqb}
 use Rattle.step_rules.specs.declared.step.Step.{Step}
 use Rattle.step_rules.specs.declared.step.Answer.{Answer}
-use Rattle.step_rules.specs.State.{one_if}
-use Rattle.step_rules.specs.After.{Run}
-use Rattle.boot_words.specs.Runs.{HasNoStepOf}
-use Rattle.boot_words.specs.Growth.{changes_nothing, changes_of, IsRunWithout, HasInOrder, AreChangesOf}
-use Rattle.boot_words.specs.Rule.{AllOf}
+use Rattle.step_rules.specs.{one_if, Run}
+use Rattle.boot_words.specs.{HasNoStepOf, changes_nothing, changes_of, IsRunWithout, HasInOrder, AreChangesOf, AllOf}
 use Rattle.boot_words.proofs.Holding.{append_none}
 
 -- ---- how many changes

@@ -9,10 +9,8 @@ use Rattle.step_rules.specs.State.{State, Part, front_of, with_at, without, with
 use Rattle.step_rules.specs.After.{after, credited, paid, state_of, with_back}
 use Rattle.step_rules.proofs.Basics.{at_same}
 use Rattle.step_rules.proofs.Runs.{state_more}
-use Rattle.boot_words.specs.Runs.{IsFast}
-use Rattle.boot_words.specs.Sight.{HasSameLists}
+use Rattle.boot_words.specs.{IsFast, HasSameLists, OwnPartFollows}
 use Rattle.boot_words.proofs.Owning.{lists_are_own}
-use Rattle.boot_words.specs.Own.{OwnPartFollows}
 
 -- the references of the seat, after its references on one frame became those
 own_references : (s t : State) (q f : ℕ) (change : ℕ → ℕ) → t.references q ≡ s.references q

@@ -9,8 +9,7 @@ use Rattle.step_rules.specs.State.{Zone, State, Part, with_at, at_boot}
 use Rattle.step_rules.specs.After.{Run, after, state_of, with_back, absorbed, filled, drained}
 use Rattle.step_rules.proofs.Basics.{at_other, at_each}
 use Rattle.step_rules.proofs.Runs.{next, after_illegal}
-use Rattle.boot_words.specs.Runs.{HasNoStepOf, OthersFollow}
-use Rattle.boot_words.specs.Sight.{ListsAreOwn}
+use Rattle.boot_words.specs.{HasNoStepOf, OthersFollow, ListsAreOwn}
 
 -- the lists of a part
 abbrev pub lists_in : Part → List ℕ × (List ℕ × List ℕ)

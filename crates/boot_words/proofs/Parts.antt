@@ -3,8 +3,7 @@ use Rattle.std.proofs.Common.{◌≡◌, ℕ, ◌+◌, ◌≤◌, List, drop, se
 use Rattle.std.specs.Prelude.{slice_index}
 use Rattle.std.proofs.lemmas.List.{drop-set-add, get_or-drop, take-set-le}
 use Rattle.step_rules.specs.State.{Zone}
-use Rattle.boot_words.specs.Words.{with_frame_word}
-use Rattle.boot_words.specs.Rule.{frame_base, words_in}
+use Rattle.boot_words.specs.{with_frame_word, frame_base, words_in}
 
 base_low : (a f : ℕ) → a ≤ a + f
 base_low a f = omega arith

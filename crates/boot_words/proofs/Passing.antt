@@ -11,9 +11,8 @@ use Rattle.step_rules.specs.declared.step.Action.TheVariants.{OpenVisit, ShutVis
 use Rattle.step_rules.specs.declared.step.Answer.TheVariants.{Done}
 use Rattle.step_rules.specs.Phases.{ListFrame, FreshFrame, is_live_phase, has_as, passed_back, collected}
 use Rattle.step_rules.specs.Phases as kinds
-use Rattle.step_rules.specs.State.{State, with_at, live_references, one_if, front_of, is_held_by, visits}
-use Rattle.step_rules.specs.Legal.{is_legal}
-use Rattle.step_rules.specs.After.{after, with_listed, without_frame}
+use Rattle.step_rules.specs.State.{State}
+use Rattle.step_rules.specs.{with_at, live_references, one_if, front_of, is_held_by, visits, is_legal, after, with_listed, without_frame}
 use Rattle.step_rules.proofs.Basics.{at_same, at_other}
 use Rattle.step_rules.proofs.LegalTests.{pass_out_tests, take_in_tests, pass_back_tests, collect_tests, open_visit_tests, shut_visit_tests}
 use Rattle.step_rules.proofs.PhaseLemmas.{out_is, came_back, CameBack, FromList, FromFresh, FromBack, listed_is, fresh_is, back_is, visited}

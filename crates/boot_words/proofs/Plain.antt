@@ -14,11 +14,9 @@ use Rattle.step_rules.specs.declared.step.Action.{Action}
 use Rattle.step_rules.specs.declared.step.Action.TheVariants.{Lock, Unlock, PlaceBlock, Return}
 use Rattle.step_rules.specs.declared.step.Answer.{Answer}
 use Rattle.step_rules.specs.declared.step.Answer.TheVariants.{Illegal, Done, Placed}
-use Rattle.step_rules.specs.Phases.{is_free, unit_of}
-use Rattle.step_rules.specs.State.{State, Part, free_in, is_unheld, is_held_by, live_references, one_if, visits}
-use Rattle.step_rules.specs.Legal.{is_legal, IsAnswer}
-use Rattle.step_rules.specs.After.{after, placed_phase, state_of, unit_size, with_block, without_unit}
-use Rattle.step_rules.specs.Invariant.{KeepsInvariant}
+use Rattle.step_rules.specs.{is_free, unit_of, Part, free_in, is_unheld, is_held_by, live_references, one_if, visits, is_legal, IsAnswer, after}
+use Rattle.step_rules.specs.{placed_phase, state_of, unit_size, with_block, without_unit, KeepsInvariant}
+use Rattle.step_rules.specs.State.{State}
 use Rattle.step_rules.proofs.LegalTests.{lock_tests, unlock_tests, return_tests}
 use Rattle.step_rules.proofs.PhaseLemmas.{is_quiet, is_quiet_stage, returning_is, Returns, AsEnded, AsKilled}
 use Rattle.step_rules.proofs.Placing.{block_free, in_block, in_unit, off_block, off_unit, within_cases}

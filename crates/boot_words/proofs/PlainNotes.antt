@@ -7,16 +7,12 @@ use Rattle.step_rules.specs.declared.step.Action.{Action}
 use Rattle.step_rules.specs.declared.step.Action.TheVariants.{Lock}
 use Rattle.step_rules.specs.declared.step.Answer.{Answer}
 use Rattle.step_rules.specs.State.{State}
-use Rattle.step_rules.specs.Legal.{Allows, IsAnswer, IsCounted}
-use Rattle.step_rules.specs.After.{state_of}
-use Rattle.step_rules.specs.Laws.{IsLocalStep}
+use Rattle.step_rules.specs.{Allows, IsAnswer, IsCounted, state_of, IsLocalStep}
 use Rattle.step_rules.proofs.LocalLaws.{made_allows}
 use Rattle.step_rules.proofs.Own.{own_answer}
 use Rattle.step_rules.proofs.Runs.{legal_more, sound_run}
-use Rattle.boot_words.specs.Steps.{IsPlain}
+use Rattle.boot_words.specs.{IsPlain, KnownPasts, IsHeld, cpu_past, local_by_pasts, own_past, zone_of_boot, MayChange}
 use Rattle.boot_words.specs.declared.past.Past.{Past}
-use Rattle.boot_words.specs.Pasts.{KnownPasts, IsHeld, cpu_past, local_by_pasts, own_past}
-use Rattle.boot_words.specs.Seats.{zone_of_boot, MayChange}
 use Rattle.boot_words.proofs.Grown.{grown}
 use Rattle.boot_words.proofs.HolderSteps.{legal_now, next_holds}
 use Rattle.boot_words.specs.declared.word.Word.TheVariants.{Quiet}

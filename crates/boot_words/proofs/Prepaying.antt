@@ -9,35 +9,25 @@ use Rattle.atomic_table.specs.Table.{State as Board}
 use Rattle.atomic_table.proofs.Lists.{exchanged}
 use Rattle.stock_word.specs.declared.view.Stock.{Stock}
 use Rattle.stock_word.specs.declared.view.Stock.TheVariants.{NoGroup, HeldBy, DrainedOf}
-use Rattle.stock_word.specs.Stock.{HasWord, drained_of, word_of}
-use Rattle.stock_word.specs.StockRule.{stock_index}
+use Rattle.stock_word.specs.{HasWord, drained_of, word_of, stock_index}
 use Rattle.stock_word.proofs.Stocks.{held_word}
 use Rattle.step_rules.specs.declared.step.Action.{Action}
 use Rattle.step_rules.specs.declared.step.Action.TheVariants.{Consume, Credit}
 use Rattle.step_rules.specs.declared.step.Answer.{Answer}
 use Rattle.step_rules.specs.declared.step.Answer.TheVariants.{Drained, Stocked, Took}
-use Rattle.step_rules.specs.State.{Part, State, Zone, one_if, times}
-use Rattle.step_rules.specs.Legal.{is_legal}
-use Rattle.step_rules.specs.After.{Run, state_of, IsLegalRun}
-use Rattle.step_rules.specs.Views.{holds_lock}
-use Rattle.step_rules.specs.Invariant.{KeepsInvariant}
+use Rattle.step_rules.specs.{Part, Zone, one_if, times, is_legal, Run, state_of, IsLegalRun, holds_lock, KeepsInvariant}
+use Rattle.step_rules.specs.State.{State}
 use Rattle.step_rules.specs.Phases.{FreshFrame}
 use Rattle.step_rules.proofs.Freeing.{zone_of_run}
 use Rattle.step_rules.proofs.LegalTests.{credit_tests}
 use Rattle.step_rules.proofs.Runs.{sound_run}
-use Rattle.boot_words.specs.Runs.{IsFast}
-use Rattle.boot_words.specs.Sight.{HasSameOrDrained}
-use Rattle.boot_words.specs.Words.{IsRunOf, stock_in, stock_said, with_stock_word}
-use Rattle.boot_words.specs.Steps.{ChangesWords, stock_word_at}
+use Rattle.boot_words.specs.{IsFast, HasSameOrDrained, IsRunOf, stock_in, stock_said, with_stock_word, ChangesWords, stock_word_at, words_in}
+use Rattle.boot_words.specs.{run_rule, MayDo, first_past, own_past, zone_of_boot, MayChange, Exchanges, IsAwayCpu, KnownCpuSeat, SawLast}
 use Rattle.boot_words.specs.declared.past.Past.{Past}
-use Rattle.boot_words.specs.Rule.{words_in, run_rule}
 use Rattle.boot_words.proofs.Away.{away_stays}
 use Rattle.boot_words.proofs.StockSteps.{stock_is_at, stock_low, stock_words_set}
 use Rattle.boot_words.specs.declared.word.Word.TheVariants.{StockOf}
 use Rattle.frame_word.specs.Seats.{KnownTable}
-use Rattle.boot_words.specs.Pasts.{MayDo, first_past, own_past}
-use Rattle.boot_words.specs.Seats.{zone_of_boot, MayChange}
-use Rattle.boot_words.specs.Cpus.{Exchanges, IsAwayCpu, KnownCpuSeat, SawLast}
 use Rattle.boot_words.proofs.Calling.{made}
 use Rattle.boot_words.proofs.Fast.{Leaves, Made, legal_still, makes_on, past_begins}
 use Rattle.boot_words.proofs.Booking.{AreSmall}

@@ -4,9 +4,8 @@ use Rattle.std.proofs.lemmas.Bool.{cases_eq, cond-false, cond-true, ne_eqb}
 use Rattle.step_rules.specs.declared.step.Action.TheVariants.{Put}
 use Rattle.step_rules.specs.declared.step.Answer.TheVariants.{Left, Last}
 use Rattle.step_rules.specs.State.{Zone}
-use Rattle.boot_words.specs.Words.{Words, with_frame_word}
-use Rattle.boot_words.specs.Steps.{ChangesWords, frame_word_at}
-use Rattle.boot_words.specs.Held.{put_answer_at}
+use Rattle.boot_words.specs.Words.{Words}
+use Rattle.boot_words.specs.{with_frame_word, ChangesWords, frame_word_at, put_answer_at}
 
 -- ---- the answer by the word
 pub less_one : (x : ℕ) → 1 ≤ x → x < 18446744073709551616 → (x + (2 ^ 64 - 1)) % 2 ^ 64 ≡ x - 1

@@ -6,8 +6,7 @@ use lib.ListN.{get_elem?}
 use Rattle.frame_word.specs.Seats.{KnownWords}
 use Rattle.frame_word.proofs.Notes.{read_at}
 use Rattle.stock_word.specs.StockRule.{report_index, stock_index}
-use Rattle.boot_words.specs.Rule.{frame_base}
-use Rattle.boot_words.specs.Closed.{closed_words}
+use Rattle.boot_words.specs.{frame_base, closed_words}
 use Rattle.boot_words.proofs.Parts.{frame_reads}
 use Rattle.boot_words.proofs.StockSteps.{report_low, stock_is_at, stock_low}
 

@@ -21,12 +21,10 @@ use Rattle.step_rules.specs.declared.phase.Phase.{Phase}
 use Rattle.step_rules.specs.declared.phase.Phase.TheVariants.{InZone, Lent, Head, Tail}
 use Rattle.step_rules.specs.declared.step.Action.{Action}
 use Rattle.step_rules.specs.declared.step.Answer.{Answer}
-use Rattle.step_rules.specs.Phases.{BackFrame, FreshFrame, Kind, ListFrame, has_as, is_live_phase, passes_back, passes_out}
-use Rattle.step_rules.specs.State.{State, Zone, frames_of, is_cpu, live_references, one_if, sum_to, times, visits}
-use Rattle.step_rules.specs.After.{Run, state_of, IsLegalRun}
-use Rattle.step_rules.specs.Invariant.{KeepsInvariant, PhasePaid, groups_in}
-use Rattle.step_rules.specs.Lent.{lent_to}
-use Rattle.step_rules.specs.Views.{holds_lock}
+use Rattle.step_rules.specs.Phases.{BackFrame, FreshFrame, ListFrame}
+use Rattle.step_rules.specs.{Kind, has_as, is_live_phase, passes_back, passes_out, Zone, frames_of, is_cpu, live_references, one_if, sum_to, times}
+use Rattle.step_rules.specs.{visits, Run, state_of, IsLegalRun, KeepsInvariant, PhasePaid, groups_in, lent_to, holds_lock}
+use Rattle.step_rules.specs.State.{State}
 use Rattle.step_rules.proofs.Freeing.{zone_of_run}
 use Rattle.step_rules.proofs.Keeping.{homed_run}
 use Rattle.step_rules.proofs.LentTo.{frames_are_lent, frames_pass}
@@ -34,15 +32,13 @@ use Rattle.step_rules.proofs.Living.{live_are_referenced}
 use Rattle.step_rules.proofs.Runs.{sound_run}
 use Rattle.step_rules.proofs.SoundSteps.{cpu_range}
 use Rattle.step_rules.proofs.Sums.{sum_none, sum_only}
-use Rattle.boot_words.specs.Hidden.{hide_phase, hide_stage}
-use Rattle.boot_words.specs.Words.{frame_word, word_in_phase}
+use Rattle.boot_words.specs.{hide_phase, hide_stage, frame_word, word_in_phase, AllOf, frame_base, words_in, BeginsRun, RunRule, of_number}
+use Rattle.boot_words.specs.{ReferenceRuleFollows, borrowed, lent_to_cpu, frame_view_shown, frame_views_shown, is_collect, is_pass_back, is_pass_out}
+use Rattle.boot_words.specs.{is_take_in, is_zone_stage, is_zones, note_shown, owned, stage_lent_to_cpu, times_by_cpu, times_made}
 use Rattle.boot_words.specs.declared.past.Past.{Past}
-use Rattle.boot_words.specs.Rule.{AllOf, frame_base, words_in, BeginsRun, RunRule, of_number}
 use Rattle.boot_words.proofs.WordCounts.{none_live}
 use Rattle.boot_words.proofs.Lasting.{beginning_is_legal}
 use Rattle.boot_words.proofs.Owning.{lists_are_own}
-use Rattle.boot_words.specs.Laws.{ReferenceRuleFollows}
-use Rattle.boot_words.specs.Shown.{borrowed, lent_to_cpu, frame_view_shown, frame_views_shown, is_collect, is_pass_back, is_pass_out, is_take_in, is_zone_stage, is_zones, note_shown, owned, stage_lent_to_cpu, times_by_cpu, times_made}
 use Rattle.boot_words.proofs.Backs.{back_of, backs_are_cpus}
 use Rattle.boot_words.proofs.Counting.{AreBelow, all_low, is_high, is_low, ones}
 use Rattle.boot_words.proofs.Counts.{references_are_own}

@@ -7,10 +7,8 @@ use Rattle.step_rules.specs.declared.phase.Phase.TheVariants.{Head}
 use Rattle.step_rules.specs.declared.step.Action.TheVariants.{Get, Put, Freeze, Unfreeze}
 use Rattle.step_rules.specs.declared.step.Answer.{Answer}
 use Rattle.step_rules.specs.declared.step.Answer.TheVariants.{Done, Held, Zero, Full, Left, Last, Missed}
-use Rattle.step_rules.specs.Phases.{is_live_phase, at_stage, stage_after_last}
-use Rattle.step_rules.specs.State.{State, with_at, live_references}
-use Rattle.step_rules.specs.Legal.{is_legal, get_answer}
-use Rattle.step_rules.specs.After.{after, with_back}
+use Rattle.step_rules.specs.{is_live_phase, at_stage, stage_after_last, with_at, live_references, is_legal, get_answer, after, with_back}
+use Rattle.step_rules.specs.State.{State}
 use Rattle.step_rules.proofs.Basics.{at_same, at_other}
 use Rattle.step_rules.proofs.LegalTests.{get_tests, put_tests, freeze_tests, unfreeze_tests}
 use Rattle.step_rules.proofs.Living.{sum_changed}

@@ -12,21 +12,15 @@ use Rattle.step_rules.specs.declared.step.Action.{Action}
 use Rattle.step_rules.specs.declared.step.Action.TheVariants.{Get, Put}
 use Rattle.step_rules.specs.declared.step.Answer.{Answer}
 use Rattle.step_rules.specs.declared.step.Answer.TheVariants.{Held, Zero, Full, Left, Last}
-use Rattle.step_rules.specs.State.{Zone, live_references, one_if}
-use Rattle.step_rules.specs.Legal.{get_answer, is_legal}
-use Rattle.step_rules.specs.After.{Run, state_of, IsLegalRun}
-use Rattle.step_rules.specs.Views.{holds_lock}
+use Rattle.step_rules.specs.{Zone, live_references, one_if, get_answer, is_legal, Run, state_of, IsLegalRun, holds_lock}
 use Rattle.step_rules.proofs.Freeing.{zone_of_run}
 use Rattle.step_rules.proofs.LegalTests.{put_tests}
 use Rattle.step_rules.proofs.Referring.{live_from_one, seat_there}
 use Rattle.step_rules.proofs.SoundSteps.{below_frames}
 use Rattle.step_rules.proofs.Sums.{sum_part}
-use Rattle.boot_words.specs.Words.{Words, IsRunOf, frame_word, with_frame_word}
-use Rattle.boot_words.specs.Steps.{ChangesWords, frame_word_at}
-use Rattle.boot_words.specs.Held.{put_answer_at}
-use Rattle.boot_words.specs.Rule.{frame_base, words_in, HasLock, BeginsRun}
-use Rattle.boot_words.specs.Growth.{SeesMore}
-use Rattle.boot_words.specs.Runs.{HasNoStepOf, OthersFollow}
+use Rattle.boot_words.specs.Words.{Words}
+use Rattle.boot_words.specs.{IsRunOf, frame_word, with_frame_word, ChangesWords, frame_word_at, put_answer_at, frame_base, words_in, HasLock}
+use Rattle.boot_words.specs.{BeginsRun, SeesMore, HasNoStepOf, OthersFollow, MayChange, RacesAt}
 use Rattle.boot_words.specs.declared.past.Past.{Past}
 use Rattle.boot_words.proofs.Holding.{append_none}
 use Rattle.boot_words.proofs.Lasting.{fast_legality_lasts}
@@ -35,8 +29,6 @@ use Rattle.boot_words.proofs.Following.{stands_in}
 use Rattle.boot_words.proofs.Parts.{frame_reads, words_set}
 use Rattle.boot_words.proofs.Putting.{less_one, put_changes}
 use Rattle.boot_words.specs.declared.word.Word.TheVariants.{OfFrame}
-use Rattle.boot_words.specs.Seats.{MayChange}
-use Rattle.boot_words.specs.Calls.{RacesAt}
 use Rattle.boot_words.proofs.Booking.{AreSmall}
 use Rattle.boot_words.proofs.Fast.{Leaves, Made, legal_still, makes, past_begins, sees_run}
 use Rattle.boot_words.proofs.Growing.{none_both}

@@ -7,20 +7,14 @@ use Rattle.step_rules.specs.declared.step.Step.{Step}
 use Rattle.step_rules.specs.declared.step.Answer.{Answer}
 use Rattle.step_rules.specs.declared.step.Action.{Action}
 use Rattle.step_rules.specs.declared.step.Action.TheVariants.{Lock, Unlock, OpenVisit, ShutVisit, Get, Put, Freeze, Unfreeze, PassOut, TakeIn, PassBack, Collect, Consume, Credit, Report, Absorb, Fill, DrainStock, Grant, Ungrant, PlaceBlock, Publish, Return, Note, NoteGroupKill, SetMax, SetFlag, Make, Remove, Kill}
-use Rattle.step_rules.specs.State.{Zone, State, is_unheld, may_zone_act, visits}
-use Rattle.step_rules.specs.Legal.{is_legal, Allows}
-use Rattle.step_rules.specs.After.{Run, after, state_of, IsLegalRun}
-use Rattle.step_rules.specs.Laws.{is_of_lock}
-use Rattle.step_rules.specs.Invariant.{KeepsInvariant}
+use Rattle.step_rules.specs.{Zone, is_unheld, may_zone_act, visits, is_legal, Allows, Run, after, state_of, IsLegalRun, is_of_lock, KeepsInvariant}
+use Rattle.step_rules.specs.State.{State}
 use Rattle.step_rules.proofs.LegalTests.{open_visit_tests, shut_visit_tests, freeze_tests, unfreeze_tests, pass_out_tests, take_in_tests, pass_back_tests, collect_tests, report_tests, absorb_tests, fill_tests, drain_stock_tests, grant_tests, ungrant_tests, place_block_tests, publish_tests, return_tests, set_max_tests, set_flag_tests, make_tests, remove_tests, kill_tests}
 use Rattle.step_rules.proofs.PhaseLemmas.{unheld_visit, visited}
 use Rattle.step_rules.proofs.Runs.{after_illegal, allowed, legal_from, sound_run, state_more}
-use Rattle.boot_words.specs.Runs.{HasNoStepOf, IsFast}
-use Rattle.boot_words.specs.Hidden.{hide}
+use Rattle.boot_words.specs.{HasNoStepOf, IsFast, hide, LeavesLock, ZoneRests}
 use Rattle.boot_words.proofs.Hiding.{fast_is_hidden}
 use Rattle.boot_words.proofs.Holding.{allowed_at, append_none, take_length}
-use Rattle.boot_words.specs.Rule.{LeavesLock}
-use Rattle.boot_words.specs.Locks.{ZoneRests}
 
 no_zone : (hold : Hold) (q : ℕ) → is_unheld hold ≡ true → may_zone_act hold q ≡ true → ⊥
 no_zone hold q free may = false≢true (sym (ap not free) ∙ (and_parts (q == 0) (not (is_unheld hold)) may).1)

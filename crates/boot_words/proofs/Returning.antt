@@ -4,10 +4,8 @@ use Rattle.std.proofs.lemmas.Bool.{lt-ltb, or_left, or_right}
 use Rattle.step_rules.specs.declared.step.Action.TheVariants.{PassBack}
 use Rattle.step_rules.specs.Phases.{ListFrame, FreshFrame, has_as, is_free}
 use Rattle.step_rules.specs.Phases as kinds
-use Rattle.step_rules.specs.State.{State, Part, front_of, is_cpu, is_frame, is_held_by, visits}
-use Rattle.step_rules.specs.Legal.{is_legal, is_passable}
-use Rattle.step_rules.specs.After.{state_of}
-use Rattle.step_rules.specs.Invariant.{KeepsInvariant, IsHomed}
+use Rattle.step_rules.specs.State.{State}
+use Rattle.step_rules.specs.{Part, front_of, is_cpu, is_frame, is_held_by, visits, is_legal, is_passable, state_of, KeepsInvariant, IsHomed}
 use Rattle.step_rules.proofs.CoverParts.{own_part}
 use Rattle.step_rules.proofs.Keeping.{homed_run}
 use Rattle.step_rules.proofs.Lists.{one_if_true}

@@ -6,29 +6,21 @@ use Rattle.step_rules.specs.declared.step.Step.{Step}
 use Rattle.step_rules.specs.declared.step.Action.TheVariants.{Lock}
 use Rattle.step_rules.specs.declared.step.Answer.{Answer}
 use Rattle.step_rules.specs.declared.step.Answer.TheVariants.{Done}
-use Rattle.step_rules.specs.State.{State, Zone, is_cpu, is_unheld}
-use Rattle.step_rules.specs.After.{state_of, IsLegalRun}
-use Rattle.step_rules.specs.Views.{holds_lock}
+use Rattle.step_rules.specs.State.{State}
+use Rattle.step_rules.specs.{Zone, is_cpu, is_unheld, state_of, IsLegalRun, holds_lock}
 use Rattle.step_rules.proofs.CoverParts.{own_part}
 use Rattle.step_rules.proofs.Runs.{legal_from, state_more}
-use Rattle.boot_words.specs.Growth.{SeesMore}
-use Rattle.boot_words.specs.Hidden.{hide}
-use Rattle.boot_words.specs.Locks.{LeavesFree}
-use Rattle.boot_words.specs.Runs.{HasNoStepOf}
-use Rattle.boot_words.specs.Sight.{HasSameLists}
-use Rattle.boot_words.specs.Words.{stock_in}
+use Rattle.boot_words.specs.{SeesMore, hide, LeavesFree, HasNoStepOf, HasSameLists, stock_in, AllOf, BeginsRun, KnownPasts, IsCpuPast, IsZonePast}
+use Rattle.boot_words.specs.{Meets, cpu_past, first_past, local_by_pasts, own_past, second_past, zone_of_boot, MayChange, first_alone, rest_of}
+use Rattle.boot_words.specs.{IsAwayCpu, KnownCpuSeat, SawLast, cpu_at_first, cpus_at_first}
 use Rattle.boot_words.specs.declared.past.Past.{Past}
-use Rattle.boot_words.specs.Rule.{AllOf, BeginsRun}
-use Rattle.boot_words.specs.Pasts.{KnownPasts, IsCpuPast, IsZonePast, Locks, Meets, cpu_past, first_past, local_by_pasts, own_past, second_past}
-use Rattle.boot_words.specs.Seats.{zone_of_boot, MayChange, first_alone, rest_of}
+use Rattle.boot_words.specs.Pasts.{Locks}
 use Rattle.boot_words.proofs.Away.{away_stays}
 use Rattle.boot_words.proofs.Holding.{take_length}
 use Rattle.boot_words.proofs.Owning.{lists_are_own}
 use Rattle.boot_words.proofs.Resting.{zone_rests}
 use Rattle.boot_words.proofs.Each.{all_at}
 use Rattle.boot_words.specs.declared.word.Word.TheVariants.{Quiet}
-use Rattle.boot_words.specs.Cpus.{IsAwayCpu, KnownCpuSeat, SawLast}
-use Rattle.boot_words.specs.Opening.{cpu_at_first, cpus_at_first}
 use Rattle.boot_words.proofs.Fast.{sees_run}
 use Rattle.boot_words.proofs.Growing.{past_of_run}
 use Rattle.boot_words.proofs.Locking.{Takes, in_range, locked, not_none}

@@ -6,9 +6,8 @@ use Rattle.frame_word.specs.Totals.{join_of, split_of, sum_over, total_over}
 use Rattle.frame_word.proofs.Totals.{join_totals, total_more, total_set}
 use Rattle.step_rules.specs.State.{Zone}
 use Rattle.boot_words.specs.declared.past.Past.{Past}
-use Rattle.boot_words.specs.Rule.{AllOf, AllPasts, BeginsRun, RunRule, run_rule, of_number}
+use Rattle.boot_words.specs.{AllOf, AllPasts, BeginsRun, RunRule, run_rule, of_number, first_alone, rest_of}
 use Rattle.boot_words.proofs.Each.{all_at, all_set, all_append}
-use Rattle.boot_words.specs.Seats.{first_alone, rest_of}
 
 -- in which seat a past is doesn't matter to the rule
 moved : (zone : Zone) (words : List ℕ) (seats later : List (List Past)) → ((q : ℕ) → total_over (of_number q) later ≡ total_over (of_number q) seats)

@@ -9,16 +9,14 @@ use Rattle.step_rules.specs.declared.phase.Stage.{Stage}
 use Rattle.step_rules.specs.declared.phase.Stage.TheVariants.{FreshAt, FreshPassing, Collected, Bare, Live, BackAt, AwaitsReturn, BackPassing}
 use Rattle.step_rules.specs.declared.phase.Phase.{Phase}
 use Rattle.step_rules.specs.declared.phase.Phase.TheVariants.{InZone, Lent, Head, Tail}
-use Rattle.step_rules.specs.Phases.{FreshFrame, BackFrame, has_as}
-use Rattle.step_rules.specs.State.{State, Part, one_if, with_at, times}
-use Rattle.step_rules.specs.After.{state_of}
-use Rattle.step_rules.specs.Views.{seen_by, phase_seen_by, parts_seen_by, references_seen_by, other_part_seen}
-use Rattle.step_rules.specs.Invariant.{PhasePaid, groups_in, KeepsInvariant}
+use Rattle.step_rules.specs.Phases.{FreshFrame, BackFrame}
+use Rattle.step_rules.specs.{has_as, Part, one_if, with_at, times, state_of, seen_by, phase_seen_by, parts_seen_by, references_seen_by}
+use Rattle.step_rules.specs.{other_part_seen, PhasePaid, groups_in, KeepsInvariant}
+use Rattle.step_rules.specs.State.{State}
 use Rattle.step_rules.proofs.Basics.{at_each, same_state}
 use Rattle.step_rules.proofs.CoverParts.{own_part, other_part, own_reference}
 use Rattle.step_rules.proofs.Runs.{sound_run}
-use Rattle.boot_words.specs.Hidden.{hide, hide_phase, show_own, show_phase, zone_references, group_or_0}
-use Rattle.boot_words.specs.Sight.{HolderSeesBoth}
+use Rattle.boot_words.specs.{hide, hide_phase, show_own, show_phase, zone_references, group_or_0, HolderSeesBoth}
 
 none_back : (h f : ℕ) (part : Part) (unit : ChargedUnit) (stage : Stage) → times f part.back ≡ 0 → Head unit stage ≡ show_phase h part f (Head unit stage)
 none_back h f part unit stage e = ap (λ n. cond (nat_le 1 n) (Head unit (BackAt h)) (Head unit stage)) (sym e)

@@ -5,8 +5,7 @@ use Rattle.step_rules.specs.declared.step.Action.TheVariants.{OpenVisit, ShutVis
 use Rattle.step_rules.specs.declared.step.Answer.{Answer}
 use Rattle.step_rules.specs.declared.step.Answer.TheVariants.{Done, Held, Zero, Full, Left, Last, Missed, Took, Drained, Stocked, Pages}
 use Rattle.step_rules.specs.State.{State}
-use Rattle.step_rules.specs.Legal.{is_legal}
-use Rattle.step_rules.specs.After.{state_of}
+use Rattle.step_rules.specs.{is_legal, state_of}
 use Rattle.step_rules.proofs.Freeing.{zone_of_run}
 use Rattle.boot_words.specs.Words.{Words}
 use Rattle.boot_words.specs.Steps.{ChangesWords, WordsFollow}

@@ -4,18 +4,16 @@ use Rattle.std.specs.Prelude.{slice_set, is_some}
 use Rattle.std.proofs.lemmas.Bool.{leb-true}
 use Rattle.stock_word.specs.declared.view.Stock.{Stock}
 use Rattle.stock_word.specs.declared.view.Stock.TheVariants.{NoGroup, HeldBy, DrainedOf}
-use Rattle.stock_word.specs.Stock.{word_of, HasWord, stock_pages_of, group_of}
-use Rattle.stock_word.specs.StockRule.{stock_index, report_index}
+use Rattle.stock_word.specs.{word_of, HasWord, stock_pages_of, group_of, stock_index, report_index}
 use Rattle.stock_word.proofs.Stocks.{held_word}
 use Rattle.step_rules.specs.declared.phase.Way.TheVariants.{OnList}
 use Rattle.step_rules.specs.declared.phase.Phase.{Phase}
 use Rattle.step_rules.specs.declared.phase.Phase.TheVariants.{Lent}
 use Rattle.step_rules.specs.declared.step.Action.TheVariants.{Consume, Credit, Report, Absorb, Fill, DrainStock}
 use Rattle.step_rules.specs.declared.step.Answer.TheVariants.{Done, Took, Drained, Stocked, Pages}
-use Rattle.step_rules.specs.State.{State, Part, with_at, front_of, is_cpu, live_references}
-use Rattle.step_rules.specs.Legal.{is_legal}
-use Rattle.step_rules.specs.After.{after, paid, credited, consumed, with_report, absorbed, filled, drained}
-use Rattle.step_rules.specs.Invariant.{IsBooked}
+use Rattle.step_rules.specs.State.{State}
+use Rattle.step_rules.specs.{Part, with_at, front_of, is_cpu, live_references, is_legal, after, paid, credited, consumed, with_report, absorbed}
+use Rattle.step_rules.specs.{filled, drained, IsBooked}
 use Rattle.step_rules.proofs.Basics.{at_same, at_other, at_each}
 use Rattle.step_rules.proofs.LegalTests.{consume_tests, credit_tests, report_tests, absorb_tests, fill_tests, drain_stock_tests}
 use Rattle.step_rules.proofs.Passing.{front_listed}

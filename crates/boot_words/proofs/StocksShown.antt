@@ -10,21 +10,16 @@ use Rattle.stock_word.specs.declared.view.Stock.TheVariants.{DrainedOf, HeldBy, 
 use Rattle.stock_word.specs.declared.view.StockAccount.{StockAccount}
 use Rattle.stock_word.specs.Stock.{HasWord, account_of, drained_of, is_held, no_account, stock_account_at, stock_pages_of}
 use Rattle.stock_word.specs.StockRule.{IsOnly, IsStock, StockRule, at_seat, report_index, stock_index}
-use Rattle.step_rules.specs.State.{Part, State, Zone, one_if}
-use Rattle.step_rules.specs.After.{state_of}
-use Rattle.step_rules.specs.Views.{other_part_seen}
+use Rattle.step_rules.specs.{Part, Zone, one_if, state_of, other_part_seen}
+use Rattle.step_rules.specs.State.{State}
 use Rattle.step_rules.proofs.Freeing.{zone_of_run}
 use Rattle.step_rules.proofs.Runs.{sound_run}
 use Rattle.step_rules.proofs.Stocked.{stocks_fit}
-use Rattle.boot_words.specs.Hidden.{hide}
-use Rattle.boot_words.specs.Words.{stock_in, stock_said}
+use Rattle.boot_words.specs.{hide, stock_in, stock_said, AllOf, frame_base, words_in, BeginsRun, RunRule, of_number, SawLast, StockRuleFollows}
+use Rattle.boot_words.specs.{account_shown, stock_view_shown, stock_views_shown}
 use Rattle.boot_words.specs.declared.past.Past.{Past}
-use Rattle.boot_words.specs.Rule.{AllOf, frame_base, words_in, BeginsRun, RunRule, of_number}
 use Rattle.boot_words.proofs.Lasting.{beginning_is_legal}
 use Rattle.boot_words.proofs.Owning.{lists_are_own}
-use Rattle.boot_words.specs.Cpus.{SawLast}
-use Rattle.boot_words.specs.Laws.{StockRuleFollows}
-use Rattle.boot_words.specs.Shown.{account_shown, stock_view_shown, stock_views_shown}
 use Rattle.boot_words.proofs.Counting.{AreBelow, all_low, is_high, is_low, ones}
 use Rattle.boot_words.proofs.Drains.{group_by}
 use Rattle.boot_words.proofs.Left.{cpu_left, zone_left}

@@ -10,19 +10,10 @@ use Rattle.step_rules.specs.declared.step.Step.{Step}
 use Rattle.step_rules.specs.declared.step.Action.{Action}
 use Rattle.step_rules.specs.declared.step.Action.TheVariants.{Fill}
 use Rattle.step_rules.specs.declared.step.Answer.{Answer}
-use Rattle.step_rules.specs.State.{Zone}
-use Rattle.step_rules.specs.Legal.{Allows, is_legal}
-use Rattle.step_rules.specs.After.{after, state_of}
-use Rattle.step_rules.specs.Laws.{ShowsLocal, is_of_lock}
-use Rattle.boot_words.specs.Runs.{OthersFollow}
-use Rattle.boot_words.specs.Words.{IsRunOf}
-use Rattle.boot_words.specs.Steps.{ChangesWords, IsPlain}
-use Rattle.boot_words.specs.Composed.{GrewUnderLock}
-use Rattle.boot_words.specs.Held.{HoldsLock, local_seen}
+use Rattle.step_rules.specs.{Zone, Allows, is_legal, after, state_of, ShowsLocal, is_of_lock}
+use Rattle.boot_words.specs.{OthersFollow, IsRunOf, ChangesWords, IsPlain, GrewUnderLock, HoldsLock, local_seen, AllOf, words_in, BeginsRun, RunRule}
+use Rattle.boot_words.specs.{run_rule, KnownPasts, IsHeld, MakesStep, cpu_past, own_past, zone_of_boot, MayChange}
 use Rattle.boot_words.specs.declared.past.Past.{Past}
-use Rattle.boot_words.specs.Rule.{AllOf, words_in, BeginsRun, RunRule, run_rule}
-use Rattle.boot_words.specs.Pasts.{KnownPasts, IsHeld, MakesStep, cpu_past, own_past}
-use Rattle.boot_words.specs.Seats.{zone_of_boot, MayChange}
 use Rattle.boot_words.proofs.Grown.{grown}
 use Rattle.boot_words.proofs.Plain.{plain_steps_keep_words}
 use Rattle.boot_words.proofs.Each.{all_at}

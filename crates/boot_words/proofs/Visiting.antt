@@ -1,28 +1,21 @@
 -- The visit of the lock's holder, the frames that it hands over, and the pages that its stock pays.
 use Rattle.std.proofs.Common.{◌≡◌, ℕ, ◌+◌, ◌-◌, ◌%◌, ◌^◌, ◌<◌, ◌≤◌, true, List, set, refl, ap, sym, ◌∙◌, subst, arith, inl, inr}
 use Rattle.std.specs.Prelude.{slice_index}
-use Rattle.frame_word.specs.ReferenceRule.{mark, visit_index}
-use Rattle.frame_word.specs.Seats.{KnownTable}
+use Rattle.frame_word.specs.{mark, visit_index, KnownTable}
 use Rattle.stock_word.specs.declared.view.Stock.TheVariants.{HeldBy}
-use Rattle.stock_word.specs.Stock.{HasWord, word_of}
-use Rattle.stock_word.specs.StockRule.{stock_index}
+use Rattle.stock_word.specs.{HasWord, word_of, stock_index}
 use Rattle.step_rules.specs.declared.step.Action.TheVariants.{Collect, Consume, OpenVisit, PassBack, ShutVisit}
 use Rattle.step_rules.specs.declared.step.Answer.TheVariants.{Done, Took}
-use Rattle.step_rules.specs.State.{State, Zone, is_cpu, is_frame}
-use Rattle.step_rules.specs.Legal.{IsAnswer}
-use Rattle.step_rules.specs.After.{state_of}
+use Rattle.step_rules.specs.State.{State}
+use Rattle.step_rules.specs.{Zone, is_cpu, is_frame, IsAnswer, state_of}
 use Rattle.step_rules.proofs.CoverParts.{own_part}
 use Rattle.step_rules.proofs.Freeing.{zone_of_run}
 use Rattle.step_rules.proofs.Keeping.{homed_run}
 use Rattle.step_rules.proofs.LegalTests.{collect_tests, pass_back_tests}
 use Rattle.step_rules.proofs.SoundSteps.{below_frames, cpu_range}
-use Rattle.boot_words.specs.Words.{stock_in, stock_said, with_stock_word}
-use Rattle.boot_words.specs.Steps.{ChangesWords, stock_word_at}
-use Rattle.boot_words.specs.Held.{local_seen}
+use Rattle.boot_words.specs.{stock_in, stock_said, with_stock_word, ChangesWords, stock_word_at, local_seen, frame_base, words_in, KnownPasts, IsHeld}
+use Rattle.boot_words.specs.{IsHolder, MakesStep, MayMake, cpu_past, local_by_pasts, own_past, zone_of_boot, MayChange}
 use Rattle.boot_words.specs.declared.past.Past.{Past}
-use Rattle.boot_words.specs.Rule.{frame_base, words_in}
-use Rattle.boot_words.specs.Pasts.{KnownPasts, IsHeld, IsHolder, MakesStep, MayMake, cpu_past, local_by_pasts, own_past}
-use Rattle.boot_words.specs.Seats.{zone_of_boot, MayChange}
 use Rattle.boot_words.proofs.Parts.{words_set}
 use Rattle.boot_words.proofs.StockSteps.{stock_is_at, stock_low, stock_words_set}
 use Rattle.boot_words.specs.declared.word.Word.TheVariants.{OfFrame, StockOf, VisitOf}

@@ -7,10 +7,8 @@ use Rattle.step_rules.specs.declared.phase.Stage.TheVariants.{FreshPassing, Back
 use Rattle.step_rules.specs.declared.phase.Phase.{Phase}
 use Rattle.step_rules.specs.declared.phase.Phase.TheVariants.{Lent, Head}
 use Rattle.step_rules.specs.declared.step.Answer.TheVariants.{Held, Zero, Full}
-use Rattle.step_rules.specs.Phases.{is_live_phase}
-use Rattle.step_rules.specs.State.{State, live_references, sum_to}
-use Rattle.step_rules.specs.Legal.{get_answer}
-use Rattle.step_rules.specs.Invariant.{KeepsInvariant}
+use Rattle.step_rules.specs.{is_live_phase, live_references, sum_to, get_answer, KeepsInvariant}
+use Rattle.step_rules.specs.State.{State}
 use Rattle.step_rules.proofs.PhaseLemmas.{live_is}
 use Rattle.step_rules.proofs.Referring.{changed, changed_others}
 use Rattle.step_rules.proofs.Sums.{sum_none, sum_same}

@@ -4,8 +4,7 @@ use Rattle.std.specs.Prelude.{slice_index, slice_set}
 use Rattle.std.proofs.lemmas.Bool.{cases_eq}
 use Rattle.frame_word.specs.ReferenceRule.{visit_index}
 use Rattle.stock_word.specs.declared.view.Stock.{Stock}
-use Rattle.stock_word.specs.Stock.{word_of, HasWord}
-use Rattle.stock_word.specs.StockRule.{stock_index, report_index}
+use Rattle.stock_word.specs.{word_of, HasWord, stock_index, report_index}
 use Rattle.step_rules.specs.State.{State, Part}
 use Rattle.boot_words.specs.Words.{AreFrameWords, AreStockWords, frame_word, visit_word, stock_in}
 

@@ -7,8 +7,7 @@ use prog.Atomic.{either}
 use Rattle.atomic_table.proofs.Lists.{exchanged}
 use Rattle.frame_word.specs.Seats.{KnownTable}
 use Rattle.stock_word.specs.declared.view.Stock.TheVariants.{HeldBy}
-use Rattle.stock_word.specs.Stock.{HasWord, word_of}
-use Rattle.stock_word.specs.StockRule.{stock_index}
+use Rattle.stock_word.specs.{HasWord, word_of, stock_index}
 use Rattle.step_rules.specs.declared.step.Action.TheVariants.{Fill, Freeze, Unfreeze}
 use Rattle.step_rules.specs.declared.step.Answer.TheVariants.{Done, Missed}
 use Rattle.step_rules.specs.State.{Part, State, Zone, is_frame}
@@ -16,13 +15,10 @@ use Rattle.step_rules.specs.After.{state_of}
 use Rattle.step_rules.proofs.Freeing.{zone_of_run}
 use Rattle.step_rules.proofs.LegalTests.{freeze_tests, unfreeze_tests}
 use Rattle.step_rules.proofs.SoundSteps.{below_frames}
-use Rattle.boot_words.specs.Words.{Words, with_frame_word}
-use Rattle.boot_words.specs.Steps.{ChangesWords, frame_word_at}
-use Rattle.boot_words.specs.Held.{freeze_answer, local_seen}
+use Rattle.boot_words.specs.Words.{Words}
+use Rattle.boot_words.specs.{with_frame_word, ChangesWords, frame_word_at, freeze_answer, local_seen, frame_base, words_in, KnownPasts, IsHeld}
+use Rattle.boot_words.specs.{MakesStep, MayMake, cpu_past, freeze_said, local_by_pasts, own_past, zone_of_boot, MayChange}
 use Rattle.boot_words.specs.declared.past.Past.{Past}
-use Rattle.boot_words.specs.Rule.{frame_base, words_in}
-use Rattle.boot_words.specs.Pasts.{KnownPasts, IsHeld, MakesStep, MayMake, cpu_past, freeze_said, local_by_pasts, own_past}
-use Rattle.boot_words.specs.Seats.{zone_of_boot, MayChange}
 use Rattle.boot_words.proofs.Parts.{frame_reads, words_set}
 use Rattle.boot_words.proofs.StockSteps.{stock_low, stock_words_set}
 use Rattle.boot_words.specs.declared.word.Word.TheVariants.{OfFrame, StockOf}

@@ -2,14 +2,12 @@
 use Rattle.std.specs.Prelude.{◌≡◌, ◌≢◌, ℕ, ◌<◌, ◌≤◌}
 use Rattle.frame_word.specs.declared.answers.Get.{Get}
 use Rattle.frame_word.specs.declared.answers.Get.TheVariants as gets
-use Rattle.frame_word.specs.ReferenceRule.{most_references}
-use Rattle.frame_word.specs.Seats.{KnownTable}
+use Rattle.frame_word.specs.{most_references, KnownTable}
 use Rattle.step_rules.specs.declared.step.Action.{Action}
 use Rattle.step_rules.specs.declared.step.Action.TheVariants as step
 use Rattle.step_rules.specs.declared.step.Answer.{Answer}
 use Rattle.step_rules.specs.declared.step.Answer.TheVariants.{Full, Held, Zero}
-use Rattle.step_rules.specs.State.{Zone}
-use Rattle.step_rules.specs.After.{Run, state_of, IsLegalRun}
+use Rattle.step_rules.specs.{Zone, Run, state_of, IsLegalRun}
 use Rattle.boot_words.specs.Runs.{GrewBy, OthersFollow}
 use Rattle.boot_words.specs.Words.{frame_word}
 use Rattle.boot_words.specs.declared.past.Past.{Past}

@@ -1,9 +1,7 @@
 -- The end of a table.
 use Rattle.std.specs.Prelude.{[], ◌≡◌, ℕ, ◌≤◌, ◌<◌, ◌++◌, nat_le, List, ◌∷◌}
-use Rattle.frame_word.specs.Seats.{KnownTable, KnownWords}
-use Rattle.frame_word.specs.Totals.{sum_over}
-use Rattle.step_rules.specs.State.{Zone, one_if}
-use Rattle.step_rules.specs.After.{Run, state_of}
+use Rattle.frame_word.specs.{KnownTable, KnownWords, sum_over}
+use Rattle.step_rules.specs.{Zone, one_if, Run, state_of}
 use Rattle.boot_words.specs.Pasts.{IsCpuPast}
 use Rattle.boot_words.specs.Words.{IsRunOf, Words}
 use Rattle.boot_words.specs.declared.past.Past.{Past}

@@ -6,9 +6,8 @@ use Rattle.step_rules.specs.declared.step.Action.{Action}
 use Rattle.step_rules.specs.declared.step.Action.TheVariants.{PassOut, TakeIn, Absorb, Collect, PassBack, Report}
 use Rattle.step_rules.specs.declared.step.Answer.{Answer}
 use Rattle.step_rules.specs.declared.step.Answer.TheVariants.{Done, Pages}
-use Rattle.step_rules.specs.State.{Zone, State}
-use Rattle.step_rules.specs.Legal.{is_legal}
-use Rattle.step_rules.specs.After.{Run, after}
+use Rattle.step_rules.specs.{Zone, is_legal, Run, after}
+use Rattle.step_rules.specs.State.{State}
 use Rattle.boot_words.specs.declared.past.Past.{Past}
 use Rattle.boot_words.specs.Runs.{GrewBy}
 use Rattle.boot_words.specs.Held.{HoldsLock, local_seen}

@@ -13,8 +13,7 @@ use Rattle.step_rules.specs.declared.step.Action.TheVariants as step
 use Rattle.step_rules.specs.declared.step.Answer.{Answer}
 use Rattle.step_rules.specs.declared.step.Answer.TheVariants.{Drained, Stocked, Took}
 use Rattle.step_rules.specs.State.{State}
-use Rattle.step_rules.specs.After.{state_of}
-use Rattle.step_rules.specs.Views.{holds_lock}
+use Rattle.step_rules.specs.{state_of, holds_lock}
 use Rattle.boot_words.specs.Pasts.{KnownPasts, own_past, IsCpuPast}
 use Rattle.boot_words.specs.Seats.{zone_of_boot}
 use Rattle.boot_words.specs.Words.{stock_in}

@@ -3,8 +3,7 @@ use Rattle.std.specs.Prelude.{[], ◌≡◌, ◌≢◌, ◌⊎◌, ℕ, suc, ◌
 use Rattle.step_rules.specs.declared.step.Step.{Step}
 use Rattle.step_rules.specs.declared.step.Answer.{Answer}
 use Rattle.step_rules.specs.declared.step.Answer.TheVariants.{Drained, Full, Illegal, Zero}
-use Rattle.step_rules.specs.State.{Zone, one_if}
-use Rattle.step_rules.specs.After.{Run, state_of, IsLegalRun}
+use Rattle.step_rules.specs.{Zone, one_if, Run, state_of, IsLegalRun}
 use Rattle.boot_words.specs.Runs.{HasNoStepOf, GrewBy}
 use Rattle.boot_words.specs.declared.past.Past.{Past}
 use Rattle.boot_words.specs.Rule.{AllOf, IsPastOf}

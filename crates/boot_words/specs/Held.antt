@@ -2,10 +2,8 @@
 use Rattle.std.specs.Prelude.{◌≡◌, ◌≢◌, ℕ, ◌-◌, ◌==◌, if◌then◌else◌}
 use Rattle.step_rules.specs.declared.step.Answer.{Answer}
 use Rattle.step_rules.specs.declared.step.Answer.TheVariants.{Done, Missed, Left, Last}
-use Rattle.step_rules.specs.State.{Zone, State}
-use Rattle.step_rules.specs.After.{state_of}
-use Rattle.step_rules.specs.Views.{seen_by}
-use Rattle.step_rules.specs.Laws.{ShowsLocal}
+use Rattle.step_rules.specs.{Zone, state_of, seen_by, ShowsLocal}
+use Rattle.step_rules.specs.State.{State}
 use Rattle.boot_words.specs.declared.past.Past.{Past}
 
 -- A CPU holds the lock, and its past is joined with the zone's: both end with the last step of the two, after which the

@@ -6,8 +6,7 @@ use Rattle.stock_word.specs.declared.view.Stock.TheVariants.{NoGroup}
 use Rattle.stock_word.specs.StockRule.{StockRule}
 use Rattle.step_rules.specs.declared.step.Action.TheVariants.{Get}
 use Rattle.step_rules.specs.declared.step.Answer.TheVariants.{Zero}
-use Rattle.step_rules.specs.State.{Zone}
-use Rattle.step_rules.specs.After.{state_of}
+use Rattle.step_rules.specs.{Zone, state_of}
 use Rattle.boot_words.specs.Pasts.{KnownPasts, IsCpuPast, own_past}
 use Rattle.boot_words.specs.Rule.{words_in, RunRule}
 use Rattle.boot_words.specs.Seats.{zone_of_boot}

@@ -1,7 +1,6 @@
 -- Lock and Unlock: a CPU's past is joined with the zone's, and parted from it.
 use Rattle.std.specs.Prelude.{◌≡◌, true}
-use Rattle.step_rules.specs.State.{Zone, is_unheld}
-use Rattle.step_rules.specs.After.{Run, state_of, IsLegalRun}
+use Rattle.step_rules.specs.{Zone, is_unheld, Run, state_of, IsLegalRun}
 use Rattle.boot_words.specs.Hidden.{hide}
 use Rattle.boot_words.specs.declared.past.Past.{Past}
 use Rattle.boot_words.specs.Rule.{IsPastOf}

@@ -1,7 +1,6 @@
 -- What a load shows of the references that CPUs get and put meanwhile.
 use Rattle.std.specs.Prelude.{◌≡◌, ℕ}
-use Rattle.step_rules.specs.State.{Zone, live_references}
-use Rattle.step_rules.specs.After.{Run, state_of, IsLegalRun}
+use Rattle.step_rules.specs.{Zone, live_references, Run, state_of, IsLegalRun}
 use Rattle.boot_words.specs.Runs.{OthersFollow}
 use Rattle.boot_words.specs.declared.past.Past.{Past}
 

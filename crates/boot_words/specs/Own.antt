@@ -2,8 +2,7 @@
 use Rattle.std.specs.Prelude.{◌≢◌}
 use Rattle.step_rules.specs.declared.step.Action.{Action}
 use Rattle.step_rules.specs.declared.step.Answer.{Answer}
-use Rattle.step_rules.specs.State.{Zone}
-use Rattle.step_rules.specs.After.{after, state_of}
+use Rattle.step_rules.specs.{Zone, after, state_of}
 use Rattle.boot_words.specs.Runs.{IsFast, GrewBy}
 use Rattle.boot_words.specs.Sight.{HasSameLists}
 use Rattle.boot_words.specs.declared.past.Past.{Past}

@@ -16,8 +16,7 @@ use Rattle.step_rules.specs.declared.step.Action.TheVariants.{Lock, Unlock}
 use Rattle.step_rules.specs.declared.step.Answer.{Answer}
 use Rattle.step_rules.specs.declared.step.Answer.TheVariants.{Done, Full, Held, Last, Left, Missed, Zero}
 use Rattle.step_rules.specs.State.{State}
-use Rattle.step_rules.specs.Legal.{is_legal}
-use Rattle.step_rules.specs.After.{after, state_of, IsLegalRun}
+use Rattle.step_rules.specs.{is_legal, after, state_of, IsLegalRun}
 use Rattle.boot_words.specs.Hidden.{hide}
 use Rattle.boot_words.specs.Sight.{HasSameLists}
 use Rattle.boot_words.specs.declared.past.Past.{Past}

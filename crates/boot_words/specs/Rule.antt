@@ -1,14 +1,11 @@
 -- The words of the one table, its rule, which keeps a legal run, and what each seat has seen of that run.
 use Rattle.std.specs.Prelude.{[], ◌≡◌, ℕ, ◌+◌, ◌*◌, ◌==◌, false, List, ◌∷◌, take, drop, ◌⊎◌, ◌<◌, nat_le, true, length}
 use Rattle.frame_word.specs.Totals.{total_over}
-use Rattle.step_rules.specs.State.{Zone, one_if}
-use Rattle.step_rules.specs.After.{Run, state_of}
-use Rattle.step_rules.specs.Laws.{is_of_lock}
+use Rattle.step_rules.specs.{Zone, one_if, Run, state_of, is_of_lock, holds_lock}
 use Rattle.boot_words.specs.Runs.{OthersFollow, IsFast}
 use Rattle.boot_words.specs.Words.{Words, IsRunOf}
 use Rattle.boot_words.specs.declared.past.Past.{Past}
 use Rattle.atomic_table.specs.Table.{State as Board}
-use Rattle.step_rules.specs.Views.{holds_lock}
 
 -- The rows of the stocks come first. The first word of row 0 is one that nobody writes: seats that are parted or joined
 -- load it. The words of frames and visits follow.

@@ -2,10 +2,9 @@
 use Rattle.std.specs.Prelude.{[], ◌≡◌, ◌≢◌, ℕ, ◌==◌, ◌++◌, Bool, false, ◌∷◌, ◌+◌}
 use Rattle.step_rules.specs.declared.step.Action.{Action}
 use Rattle.step_rules.specs.declared.step.Action.TheVariants.{Get, Put, Consume, Credit, Absorb, Fill}
-use Rattle.step_rules.specs.After.{Run, IsLegalRun}
+use Rattle.step_rules.specs.{Run, IsLegalRun, Zone}
 use Rattle.step_rules.specs.declared.step.Step.{Step}
 use Rattle.step_rules.specs.declared.step.Answer.{Answer}
-use Rattle.step_rules.specs.State.{Zone}
 use Rattle.boot_words.specs.declared.past.Past.{Past}
 
 -- the past of a seat that has noted no step

@@ -2,8 +2,7 @@
 use Rattle.std.specs.Prelude.{[], ◌≡◌, ℕ, ◌+◌, ◌≤◌, ◌<◌, List, ◌∷◌, zero, suc}
 use Rattle.atomic_table.specs.Seated.{TableId}
 use Rattle.atomic_table.specs.Table.{Allows}
-use Rattle.frame_word.specs.ReferenceRule.{visit_index}
-use Rattle.frame_word.specs.Seats.{KnownTable}
+use Rattle.frame_word.specs.{visit_index, KnownTable}
 use Rattle.stock_word.specs.StockRule.{stock_index}
 use Rattle.step_rules.specs.State.{Zone}
 use Rattle.boot_words.specs.declared.word.Word.{Word}

@@ -14,9 +14,8 @@ use Rattle.step_rules.specs.declared.step.Action.{Action}
 use Rattle.step_rules.specs.declared.step.Action.TheVariants.{Collect, PassBack, PassOut, TakeIn}
 use Rattle.step_rules.specs.declared.step.Answer.{Answer}
 use Rattle.step_rules.specs.declared.step.Answer.TheVariants.{Done}
-use Rattle.step_rules.specs.Phases.{BackFrame, FreshFrame, ListFrame, has_as}
-use Rattle.step_rules.specs.State.{Part, Zone, one_if, visits}
-use Rattle.step_rules.specs.After.{Run, state_of}
+use Rattle.step_rules.specs.Phases.{BackFrame, FreshFrame, ListFrame}
+use Rattle.step_rules.specs.{has_as, Part, Zone, one_if, visits, Run, state_of}
 use Rattle.boot_words.specs.Words.{stock_in}
 use Rattle.boot_words.specs.declared.past.Past.{Past}
 

@@ -4,11 +4,9 @@ use Rattle.step_rules.specs.declared.step.Step.{Step}
 use Rattle.step_rules.specs.declared.step.Action.{Action}
 use Rattle.step_rules.specs.declared.step.Action.TheVariants.{PassBack}
 use Rattle.step_rules.specs.declared.step.Answer.{Answer}
-use Rattle.step_rules.specs.State.{Zone, State, Part, front_of, visits, times}
-use Rattle.step_rules.specs.Legal.{is_legal, Allows, IsCounted}
-use Rattle.step_rules.specs.After.{Run, after, state_of, IsLegalRun}
-use Rattle.step_rules.specs.Laws.{ShowsLocal, IsLocalStep, pushed}
-use Rattle.step_rules.specs.Views.{holds_lock, seen_by}
+use Rattle.step_rules.specs.{Zone, Part, front_of, visits, times, is_legal, Allows, IsCounted, Run, after, state_of, IsLegalRun, ShowsLocal}
+use Rattle.step_rules.specs.{IsLocalStep, pushed, holds_lock, seen_by}
+use Rattle.step_rules.specs.State.{State}
 use Rattle.boot_words.specs.Runs.{HasNoStepOf, BooksNothingOf, OthersFollow, IsFast}
 use Rattle.boot_words.specs.Hidden.{hide, show_own}
 

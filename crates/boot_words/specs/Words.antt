@@ -4,8 +4,7 @@ use Rattle.std.specs.Prelude.{◌≡◌, ℕ, ◌+◌, ◌*◌, ◌<◌, ◌≤�
 use Rattle.frame_word.specs.ReferenceRule.{mark, visit_index}
 use Rattle.stock_word.specs.declared.view.Stock.{Stock}
 use Rattle.stock_word.specs.declared.view.Stock.TheVariants.{NoGroup, HeldBy, DrainedOf}
-use Rattle.stock_word.specs.Stock.{word_of, HasWord}
-use Rattle.stock_word.specs.StockRule.{stock_index, report_index}
+use Rattle.stock_word.specs.{word_of, HasWord, stock_index, report_index}
 use Rattle.step_rules.specs.declared.phase.Way.TheVariants.{PassingOut, PassingBack}
 use Rattle.step_rules.specs.declared.phase.Stage.TheVariants.{FreshPassing, BackPassing}
 use Rattle.step_rules.specs.declared.phase.Phase.{Phase}

@@ -2,8 +2,7 @@
 ghost use Rattle.std.specs.Prelude.{◌≡◌, ◌+◌, ◌*◌, ◌<◌, ◌≤◌, ◌++◌, length, slice_index};
 ghost use Rattle.frame_word.specs.ReferenceRule.{visit_index};
 ghost use Rattle.stock_word.specs.declared.view.Stock.{Stock as AStock};
-ghost use Rattle.stock_word.specs.Stock.{word_of, HasWord};
-ghost use Rattle.stock_word.specs.StockRule.{report_index, stock_index};
+ghost use Rattle.stock_word.specs.{word_of, HasWord, report_index, stock_index};
 ghost use Rattle.boot_words.specs.Closed.{closed_words, pasts_of_cpus, HasCpuPast, IsClosedRun};
 ghost use Rattle.boot_words.specs.Pasts.{IsZonePast};
 ghost use Rattle.boot_words.specs.Rule.{AllOf};

@@ -5,8 +5,8 @@ ghost use Rattle.std.specs.Mem.Slots.{slots_items, slots_len, IsFull};
 ghost use prog.Atomic.{either};
 ghost use Rattle.boot_words.specs.Rule.{word_count, run_rule};
 ghost use Rattle.boot_words.specs.Seats.{zone_of_boot};
-ghost use Rattle.boot_words.specs.Closed.{IsEndOfRun};
 ghost use Rattle.boot_words.specs.Seats.{all_pasts, first_alone, word_place, rest_of, IsInTable, MayChange};
+ghost use Rattle.boot_words.specs.Closed.{IsEndOfRun};
 
 use crate::past::Past;
 use crate::word::Word;

@@ -1,7 +1,6 @@
 //! What a CPU does with references without the lock: `get` loads and may exchange once, `put` subtracts.
 ghost use Rattle.std.specs.Prelude.{◌≡◌, false};
-ghost use Rattle.step_rules.specs.After.{state_of};
-ghost use Rattle.step_rules.specs.Views.{holds_lock};
+ghost use Rattle.step_rules.specs.{state_of, holds_lock};
 ghost use Rattle.step_rules.specs.declared.step.Action.TheVariants as step;
 ghost use Rattle.boot_words.specs.Pasts.{own_past, put_said, IsCpuPast, MayDo};
 ghost use Rattle.boot_words.specs.Seats.{zone_of_boot};

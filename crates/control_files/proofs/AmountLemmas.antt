@@ -11,8 +11,7 @@ use Rattle.std.proofs.lemmas.Bool.Decides.{nat_tests}
 use Rattle.std.proofs.lemmas.List.{take-append-drop}
 use Rattle.control_files.proofs.Runs.{and_parts, same_front, front_passes, rest_outside}
 use Rattle.control_files.proofs.GrammarLemmas.{double_not, all_digits_pass, suffix_outside, factor_positive}
-use Rattle.control_files.specs.Limit.{IsSuffix, IsAmount}
-use Rattle.control_files.specs.Reading.{SplitsDigits, IsAmountReading}
+use Rattle.control_files.specs.{IsSuffix, IsAmount, SplitsDigits, IsAmountReading}
 
 passing_digit : (c : ℕ) → is_ascii_digit c ≡ true → digit_value c < 10
 passing_digit c h = grind (arith, nat_tests)

@@ -5,9 +5,7 @@ use Rattle.std.specs.Borrow.{Bor}
 use Rattle.std.specs.Str.{bytes_eq}
 use Rattle.group_tree.specs.declared.fault.Fault.{Fault}
 use Rattle.group_tree.specs.declared.fault.Fault.TheVariants.{BadLimit}
-use Rattle.control_files.specs.Files.{flag_text}
-use Rattle.control_files.specs.Flag.{flag_word, IsFlagText, IsNoFlagText, IsFlagReading}
-use Rattle.control_files.specs.Reading.{HasNoSpace, HasOnlyWord, IsOnlyWord}
+use Rattle.control_files.specs.{flag_text, flag_word, IsFlagText, IsNoFlagText, IsFlagReading, HasNoSpace, HasOnlyWord, IsOnlyWord}
 use Rattle.control_files.proofs.GrammarLemmas.{same_only_word}
 
 -- each flag has its own word

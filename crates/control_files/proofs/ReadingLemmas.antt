@@ -5,9 +5,8 @@ use Rattle.std.specs.Borrow.{Bor}
 use Rattle.group_tree.specs.declared.fault.Fault.{Fault}
 use Rattle.group_tree.specs.declared.fault.Fault.TheVariants.{BadLimit, BadNumber}
 use Rattle.control_files.proofs.GrammarLemmas.{has_only_word, same_only_word, same_value}
-use Rattle.control_files.specs.Limit.{IsAmount, IsLimitWord, IsLimitText, pages_covering, ReadsAs, IsTooGreat}
-use Rattle.control_files.specs.Limit.{IsNoLimitText}
-use Rattle.control_files.specs.Reading.{HasOnlyWord, IsOnlyWord, IsAmountReading, IsReading}
+use Rattle.control_files.specs.{IsAmount, IsLimitWord, IsLimitText, pages_covering, ReadsAs, IsTooGreat, IsNoLimitText, HasOnlyWord, IsOnlyWord}
+use Rattle.control_files.specs.{IsAmountReading, IsReading}
 
 pub limit_text : (text word : List ℕ) (value : Option ℕ) → HasOnlyWord text word → IsLimitWord word value → IsLimitText text value
 limit_text text word value h word_is = record {

@@ -1,4 +1,4 @@
--- The bytes at the front of a list that pass a test, and the bytes behind them. Serves `only_word` and `split_digits`.
+-- The bytes at the front of a list that pass a test, and the bytes after them. Serves `only_word` and `split_digits`.
 use Rattle.std.proofs.Common.{◌≡◌, ℕ, ◌&&◌, Bool, true, false, not, List, [], ◌∷◌, ◌++◌, length, take, drop, refl, sym, ◌∙◌, ap, arith, one-add}
 use Rattle.control_files.specs.Reading.{BeginsOutside}
 use Rattle.std.specs.Prelude.{◌<◌, ◌≤◌, IsTrue, Option, Some, None, cond, nat_lt, unwrap_or}
@@ -64,7 +64,7 @@ rest_outside_by : (p q : ℕ → Bool) → ((x : ℕ) → not (q x) ≡ p x) →
 rest_outside_by p q opposite x xs true h rest = rw (opposite x) (rw (← h) (rw one-add rest))
 rest_outside_by p q opposite x xs false h rest = rw (opposite x) (rw (← h) (sym h))
 
--- and the first that fails stands behind
+-- and the first that fails comes after
 pub rest_outside : (p q : ℕ → Bool) → ((x : ℕ) → not (q x) ≡ p x) → (xs : List ℕ) → BeginsOutside p (drop (position_or_len q xs) xs)
 rest_outside p q opposite [] = tt
 rest_outside p q opposite (x ∷ xs) = rest_outside_by p q opposite x xs (p x) refl (rest_outside p q opposite xs)

@@ -10,7 +10,7 @@ rest_zeros bytes len more h =
     let left : 256 - len - more ≡ 256 - (len + more) = omega arith in
     sym (drop-drop more len bytes) ∙ (rest ∙ ap (λ n. replicate n 0) left)
 
--- bytes written behind the text have zeros behind them
+-- bytes written after the text have zeros after them
 pub IsPadded-written : (bytes new more : List ℕ) (len : ℕ) → IsPadded 256 bytes len → len + length more ≤ 256 →
     new ≡ take len bytes ++ (more ++ drop (len + length more) bytes) → IsPadded 256 new (len + length more)
 IsPadded-written bytes new more len h fits written = record {

@@ -9,8 +9,7 @@ use Rattle.std.specs.Bool.{then_some}
 use Rattle.std.specs.List.{list_all, position, position_or_len}
 use Rattle.control_files.proofs.Runs.{position_or_len-append, position-found, position-none, front_passes, rest_outside, unwrap_or-position}
 use Rattle.control_files.proofs.GrammarLemmas.{double_not, word_outside, spaces_outside}
-use Rattle.control_files.specs.Limit.{is_space, AreSpaces}
-use Rattle.control_files.specs.Reading.{BeginsOutside, HasOnlyWord, IsOnlyWord}
+use Rattle.control_files.specs.{is_space, AreSpaces, BeginsOutside, HasOnlyWord, IsOnlyWord}
 
 length_positive : (xs : List ℕ) → xs ≢ [] → 0 < length xs
 length_positive [] h = absurd (h refl)
@@ -28,7 +27,7 @@ word_start text word h =
 pub no_word : (text : List ℕ) → position (λ byte. not (is_space byte)) text ≡ None → (word : List ℕ) → ¬ HasOnlyWord text word
 no_word text h word found = omega (arith, word_start text word found, position-none (λ byte. not (is_space byte)) text h)
 
--- the rest behind the white space in front begins with the word, and white space follows
+-- the rest after the white space in front begins with the word, and white space follows
 pub word_rest : (text word : List ℕ) (start : ℕ) → position (λ byte. not (is_space byte)) text ≡ Some start → (h : HasOnlyWord text word) →
     drop start text ≡ word ++ h.after
 word_rest text word start found h =

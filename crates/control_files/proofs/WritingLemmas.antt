@@ -6,8 +6,7 @@ use Rattle.std.specs.Int.{div_ceil}
 use Rattle.std.specs.Str.Parse.{IsNumeral, digits_value}
 use Rattle.std.proofs.lemmas.Bool.Decides.{nat_tests}
 use Rattle.std.proofs.lemmas.Fmt.{decimal_is_IsNumeral}
-use Rattle.control_files.specs.Files.{pages_text, limit_text}
-use Rattle.control_files.specs.Limit.{IsAmount, ReadsAs}
+use Rattle.control_files.specs.{pages_text, limit_text, IsAmount, ReadsAs}
 
 whole_pages : (pages : ℕ) → div_ceil (pages * 4096) 4096 ≡ pages
 whole_pages pages = omega arith

@@ -2,16 +2,14 @@
 use Rattle.std.specs.Prelude.{ℕ, ◌*◌, Bool, true, false, Option, Some, None, Result, Ok, Err, List, ◌++◌, codes}
 use Rattle.std.specs.Fmt.{decimal}
 use Rattle.std.specs.List.{flat_map}
-use Rattle.group_tree.specs.Events.{EventCounts, all_keys, count_of, key_name}
-use Rattle.group_tree.specs.Groups.{is_oom_group, limit_of}
+use Rattle.group_tree.specs.{EventCounts, all_keys, count_of, key_name, is_oom_group, limit_of}
 use Rattle.group_tree.specs.declared.fault.Fault.{Fault}
 use Rattle.group_tree.specs.declared.fault.Fault.TheVariants.{WriteOnly}
 use Rattle.group_charge.specs.Charges.{Ledger, current_of, peak_of, events_of, events_local_of, settings_of}
 use Rattle.control_files.specs.Flag.{flag_word}
 use Rattle.control_files.specs.Limit.{page_bytes}
 use Rattle.control_files.specs.declared.file.File.{File}
-use Rattle.control_files.specs.declared.file.File.TheVariants.{Current, Max, High, Peak}
-use Rattle.control_files.specs.declared.file.File.TheVariants.{Events, EventsLocal, OomGroup, Reclaim}
+use Rattle.control_files.specs.declared.file.File.TheVariants.{Current, Max, High, Peak, Events, EventsLocal, OomGroup, Reclaim}
 
 -- the bytes of a file's name, and whether it can be read and written
 pub record Row : Type 0 where

@@ -1,13 +1,11 @@
 -- What the parts of the reader of limits answer.
-use Rattle.std.specs.Prelude.{◌≡◌, ◌≢◌, ℕ, ◌^◌, ◌<◌, ◌≤◌, ⊤, Bool, false, not, IsTrue, Option, Some, None, Result, Ok}
-use Rattle.std.specs.Prelude.{Err, List, [], ◌∷◌, ◌++◌}
+use Rattle.std.specs.Prelude.{◌≡◌, ◌≢◌, ℕ, ◌^◌, ◌<◌, ◌≤◌, ⊤, Bool, false, not, IsTrue, Option, Some, None, Result, Ok, Err, List, [], ◌∷◌, ◌++◌}
 use Rattle.std.specs.Char.{is_ascii_digit}
 use Rattle.std.specs.List.{list_all}
 use Rattle.std.specs.Str.Parse.{AllDigits}
 use Rattle.group_tree.specs.declared.fault.Fault.{Fault}
 use Rattle.group_tree.specs.declared.fault.Fault.TheVariants.{BadLimit, BadNumber}
-use Rattle.control_files.specs.Limit.{is_space, AreSpaces, IsAmount, ReadsAmount, ReadsAs, IsTooGreat, IsNoAmountText}
-use Rattle.control_files.specs.Limit.{IsNoLimitText}
+use Rattle.control_files.specs.Limit.{is_space, AreSpaces, IsAmount, ReadsAmount, ReadsAs, IsTooGreat, IsNoAmountText, IsNoLimitText}
 
 -- none of the bytes is white space
 abbrev pub HasNoSpace : List ℕ → Type 0

@@ -2,9 +2,7 @@
 use Rattle.std.proofs.Common.{[], ◌∷◌, ◌∙◌, refl, sym}
 use Rattle.frame_word.specs.Seats.{KnownTable}
 use Rattle.step_rules.specs.After.{Run}
-use Rattle.boot_words.specs.Composed.{GrewInTurn, MakesInTurn}
-use Rattle.boot_words.specs.Pasts.{KnownPasts, IsHeld, cpu_past, own_past}
-use Rattle.boot_words.specs.Seats.{zone_of_boot}
+use Rattle.boot_words.specs.{GrewInTurn, MakesInTurn, KnownPasts, IsHeld, cpu_past, own_past, zone_of_boot}
 use Rattle.cpu_part.specs.Made.{MakesAll}
 
 made_each : (t : KnownTable) (later : KnownPasts) (now : IsHeld t later) (steps : Run) (s : KnownPasts) → IsHeld t s

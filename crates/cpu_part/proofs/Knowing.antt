@@ -12,21 +12,14 @@ use Rattle.step_rules.specs.declared.step.Action.{Action}
 use Rattle.step_rules.specs.declared.step.Action.TheVariants.{Get, Put, Consume, Credit}
 use Rattle.step_rules.specs.declared.step.Answer.{Answer}
 use Rattle.step_rules.specs.declared.step.Answer.TheVariants.{Drained, Full, Held, Left, Last, Took, Stocked, Zero}
-use Rattle.step_rules.specs.Invariant.{KeepsInvariant}
-use Rattle.step_rules.specs.Legal.{is_legal}
-use Rattle.step_rules.specs.State.{State, Zone, is_cpu, times}
-use Rattle.step_rules.specs.After.{after}
+use Rattle.step_rules.specs.{KeepsInvariant, is_legal, Zone, is_cpu, times, after}
+use Rattle.step_rules.specs.State.{State}
 use Rattle.step_rules.proofs.Freeing.{zone_of_run}
 use Rattle.step_rules.proofs.Runs.{sound_run}
-use Rattle.boot_words.specs.Runs.{IsFast}
-use Rattle.boot_words.specs.Sight.{HasSameLists}
-use Rattle.boot_words.specs.Pasts.{MayDo, own_past}
-use Rattle.boot_words.specs.Seats.{zone_of_boot}
+use Rattle.boot_words.specs.{IsFast, HasSameLists, MayDo, own_past, zone_of_boot, CpuMakes, GetsReference, Exchanges, IsAwayCpu, KnownCpuSeat}
+use Rattle.boot_words.specs.{state_left}
 use Rattle.boot_words.proofs.OwnParts.{own_part_follows}
-use Rattle.boot_words.specs.Calls.{CpuMakes, GetsReference}
-use Rattle.boot_words.specs.Cpus.{Exchanges, IsAwayCpu, KnownCpuSeat, state_left}
-use Rattle.cpu_part.specs.Cpus.{KnownCpu}
-use Rattle.cpu_part.specs.Known.{HasOwn, KnowsItsPart}
+use Rattle.cpu_part.specs.{KnownCpu, HasOwn, KnowsItsPart}
 use Rattle.cpu_part.proofs.Legal.{fresh_once, legal_consume, legal_credit, legal_get, legal_put, list_inside, listed_once, pin_inside}
 use Rattle.cpu_part.proofs.Owning.{own_credited, own_last, own_left, own_pinned, own_same, own_took}
 

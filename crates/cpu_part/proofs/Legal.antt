@@ -4,14 +4,12 @@ use Rattle.std.proofs.lemmas.Bool.{cases_lt, false≢true, le-leb, lt-ltb}
 use Rattle.step_rules.specs.declared.phase.Phase.{Phase}
 use Rattle.step_rules.specs.declared.phase.Phase.TheVariants as phase
 use Rattle.step_rules.specs.declared.step.Action.TheVariants.{Get, Put, Consume, Credit}
-use Rattle.step_rules.specs.Invariant.{KeepsInvariant}
-use Rattle.step_rules.specs.Legal.{is_legal}
-use Rattle.step_rules.specs.Phases.{Kind, FreshFrame, ListFrame, has_as, is_free, is_live_phase}
-use Rattle.step_rules.specs.State.{State, frames_of, is_cpu, may_zone_act, one_if, pins_of, times}
+use Rattle.step_rules.specs.{KeepsInvariant, is_legal, Kind, has_as, is_free, is_live_phase, frames_of, is_cpu, may_zone_act, one_if, pins_of, times}
+use Rattle.step_rules.specs.Phases.{FreshFrame, ListFrame}
+use Rattle.step_rules.specs.State.{State}
 use Rattle.step_rules.proofs.Lists.{count_length, one_if_true}
 use Rattle.step_rules.proofs.Sums.{sum_same}
-use Rattle.cpu_part.specs.Cpus.{KnownCpu}
-use Rattle.cpu_part.specs.Known.{HasOwn}
+use Rattle.cpu_part.specs.{KnownCpu, HasOwn}
 
 at_most_one : (b : Bool) → one_if b ≤ 1
 at_most_one true = omega arith

@@ -3,8 +3,7 @@ use Rattle.std.proofs.Common.{◌≡◌, ℕ, sym, subst}
 use Rattle.frame_word.specs.Seats.{KnownTable}
 use Rattle.step_rules.specs.declared.step.Action.{Action}
 use Rattle.step_rules.specs.After.{Run}
-use Rattle.boot_words.specs.Composed.{AreLegal, MakesInTurn}
-use Rattle.boot_words.specs.Pasts.{KnownPasts, MayDo, MayMake, local_by_pasts}
+use Rattle.boot_words.specs.{AreLegal, MakesInTurn, KnownPasts, MayDo, MayMake, local_by_pasts}
 
 module _ (t u : KnownTable) (same : u ≡ t) where
   pub may_do_at : (s : KnownPasts) (action : Action) → MayDo t s action → MayDo u s action

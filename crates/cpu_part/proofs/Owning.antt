@@ -4,15 +4,13 @@ use Rattle.std.proofs.lemmas.Bool.{cond-false, ne_eqb}
 use Rattle.std.specs.Prelude.{IsPermutation, remove}
 use Rattle.step_rules.specs.declared.step.Action.TheVariants.{Get, Put, Consume, Credit}
 use Rattle.step_rules.specs.declared.step.Answer.TheVariants.{Held, Left, Last, Took, Stocked}
-use Rattle.step_rules.specs.State.{Part, State, front_of, with_at, with_last, without, times}
-use Rattle.step_rules.specs.After.{after, credited, paid, with_back}
+use Rattle.step_rules.specs.{Part, front_of, with_at, with_last, without, times, after, credited, paid, with_back, seen_by}
+use Rattle.step_rules.specs.State.{State}
 use Rattle.step_rules.proofs.Basics.{at_each, at_same}
 use Rattle.step_rules.proofs.Lists.{removed_once, times_same, times_other, times_last, without_front}
-use Rattle.step_rules.specs.Views.{seen_by}
 use Rattle.step_rules.proofs.CoverParts.{own_part, own_reference}
 use Rattle.boot_words.specs.Sight.{HasSameLists}
-use Rattle.cpu_part.specs.Cpus.{KnownCpu}
-use Rattle.cpu_part.specs.Known.{HasOwn}
+use Rattle.cpu_part.specs.{KnownCpu, HasOwn}
 use Rattle.cpu_part.proofs.Counts.{times_parted}
 
 module _ (s : State) (c : KnownCpu) (own : HasOwn s c) where

@@ -3,19 +3,14 @@ use Rattle.std.proofs.Common.{◌≡◌, ℕ, ◌<◌, ◌≤◌, List, ◌∷�
 use Rattle.std.proofs.lemmas.Bool.{leb-true, ltb-true}
 use Rattle.frame_word.specs.Seats.{KnownTable}
 use Rattle.step_rules.specs.declared.step.Action.TheVariants.{Consume, PassBack}
-use Rattle.step_rules.specs.Invariant.{KeepsInvariant}
-use Rattle.step_rules.specs.State.{Part, Zone, is_frame, times}
-use Rattle.step_rules.specs.After.{state_of}
-use Rattle.step_rules.specs.Views.{seen_by}
+use Rattle.step_rules.specs.{KeepsInvariant, Part, Zone, is_frame, times, state_of, seen_by}
 use Rattle.step_rules.proofs.Freeing.{zone_of_run}
 use Rattle.step_rules.proofs.LegalTests.{consume_tests, pass_back_tests}
 use Rattle.step_rules.proofs.Lists.{times_same}
 use Rattle.step_rules.proofs.Runs.{sound_run}
 use Rattle.step_rules.proofs.SoundSteps.{below_frames}
-use Rattle.boot_words.specs.Pasts.{KnownPasts, IsHeld, IsHolder, MayMake, cpu_past, local_by_pasts}
-use Rattle.boot_words.specs.Seats.{zone_of_boot}
-use Rattle.cpu_part.specs.Cpus.{KnownCpu}
-use Rattle.cpu_part.specs.Known.{HasOwn}
+use Rattle.boot_words.specs.{KnownPasts, IsHeld, IsHolder, MayMake, cpu_past, local_by_pasts, zone_of_boot}
+use Rattle.cpu_part.specs.{KnownCpu, HasOwn}
 use Rattle.cpu_part.proofs.Legal.{list_inside}
 use Rattle.cpu_part.proofs.Owning.{own_unseen}
 

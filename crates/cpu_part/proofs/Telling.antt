@@ -9,16 +9,8 @@ use Rattle.stock_word.specs.Stock.{drained_of, is_held}
 use Rattle.step_rules.specs.declared.step.Action.{Action}
 use Rattle.step_rules.specs.declared.step.Answer.{Answer}
 use Rattle.step_rules.specs.declared.step.Answer.TheVariants.{Drained}
-use Rattle.boot_words.specs.Runs.{GrewBy}
-use Rattle.boot_words.specs.Growth.{GrewByAll}
-use Rattle.boot_words.specs.Pasts.{KnownPasts, own_past}
-use Rattle.boot_words.specs.Seats.{zone_of_boot}
-use Rattle.boot_words.specs.Calls.{CpuMakes, GetsReference, RacesAt}
-use Rattle.boot_words.specs.Cpus.{Exchanges, KnownCpuSeat}
-use Rattle.cpu_part.specs.Calls.{IfRaced, PinAnswers}
-use Rattle.cpu_part.specs.Cpus.{KnownCpu}
-use Rattle.cpu_part.specs.Known.{KnowsItsPart}
-use Rattle.cpu_part.specs.Told.{one_step, steps_of_get}
+use Rattle.boot_words.specs.{GrewBy, GrewByAll, KnownPasts, own_past, zone_of_boot, CpuMakes, GetsReference, RacesAt, Exchanges, KnownCpuSeat}
+use Rattle.cpu_part.specs.{IfRaced, PinAnswers, KnownCpu, KnowsItsPart, one_step, steps_of_get}
 
 module _ (t : KnownTable) (k : KnownCpuSeat) (c : KnownCpu) (knows : KnowsItsPart t k c) where
   pub told_one : (action : Action) (answer : Answer) (s : KnownPasts) → CpuMakes t k.seat action answer s

@@ -15,26 +15,20 @@ use Rattle.step_rules.specs.declared.step.Action.{Action}
 use Rattle.step_rules.specs.declared.step.Action.TheVariants.{Get, Put}
 use Rattle.step_rules.specs.declared.step.Answer.{Answer}
 use Rattle.step_rules.specs.declared.step.Answer.TheVariants.{Full, Held, Last, Left, Zero}
-use Rattle.step_rules.specs.Legal.{Allows, get_answer}
-use Rattle.step_rules.specs.Live.{LiveIsReferenced}
-use Rattle.step_rules.specs.Phases.{Kind, BackFrame, FreshFrame, ListFrame, has_as, is_live_phase}
-use Rattle.step_rules.specs.State.{State, frames_of, live_references, one_if, times}
-use Rattle.step_rules.specs.After.{Run, state_of, IsLegalRun}
+use Rattle.step_rules.specs.{Allows, get_answer, LiveIsReferenced, Kind, has_as, is_live_phase, frames_of, live_references, one_if, times, Run}
+use Rattle.step_rules.specs.{state_of, IsLegalRun}
+use Rattle.step_rules.specs.Phases.{BackFrame, FreshFrame, ListFrame}
+use Rattle.step_rules.specs.State.{State}
 use Rattle.step_rules.proofs.Living.{live_are_referenced}
 use Rattle.step_rules.proofs.PhaseLemmas.{live_is, nobody_has_live}
 use Rattle.step_rules.proofs.Runs.{legal_from, sound_run}
 use Rattle.step_rules.proofs.Sums.{sum_none}
-use Rattle.boot_words.specs.Pasts.{KnownPasts, own_past}
-use Rattle.boot_words.specs.Runs.{OthersFollow}
-use Rattle.boot_words.specs.Seats.{zone_of_boot}
-use Rattle.boot_words.specs.Words.{frame_word, word_in_phase}
+use Rattle.boot_words.specs.{KnownPasts, own_past, OthersFollow, zone_of_boot, frame_word, word_in_phase, CpuMakes, GetsReference, KnownCpuSeat}
+use Rattle.boot_words.specs.{state_left}
 use Rattle.boot_words.proofs.Holding.{allowed_at, take_length}
 use Rattle.boot_words.proofs.Owning.{lists_are_own}
-use Rattle.boot_words.specs.Calls.{CpuMakes, GetsReference}
-use Rattle.boot_words.specs.Cpus.{KnownCpuSeat, state_left}
 use Rattle.boot_words.proofs.Counts.{never_zero}
-use Rattle.cpu_part.specs.Cpus.{IsUnlisted, KnownCpu}
-use Rattle.cpu_part.specs.Known.{KnowsItsPart}
+use Rattle.cpu_part.specs.{IsUnlisted, KnownCpu, KnowsItsPart}
 use Rattle.cpu_part.proofs.Knowing.{not_the_zone}
 
 -- ---- words of live frames

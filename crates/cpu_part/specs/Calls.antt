@@ -1,7 +1,6 @@
 -- What the calls answer, and the CPU's part after them. A fast call also says which stock the CPU saw last, before and
 -- after it.
-use Rattle.std.specs.Prelude.{◌≡◌, ◌≢◌, ℕ, ◌+◌, ◌-◌, ◌^◌, ◌<◌, ◌≤◌, Some, List, [], ◌∷◌, ◌++◌, length, slice_index, min}
-use Rattle.std.specs.Prelude.{remove, IsPermutation}
+use Rattle.std.specs.Prelude.{◌≡◌, ◌≢◌, ℕ, ◌+◌, ◌-◌, ◌^◌, ◌<◌, ◌≤◌, Some, List, [], ◌∷◌, ◌++◌, length, slice_index, min, remove, IsPermutation}
 use Rattle.frame_word.specs.declared.answers.Get.{Get}
 use Rattle.frame_word.specs.declared.answers.Get.TheVariants.{Held, Raced}
 use Rattle.frame_word.specs.declared.answers.Put.{Put}

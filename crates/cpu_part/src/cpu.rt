@@ -23,7 +23,7 @@ const SPARE: usize = 16;
 
 /// What a CPU has for itself. `end` consumes it. It ends with a cache line that no one writes, so that no two CPUs write
 /// the same one.
-pub struct Cpu<N: BootName> {
+pub struct CpuLists<N: BootName> {
     pub(crate) number: u32,
     /// The free frames that the zone lent to the CPU, the next one to take first.
     pub(crate) list: VecDeque<Frame>,
@@ -40,7 +40,7 @@ pub struct Cpu<N: BootName> {
     pub(crate) of: PhantomData<N>,
 }
 
-impl<N: BootName> Model for Cpu<N> {
+impl<N: BootName> Model for CpuLists<N> {
     ghost use Rattle.std.specs.Prelude.{length};
     ghost use Rattle.std.specs.VecDeque.{deque_capacity};
     ghost use Rattle.std.specs.Vec.{vec_capacity};
@@ -90,16 +90,16 @@ fn new_frames(alloc: Global) -> Result<Frames, AllocError>
     })
 }
 
-impl<N: BootName> Cpu<N> {
+impl<N: BootName> CpuLists<N> {
     ghost use Rattle.cpu_part.specs.Cpus.{first_cpu, IsIdle};
 
     /// The part of the CPU of this number, which did nothing yet. All room that its calls need is reserved.
     /// `AllocError` if memory runs out.
-    pub fn new(alloc: Global, number: u32) -> Result<Cpu<N>, AllocError>
+    pub fn new(alloc: Global, number: u32) -> Result<CpuLists<N>, AllocError>
         ensures { IfOk result (λ c. c ≡ first_cpu number) }
     {
         let frames = new_frames(alloc)?;
-        Ok(Cpu {
+        Ok(CpuLists {
             number,
             list: frames.list,
             fresh: frames.fresh,
@@ -115,7 +115,7 @@ impl<N: BootName> Cpu<N> {
     pub fn end(self)
         requires { IsIdle self }
     {
-        let Cpu {
+        let CpuLists {
             number: _,
             list,
             fresh,

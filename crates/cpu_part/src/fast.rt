@@ -1,7 +1,6 @@
 //! The fast path: frames are paid for and dropped without a lock.
 ghost use Rattle.std.specs.Prelude.{◌<◌, ◌≤◌};
-ghost use Rattle.boot_words.specs.Growth.{GrewByAll};
-ghost use Rattle.boot_words.specs.Pasts.{own_past};
+ghost use Rattle.boot_words.specs.{GrewByAll, own_past};
 ghost use Rattle.step_rules.specs.State.{times};
 ghost use Rattle.cpu_part.specs.Calls.{FastAnswers, IfGot, DropAnswers};
 ghost use Rattle.cpu_part.specs.Known.{KnowsItsPart};
@@ -9,13 +8,13 @@ ghost use Rattle.cpu_part.specs.Told.{steps_of_fast, steps_of_drop};
 
 use crate::answers::{Dropped, Fast};
 use crate::boot_name::{BootName, Tables};
-use crate::cpu::{Cpu, MAX_FRESH};
+use crate::cpu::{CpuLists, MAX_FRESH};
 use crate::moves::{freshen, relist};
 use boot_words::CpuSeat;
 use frame_word::Frame;
 use stock_word::{Consume, Credit};
 
-impl<N: BootName> Cpu<N> {
+impl<N: BootName> CpuLists<N> {
     /// Takes the front of the list for the group, and pays for it from the CPU's stock. The answer is the first of these
     /// that holds: 32 fresh frames, an empty list, what the stock says; else the frame.
     pub fn alloc_fast(&mut self, tables: &Tables<N>, past: &mut CpuSeat, group: u32) -> Fast

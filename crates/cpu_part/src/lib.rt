@@ -15,4 +15,4 @@ mod visit;
 
 pub use answers::{Dropped, Fast};
 pub use boot_name::{BootName, Tables};
-pub use cpu::{Cpu, MAX_FRESH, MAX_LISTED, MAX_PINS};
+pub use cpu::{CpuLists, MAX_FRESH, MAX_LISTED, MAX_PINS};

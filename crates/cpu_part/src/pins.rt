@@ -2,10 +2,7 @@
 ghost use Rattle.std.specs.Prelude.{◌≡◌, ◌≢◌, ◌+◌, ◌<◌, ◌≤◌, length, IfOk, MatchResult, Ok};
 ghost use Rattle.frame_word.specs.declared.answers.Get.TheVariants.{Zero};
 ghost use Rattle.group_tree.specs.declared.fault.Fault.TheVariants.{PinsFull};
-ghost use Rattle.boot_words.specs.Growth.{GrewByAll};
-ghost use Rattle.boot_words.specs.Pasts.{own_past};
-ghost use Rattle.boot_words.specs.Seats.{zone_of_boot};
-ghost use Rattle.boot_words.specs.Calls.{RacesAt};
+ghost use Rattle.boot_words.specs.{GrewByAll, own_past, zone_of_boot, RacesAt};
 ghost use Rattle.step_rules.specs.State.{times};
 ghost use Rattle.cpu_part.specs.Cpus.{most_pins, IsUnlisted};
 ghost use Rattle.cpu_part.specs.Calls.{IfRaced, PinAnswers, UnpinAnswers};
@@ -13,13 +10,13 @@ ghost use Rattle.cpu_part.specs.Known.{KnowsItsPart};
 ghost use Rattle.cpu_part.specs.Told.{steps_of_get, steps_of_put};
 
 use crate::boot_name::{BootName, Tables};
-use crate::cpu::{Cpu, MAX_PINS};
+use crate::cpu::{CpuLists, MAX_PINS};
 use crate::moves::unpin;
 use boot_words::CpuSeat;
 use frame_word::{Frame, Get, Put};
 use group_tree::fault::Fault;
 
-impl<N: BootName> Cpu<N> {
+impl<N: BootName> CpuLists<N> {
     /// Pins the frame if some seat has a reference on it. If pins and back frames are 256 together, that is refused
     /// with `PinsFull`, before the word is looked at. A CPU that has a pin on the frame never gets `Zero`.
     pub fn get(

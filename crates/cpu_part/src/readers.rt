@@ -4,11 +4,11 @@ ghost use Rattle.step_rules.specs.State.{times};
 ghost use Rattle.cpu_part.specs.Cpus.{AreWithin, IsIdle, most_fresh, most_listed, most_pins};
 
 use crate::boot_name::BootName;
-use crate::cpu::Cpu;
+use crate::cpu::CpuLists;
 use crate::search::place_of;
 use frame_word::Frame;
 
-impl<N: BootName> Cpu<N> {
+impl<N: BootName> CpuLists<N> {
     /// The CPU's number. Its lists and pins are within their bounds.
     pub fn number(&self) -> u32
         ensures number { result ≡ self.now.number }

@@ -10,12 +10,12 @@ ghost use Rattle.cpu_part.specs.Cpus.{most_listed};
 ghost use Rattle.cpu_part.specs.Known.{HasOwn};
 
 use crate::boot_name::{BootName, Tables};
-use crate::cpu::Cpu;
+use crate::cpu::CpuLists;
 use crate::moves::freshen;
 use boot_words::PastSeat;
 use frame_word::Frame;
 
-impl<N: BootName> Cpu<N> {
+impl<N: BootName> CpuLists<N> {
     /// Borrows a free frame of the zone, at the end of the list. The zone passes it out and the CPU takes it in: two steps
     /// of the run, which one load makes. The visit is open. Listed and fresh frames are fewer than 256.
     pub fn borrow(&mut self, tables: &Tables<N>, held: &mut PastSeat, frame: Frame)

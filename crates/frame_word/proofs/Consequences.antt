@@ -2,12 +2,11 @@
 use Rattle.std.proofs.Common.{◌≡◌, ◌≢◌, ◌⊎◌, ℕ, ◌+◌, ◌<◌, ◌≤◌, List, get_or, sym, refl, ◌∙◌, inl, inr, arith}
 use mathlib.Core.Logic.{dite}
 use native.Mathlib.Decide.{ℕ_discrete}
-use Rattle.frame_word.specs.Totals.{total_over}
+use Rattle.frame_word.specs.{total_over, note_of, in_hands, lent_count, IsReferenced, IsInOneHand, IsPassing, only, IsViewOf, NoFrameInTwoHands}
+use Rattle.frame_word.specs.{OwnHandIsNotLent, WordsCountReferences}
 use Rattle.frame_word.proofs.Totals.{total_view, total_below, total_plus}
 use Rattle.frame_word.specs.declared.view.FrameView.{FrameView}
-use Rattle.frame_word.specs.Views.{note_of, in_hands, lent_count}
-use Rattle.frame_word.specs.ReferenceRule.{IsReferenced, IsInOneHand, IsPassing, only, hands_in, lent_in, lent_number, borrowed_in}
-use Rattle.frame_word.specs.Laws.{IsViewOf, NoFrameInTwoHands, OwnHandIsNotLent, WordsCountReferences}
+use Rattle.frame_word.specs.ReferenceRule.{hands_in, lent_in, lent_number, borrowed_in}
 use Rattle.frame_word.proofs.Notes.{only_here, only_else, marked_else, lent_yes}
 
 -- what the rule says of a word, its references and its hands

@@ -4,8 +4,7 @@ use mathlib.Core.Option.{some, some-ne-none, some-injective}
 use lib.ListN.{get_elem?}
 use Rattle.frame_word.specs.declared.view.FrameNote.{FrameNote}
 use Rattle.frame_word.specs.declared.view.FrameView.{FrameView}
-use Rattle.frame_word.specs.Views.{lent_count}
-use Rattle.frame_word.specs.ReferenceRule.{mark, only, mark_count}
+use Rattle.frame_word.specs.{lent_count, mark, only, mark_count}
 
 pub only_here : (k : ℕ) (v : FrameView) (n : ℕ) → v.number ≡ k → only k v n ≡ n
 only_here k v n is = subst (λ b. cond b n 0 ≡ n) (sym (eq-eqb v.number k is)) refl

@@ -8,9 +8,8 @@ use Rattle.std.proofs.lemmas.List.{get_or_default, get_or-map, get_or-set_other,
 use Rattle.std.proofs.lemmas.List.Elements.{All-cons, All-contains, All-head, All-nil, All-tail, Contains-get_or}
 use Rattle.group_tree.specs.declared.group.Group.{Group}
 use Rattle.group_tree.specs.declared.event.EventKey.{EventKey}
-use Rattle.group_tree.specs.Events.{with_one_more}
-use Rattle.group_tree.specs.Groups.{AreGroups, has_group, in_subtree, new_row, with_group, with_limit, with_oom_group, without_group, limited, flagged}
-use Rattle.group_tree.specs.Room.{on_path}
+use Rattle.group_tree.specs.{with_one_more, AreGroups, has_group, in_subtree, new_row, with_group, limited, flagged, on_path}
+use Rattle.group_tree.specs.Groups.{with_limit, with_oom_group, without_group}
 use Rattle.group_tree.proofs.GroupLemmas.{has_group-contains, has_group-is, group_at-contains, limited-number, flagged-number}
 use Rattle.group_charge.specs.Charges.{Account, AreCharges, Settings, account_at, added, charged, empty_account, pages_of, peaked, taken, usage_charged}
 use Rattle.group_charge.specs.Charges.{with_charge, with_event_at}

@@ -10,9 +10,8 @@ use Rattle.std.proofs.lemmas.List.Sums.{sum_by_more_le_part}
 use Rattle.std.proofs.lemmas.List.Elements.{Contains-get_or}
 use Rattle.group_tree.specs.declared.group.Group.{Group}
 use Rattle.group_tree.specs.declared.event.EventKey.{EventKey}
-use Rattle.group_tree.specs.Events.{no_events, with_one_more}
-use Rattle.group_tree.specs.Groups.{group_at, has_group, in_subtree, without_group}
-use Rattle.group_tree.specs.Room.{at_group, on_path, peak_after}
+use Rattle.group_tree.specs.{no_events, with_one_more, in_subtree, at_group, on_path, peak_after}
+use Rattle.group_tree.specs.Groups.{group_at, has_group, without_group}
 use Rattle.group_tree.proofs.GroupLemmas.{find-filter, find-map, found_in, found_passes, is_some-find}
 use Rattle.group_tree.proofs.CallerLemmas.{in_subtree-above, in_subtree-refl}
 use Rattle.group_charge.specs.Charges.{Account, Ledger, AreCharges, CountsEvent, PagesRise, PeaksRise, SameEvents, SamePages, SamePeaks, account_at}

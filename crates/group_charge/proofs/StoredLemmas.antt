@@ -4,9 +4,8 @@ use Rattle.std.proofs.Common.{◌≡◌, ℕ, ◌+◌, ◌-◌, ◌≤◌, Bool,
 use Rattle.std.proofs.lemmas.Bool.{cases_Bool, cases_eq, cases_lt, cond-true, cond-false}
 use Rattle.std.proofs.lemmas.List.{get_or-replicate, get_or_past, length-replicate}
 use Rattle.group_tree.specs.declared.group.Group.{Group}
-use Rattle.group_tree.specs.Ancestors.{is_passed}
+use Rattle.group_tree.specs.{is_passed, has_group, in_subtree}
 use Rattle.group_tree.specs.declared.event.EventKey.{EventKey}
-use Rattle.group_tree.specs.Groups.{has_group, in_subtree}
 use Rattle.group_tree.proofs.GroupLemmas.{CanMake}
 use Rattle.group_tree.proofs.Walks.{passed_all}
 use Rattle.group_charge.specs.Charges.{Account, AreCharges, Ledger, Settings, current_of, initial_ledger, pages_of, with_charge, with_group_limit}

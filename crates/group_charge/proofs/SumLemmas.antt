@@ -67,7 +67,7 @@ extra_none g k (x ∷ xs) e =
     let rest = extra_none g k xs parts.1 in
     omega (arith, sum_by-cons (extra g k) x xs)
 
--- behind a group's account there is no other of it
+-- after a group's account there is no other of it
 others-none : (g : ℕ) (x : Account) (xs : List Account) → AreDistinct (x ∷ xs) → (x.group == g) ≡ true → list_any (λ a. a.group == g) xs ≡ false
 others-none g x xs h t =
     false_from_ne_true (list_any (λ a. a.group == g) xs) (λ some.

@@ -11,8 +11,7 @@ use Rattle.group_tree.specs.declared.event.EventKey.{EventKey}
 use Rattle.group_tree.specs.Groups.{AreGroups, has_group, in_subtree, with_group, with_limit, with_oom_group, without_group}
 use Rattle.group_tree.proofs.GroupLemmas.{CanMake}
 use Rattle.group_tree.proofs.CallerLemmas.{in_subtree-above, in_subtree-flagged, in_subtree-limited, in_subtree-with, in_subtree-with_new, in_subtree-without}
-use Rattle.group_charge.specs.Charges.{Account, usage_charged, added, taken, peaked, with_event_at, charged}
-use Rattle.group_charge.specs.Charges.{empty_account}
+use Rattle.group_charge.specs.Charges.{Account, usage_charged, added, taken, peaked, with_event_at, charged, empty_account}
 use Rattle.group_charge.proofs.SumLemmas.{share, extra, extra_once, AreDistinct, sum-plus, sum-map_same, peaked-group, peaked-share, added-group, taken-group}
 
 -- the same items make the same sum

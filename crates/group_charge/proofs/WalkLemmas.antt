@@ -7,9 +7,7 @@ use Rattle.std.specs.Option.{option_eq}
 use Rattle.std.proofs.lemmas.Bool.{cases_eq, cond-true, cond-false, eq-eqb, eqb-true, false_from_ne_true, false≢true}
 use Rattle.std.proofs.lemmas.List.{get_or-set_other, get_or-set_same, length-set}
 use Rattle.group_tree.specs.declared.group.Group.{Group}
-use Rattle.group_tree.specs.Ancestors.{ancestors_of, is_passed}
-use Rattle.group_tree.specs.Groups.{AreGroups, has_group, in_subtree, parent_of}
-use Rattle.group_tree.specs.Room.{on_path}
+use Rattle.group_tree.specs.{ancestors_of, is_passed, AreGroups, has_group, in_subtree, parent_of, on_path}
 use Rattle.group_tree.proofs.CallerLemmas.{in_subtree-antisym}
 use Rattle.group_tree.proofs.Walks.{TurnAt, WalkAt, WalkedTo, at_end, at_end_passed, at_next, at_on, at_start, at_turn, passed_all, passed_here}
 use Rattle.group_tree.proofs.Walks.{passed_none, passed_on, passed_other}

@@ -3,14 +3,11 @@ use Rattle.std.specs.Prelude.{All, ◌≡◌, ℕ, ◌+◌, ◌-◌, ◌^◌, �
 use Rattle.std.specs.Prelude.{◌++◌, filter, map, replicate, set, sum_by, if◌then◌else◌}
 use Rattle.std.specs.List.{find, list_any, slice_index_or}
 use Rattle.std.specs.Option.{option_eq, option_map_or}
-use Rattle.group_tree.specs.Bounds.{most_groups}
+use Rattle.group_tree.specs.{most_groups, EventCounts, no_events, with_one_more, initial_groups, in_subtree, with_group, without_group, with_limit}
+use Rattle.group_tree.specs.{with_oom_group, AreGroups, at_group, on_path, peak_after}
 use Rattle.group_tree.specs.declared.group.Group.{Group}
 use Rattle.group_tree.specs.declared.event.EventKey.TheVariants.{Max, Oom, OomKill, OomGroupKill}
 use Rattle.group_tree.specs.declared.event.EventKey.{EventKey}
-use Rattle.group_tree.specs.Events.{EventCounts, no_events, with_one_more}
-use Rattle.group_tree.specs.Groups.{initial_groups, in_subtree, with_group, without_group, with_limit, with_oom_group}
-use Rattle.group_tree.specs.Groups.{AreGroups}
-use Rattle.group_tree.specs.Room.{at_group, on_path, peak_after}
 -- an account has a group's number, its own pages, its peak and its event counts
 pub use Rattle.group_charge.specs.declared.account.Account.{Account}
 -- memory.high, memory.low and memory.min, in pages, or None for `max`

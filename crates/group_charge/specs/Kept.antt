@@ -3,11 +3,8 @@
 use Rattle.std.specs.Prelude.{◌≡◌, ℕ, max, Option, List, length, map, set, if◌then◌else◌}
 use Rattle.std.specs.List.{slice_index_or}
 use Rattle.group_tree.specs.declared.group.Group.{Group}
-use Rattle.group_tree.specs.Ancestors.{is_passed}
-use Rattle.group_tree.specs.Bounds.{most_groups}
+use Rattle.group_tree.specs.{is_passed, most_groups, with_one_more, on_path}
 use Rattle.group_tree.specs.declared.event.EventKey.{EventKey}
-use Rattle.group_tree.specs.Events.{with_one_more}
-use Rattle.group_tree.specs.Room.{on_path}
 use Rattle.group_charge.specs.Charges.{Account, AreCharges, Ledger, Settings, current_of, empty_account}
 
 -- the account kept under this number

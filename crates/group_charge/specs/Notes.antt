@@ -50,7 +50,7 @@ abbrev pub last_frame : (first frames : ℕ) → ℕ
 last_frame first frames = first + frames - 1
 
 -- The span with the unit's frames, if the note is a span of units of the unit's group and the unit adjoins it: it
--- begins right behind the span, or it ends right before it.
+-- begins right after the span, or it ends right before it.
 abbrev pub joined_span : Option Note → (group first frames : ℕ) → Option Note
 joined_span (Some (Reclaimed owner low high)) group first frames =
     if owner == group && (first == high + 1) then Some (Reclaimed group low (last_frame first frames))

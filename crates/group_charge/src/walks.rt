@@ -1,10 +1,8 @@
 //! The walks from a group up to the root, over usages, peaks and counts, which are kept by group number.
 
 ghost use Rattle.std.specs.Prelude.{◌≡◌, ℕ, ◌+◌, ◌-◌, ◌^◌, ◌<◌, ◌≤◌, IfSome, IsTrue, MatchOption, length};
-ghost use Rattle.group_tree.specs.Ancestors.{is_passed};
-ghost use Rattle.group_tree.specs.Bounds.{most_groups};
-ghost use Rattle.group_tree.specs.Groups.{AreGroups, has_group, in_subtree};
-ghost use Rattle.group_tree.specs.Room.{IsLowestOver, PathHasRoom, fits_limit};
+ghost use Rattle.group_tree.specs.{is_passed, most_groups, AreGroups, has_group, in_subtree, IsLowestOver, PathHasRoom};
+ghost use Rattle.group_tree.specs.{fits_limit};
 ghost use Rattle.group_charge.specs.Kept.{AccountsOnPath, UsagesPassed, account_by, usage_by, with_event};
 ghost use Rattle.group_charge.specs.Kept.{with_local_event, with_usage_peak};
 

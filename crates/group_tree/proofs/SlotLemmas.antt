@@ -1,8 +1,7 @@
 -- What a tree keeps by number beside its rows, and how a change keeps it. Serves the contracts of `Tree::new`, `make`,
 -- `set_max`, `set_oom_group`, `remove`, `parent` and `depth`.
-use Rattle.std.proofs.Common.{◌≡◌, ◌≢◌, ℕ, ◌+◌, ◌<◌, false, not, cond, ◌==◌, IsTrue, Option, Some, None, List, [], ◌∷◌, length, map}
-use Rattle.std.proofs.Common.{filter, get_or, set, replicate, Contains, is_some, refl, sym, ap, ◌∙◌, subst, arith, ⊎_elim, length-append}
-use Rattle.std.proofs.Common.{Bool, true, ◌||◌}
+use Rattle.std.proofs.Common.{◌≡◌, ◌≢◌, ℕ, ◌+◌, ◌<◌, false, not, cond, ◌==◌, IsTrue, Option, Some, None, List, [], ◌∷◌, length, map, filter, get_or}
+use Rattle.std.proofs.Common.{set, replicate, Contains, is_some, refl, sym, ap, ◌∙◌, subst, arith, ⊎_elim, length-append, Bool, true, ◌||◌}
 use Rattle.std.specs.List.{list_any}
 use Rattle.std.specs.Option.{option_and_then, option_map_or}
 use Rattle.std.proofs.lemmas.Bool.{cases_lt, both_ways, cases_Bool, cases_eq, cond-false, cond-true, eq-eqb, ne_eqb}

@@ -4,12 +4,10 @@ use Rattle.std.proofs.Common.{◌≡◌, ◌≢◌, ℕ, ◌<◌, Bool, true, fa
 use Rattle.std.proofs.Common.{⊎_elim, ◌⊎◌, inl, inr}
 use Rattle.std.specs.Option.{option_map_or}
 use Rattle.std.proofs.lemmas.Option.{none-some, same_Some}
-use Rattle.group_tree.specs.Ancestors.{depth_at, ancestors_of, ancestors_from, is_ahead, is_passed}
+use Rattle.group_tree.specs.{depth_at, ancestors_of, ancestors_from, is_ahead, is_passed, depth_of, has_group, in_subtree, parent_of, AreGroups}
 use Rattle.group_tree.proofs.AncestorLemmas.{ancestors_of-step, parent_of-none_root}
 use Rattle.std.proofs.lemmas.Bool.{both_ways, cases_Bool, false_from_ne_true}
 use Rattle.group_tree.specs.declared.group.Group.{Group}
-use Rattle.group_tree.specs.Path.{depth_of}
-use Rattle.group_tree.specs.Groups.{has_group, in_subtree, parent_of, AreGroups}
 use Rattle.group_tree.proofs.CallerLemmas.{in_subtree-root, in_subtree-refl, in_subtree-trans, in_subtree-above, in_subtree-antisym}
 use Rattle.group_tree.proofs.CallerLemmas.{in_subtree-parent_of, in_subtree-above_parent, parent_of-depth}
 

@@ -1,9 +1,8 @@
 -- The numbers and names of the refusals.
 use Rattle.std.specs.Prelude.{ℕ, List, codes}
 use Rattle.group_tree.specs.declared.fault.Fault.{Fault}
-use Rattle.group_tree.specs.declared.fault.Fault.TheVariants.{NoParent, Exists, BadName, TreeFull, TooDeep, NoGroup}
-use Rattle.group_tree.specs.declared.fault.Fault.TheVariants.{HasChildren, Busy, PinsFull, NoFile, ReadOnly, BadLimit}
-use Rattle.group_tree.specs.declared.fault.Fault.TheVariants.{BadNumber, BadConfig, OverLimit, NoFrames, Again, Killed}
+use Rattle.group_tree.specs.declared.fault.Fault.TheVariants.{NoParent, Exists, BadName, TreeFull, TooDeep, NoGroup, HasChildren, Busy, PinsFull}
+use Rattle.group_tree.specs.declared.fault.Fault.TheVariants.{NoFile, ReadOnly, BadLimit, BadNumber, BadConfig, OverLimit, NoFrames, Again, Killed}
 use Rattle.group_tree.specs.declared.fault.Fault.TheVariants.{BadOrder, NotKept, NotPinned, WriteOnly}
 
 -- the number of a refusal, 1 to 22

@@ -1,7 +1,6 @@
 -- The tree of groups, as contracts see it: the list of its groups, in the order in which they were made.
-use Rattle.std.specs.Prelude.{◌≡◌, ◌≢◌, ℕ, ◌<◌, ◌≤◌, ◌==◌, ◌&&◌, ◌||◌, Bool, false, not, nat_le, nat_lt, IsTrue}
-use Rattle.std.specs.Prelude.{IsSomeAnd, Option, Some, None, is_some, is_none, List, [], ◌∷◌, ◌++◌, length, slice_get}
-use Rattle.std.specs.Prelude.{map, filter, if◌then◌else◌, All, AllPairs}
+use Rattle.std.specs.Prelude.{◌≡◌, ◌≢◌, ℕ, ◌<◌, ◌≤◌, ◌==◌, ◌&&◌, ◌||◌, Bool, false, not, nat_le, nat_lt, IsTrue, IsSomeAnd, Option, Some, None}
+use Rattle.std.specs.Prelude.{is_some, is_none, List, [], ◌∷◌, ◌++◌, length, slice_get, map, filter, if◌then◌else◌, All, AllPairs}
 use Rattle.std.specs.List.{find, list_any, starts_with}
 use Rattle.std.specs.Option.{option_map, option_and_then, option_map_or}
 use Rattle.std.specs.Str.{bytes_eq}
@@ -81,7 +80,7 @@ make_fault groups path =
     else (if nat_le most_groups (length groups) then Some TreeFull
     else None))))
 
--- the groups, and behind them one more, with no limit and its flag off
+-- the groups, and after them one more, with no limit and its flag off
 abbrev pub with_group : List Group → ℕ → List ℕ → List Group
 with_group groups n path = groups ++ new_row n path ∷ []
 

@@ -1,6 +1,5 @@
 -- The paths of groups: `/` is the root, and a group below it has a name after each slash.
-use Rattle.std.specs.Prelude.{ℕ, ◌==◌, ◌&&◌, ◌||◌, Bool, not, nat_eq, nat_le, nat_lt, IsTrue, List, [], ◌∷◌, length}
-use Rattle.std.specs.Prelude.{drop, if◌then◌else◌, codes}
+use Rattle.std.specs.Prelude.{ℕ, ◌==◌, ◌&&◌, ◌||◌, Bool, not, nat_eq, nat_le, nat_lt, IsTrue, List, [], ◌∷◌, length, drop, if◌then◌else◌, codes}
 use Rattle.std.specs.List.{slice_split, list_all, before_last, starts_with}
 use Rattle.std.specs.Str.{bytes_eq}
 use Rattle.group_tree.specs.Bounds.{longest_name, longest_path}

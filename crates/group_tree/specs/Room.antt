@@ -1,7 +1,6 @@
 -- What a charge checks and changes on the path from a group up to the root, for any usage: room under the limits
 -- (memory.max of cgroup-v2.rst), peaks (memory.peak) and event counts (memory.events).
-use Rattle.std.specs.Prelude.{◌≡◌, ℕ, ◌+◌, ◌-◌, ◌^◌, ◌==◌, max, min, nat_le, Bool, true, false, IsTrue, Option, Some}
-use Rattle.std.specs.Prelude.{None, List, if◌then◌else◌}
+use Rattle.std.specs.Prelude.{◌≡◌, ℕ, ◌+◌, ◌-◌, ◌^◌, ◌==◌, max, min, nat_le, Bool, true, false, IsTrue, Option, Some, None, List, if◌then◌else◌}
 use Rattle.group_tree.specs.declared.group.Group.{Group}
 use Rattle.group_tree.specs.Groups.{in_subtree, limit_of}
 

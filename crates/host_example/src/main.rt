@@ -4,8 +4,7 @@
 ghost use Rattle.std.specs.Prelude.{◌≡◌, ◌^◌, IfNone, IfSome, IsTrue};
 ghost use Rattle.std.specs.Bool.{OnFalse, OnTrue};
 ghost use Rattle.zone_blocks.specs.Zone.{GivesFrames, TakesFrames};
-ghost use Rattle.group_tree.specs.Groups.{has_group};
-ghost use Rattle.group_tree.specs.Room.{PathHasRoom};
+ghost use Rattle.group_tree.specs.{has_group, PathHasRoom};
 ghost use Rattle.group_charge.specs.Charges.{current_of, with_charge, with_uncharge};
 
 use anyhow::{Context, Result};

@@ -4,8 +4,7 @@ use Rattle.host_memory.proofs.Walks.{◌≡◌, refl, sym, subst, List, [], ◌�
 use Rattle.host_memory.proofs.Walks.{whole, sub, agg, stop, fld, no_more, and_then, of_opd, lit, returns, enter, alloc_all, pass_all, free_all, look_at, get, get_in, sets, RattleType, Ptr, null_ptr, plain, heard, nothing, shape, Shape, Struct, Ended, Clauses, Stays, stay_dropped}
 use Rattle.host_memory.proofs.Walks.{walk_of, al, α, Goes-blank, handle_tells, word, ptr_typed, word_typed, with_parts, parts_out, parts_in}
 use Prim.Native.Nat.{ℕ}
-use mir.Syntax.{Callee, Ty, ty_struct, tcons, tnil, local, value_local, seq, assign, place, rv_opd, copy, field, aggregate, int, return}
-use mir.Syntax.{w64}
+use mir.Syntax.{Callee, Ty, ty_struct, tcons, tnil, local, value_local, seq, assign, place, rv_opd, copy, field, aggregate, int, return, w64}
 use base.Logic.{emp, via}
 use contract.Lifetimes.{Lfts}
 use contract.Monad.{fact_i, top}

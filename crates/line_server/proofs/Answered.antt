@@ -6,15 +6,12 @@ use Rattle.zone_blocks.specs.declared.config.Config.{Config}
 use Rattle.script_lines.specs.Script.{IsLineText, is_skipped}
 use Rattle.script_lines.specs.declared.line.Line.{Line}
 use Rattle.script_lines.specs.declared.line.Line.TheVariants.{Go, At}
-use Rattle.script_lint.specs.Findings.{IsFoundInText}
-use Rattle.script_lint.specs.Lines.{IsGoodText}
-use Rattle.script_lint.specs.Texts.{cause_text}
+use Rattle.script_lint.specs.{IsFoundInText, IsGoodText, cause_text}
 use Rattle.script_lint.specs.declared.finding.Finding.{Finding}
 use Rattle.script_replay.specs.Lines.{SystemState}
 use Rattle.line_server.specs.declared.form.SessionForm.{SessionForm}
-use Rattle.line_server.specs.Forms.{SessionTerms, bad_line_answer, session_terms}
-use Rattle.line_server.specs.Lines.{RefusesText}
-use Rattle.line_server.specs.Turns.{AnswersServed, GivesAnswer, HasAnswer, ServesInForm, WritesTurn}
+use Rattle.line_server.specs.{SessionTerms, bad_line_answer, session_terms, RefusesText, AnswersServed, GivesAnswer, HasAnswer, ServesInForm}
+use Rattle.line_server.specs.{WritesTurn}
 
 -- a good text that isn't skipped has a line
 pub says_line : (sizes : Config) (number : ℕ) (text : List ℕ) → IsGoodText sizes false text → is_skipped text ≡ false

@@ -21,7 +21,7 @@ no_feed_one : (b : ℕ) → b ≢ 10 → NoFeed (b ∷ [])
 no_feed_one b other zero d h = other
 no_feed_one b other (suc k) d h = absurd (omega (arith, h))
 
--- the text goes on behind bytes without a line feed
+-- the text goes on after bytes without a line feed
 pub text_append : (xs ys : List ℕ) → NoFeed xs → first_text (xs ++ ys) ≡ xs ++ first_text ys
 text_append [] ys none = refl
 text_append (x ∷ xs) ys none =

@@ -5,23 +5,18 @@ use Rattle.std.specs.Prelude.{IfSome}
 use Rattle.std.proofs.lemmas.Option.{none-some}
 use Rattle.zone_blocks.specs.declared.config.Config.{Config}
 use Rattle.step_rules.specs.After.{Run, IsLegalRun}
-use Rattle.mem_machine.specs.Agreeing.{AgreesWithRun}
-use Rattle.mem_machine.specs.Interleaving.{zone_of}
+use Rattle.mem_machine.specs.{AgreesWithRun, zone_of}
 use Rattle.mem_history.specs.Whole.{ShowsAll}
 use Rattle.mem_system.specs.Cpus.{parts_of}
 use Rattle.script_lines.specs.declared.line.Line.{Line}
-use Rattle.script_replay.specs.History.{KeepsPromise}
-use Rattle.script_replay.specs.Lines.{HasRun, RunGoesOn, SystemState}
-use Rattle.script_replay.specs.Terms.{terms}
+use Rattle.script_replay.specs.{KeepsPromise, HasRun, RunGoesOn, SystemState, terms}
 use Rattle.script_replay.proofs.Following.{shows_watched}
 use Rattle.script_replay.proofs.Gaining.{goes_on_none}
 use Rattle.script_replay.proofs.Keeping.{Follows, follows_both, legal_first, line_follows, line_kept, nothing_follows}
 use Rattle.line_server.specs.declared.form.SessionForm.{SessionForm}
 use Rattle.line_server.specs.declared.form.SessionForm.TheVariants.{Answers, Steps}
-use Rattle.line_server.specs.Forms.{SessionTerms}
-use Rattle.line_server.specs.Histories.{LegalTurnsKeepIt, steps_in_form, steps_of_turn, steps_of_turns}
-use Rattle.line_server.specs.Sessions.{AnswersTurns}
-use Rattle.line_server.specs.Turns.{AnswersLine, ServesInForm, Turn}
+use Rattle.line_server.specs.{SessionTerms, LegalTurnsKeepIt, steps_in_form, steps_of_turn, steps_of_turns, AnswersTurns, AnswersLine, ServesInForm}
+use Rattle.line_server.specs.{Turn}
 
 module _ (on : SessionTerms) where
   -- the run goes on to a longer one, which shows the state after, and then this holds too, if the ledger is that of the run

@@ -1,13 +1,11 @@
 -- A line's part of a log. Serves `log_line`, and `log_end` of `load_run`.
 use Rattle.std.proofs.Common.{◌≡◌, ◌∙◌, ℕ, List, ◌++◌, Result, IfOk, ap, append_assoc, refl, subst, sym, true}
 use Rattle.std.proofs.lemmas.Result.{IfOk-weaker}
-use Rattle.mem_system.specs.Cpus.{CpuInRun}
+use Rattle.mem_system.specs.{CpuInRun, KnownLocked}
 use Rattle.step_rules.specs.After.{Run}
 use Rattle.step_watch.specs.Watched.{IsNewLog, KnownWatch, Watches, has_whole_log, log_text, steps_text}
-use Rattle.mem_system.specs.Locked.{KnownLocked}
 use Rattle.script_lines.specs.declared.line.Line.{Line}
-use Rattle.script_replay.specs.Answers.{locked_with_watch}
-use Rattle.script_replay.specs.Lines.{ServesLine, SystemState, system_state}
+use Rattle.script_replay.specs.{locked_with_watch, ServesLine, SystemState, system_state}
 use Rattle.script_replay.specs.Terms.{Terms}
 use Rattle.script_replay.proofs.Seeing.{line_seen}
 use Rattle.line_server.specs.Logs.{AddsPart, LogsLine, RenewsWatch, answer_comments, line_comment, line_log}

@@ -1,21 +1,17 @@
 -- A session, turn by turn.
 use Rattle.std.proofs.Common.{◌≡◌, ◌∙◌, ℕ, ◌+◌, List, [], ◌∷◌, ◌++◌, Option, None, ap, append_assoc, append-nil, arith, length, length-append, refl, subst, sym}
-use Rattle.std.specs.Io.KnownBytes.{Appends}
+use Rattle.std.specs.Io.KnownBytes.{Appends, prepend_known}
 use Rattle.std.proofs.KnownBytes.{Appends-nil, Appends-trans, prepend_known-nil}
 use Rattle.std.specs.Prelude.{if◌then◌else◌, ◌==◌}
 use Rattle.std.specs.Io.Buffered.{reader_buffer, reader_capacity, reader_inner, reader_remaining}
-use Rattle.std.specs.Io.KnownBytes.{prepend_known}
 use Rattle.std.specs.declared.io.buffered.BufReader.{BufReader}
 use Rattle.frame_word.specs.Seats.{KnownTable}
 use Rattle.zone_blocks.specs.declared.config.Config.{Config}
 use Rattle.script_replay.specs.Lines.{SystemState}
 use Rattle.line_server.specs.declared.fault.ServeFault.{ServeFault}
 use Rattle.line_server.specs.declared.form.SessionForm.{SessionForm}
-use Rattle.line_server.specs.Forms.{SessionTerms, session_terms}
-use Rattle.line_server.specs.Known.{KeepsTerms, KnownServer, terms_of}
-use Rattle.line_server.specs.Lines.{ReadsLine}
-use Rattle.line_server.specs.Turns.{AnswersTurn, Turn, turn_text}
-use Rattle.line_server.specs.Sessions.{AnswersTurns, EndsHere, FailsSession, FailsTurn, HoldsSession, ReadsTurns, ServesSession, WritesOne, session_text}
+use Rattle.line_server.specs.{SessionTerms, session_terms, KeepsTerms, KnownServer, terms_of, ReadsLine, AnswersTurn, Turn, turn_text, AnswersTurns}
+use Rattle.line_server.specs.{EndsHere, FailsSession, FailsTurn, HoldsSession, ReadsTurns, ServesSession, WritesOne, session_text}
 
 -- ---- one turn more
 

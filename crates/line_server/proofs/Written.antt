@@ -6,7 +6,7 @@ use Rattle.std.proofs.KnownBytes.{Appends-trans}
 use Rattle.std.specs.Io.KnownBytes.{Appends}
 use Rattle.line_server.specs.Writing.{AppendsBeginning}
 
--- after the first i bytes, a write of what stands behind them took n
+-- after the first i bytes, a write of what comes after them took n
 pub taken_more : (a b c : Option (List ℕ)) (bytes : List ℕ) (i n : ℕ) → i ≤ length bytes → Appends a b (take i bytes)
     → n ≤ length (take (length bytes - i) (drop i bytes)) → Appends b c (take n (take (length bytes - i) (drop i bytes)))
     → (i + n ≤ length bytes) × Appends a c (take (i + n) bytes)

@@ -3,13 +3,11 @@ use Rattle.std.specs.Prelude.{ℕ, ◌+◌, List, [], ◌∷◌, ◌++◌, Optio
 use Rattle.frame_word.specs.Seats.{KnownTable}
 use Rattle.zone_blocks.specs.declared.config.Config.{Config}
 use Rattle.step_rules.specs.After.{Run, IsLegalRun}
-use Rattle.mem_machine.specs.Agreeing.{AgreesWithRun}
-use Rattle.mem_machine.specs.Interleaving.{zone_of}
+use Rattle.mem_machine.specs.{AgreesWithRun, zone_of}
 use Rattle.mem_history.specs.Whole.{GoesOnTo, ShowsAll}
 use Rattle.mem_system.specs.Cpus.{parts_of}
 use Rattle.script_lines.specs.declared.line.Line.{Line}
-use Rattle.script_replay.specs.History.{KeepsPromise}
-use Rattle.script_replay.specs.Lines.{SystemState}
+use Rattle.script_replay.specs.{KeepsPromise, SystemState}
 use Rattle.line_server.specs.declared.form.SessionForm.{SessionForm}
 use Rattle.line_server.specs.declared.form.SessionForm.TheVariants.{Answers, Steps}
 use Rattle.line_server.specs.Forms.{SessionTerms}

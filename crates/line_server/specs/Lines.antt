@@ -1,11 +1,9 @@
 -- The lines of a session, and what a bad one is answered.
-use Rattle.std.specs.Prelude.{◌≡◌, ◌⊎◌, ℕ, ◌<◌, ◌≤◌, Bool, true, false, List, [], Option, None, Some, IfSome}
-use Rattle.std.specs.Prelude.{codes, length, nat_eq}
+use Rattle.std.specs.Prelude.{◌≡◌, ◌⊎◌, ℕ, ◌<◌, ◌≤◌, Bool, true, false, List, [], Option, None, Some, IfSome, codes, length, nat_eq}
 use Rattle.std.specs.Cmp.Lexicographic.{pointwise}
 use Rattle.std.specs.Io.BufRead.{DropsThrough}
 use Rattle.zone_blocks.specs.declared.config.Config.{Config}
-use Rattle.script_lint.specs.Findings.{IsFoundInText}
-use Rattle.script_lint.specs.Texts.{cause_text}
+use Rattle.script_lint.specs.{IsFoundInText, cause_text}
 use Rattle.script_lint.specs.declared.finding.Finding.{Finding}
 use Rattle.line_server.specs.Streams.{first_text}
 use Rattle.script_lines.specs.Script.{longest_line}

@@ -7,8 +7,7 @@ use Rattle.log_lines.specs.Line.{longest_log_line}
 use Rattle.script_lines.specs.declared.line.Line.{Line}
 use Rattle.script_lines.specs.declared.line.Line.TheVariants.{Go, At}
 use Rattle.script_lines.specs.Script.{texts_of}
-use Rattle.script_replay.specs.Answers.{locked_with_watch}
-use Rattle.script_replay.specs.Lines.{ServesLine, SystemState, system_state}
+use Rattle.script_replay.specs.{locked_with_watch, ServesLine, SystemState, system_state}
 use Rattle.script_replay.specs.Terms.{Terms}
 
 -- ---- comments

@@ -29,7 +29,7 @@ abbrev pub session_text : List Turn → List ℕ
 session_text turns = flat_map turn_text turns
 
 -- Turns of a session: their lines were read one after the other, each was answered, and the output got their answers,
--- each with an empty line behind it.
+-- each with an empty line after it.
 pub record HoldsSession (on : SessionTerms) (sizes : Config) (turns : List Turn) (input left : Option (List ℕ))
     (before after : SystemState) (output now : Option (List ℕ)) : Type 0 where
   pub reads : ReadsTurns turns input left

@@ -1,12 +1,10 @@
 -- What a line is answered in a session.
-use Rattle.std.specs.Prelude.{◌≡◌, ◌⊎◌, ℕ, true, false, List, [], ◌∷◌, ◌++◌, Option, None, Some, Result, IfOk, Vec}
-use Rattle.std.specs.Prelude.{codes}
+use Rattle.std.specs.Prelude.{◌≡◌, ◌⊎◌, ℕ, true, false, List, [], ◌∷◌, ◌++◌, Option, None, Some, Result, IfOk, Vec, codes}
 use Rattle.frame_word.specs.Seats.{KnownTable}
 use Rattle.zone_blocks.specs.declared.config.Config.{Config}
 use Rattle.script_lines.specs.Script.{IsLineText, is_skipped}
 use Rattle.script_lines.specs.declared.line.Line.{Line}
-use Rattle.script_replay.specs.Lines.{ServesLine, SystemState}
-use Rattle.script_replay.specs.Terms.{terms}
+use Rattle.script_replay.specs.{ServesLine, SystemState, terms}
 use Rattle.line_server.specs.declared.form.SessionForm.{SessionForm}
 use Rattle.line_server.specs.declared.form.SessionForm.TheVariants.{Answers, Steps}
 use Rattle.line_server.specs.Forms.{SessionTerms, bad_line_answer}
@@ -14,7 +12,7 @@ use Rattle.line_server.specs.Lines.{RefusesText}
 use Rattle.line_server.specs.Logs.{LogsLine}
 
 -- A line of a session: its text, or None if it was too long; the line of a script that was served for it, if any; and
--- its answer, without the empty line behind it. If the session writes a log, the answer is the line's part of that.
+-- its answer, without the empty line after it. If the session writes a log, the answer is the line's part of that.
 pub record Turn : Type 0 where
   pub text : Option (List ℕ)
   pub served : Option Line

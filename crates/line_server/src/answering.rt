@@ -1,8 +1,7 @@
 //! The answer to a line that is served.
 
 ghost use Rattle.std.specs.Prelude.{length};
-ghost use Rattle.script_replay.specs.Lines.{system_state};
-ghost use Rattle.script_replay.specs.Ranges.{LineInRange};
+ghost use Rattle.script_replay.specs.{system_state, LineInRange};
 ghost use Rattle.line_server.specs.Forms.{session_terms};
 ghost use Rattle.line_server.specs.Turns.{AnswersServed, GivesAnswer};
 

@@ -29,7 +29,7 @@ fn add_printed(bytes: &[u8], log: &mut Vec<u8>) -> Result<(), AllocError>
     Ok(())
 }
 
-/// Adds a comment of these two texts, the one behind the other.
+/// Adds a comment of these two texts, one after the other.
 pub(crate) fn add_comment(front: &[u8], back: &[u8], log: &mut Vec<u8>) -> Result<(), AllocError>
     ensures { IfOk result (λ _. log.new.items ≡ log.old.items ++ comment (front.now ++ back.now)) }
 {

@@ -1,9 +1,7 @@
 //! A line's part of a log.
 
 ghost use Rattle.std.specs.Prelude.{◌≡◌, ◌++◌, OnOk, length, true};
-ghost use Rattle.script_replay.specs.Lines.{system_state};
-ghost use Rattle.script_replay.specs.Ranges.{LineInRange};
-ghost use Rattle.script_replay.specs.Terms.{terms};
+ghost use Rattle.script_replay.specs.{system_state, LineInRange, terms};
 ghost use Rattle.step_watch.specs.Watched.{has_whole_log, log_text};
 ghost use Rattle.line_server.specs.Logs.{AddsPart, LogsLine};
 

@@ -1,8 +1,7 @@
 //! The answer to a bad line.
 
 ghost use Rattle.std.specs.Prelude.{◌≡◌, IfOk, false, ℕ};
-ghost use Rattle.script_lines.specs.Script.{IsLineText, is_skipped};
-ghost use Rattle.script_lines.specs.Verb.{IsNames};
+ghost use Rattle.script_lines.specs.{IsLineText, is_skipped, IsNames};
 ghost use Rattle.script_lines.specs.declared.line.Line.{Line};
 ghost use Rattle.script_lint.specs.Lines.{HasValidCounts};
 ghost use Rattle.line_server.specs.Forms.{bad_line_answer};

@@ -171,7 +171,7 @@ impl<N: BootName> Server<N> {
         }
     }
 
-    // Serves the line of this number, and returns its answer with an empty line behind it.
+    // Serves the line of this number, and returns its answer with an empty line after it.
     #[tactic(auto, using(crate::proofs::Answered::turn_written))]
     fn answer(
         &mut self,

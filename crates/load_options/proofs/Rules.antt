@@ -14,7 +14,7 @@ one_more shape rule rest = ap (λ (rules : List Rule). record shape { rules = ru
 none_more : (shape : Shape) → with_options shape [] ≡ shape
 none_more shape = ap (λ (rules : List Rule). record shape { rules = rules }) (append-nil shape.rules)
 
--- one option of a list, and then those behind it
+-- one option of a list, and then those after it
 pub next_of : {X : Type 0} (rule : X → Rule) (xs : List X) (i : ℕ) (x : X) (start before after : Shape) → i < length xs
     → with_options before (map rule (drop i xs)) ≡ with_options start (map rule xs) → after ≡ with_option before (rule (get_or xs i x))
     → with_options after (map rule (drop (i + 1) xs)) ≡ with_options start (map rule xs)
@@ -24,7 +24,7 @@ next_of rule xs i x start before after more told is =
     ap (λ (shape : Shape). with_options shape rest) is ∙ one_more before (rule (get_or xs i x)) rest
     ∙ ap (λ (ys : List _). with_options before (map rule ys)) (sym here) ∙ told
 
--- none behind the last
+-- none after the last
 pub last_of : {X : Type 0} (rule : X → Rule) (xs : List X) (i : ℕ) (start last : Shape) → length xs ≤ i
     → with_options last (map rule (drop i xs)) ≡ with_options start (map rule xs) → last ≡ with_options start (map rule xs)
 last_of rule xs i start last none told =

@@ -12,15 +12,14 @@ use Rattle.zone_blocks.specs.Config.{IsValidConfig}
 use Rattle.script_lines.specs.declared.line.Line.{Line}
 use Rattle.script_lines.specs.Script.{IsScript}
 use Rattle.load_options.specs.declared.task.Options.{Options}
-use Rattle.load_run.specs.Answers.{AreAnswers, IsAnswered, IsWritten}
-use Rattle.load_run.specs.Refusals.{answered_status}
+use Rattle.load_run.specs.{AreAnswers, IsAnswered, IsWritten, answered_status}
 use Rattle.script_replay.specs.Ranges.{LineInRange}
 use Rattle.script_replay.proofs.InRange.{script_there}
 
 the_same : (a b : Options) → Some a ≡ Some b → a ≡ b
 the_same a b e = cc
 
--- the answers were written behind what the writer held, if the script is known
+-- the answers were written after what the writer held, if the script is known
 pub answers_written : (options : Options) (input before after : Option (List ℕ)) (text : List ℕ) (status : ℕ)
     → IfSome input (IsAnswered (Some options) text) → Appends before after text
     → status ≡ answered_status options.is_strict options.is_numbered text → IfSome input (IsWritten (Some options) status before after)

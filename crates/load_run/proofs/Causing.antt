@@ -8,9 +8,8 @@ use Rattle.script_lines.specs.Script.{IsScript}
 use Rattle.load_options.specs.declared.task.Options.{Options}
 use Rattle.load_run.specs.declared.fault.ProgramFault.{ProgramFault}
 use Rattle.load_run.specs.declared.fault.ProgramFault.TheVariants.{Words, Script, BadConfig, IllegalLine, IllegalEnd, Output, NoMemory}
-use Rattle.load_run.specs.Answers.{IsAnswered, bytes_read}
-use Rattle.load_run.specs.Causes.{FailsAtWork, HasCause, IsMisused, LeavesAnswers, written}
-use Rattle.load_run.specs.Fault.{IsBootFault, IsScriptFault, IsWordsFault, fault_text, fault_status_of}
+use Rattle.load_run.specs.{IsAnswered, bytes_read, FailsAtWork, HasCause, IsMisused, LeavesAnswers, written, IsBootFault, IsScriptFault, IsWordsFault}
+use Rattle.load_run.specs.{fault_text, fault_status_of}
 use Rattle.load_options.specs.Sizes.{HasSizesInRange}
 use Rattle.line_server.specs.Writing.{AppendsBeginning}
 

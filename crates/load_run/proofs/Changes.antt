@@ -6,8 +6,7 @@ use Rattle.std.proofs.lemmas.List.Elements.{filter-append}
 use Rattle.step_rules.specs.declared.step.Step.{Step}
 use Rattle.step_rules.specs.declared.step.Answer.{Answer}
 use Rattle.step_rules.specs.After.{Run}
-use Rattle.boot_words.specs.Growth.{AreChangesOf, GrewByAll, SeesMore, changes_nothing}
-use Rattle.boot_words.specs.Runs.{HasNoStepOf, OthersFollow}
+use Rattle.boot_words.specs.{AreChangesOf, GrewByAll, SeesMore, changes_nothing, HasNoStepOf, OthersFollow}
 use Rattle.boot_words.specs.declared.past.Past.{Past}
 use Rattle.mem_system.proofs.Mixed.{AreBehindOthers, gained}
 use Rattle.load_run.specs.Survey.{ChangesFollow, changes_by}

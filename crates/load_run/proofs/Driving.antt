@@ -8,11 +8,8 @@ use Rattle.load_options.specs.declared.fault.WordsFault.TheVariants as words
 use Rattle.load_options.specs.declared.task.Options.{Options}
 use Rattle.load_run.specs.declared.fault.ProgramFault.{ProgramFault}
 use Rattle.load_run.specs.declared.fault.ProgramFault.TheVariants.{Words, Script, Output}
-use Rattle.load_run.specs.Answers.{IsAnswered, IsWritten}
-use Rattle.load_run.specs.Causes.{HasCause, written}
-use Rattle.load_run.specs.Driving.{DrivesScript, IsAnsweredStatus}
-use Rattle.load_run.specs.Fault.{fault_text, fault_status_of}
-use Rattle.load_run.specs.Refusals.{answered_status, has_refusal}
+use Rattle.load_run.specs.{IsAnswered, IsWritten, HasCause, written, DrivesScript, IsAnsweredStatus, fault_text, fault_status_of, answered_status}
+use Rattle.load_run.specs.{has_refusal}
 use Rattle.line_server.specs.Writing.{AppendsBeginning}
 use Rattle.load_run.proofs.Answering.{answers_written}
 use Rattle.load_run.proofs.Causing.{cut_short, failed, misused}

@@ -8,25 +8,16 @@ use Rattle.zone_blocks.specs.declared.config.Config.{Config}
 use Rattle.step_rules.specs.After.{Run}
 use Rattle.step_rules.proofs.PhaseLemmas.{none_some}
 use Rattle.boot_words.specs.declared.past.Past.{Past}
-use Rattle.boot_words.specs.Growth.{IsRunSoFar}
-use Rattle.boot_words.specs.Pasts.{own_past}
-use Rattle.boot_words.specs.Rule.{AllOf}
-use Rattle.boot_words.specs.Runs.{OthersFollow}
-use Rattle.mem_system.specs.Boots.{IsSizedAs, KnownSystem}
-use Rattle.mem_system.specs.Cpus.{CpuInRun, pasts_of}
+use Rattle.boot_words.specs.{IsRunSoFar, own_past, AllOf, OthersFollow}
+use Rattle.mem_system.specs.{IsSizedAs, KnownSystem, CpuInRun, pasts_of}
 use Rattle.script_lines.specs.declared.line.Line.{Line}
-use Rattle.script_replay.specs.Lines.{HasRun, ServesAll, SystemState, steps_of_served}
-use Rattle.script_replay.specs.Ranges.{LineInRange}
-use Rattle.script_replay.specs.Terms.{boot_tables, numbered_terms}
-use Rattle.script_replay.specs.Each.{AreAllAnswers, workers_from}
-use Rattle.script_replay.specs.Runs.{lines_before_go}
-use Rattle.script_replay.specs.Visits.{GrewByChanges}
+use Rattle.script_replay.specs.{HasRun, ServesAll, SystemState, steps_of_served, LineInRange, boot_tables, numbered_terms, AreAllAnswers}
+use Rattle.script_replay.specs.{workers_from, lines_before_go, GrewByChanges}
 use Rattle.script_replay.proofs.Gaining.{all_lines_go_on}
 use Rattle.script_replay.proofs.Keeping.{legal_lines_keep_it}
 use Rattle.load_run.specs.declared.boot_end.BootEnd.{BootEnd}
-use Rattle.load_run.specs.Answers.{AreThreadAnswers, IsNewBootState, IsQuietSystem}
-use Rattle.load_run.specs.Ending.{EndsHeld, boot_end_text}
-use Rattle.load_run.specs.Survey.{AreNumbered, HasPast, ChangesFollow, HasSeen, SeesAllPasts}
+use Rattle.load_run.specs.{AreThreadAnswers, IsNewBootState, IsQuietSystem, EndsHeld, boot_end_text, AreNumbered, HasPast, ChangesFollow, HasSeen}
+use Rattle.load_run.specs.{SeesAllPasts}
 use Rattle.load_run.proofs.Changes.{follow_both, follow_seen, grew_number, others_follow, same_changes}
 use Rattle.load_run.proofs.Starting.{boot_agrees, boot_shown, lines_there}
 use Rattle.load_run.proofs.Surveying.{at_index}

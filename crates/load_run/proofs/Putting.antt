@@ -5,31 +5,25 @@ use Rattle.std.proofs.lemmas.List.Sums.{sum_by-append}
 use Rattle.frame_word.specs.Seats.{KnownTable}
 use Rattle.frame_word.specs.declared.answers.Put.{Put}
 use Rattle.boot_words.specs.declared.past.Past.{Past}
-use Rattle.boot_words.specs.Pasts.{Meets, own_past}
-use Rattle.boot_words.specs.Growth.{GainsSteps, GrewByAll, IsRunSoFar}
+use Rattle.boot_words.specs.{Meets, own_past, GainsSteps, GrewByAll, IsRunSoFar}
 use Rattle.boot_words.proofs.Gaining.{gains_both, gains_go_on, none_gains}
 use Rattle.step_rules.specs.declared.step.Answer.{Answer}
 use Rattle.step_rules.specs.declared.step.Step.{Step}
 use Rattle.step_rules.specs.After.{Run}
-use Rattle.cpu_part.specs.Cpus.{KnownCpu}
-use Rattle.cpu_part.specs.Calls.{UnpinAnswers}
-use Rattle.cpu_part.specs.Told.{steps_of_put}
+use Rattle.cpu_part.specs.{KnownCpu, UnpinAnswers, steps_of_put}
 use Rattle.step_watch.specs.Watched.{Watches}
 use Rattle.step_watch.proofs.Watching.{watches_both, watches_none}
 use Rattle.mem_machine.specs.Machines.{KnownMachine, with_past}
 use Rattle.mem_system.proofs.Putting.{fewer_pins}
-use Rattle.mem_system.specs.Cpus.{CpuInRun, parts_of, pasts_of}
-use Rattle.mem_system.specs.Ends.{ForEachCpu, KnownEmptiedBoot, MachineAndCpu, MakesLastVisits, machine_and_cpu, pins_of_all}
-use Rattle.mem_system.specs.Locked.{KnownLocked}
-use Rattle.mem_system.specs.Visits.{locked_state}
-use Rattle.script_replay.specs.Answers.{OnlyWatched}
+use Rattle.mem_system.specs.{CpuInRun, parts_of, pasts_of, ForEachCpu, KnownEmptiedBoot, MachineAndCpu, MakesLastVisits, machine_and_cpu, pins_of_all}
+use Rattle.mem_system.specs.{KnownLocked, locked_state}
+use Rattle.script_replay.specs.{OnlyWatched, SystemState, system_state}
 use Rattle.script_replay.proofs.Gaining.{both_saw, met_gains, put_made, saw_both, watched_gains, watched_saw}
-use Rattle.script_replay.specs.Lines.{SystemState, system_state}
 use Rattle.load_run.specs.Ending.{LeavesNothing, PutsAllPins, PutsEach, PutsHeldPin, put_steps, steps_of_all_puts, steps_of_puts}
 
 -- ---- lists
 
--- the entry behind these
+-- the entry after these
 at_seam : {X : Type 0} (xs : List X) (x : X) (ys : List X) → slice_get (xs ++ x ∷ ys) (length xs) ≡ Some x
 at_seam [] x ys = refl
 at_seam (z ∷ xs) x ys = at_seam xs x ys

@@ -6,10 +6,9 @@ use Rattle.zone_blocks.specs.declared.config.Config.{Config}
 use Rattle.load_options.specs.declared.fault.WordsFault.TheVariants as words
 use Rattle.load_run.specs.declared.fault.ProgramFault.{ProgramFault}
 use Rattle.load_run.specs.declared.fault.ProgramFault.TheVariants.{Input, NoMemory, Output, Words}
-use Rattle.load_run.specs.Answers.{bytes_read}
-use Rattle.load_run.specs.Causes.{written}
-use Rattle.load_run.specs.Fault.{fault_text, fault_status_of}
-use Rattle.load_run.specs.Lints.{FailsToLint, IsEarlyFault, IsLintText, LeavesFindings, Lints, ReportsFindings, ReportsNothing, lint_status}
+use Rattle.load_run.specs.{bytes_read, written, fault_text, fault_status_of, FailsToLint, IsEarlyFault, IsLintText, LeavesFindings, ReportsFindings}
+use Rattle.load_run.specs.{ReportsNothing, lint_status}
+use Rattle.load_run.specs.Lints.{Lints}
 use Rattle.line_server.specs.Writing.{AppendsBeginning}
 
 -- what is known of what the lint says, if the input's bytes are known

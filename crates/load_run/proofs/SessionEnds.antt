@@ -13,12 +13,8 @@ use Rattle.mem_machine.specs.Interleaving.{zone_of}
 use Rattle.script_replay.specs.Lines.{HasRun, SystemState}
 use Rattle.line_server.specs.declared.form.SessionForm.{SessionForm}
 use Rattle.line_server.specs.declared.form.SessionForm.TheVariants.{Answers, Steps}
-use Rattle.line_server.specs.Forms.{SessionTerms, session_terms}
-use Rattle.line_server.specs.Histories.{steps_of_turns}
+use Rattle.line_server.specs.{SessionTerms, session_terms, steps_of_turns, KnownServer, terms_of, GivesAnswer, FailsSession, ServesSession}
 use Rattle.line_server.proofs.Histories.{legal_turns_keep_it, turns_go_on}
-use Rattle.line_server.specs.Known.{KnownServer, terms_of}
-use Rattle.line_server.specs.Turns.{GivesAnswer}
-use Rattle.line_server.specs.Sessions.{FailsSession, ServesSession}
 use Rattle.line_server.specs.declared.fault.ServeFault.{ServeFault}
 use Rattle.line_server.specs.declared.fault.ServeFault.TheVariants as serve
 use Rattle.load_options.specs.declared.fault.WordsFault.TheVariants as words
@@ -26,13 +22,9 @@ use Rattle.load_options.specs.declared.task.Options.{Options}
 use Rattle.load_run.specs.declared.fault.ProgramFault.{ProgramFault}
 use Rattle.load_run.specs.declared.fault.ProgramFault.TheVariants as kinds
 use Rattle.load_run.specs.declared.boot_end.BootEnd.{BootEnd}
-use Rattle.load_run.specs.Starting.{IsNewBootState}
-use Rattle.load_run.specs.Causes.{written}
-use Rattle.load_run.specs.Ending.{EndsHeld, IsWholeRun, boot_end_text}
-use Rattle.load_run.specs.Fault.{fault_text, fault_status_of}
-use Rattle.load_run.specs.Logs.{LogsEnd, log_head_text}
-use Rattle.load_run.specs.Sessions.{BeginsHead, DrivesSession, EndsInForm, EndsSession, IsOfValid, IsSameFault, IsWorkFault, LeavesSession}
-use Rattle.load_run.specs.Sessions.{LeavesWithHead, ServesInput, ServesWithHead, StopsSession, WritesHead, steps_of_end, words_of_end}
+use Rattle.load_run.specs.{IsNewBootState, written, EndsHeld, IsWholeRun, boot_end_text, fault_text, fault_status_of, LogsEnd, log_head_text}
+use Rattle.load_run.specs.{BeginsHead, DrivesSession, EndsInForm, EndsSession, IsOfValid, IsSameFault, IsWorkFault, LeavesSession, LeavesWithHead}
+use Rattle.load_run.specs.{ServesInput, ServesWithHead, StopsSession, WritesHead, steps_of_end, words_of_end}
 use Rattle.line_server.specs.Writing.{AppendsBeginning}
 use Rattle.load_run.proofs.Starting.{boot_agrees, boot_shown}
 use Rattle.load_run.proofs.Whole.{whole_run}

@@ -9,22 +9,16 @@ use Rattle.zone_blocks.specs.declared.config.Config.{Config}
 use Rattle.step_rules.specs.State.{Zone}
 use Rattle.step_watch.specs.Watched.{IsNewWatch, KnownWatch}
 use Rattle.mem_core.specs.Shown as core
-use Rattle.mem_machine.specs.Interleaving.{zone_of}
-use Rattle.mem_machine.specs.Machines.{KnownMachine, IsFirst, with_watch}
+use Rattle.mem_machine.specs.{zone_of, KnownMachine, IsFirst, with_watch, AgreesWithRun}
 use Rattle.mem_history.specs.Whole.{ShowsAll}
 use Rattle.mem_history.proofs.Booting.{a_boot_is_shown}
 use Rattle.boot_words.specs.declared.past.Past.{Past}
-use Rattle.boot_words.specs.Pasts.{own_past}
-use Rattle.boot_words.specs.Growth.{IsRunSoFar}
-use Rattle.mem_system.specs.Boots.{IsSizedAs, first_cpus}
-use Rattle.mem_system.specs.Cpus.{CpuInRun, parts_of, pasts_of}
-use Rattle.mem_machine.specs.Agreeing.{AgreesWithRun}
+use Rattle.boot_words.specs.{own_past, IsRunSoFar}
+use Rattle.mem_system.specs.{IsSizedAs, first_cpus, CpuInRun, parts_of, pasts_of, KnownLocked}
 use Rattle.mem_history.proofs.Agreeing.{a_boot_agrees}
 use Rattle.mem_system.proofs.Closing.{written_back}
-use Rattle.mem_system.specs.Locked.{KnownLocked}
 use Rattle.script_lines.specs.declared.line.Line.{Line}
-use Rattle.script_replay.specs.Lines.{SystemState, system_state}
-use Rattle.script_replay.specs.Ranges.{LineInRange}
+use Rattle.script_replay.specs.{SystemState, system_state, LineInRange}
 use Rattle.load_run.specs.Starting.{IsNewBootState}
 use Rattle.load_run.proofs.Answering.{first_long}
 

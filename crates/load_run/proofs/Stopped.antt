@@ -4,27 +4,20 @@ use Rattle.frame_word.specs.Seats.{KnownTable}
 use Rattle.zone_blocks.specs.declared.config.Config.{Config}
 use Rattle.step_watch.specs.Watched.{IsNewWatch, KnownWatch}
 use Rattle.mem_core.specs.Shown as core
-use Rattle.mem_machine.specs.Interleaving.{zone_of}
-use Rattle.mem_machine.specs.Machines.{IsFirst, with_watch}
-use Rattle.boot_words.specs.Pasts.{own_past}
-use Rattle.boot_words.specs.Growth.{IsRunSoFar}
-use Rattle.mem_system.specs.Boots.{IsSizedAs, first_cpus}
-use Rattle.mem_system.specs.Cpus.{CpuInRun, parts_of, pasts_of}
-use Rattle.mem_system.specs.Locked.{KnownLocked}
+use Rattle.mem_machine.specs.{zone_of, IsFirst, with_watch}
+use Rattle.boot_words.specs.{own_past, IsRunSoFar}
+use Rattle.mem_system.specs.{IsSizedAs, first_cpus, CpuInRun, parts_of, pasts_of, KnownLocked}
 use Rattle.script_lines.specs.declared.line.Line.{Line}
 use Rattle.script_replay.specs.declared.form.Form.{Form}
-use Rattle.script_replay.specs.declared.owned_replay.Stopped.{Stopped}
-use Rattle.script_replay.specs.declared.owned_replay.Stopped.TheVariants as stopped
-use Rattle.script_replay.specs.History.{StopsFor}
-use Rattle.script_replay.specs.Lines.{SystemState, system_state}
-use Rattle.script_replay.specs.Terms.{form_of, form_terms}
+use Rattle.script_replay.specs.declared.replays.Stopped.{Stopped}
+use Rattle.script_replay.specs.declared.replays.Stopped.TheVariants as stopped
+use Rattle.script_replay.specs.{StopsFor, SystemState, system_state, form_of, form_terms}
 use Rattle.load_options.specs.declared.task.Options.{Options}
 use Rattle.load_options.specs.declared.task.Task.{Task}
 use Rattle.load_options.specs.declared.task.Task.TheVariants.{Replay}
 use Rattle.load_run.specs.declared.fault.ProgramFault.{ProgramFault}
 use Rattle.load_run.specs.declared.fault.ProgramFault.TheVariants.{IllegalLine, IllegalEnd, NoMemory}
-use Rattle.load_run.specs.Fault.{IsFailedTask}
-use Rattle.load_run.specs.Stopping.{IsCheckFault, IsNewWatchedState, OfCheckedForm, StopsAtIllegalEnd, StopsAtIllegalLine, fault_of_stop}
+use Rattle.load_run.specs.{IsFailedTask, IsCheckFault, IsNewWatchedState, OfCheckedForm, StopsAtIllegalEnd, StopsAtIllegalLine, fault_of_stop}
 use Rattle.load_run.proofs.Starting.{new_watch, watched_first}
 
 -- a new boot that was given a new watch

@@ -6,23 +6,18 @@ use Rattle.std.proofs.lemmas.List.{append_cancel_left, length-map}
 use Rattle.std.proofs.lemmas.Option.{get_or_from_slice_get, slice_get-get_or}
 use Rattle.frame_word.specs.Seats.{KnownTable}
 use Rattle.step_rules.specs.declared.phase.Hold.{Hold}
-use Rattle.step_rules.specs.State.{Zone, is_cpu, may_zone_act}
-use Rattle.step_rules.specs.After.{Run, state_of, IsLegalRun}
+use Rattle.step_rules.specs.{Zone, is_cpu, may_zone_act, Run, state_of, IsLegalRun}
 use Rattle.step_rules.proofs.Answering.{only_seats_act}
 use Rattle.step_rules.proofs.PhaseLemmas.{none_some}
 use Rattle.step_rules.proofs.Runs.{legal_more}
 use Rattle.boot_words.specs.declared.past.Past.{Past}
-use Rattle.boot_words.specs.Growth.{AreChangesOf, HasInOrder, IsRunSoFar, SeesMore, changes_nothing, changes_of}
-use Rattle.boot_words.specs.Pasts.{IsZonePast, own_past}
-use Rattle.boot_words.specs.Rule.{AllOf, IsPastOf}
-use Rattle.boot_words.specs.Runs.{HasNoStepOf}
+use Rattle.boot_words.specs.{AreChangesOf, HasInOrder, IsRunSoFar, SeesMore, changes_nothing, changes_of, IsZonePast, own_past, AllOf, IsPastOf}
+use Rattle.boot_words.specs.{HasNoStepOf}
 use Rattle.boot_words.proofs.Gaining.{sees_changes, sees_in_order, the_run_so_far_is_legal}
 use Rattle.boot_words.proofs.Holding.{allowed_at, append_none}
 use Rattle.boot_words.proofs.Ordered.{IsSeatOfChange, has_behind, only_quiet_are_left_out, others_add_none}
-use Rattle.mem_machine.specs.Machines.{KnownMachine, with_past}
-use Rattle.mem_machine.specs.Interleaving.{zone_of}
-use Rattle.mem_system.specs.Cpus.{CpuInRun, parts_of, pasts_of}
-use Rattle.mem_system.specs.Ends.{ForEachCpu}
+use Rattle.mem_machine.specs.{KnownMachine, with_past, zone_of}
+use Rattle.mem_system.specs.{CpuInRun, parts_of, pasts_of, ForEachCpu}
 use Rattle.script_replay.specs.Lines.{SystemState}
 use Rattle.script_replay.proofs.Growing.{none_both, sees_both}
 use Rattle.load_run.specs.Survey.{AreNumbered, HasPast, HasSeen, MeetsZone, SeesAllPasts, lasts_of}

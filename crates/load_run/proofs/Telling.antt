@@ -4,10 +4,7 @@ use Rattle.std.specs.Io.KnownBytes.{Appends}
 use Rattle.std.proofs.KnownBytes.{Appends-nil}
 use Rattle.load_run.specs.declared.fault.ProgramFault.{ProgramFault}
 use Rattle.load_run.specs.declared.fault.ProgramFault.TheVariants.{Output, NoMemory}
-use Rattle.load_run.specs.Causes.{written}
-use Rattle.load_run.specs.Checks.{LeavesLine}
-use Rattle.load_run.specs.Fault.{fault_text, fault_status_of}
-use Rattle.load_run.specs.Versions.{WritesVersion, version_text}
+use Rattle.load_run.specs.{written, LeavesLine, fault_text, fault_status_of, WritesVersion, version_text}
 use Rattle.line_server.specs.Writing.{AppendsBeginning}
 
 -- the version was written, whole

@@ -8,8 +8,7 @@ use Rattle.log_check.specs.declared.line_fault.LineFault.{LineFault}
 use Rattle.log_check.specs.declared.verdict.LogEnd.{LogEnd}
 use Rattle.log_check.specs.declared.verdict.LogVerdict.{LogVerdict}
 use Rattle.log_check.specs.declared.verdict.LogVerdict.TheVariants.{BadLine, Legal, LeftOut, NotLegal}
-use Rattle.log_check.specs.Verdicts.{IsLegalLog, IsLogVerdict, says_legal}
-use Rattle.log_check.specs.Texts.{verdict_text}
+use Rattle.log_check.specs.{IsLegalLog, IsLogVerdict, says_legal, verdict_text}
 use Rattle.load_options.specs.declared.fault.WordsFault.TheVariants as words
 use Rattle.load_options.specs.declared.task.Options.{Options}
 use Rattle.load_options.specs.declared.task.Task.{Task}
@@ -18,13 +17,10 @@ use Rattle.line_server.specs.declared.form.SessionForm.{SessionForm}
 use Rattle.line_server.specs.declared.form.SessionForm.TheVariants as session
 use Rattle.load_run.specs.declared.fault.ProgramFault.{ProgramFault}
 use Rattle.load_run.specs.declared.fault.ProgramFault.TheVariants.{BadLogLine, Input, NoMemory, Output, Words}
-use Rattle.load_run.specs.Answers.{IsOnScript}
-use Rattle.load_run.specs.Causes.{Written, written}
-use Rattle.load_run.specs.Checks.{Checks, FailsToCheck, HasStatus, IsLogVerdictOf, LeavesLine, LeavesVerdict}
-use Rattle.load_run.specs.Checks.{ReportsBadLine, ReportsLegal, ReportsNotLegal}
-use Rattle.load_run.specs.Driving.{Drives, DrivesScript, DrivesTask}
-use Rattle.load_run.specs.Sessions.{SessionAsked}
-use Rattle.load_run.specs.Fault.{IsReadFault, IsWordsFault, fault_text, fault_status_of}
+use Rattle.load_run.specs.{IsOnScript, Written, written, FailsToCheck, HasStatus, IsLogVerdictOf, LeavesLine, LeavesVerdict, ReportsBadLine}
+use Rattle.load_run.specs.{ReportsLegal, ReportsNotLegal, Drives, DrivesScript, DrivesTask, SessionAsked, IsReadFault, IsWordsFault, fault_text}
+use Rattle.load_run.specs.{fault_status_of}
+use Rattle.load_run.specs.Checks.{Checks}
 use Rattle.line_server.specs.Writing.{AppendsBeginning}
 use Rattle.load_run.proofs.Causing.{words_cause}
 use Rattle.load_run.proofs.Driving.{drives_badly}

@@ -1,7 +1,6 @@
 -- A run that a watch saw goes on. Serves `check_on_boot`.
 use Rattle.std.proofs.Common.{◌≡◌, ◌++◌, true, arith, length-append}
-use Rattle.step_rules.specs.State.{Zone}
-use Rattle.step_rules.specs.After.{Run}
+use Rattle.step_rules.specs.{Zone, Run}
 use Rattle.mem_core.proofs.Keeping.{always_keeps}
 use Rattle.step_watch.specs.Watched.{KnownWatch, SawRun, Watches, has_legal_steps, state_seen}
 use Rattle.step_watch.proofs.Watching.{goes_on}

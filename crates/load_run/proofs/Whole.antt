@@ -4,9 +4,7 @@ use Rattle.std.proofs.Common.{◌∙◌, ℕ, List, [], ◌∷◌, ◌++◌, sub
 use Rattle.std.proofs.lemmas.List.{length-map}
 use Rattle.frame_word.specs.Seats.{KnownTable}
 use Rattle.boot_words.specs.declared.past.Past.{Past as SeatPast}
-use Rattle.boot_words.specs.Pasts.{own_past}
-use Rattle.boot_words.specs.Rule.{AllOf, BeginsRun, IsPastOf}
-use Rattle.boot_words.specs.Words.{AreFrameWords, AreStockWords}
+use Rattle.boot_words.specs.{own_past, AllOf, BeginsRun, IsPastOf, AreFrameWords, AreStockWords}
 use Rattle.boot_words.proofs.Gaining.{the_run_so_far_is_legal}
 use Rattle.boot_words.proofs.Growing.{past_of_run}
 use Rattle.step_rules.specs.State.{State, Zone}
@@ -15,8 +13,7 @@ use Rattle.mem_core.proofs.Keeping.{always_keeps}
 use Rattle.mem_machine.specs.Interleaving.{zone_of}
 use Rattle.mem_system.specs.Cpus.{CpuInRun, pasts_of}
 use Rattle.script_lines.specs.declared.line.Line.{Line}
-use Rattle.script_replay.specs.History.{KeepsHistory, Past, past_line}
-use Rattle.script_replay.specs.Lines.{HasRun, SystemState}
+use Rattle.script_replay.specs.{KeepsHistory, Past, past_line, HasRun, SystemState}
 use Rattle.script_replay.specs.Terms.{Terms}
 use Rattle.load_run.specs.declared.boot_end.BootEnd.{BootEnd}
 use Rattle.load_run.specs.Ending.{EndsHeld, IsWholeRun, last_words}

@@ -1,26 +1,18 @@
 -- What a script is answered.
-use Rattle.std.specs.Prelude.{◌≡◌, ℕ, suc, ◌+◌, Bool, false, true, ⊤, Option, Some, List, [], ◌++◌}
-use Rattle.std.specs.Prelude.{codes, decimal, drop, length, slice_get, take}
+use Rattle.std.specs.Prelude.{◌≡◌, ℕ, suc, ◌+◌, Bool, false, true, ⊤, Option, Some, List, [], ◌++◌, codes, decimal, drop, length, slice_get, take}
 use Rattle.std.specs.Io.KnownBytes.{Appends}
 use Rattle.frame_word.specs.Seats.{KnownTable}
 use Rattle.zone_blocks.specs.declared.config.Config.{Config}
 use Rattle.zone_blocks.specs.Config.{IsValidConfig}
 use Rattle.step_rules.specs.After.{Run as StepRun}
-use Rattle.boot_words.specs.Growth.{AreChangesOf}
-use Rattle.boot_words.specs.Pasts.{own_past}
-use Rattle.boot_words.specs.Runs.{OthersFollow}
-use Rattle.mem_machine.specs.Interleaving.{zone_of}
-use Rattle.mem_machine.specs.Agreeing.{AgreesWithRun}
-use Rattle.mem_system.specs.Cpus.{CpuInRun}
-use Rattle.mem_system.specs.Locked.{IsQuiet}
+use Rattle.boot_words.specs.{AreChangesOf, own_past, OthersFollow}
+use Rattle.mem_machine.specs.{zone_of, AgreesWithRun}
+use Rattle.mem_system.specs.{CpuInRun, IsQuiet}
 use Rattle.script_lines.specs.declared.line.Line.{Line}
 use Rattle.script_lines.specs.Script.{IsScript, longest_script}
-use Rattle.script_replay.specs.Lines.{ServesAll, SystemState}
+use Rattle.script_replay.specs.{ServesAll, SystemState, KeepsHistory, past, boot_tables, form_of, form_terms, numbered_terms, AreAllAnswers}
+use Rattle.script_replay.specs.{workers_from, lines_before_go}
 use Rattle.script_replay.specs.declared.form.Form.{Form}
-use Rattle.script_replay.specs.History.{KeepsHistory, past}
-use Rattle.script_replay.specs.Terms.{boot_tables, form_of, form_terms, numbered_terms}
-use Rattle.script_replay.specs.Each.{AreAllAnswers, workers_from}
-use Rattle.script_replay.specs.Runs.{lines_before_go}
 use Rattle.load_options.specs.declared.task.Options.{Options}
 use Rattle.load_options.specs.declared.task.Task.{Task}
 use Rattle.load_options.specs.declared.task.Task.TheVariants.{Replay, Steps, Run}

@@ -8,8 +8,7 @@ use Rattle.script_lines.specs.declared.line.Line.{Line}
 use Rattle.script_lines.specs.Script.{IsFirstBadLine, IsScript}
 use Rattle.script_replay.specs.declared.form.Form.{Form}
 use Rattle.load_options.specs.declared.task.Options.{Options}
-use Rattle.load_options.specs.Sizes.{HasSizesInRange}
-use Rattle.load_options.specs.Words.{GivesOptions}
+use Rattle.load_options.specs.{HasSizesInRange, GivesOptions}
 use Rattle.load_run.specs.declared.fault.ProgramFault.{ProgramFault}
 use Rattle.load_run.specs.declared.fault.ProgramFault.TheVariants.{Words, Script, BadLogLine, BadConfig}
 use Rattle.load_run.specs.declared.fault.ProgramFault.TheVariants.{IllegalLine, IllegalEnd, Input, Output, NoMemory}

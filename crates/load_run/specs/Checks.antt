@@ -5,8 +5,7 @@ use Rattle.log_check.specs.declared.line_fault.LineFault.{LineFault}
 use Rattle.log_check.specs.declared.verdict.LogEnd.{LogEnd}
 use Rattle.log_check.specs.declared.verdict.LogVerdict.{LogVerdict}
 use Rattle.log_check.specs.declared.verdict.LogVerdict.TheVariants.{BadLine, Legal, LeftOut, NotLegal}
-use Rattle.log_check.specs.Verdicts.{IsBadLine, IsLegalLog, IsLogVerdict, IsPromisedLog, says_legal}
-use Rattle.log_check.specs.Texts.{verdict_text}
+use Rattle.log_check.specs.{IsBadLine, IsLegalLog, IsLogVerdict, IsPromisedLog, says_legal, verdict_text}
 use Rattle.load_options.specs.declared.fault.WordsFault.TheVariants as words
 use Rattle.load_run.specs.declared.fault.ProgramFault.{ProgramFault}
 use Rattle.load_run.specs.declared.fault.ProgramFault.TheVariants.{Words, BadLogLine, Input, Output, NoMemory}

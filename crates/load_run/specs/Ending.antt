@@ -3,24 +3,18 @@ use Rattle.std.specs.Prelude.{◌≡◌, ℕ, Bool, true, false, List, [], ◌�
 use Rattle.std.specs.Fmt.{decimal}
 use Rattle.frame_word.specs.declared.answers.Put.{Put}
 use Rattle.frame_word.specs.Seats.{KnownTable}
-use Rattle.boot_words.specs.Pasts.{own_past}
-use Rattle.boot_words.specs.Rule.{words_in}
-use Rattle.boot_words.specs.Seats.{zone_of_boot}
-use Rattle.boot_words.specs.Words.{IsRunOf, Words}
-use Rattle.boot_words.specs.Growth.{GainsSteps, IsRunSoFar}
+use Rattle.boot_words.specs.{own_past, words_in, zone_of_boot, IsRunOf, GainsSteps, IsRunSoFar}
+use Rattle.boot_words.specs.Words.{Words}
 use Rattle.cpu_part.specs.Calls.{UnpinAnswers}
 use Rattle.step_rules.specs.declared.step.Action.TheVariants as step
-use Rattle.step_rules.specs.After.{Run}
-use Rattle.step_rules.specs.State.{Zone}
+use Rattle.step_rules.specs.{Run, Zone}
 use Rattle.mem_core.specs.Promise.{AlwaysKeepsPromise}
 use Rattle.step_watch.specs.Watched.{Watches, cpu_makes, has_legal_steps, steps_seen}
 use Rattle.mem_machine.specs.Machines.{KnownMachine, with_run}
 use Rattle.mem_history.specs.Leading.{put_answer}
 use Rattle.mem_system.specs.declared.audit.Audit.{Audit}
-use Rattle.mem_system.specs.Cpus.{CpuInRun, parts_of, pasts_of}
-use Rattle.mem_system.specs.Ends.{Closes, ForEachCpu, KnownEmptiedBoot, MachineAndCpu, MakesLastVisits, machine_and_cpu}
-use Rattle.mem_system.specs.Ends.{pins_of_all}
-use Rattle.mem_system.specs.Locked.{KnownLocked}
+use Rattle.mem_system.specs.{CpuInRun, parts_of, pasts_of, Closes, ForEachCpu, KnownEmptiedBoot, MachineAndCpu, MakesLastVisits, machine_and_cpu}
+use Rattle.mem_system.specs.{pins_of_all, KnownLocked}
 use Rattle.script_replay.specs.Lines.{HasRun, SystemState, system_state}
 use Rattle.load_run.specs.declared.boot_end.BootEnd.{BootEnd}
 use Rattle.load_run.specs.declared.boot_end.CheckedSteps.{CheckedSteps}

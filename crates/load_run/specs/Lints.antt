@@ -3,9 +3,7 @@ use Rattle.std.specs.Prelude.{◌≡◌, ◌⊎◌, ℕ, ◌≤◌, Bool, true, 
 use Rattle.std.specs.Io.KnownBytes.{Appends}
 use Rattle.std.specs.List.{flat_map}
 use Rattle.zone_blocks.specs.declared.config.Config.{Config}
-use Rattle.script_lint.specs.Findings.{IsLinted}
-use Rattle.script_lint.specs.Refused.{AreRefused, refused_line_text}
-use Rattle.script_lint.specs.Texts.{finding_text, sizes_text}
+use Rattle.script_lint.specs.{IsLinted, AreRefused, refused_line_text, finding_text, sizes_text}
 use Rattle.script_lint.specs.declared.finding.Finding.{Finding}
 use Rattle.script_lint.specs.declared.refused.RefusedLine.{RefusedLine}
 use Rattle.load_options.specs.declared.fault.WordsFault.TheVariants as words

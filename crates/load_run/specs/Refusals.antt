@@ -9,7 +9,7 @@ abbrev pub first_word : (is_numbered : Bool) → ℕ
 first_word true = 1
 first_word false = 0
 
--- whether the line begins with the word `refused`, behind its number if it has one
+-- whether the line begins with the word `refused`, after its number if it has one
 abbrev pub is_refusal : (is_numbered : Bool) → List ℕ → Bool
 is_refusal is_numbered line =
     option_map_or (λ word. bytes_eq word (codes "refused"))

@@ -6,16 +6,13 @@ use Rattle.zone_blocks.specs.declared.config.Config.{Config}
 use Rattle.zone_blocks.specs.Config.{IsValidConfig}
 use Rattle.boot_words.specs.Words.{Words}
 use Rattle.step_rules.specs.After.{Run}
-use Rattle.mem_machine.specs.Interleaving.{zone_of}
-use Rattle.mem_machine.specs.Agreeing.{AgreesWithRun}
+use Rattle.mem_machine.specs.{zone_of, AgreesWithRun}
 use Rattle.script_replay.specs.Lines.{SystemState}
 use Rattle.line_server.specs.declared.fault.ServeFault.{ServeFault}
 use Rattle.line_server.specs.declared.fault.ServeFault.TheVariants as serve
 use Rattle.line_server.specs.declared.form.SessionForm.{SessionForm}
 use Rattle.line_server.specs.declared.form.SessionForm.TheVariants.{Answers, Steps}
-use Rattle.line_server.specs.Forms.{session_terms}
-use Rattle.line_server.specs.Histories.{TurnsKeepPromise, steps_of_turns}
-use Rattle.line_server.specs.Sessions.{FailsSession, ServesSession}
+use Rattle.line_server.specs.{session_terms, TurnsKeepPromise, steps_of_turns, FailsSession, ServesSession}
 use Rattle.load_options.specs.declared.fault.WordsFault.TheVariants as words
 use Rattle.load_options.specs.declared.task.Options.{Options}
 use Rattle.load_run.specs.declared.fault.ProgramFault.{ProgramFault}

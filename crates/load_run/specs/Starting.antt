@@ -3,8 +3,7 @@ use Rattle.std.specs.Prelude.{◌≡◌, []}
 use Rattle.frame_word.specs.Seats.{KnownTable}
 use Rattle.zone_blocks.specs.declared.config.Config.{Config}
 use Rattle.mem_machine.specs.Machines.{IsFirst}
-use Rattle.mem_system.specs.Boots.{IsSizedAs, first_cpus}
-use Rattle.mem_system.specs.Cpus.{parts_of}
+use Rattle.mem_system.specs.{IsSizedAs, first_cpus, parts_of}
 use Rattle.script_replay.specs.Lines.{HasRun, SystemState}
 
 -- the state after a boot with these sizes and this table: a new machine, CPUs that did nothing yet, and no step of

@@ -6,11 +6,9 @@ use Rattle.step_watch.specs.Watched.{IsNewWatch, has_legal_steps}
 use Rattle.mem_machine.specs.Interleaving.{zone_of}
 use Rattle.script_lines.specs.declared.line.Line.{Line}
 use Rattle.script_replay.specs.declared.form.Form.{Form}
-use Rattle.script_replay.specs.declared.owned_replay.Stopped.{Stopped}
-use Rattle.script_replay.specs.declared.owned_replay.Stopped.TheVariants as stopped
-use Rattle.script_replay.specs.History.{HasLegalHistory, StopsFor}
-use Rattle.script_replay.specs.Lines.{SystemState}
-use Rattle.script_replay.specs.Terms.{form_of, form_terms}
+use Rattle.script_replay.specs.declared.replays.Stopped.{Stopped}
+use Rattle.script_replay.specs.declared.replays.Stopped.TheVariants as stopped
+use Rattle.script_replay.specs.{HasLegalHistory, StopsFor, SystemState, form_of, form_terms}
 use Rattle.load_options.specs.declared.task.Task.{Task}
 use Rattle.load_options.specs.declared.task.Task.TheVariants.{Replay}
 use Rattle.load_run.specs.declared.boot_end.BootEnd.{BootEnd}

@@ -3,15 +3,10 @@ use Rattle.std.specs.Prelude.{◌≡◌, ℕ, suc, ◌==◌, ◌&&◌, not, Some
 use Rattle.frame_word.specs.Seats.{KnownTable}
 use Rattle.step_rules.specs.After.{Run, IsLegalRun}
 use Rattle.boot_words.specs.declared.past.Past.{Past}
-use Rattle.boot_words.specs.Growth.{AreChangesOf, changes_nothing}
-use Rattle.boot_words.specs.Pasts.{Meets, own_past}
-use Rattle.boot_words.specs.Rule.{AllOf}
-use Rattle.boot_words.specs.Runs.{OthersFollow}
+use Rattle.boot_words.specs.{AreChangesOf, changes_nothing, Meets, own_past, AllOf, OthersFollow}
 use Rattle.stock_word.specs.declared.view.Stock.{Stock}
-use Rattle.mem_machine.specs.Interleaving.{zone_of}
-use Rattle.mem_machine.specs.Machines.{with_past}
-use Rattle.mem_system.specs.Cpus.{CpuInRun, parts_of, pasts_of}
-use Rattle.mem_system.specs.Ends.{MachineAndCpu}
+use Rattle.mem_machine.specs.{zone_of, with_past}
+use Rattle.mem_system.specs.{CpuInRun, parts_of, pasts_of, MachineAndCpu}
 use Rattle.script_replay.specs.Lines.{HasRun, SystemState}
 
 -- the steps of this seat in the run, in order, without those whose answer changes nothing

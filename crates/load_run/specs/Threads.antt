@@ -1,18 +1,13 @@
 -- The steps of all threads as one legal run, and what it shows of each visit and of what was found.
 use Rattle.std.specs.Prelude.{◌≡◌, ℕ, ◌++◌, true}
 use Rattle.frame_word.specs.Seats.{KnownTable}
-use Rattle.step_rules.specs.After.{Run, state_of}
-use Rattle.step_rules.specs.State.{State, is_unheld}
-use Rattle.step_rules.specs.Reaches.{own_steps}
-use Rattle.boot_words.specs.Hidden.{hide}
-use Rattle.boot_words.specs.Pasts.{KnownPasts, own_past}
-use Rattle.mem_machine.specs.Interleaving.{zone_of}
-use Rattle.mem_machine.specs.Machines.{KnownMachine, IsShownBy}
-use Rattle.mem_system.specs.declared.command.Cmd.{Cmd}
-use Rattle.mem_system.specs.declared.command.Reply.{Reply}
-use Rattle.mem_system.specs.Cpus.{CpuInRun, between_locks}
-use Rattle.mem_system.specs.Locked.{IsSound, KnownLocked}
-use Rattle.mem_system.specs.Visits.{IsServed, LockedState}
+use Rattle.step_rules.specs.{Run, state_of, is_unheld, own_steps}
+use Rattle.step_rules.specs.State.{State}
+use Rattle.boot_words.specs.{hide, KnownPasts, own_past}
+use Rattle.mem_machine.specs.{zone_of, KnownMachine, IsShownBy}
+use Rattle.mem_system.specs.declared.command.LockedCommand.{LockedCommand}
+use Rattle.mem_system.specs.declared.command.ReplyWithText.{ReplyWithText}
+use Rattle.mem_system.specs.{CpuInRun, between_locks, IsSound, KnownLocked, IsServed, LockedState}
 use Rattle.script_replay.specs.Visits.{GrewByChanges}
 
 -- the run begins with these steps
@@ -39,7 +34,7 @@ pub record ShowsVisit (table : KnownTable) (run : Run) (cpu : ℕ) (steps : Run)
 
 -- If a command was served in a visit, and the CPU's past after it is a beginning of a run, then this run shows the visit.
 abbrev pub RunsShowVisits : Type 0
-RunsShowVisits = (table : KnownTable) (cmd : Cmd) (reply : Reply)
+RunsShowVisits = (table : KnownTable) (cmd : LockedCommand) (reply : ReplyWithText)
     (before after : LockedState) (run : Run) → IsSound table before.locked
     → (served : IsServed table cmd reply before after) → IsSound table after.locked
     → IsBeginning (own_past after.cpu.past).seen run

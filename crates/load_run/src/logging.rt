@@ -3,9 +3,7 @@
 
 ghost use Rattle.std.specs.Prelude.{◌≡◌, ◌++◌, All, IfOk, OnOk, codes, length, map, true};
 ghost use Rattle.script_lines.specs.Script.{texts_of};
-ghost use Rattle.script_replay.specs.Lines.{system_state};
-ghost use Rattle.script_replay.specs.Ranges.{LineInRange};
-ghost use Rattle.script_replay.specs.Terms.{terms};
+ghost use Rattle.script_replay.specs.{system_state, LineInRange, terms};
 ghost use Rattle.step_watch.specs.Watched.{has_whole_log, log_text};
 ghost use Rattle.line_server.specs.Logs.{AddsPart, answer_comments};
 ghost use Rattle.load_run.specs.Ending.{boot_end_text};

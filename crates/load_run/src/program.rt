@@ -5,10 +5,8 @@ ghost use Rattle.std.specs.Prelude.{◌≡◌, All, IfErr, IfOk, OnOk, Some, map
 ghost use Rattle.std.specs.Io.KnownBytes.{Appends};
 ghost use Rattle.zone_blocks.specs.Config.{IsValidConfig};
 ghost use Rattle.script_lines.specs.Script.{IsScript};
-ghost use Rattle.script_replay.specs.Ranges.{LineInRange};
-ghost use Rattle.load_options.specs.Sizes.{HasSizesInRange};
-ghost use Rattle.load_options.specs.Words.{options_of};
-ghost use Rattle.script_replay.specs.Terms.{form_of};
+ghost use Rattle.script_replay.specs.{LineInRange, form_of};
+ghost use Rattle.load_options.specs.{HasSizesInRange, options_of};
 ghost use Rattle.load_run.specs.Answers.{AreAnswers, IsOnScript};
 ghost use Rattle.load_run.specs.Causes.{written};
 ghost use Rattle.load_run.specs.Driving.{AnswersTo, Drives, DrivesScript};

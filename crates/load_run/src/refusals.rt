@@ -30,7 +30,7 @@ fn first_word(is_numbered: bool) -> usize
     if is_numbered { 1 } else { 0 }
 }
 
-// Whether the line begins with the word `refused`, behind its number if it has one.
+// Whether the line begins with the word `refused`, after its number if it has one.
 fn is_refusal(is_numbered: bool, line: &[u8]) -> bool
     ensures { result ≡ is_refusal is_numbered line.now }
 {

@@ -48,7 +48,7 @@ pub fn drive_serve<I: Read, O: Write, F: Write>(
     }
 }
 
-// Answers the lines that the input holds, on a new boot, behind the head.
+// Answers the lines that the input holds, on a new boot, after the head.
 fn serve_input<I: Read, O: Write>(
     alloc: Global,
     options: &Options,

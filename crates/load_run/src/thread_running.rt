@@ -3,9 +3,7 @@
 
 ghost use Rattle.std.specs.Prelude.{◌≡◌, ◌<◌, ◌^◌, All, IfOk, List, length};
 ghost use Rattle.step_rules.specs.After.{Run};
-ghost use Rattle.script_replay.specs.Ranges.{LineInRange};
-ghost use Rattle.script_replay.specs.Terms.{boot_tables};
-ghost use Rattle.script_replay.specs.Each.{AreAllAnswers, workers_from};
+ghost use Rattle.script_replay.specs.{LineInRange, boot_tables, AreAllAnswers, workers_from};
 ghost use Rattle.load_run.specs.Answers.{AreThreadAnswers};
 
 use crate::boot_end::end_boot;

@@ -12,8 +12,7 @@ use Rattle.step_rules.specs.After.{IsLegalRun, Run, state_of}
 use Rattle.mem_core.specs.Shown.{CoreState, state_shown}
 use Rattle.mem_core.proofs.Keeping.{always_keeps}
 use Rattle.log_lines.specs.declared.line.LogLine.{LogLine}
-use Rattle.log_lines.specs.Line.{IsLogLineText}
-use Rattle.log_lines.specs.Log.{EndsBadly, MayBegin}
+use Rattle.log_lines.specs.{IsLogLineText, EndsBadly, MayBegin}
 use Rattle.log_lines.proofs.BadLines.{same_first}
 use Rattle.log_lines.proofs.Lines.{same_line}
 use Rattle.log_lines.proofs.Logs.{ended}
@@ -27,11 +26,10 @@ use Rattle.log_check.specs.declared.line_fault.LineFault.{LineFault}
 use Rattle.log_check.specs.declared.line_fault.LineFault.TheVariants.{NoLineFeed, NoSizes, SizesAgain, StepFirst, TooLong}
 use Rattle.log_check.specs.declared.line_fault.LineFault.TheVariants.{ByteOrderMark, Gzip, WideText, CarriageReturn, NoLine}
 use Rattle.log_check.specs.declared.verdict.IllegalStep.{IllegalStep}
-use Rattle.log_check.specs.Verdicts.{BeginsWith, BreaksRules, IsBadLine, IsLogVerdict, IsMisplaced, IsWhy, IsPromisedLog, NamesLeftOut, fault_of, begins_as_gzip, is_marked, is_returned, is_wide, zone_in}
+use Rattle.log_check.specs.{BeginsWith, BreaksRules, IsBadLine, IsLogVerdict, IsMisplaced, IsWhy, IsPromisedLog, NamesLeftOut, fault_of}
+use Rattle.log_check.specs.{begins_as_gzip, is_marked, is_returned, is_wide, zone_in, IsEnd, free_count, AreLeftOut, AreWholeLines, Checked}
+use Rattle.log_check.specs.{Concludes, EndsIllegally, HasChecked, HasRead, HasTakenLines, LeadsTo, ReadsOrJudges, TakesAfter, illegal_in}
 use Rattle.log_check.specs.declared.verdict.LogEnd.{LogEnd}
-use Rattle.log_check.specs.Ends.{IsEnd, free_count}
-use Rattle.log_check.specs.Taking.{AreLeftOut, AreWholeLines, Checked, Concludes, EndsIllegally, HasChecked, HasRead, HasTakenLines, LeadsTo, ReadsOrJudges, TakesAfter}
-use Rattle.log_check.specs.Taking.{illegal_in}
 
 abbrev NoFeed : List ℕ → Type 0
 NoFeed line = All (λ b. b ≢ 10) line

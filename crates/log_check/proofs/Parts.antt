@@ -5,9 +5,7 @@ use Rattle.std.specs.Io.KnownBytes.{Consumes, IsAtEnd, Keeps}
 use Rattle.log_check.specs.declared.verdict.LogVerdict.{LogVerdict}
 use Rattle.log_check.specs.declared.reader.LogReader.{LogReader}
 use Rattle.log_check.specs.declared.verdict.LogVerdict.TheVariants.{Legal, NotLegal, LeftOut, BadLine}
-use Rattle.log_check.specs.Reading.{EndsBefore, NamesLineAfter, ReadsAsFar, ReadsUpTo, StopsAfter}
-use Rattle.log_check.specs.Verdicts.{IsLogVerdict}
-use Rattle.log_check.specs.Taking.{HasRoomForLine, HasRead, ReadsOrJudges}
+use Rattle.log_check.specs.{EndsBefore, NamesLineAfter, ReadsAsFar, ReadsUpTo, StopsAfter, IsLogVerdict, HasRoomForLine, HasRead, ReadsOrJudges}
 
 -- these bytes were read of the input, and are what the log is known to begin with
 pub record IsReadTo (input left : Option (List ℕ)) (log : LogReader) : Type 0 where

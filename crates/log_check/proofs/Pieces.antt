@@ -1,4 +1,4 @@
--- One piece of a text behind another.
+-- One piece of a text after another.
 use Rattle.std.proofs.Common.{◌≡◌, ◌∙◌, ℕ, List, ◌++◌, Result, Ok, Err, IfOk, ap, append_assoc}
 
 pub behind : {A E : Type 0} (r : Result A E) (old one new a b : List ℕ) → one ≡ old ++ a → IfOk r (λ x. new ≡ one ++ b)

@@ -7,13 +7,11 @@ use Rattle.std.proofs.lemmas.Bool.{false≢true}
 use Rattle.std.proofs.lemmas.List.{map-append, take-append-le, take_all, take_at}
 use Rattle.step_rules.specs.declared.step.Step.{Step}
 use Rattle.step_rules.specs.declared.step.Answer.{Answer}
-use Rattle.step_rules.specs.State.{State, Zone, at_boot, is_unheld, one_if, sum_to}
+use Rattle.step_rules.specs.State.{State, sum_to}
+use Rattle.step_rules.specs.{Zone, at_boot, is_unheld, one_if, Allows, IsLegalRun, after, state_of}
 use Rattle.step_rules.proofs.Sums.{sum_same}
-use Rattle.step_rules.specs.Legal.{Allows}
-use Rattle.step_rules.specs.After.{IsLegalRun, after, state_of}
 use Rattle.step_rules.proofs.Runs.{legal_more, one_more, state_more}
-use Rattle.mem_core.specs.Shown.{CoreState, state_shown}
-use Rattle.mem_core.specs.Checked.{Leads}
+use Rattle.mem_core.specs.{CoreState, state_shown, Leads}
 use Rattle.log_lines.specs.declared.line.LogLine.{LogLine}
 use Rattle.log_lines.specs.declared.line.LogLine.TheVariants as kinds
 use Rattle.log_lines.specs.Log.{MayBegin, SayInOrder, WholeLog, says_something}
@@ -21,12 +19,10 @@ use Rattle.log_lines.proofs.BadLines.{filter_append}
 use Rattle.log_lines.proofs.Logs.{line_of_entry}
 use Rattle.log_check.specs.declared.line_fault.LineFault.TheVariants.{SizesAgain, StepFirst}
 use Rattle.log_check.specs.declared.verdict.IllegalStep.{IllegalStep}
-use Rattle.log_check.specs.Verdicts.{IsIllegalAt, IsMisplaced, LeavesOut, Reached, at_start, line_on, step_on, zone_in}
+use Rattle.log_check.specs.{IsIllegalAt, IsMisplaced, LeavesOut, Reached, at_start, line_on, step_on, zone_in, free_count, Checked, EndsIllegally}
+use Rattle.log_check.specs.{IsReason}
 use Rattle.log_check.proofs.Exact.{legal_front}
-use Rattle.log_check.specs.Ends.{free_count}
-use Rattle.log_check.specs.Taking.{Checked, EndsIllegally}
 use Rattle.log_check.specs.declared.reason.Reason.{Reason}
-use Rattle.log_check.specs.Reasons.{IsReason}
 
 -- the log with one step more
 abbrev pub log_more : WholeLog → Step → Answer → WholeLog

@@ -3,9 +3,8 @@ use Rattle.std.specs.Prelude.{◌≡◌, ℕ, ◌+◌, ◌==◌, ◌&&◌, Bool,
 use Rattle.group_tree.specs.Bounds.{most_groups}
 use Rattle.step_rules.specs.declared.phase.Hold.{Hold}
 use Rattle.step_rules.specs.declared.phase.Hold.TheVariants.{Unheld, HeldBy, Visiting}
-use Rattle.step_rules.specs.Phases.{is_head}
-use Rattle.step_rules.specs.State.{State, Zone, is_unheld, live_references, one_if, sum_to}
-use Rattle.step_rules.specs.After.{Run, state_of}
+use Rattle.step_rules.specs.{is_head, Zone, is_unheld, live_references, one_if, sum_to, Run, state_of}
+use Rattle.step_rules.specs.State.{State}
 use Rattle.log_check.specs.declared.verdict.LogEnd.{LogEnd}
 
 -- after how many steps of the run the lock is free

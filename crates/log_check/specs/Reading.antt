@@ -1,8 +1,7 @@
 -- How far a check reads a log.
 use Rattle.std.specs.Prelude.{◌≡◌, ◌≢◌, ℕ, ◌<◌, ◌≤◌, List, ◌++◌, Option, All, length, ⊤}
 use Rattle.std.specs.Io.KnownBytes.{Consumes, IsAtEnd}
-use Rattle.log_lines.specs.Line.{longest_log_line}
-use Rattle.log_lines.specs.Log.{AreLinesOf}
+use Rattle.log_lines.specs.{longest_log_line, AreLinesOf}
 use Rattle.log_check.specs.declared.verdict.LogVerdict.{LogVerdict}
 use Rattle.log_check.specs.declared.verdict.LogVerdict.TheVariants.{Legal, NotLegal, LeftOut, BadLine}
 
@@ -21,7 +20,7 @@ pub record EndsBefore (line : ℕ) (text : List ℕ) : Type 0 where
   pub no_feed : All (λ b. b ≢ 10) rest
   pub short : length rest ≤ longest_log_line
 
--- at most one piece was read behind a text that ends before this line does
+-- at most one piece was read after a text that ends before this line does
 pub record ReadsUpTo (line : ℕ) (before after : Option (List ℕ)) : Type 0 where
   pub text : List ℕ
   pub piece : List ℕ

@@ -1,32 +1,26 @@
 -- What each reason means.
 use Rattle.std.specs.Prelude.{◌≡◌, ◌≢◌, ℕ, ◌<◌, ◌≤◌, true, false, Some}
 use Rattle.zone_blocks.specs.declared.block.Block.{Block}
-use Rattle.zone_blocks.specs.Block.{Covers, IsBlock}
-use Rattle.zone_blocks.specs.Areas.{IsFreeBlock}
-use Rattle.group_tree.specs.Groups.{IsLeastFreeNumber, limit_of, make_fault, path_of}
-use Rattle.group_tree.specs.Room.{IsLowestOver, PathHasRoom}
+use Rattle.zone_blocks.specs.{Covers, IsBlock, IsFreeBlock}
+use Rattle.group_tree.specs.{IsLeastFreeNumber, limit_of, make_fault, path_of, IsLowestOver, PathHasRoom}
 use Rattle.step_rules.specs.declared.phase.Phase.TheVariants.{Head}
 use Rattle.step_rules.specs.declared.phase.Stage.TheVariants.{Collected}
 use Rattle.step_rules.specs.declared.step.Action.{Action}
-use Rattle.step_rules.specs.declared.step.Action.TheVariants.{Absorb, Consume, Credit, DrainStock, Freeze, Get, Grant, Make}
-use Rattle.step_rules.specs.declared.step.Action.TheVariants.{PlaceBlock, Put}
+use Rattle.step_rules.specs.declared.step.Action.TheVariants.{Absorb, Consume, Credit, DrainStock, Freeze, Get, Grant, Make, PlaceBlock, Put}
 use Rattle.step_rules.specs.declared.step.Step.{Step}
 use Rattle.step_rules.specs.declared.step.Answer.{Answer}
 use Rattle.step_rules.specs.declared.step.Answer.TheVariants.{Done, Empty, Illegal, Placed, Took}
-use Rattle.step_rules.specs.Phases.{ListFrame, has_as, is_free, is_passing}
-use Rattle.step_rules.specs.State.{State, free_in, front_of, live_references}
-use Rattle.step_rules.specs.Usage.{usage_of}
-use Rattle.step_rules.specs.Legal.{IsAnswer, is_legal, rests}
+use Rattle.step_rules.specs.Phases.{ListFrame}
+use Rattle.step_rules.specs.{has_as, is_free, is_passing, free_in, front_of, live_references, usage_of, IsAnswer, is_legal, rests}
+use Rattle.step_rules.specs.State.{State}
 use Rattle.mem_core.specs.declared.quantity.Quantity.TheVariants.{InStock, Pending, References, Reported}
 use Rattle.log_check.specs.declared.reason.Reason.{Reason}
 use Rattle.log_check.specs.declared.reason.Reason.TheVariants as why
 use Rattle.mem_core.specs.declared.conditions.PlaceTest.TheVariants.{Passable, Returnable}
 use Rattle.mem_core.specs.declared.conditions.Condition.{Condition}
-use Rattle.mem_core.specs.declared.conditions.Condition.TheVariants.{Cpu, ZoneSeat, AnySeat, Locked, Unlocked, HeldBy}
-use Rattle.mem_core.specs.declared.conditions.Condition.TheVariants.{Visited, Frame, Group, NonePending, NonePassing}
-use Rattle.mem_core.specs.declared.conditions.Condition.TheVariants.{NonePassingAt, AtLeast, Below, IsZero, OneUp}
-use Rattle.mem_core.specs.declared.conditions.Condition.TheVariants.{UpTo255, InPlace, TakesFill, NotKilled, NotRoot}
-use Rattle.mem_core.specs.declared.conditions.Condition.TheVariants.{NoChild, Makeable}
+use Rattle.mem_core.specs.declared.conditions.Condition.TheVariants.{Cpu, ZoneSeat, AnySeat, Locked, Unlocked, HeldBy, Visited, Frame, Group}
+use Rattle.mem_core.specs.declared.conditions.Condition.TheVariants.{NonePending, NonePassing, NonePassingAt, AtLeast, Below, IsZero, OneUp, UpTo255}
+use Rattle.mem_core.specs.declared.conditions.Condition.TheVariants.{InPlace, TakesFill, NotKilled, NotRoot, NoChild, Makeable}
 use Rattle.mem_core.specs.Conditions.{conditions_of, first_unmet, is_in_place, is_met, quantity_in}
 
 -- the reason says of the state why this condition isn't met

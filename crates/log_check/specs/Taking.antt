@@ -7,12 +7,10 @@ use Rattle.step_rules.specs.State.{State}
 use Rattle.step_rules.specs.After.{IsLegalRun, Run, state_of}
 use Rattle.log_check.specs.declared.reason.Reason.{Reason}
 use Rattle.log_check.specs.Reasons.{IsReason}
-use Rattle.mem_core.specs.Shown.{CoreState, state_shown}
-use Rattle.mem_core.specs.Checked.{IsFirstIllegal}
+use Rattle.mem_core.specs.{CoreState, state_shown, IsFirstIllegal}
 use Rattle.log_lines.specs.declared.line.LogLine.{LogLine}
 use Rattle.log_lines.specs.declared.line.LogLine.TheVariants as kinds
-use Rattle.log_lines.specs.Line.{IsLogLineText, IsZone, longest_log_line}
-use Rattle.log_lines.specs.Log.{AreLinesOf, MayBegin, SayInOrder, WholeLog, says_something}
+use Rattle.log_lines.specs.{IsLogLineText, IsZone, longest_log_line, AreLinesOf, MayBegin, SayInOrder, WholeLog, says_something}
 use Rattle.log_check.specs.declared.left_out.LeftOut.{LeftOut}
 use Rattle.log_check.specs.declared.verdict.IllegalStep.{IllegalStep}
 use Rattle.log_check.specs.declared.verdict.LogVerdict.{LogVerdict}

@@ -29,7 +29,7 @@ illegal_text illegal =
 abbrev pub count_text : (count steps : ℕ) → List ℕ
 count_text count steps = said (codes "not legal: ") count (said (codes " of ") steps (codes " steps\n"))
 
--- why a line is bad, behind its number
+-- why a line is bad, after its number
 abbrev pub why_text : LineFault → List ℕ
 why_text NoSizes = codes ": the sizes are missing\n"
 why_text NoLineFeed = codes ": it has no line feed\n"

@@ -5,16 +5,13 @@ use Rattle.std.specs.Option.{option_map_or}
 use Rattle.std.specs.List.{list_any, starts_with}
 use Rattle.step_rules.specs.declared.step.Answer.{Answer}
 use Rattle.step_rules.specs.declared.step.Step.{Step}
-use Rattle.step_rules.specs.State.{State, Zone, at_boot}
-use Rattle.step_rules.specs.Legal.{Allows}
-use Rattle.step_rules.specs.After.{IsLegalRun, after, state_of}
+use Rattle.step_rules.specs.State.{State}
+use Rattle.step_rules.specs.{Zone, at_boot, Allows, IsLegalRun, after, state_of}
 use Rattle.log_check.specs.Reasons.{IsReason}
-use Rattle.mem_core.specs.Checked.{IsFirstIllegal}
-use Rattle.mem_core.specs.Promise.{AlwaysKeepsPromise}
+use Rattle.mem_core.specs.{IsFirstIllegal, AlwaysKeepsPromise}
 use Rattle.log_lines.specs.declared.line.LogLine.{LogLine}
 use Rattle.log_lines.specs.declared.line.LogLine.TheVariants as kinds
-use Rattle.log_lines.specs.Line.{IsLogLineText, longest_log_line}
-use Rattle.log_lines.specs.Log.{IsFirstBadLogLine, IsLog, WholeLog, says_something}
+use Rattle.log_lines.specs.{IsLogLineText, longest_log_line, IsFirstBadLogLine, IsLog, WholeLog, says_something}
 use Rattle.log_check.specs.declared.line_fault.LineFault.{LineFault}
 use Rattle.log_check.specs.declared.line_fault.LineFault.TheVariants.{NoSizes, NoLineFeed, TooLong, SizesAgain, StepFirst}
 use Rattle.log_check.specs.declared.line_fault.LineFault.TheVariants.{ByteOrderMark, Gzip, WideText, CarriageReturn, NoLine}
@@ -123,7 +120,7 @@ pub record BeginsWith (line text : List ℕ) : Type 0 where
   pub no_feed : All (λ b. b ≢ 10) line
   pub parts : text ≡ line ++ 10 ∷ more
 
--- the line may not come behind these lines, for this reason: one of them gave the sizes, or none did
+-- the line may not come after these lines, for this reason: one of them gave the sizes, or none did
 abbrev pub IsMisplaced : LineFault → List LogLine → LogLine → Type 0
 IsMisplaced SizesAgain lines (kinds.Zone frames cpus) = filter says_something lines ≢ []
 IsMisplaced StepFirst lines (kinds.Step step answer) = filter says_something lines ≡ []

@@ -2,14 +2,10 @@
 
 ghost use Rattle.std.specs.Prelude.{◌≡◌, IsTrue, false, true};
 ghost use Rattle.zone_blocks.specs.Areas.{IsFreeBlock};
-ghost use Rattle.group_tree.specs.Groups.{has_group};
-ghost use Rattle.group_tree.specs.Room.{has_room};
-ghost use Rattle.step_rules.specs.State.{free_in};
-ghost use Rattle.step_rules.specs.Usage.{usage_of};
+ghost use Rattle.group_tree.specs.{has_group, has_room};
+ghost use Rattle.step_rules.specs.{free_in, usage_of, Allows, is_legal};
 ghost use Rattle.step_rules.specs.declared.step.Action.{Action};
-ghost use Rattle.step_rules.specs.Legal.{Allows, is_legal};
-ghost use Rattle.mem_core.specs.Rows.{state_in};
-ghost use Rattle.mem_core.specs.Rooms.{FitsZone, IsBelowBounds};
+ghost use Rattle.mem_core.specs.{state_in, FitsZone, IsBelowBounds};
 ghost use Rattle.log_check.specs.Reasons.{Decides, IsNoRoom, DeniesClaim, SaysFreeBlock};
 ghost use Rattle.log_check.specs.Reasons.{SaysNumber, SaysRoom, SaysStock};
 ghost use Rattle.log_check.specs.declared.reason.Reason.{Reason};

@@ -3,8 +3,7 @@
 ghost use Rattle.std.specs.Prelude.{◌≡◌, ◌≤◌, ◌<◌, ◌^◌};
 ghost use Rattle.group_tree.specs.Bounds.{most_groups};
 ghost use Rattle.step_rules.specs.State.{sum_to, one_if};
-ghost use Rattle.mem_core.specs.Rows.{state_in};
-ghost use Rattle.mem_core.specs.Rooms.{FitsZone, IsBelowBounds};
+ghost use Rattle.mem_core.specs.{state_in, FitsZone, IsBelowBounds};
 ghost use Rattle.log_check.specs.Ends.{IsEnd, holder_in, is_unreferenced};
 
 use crate::verdict::LogEnd;

@@ -3,8 +3,7 @@
 ghost use Rattle.std.specs.Prelude.{◌≡◌, ◌↔◌, IsTrue, false};
 ghost use Rattle.step_rules.specs.declared.step.Answer.TheVariants.{Illegal};
 ghost use Rattle.step_rules.specs.Legal.{Allows, is_legal};
-ghost use Rattle.mem_core.specs.Rows.{state_in};
-ghost use Rattle.mem_core.specs.Rooms.{FitsZone, IsBelowBounds};
+ghost use Rattle.mem_core.specs.{state_in, FitsZone, IsBelowBounds};
 ghost use Rattle.log_check.specs.Reasons.{Fails, IsReason};
 
 use crate::answers::decide;

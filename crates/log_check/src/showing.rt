@@ -3,9 +3,7 @@
 ghost use Rattle.std.specs.Prelude.{◌≡◌, false, is_none};
 ghost use Rattle.group_tree.specs.Groups.{make_fault};
 ghost use Rattle.step_rules.specs.Legal.{is_passable, no_frame_passes, no_page_pends, nothing_passes, takes_fill};
-ghost use Rattle.mem_core.specs.Rows.{state_in};
-ghost use Rattle.mem_core.specs.Rooms.{FitsZone, IsBelowBounds};
-ghost use Rattle.mem_core.specs.Conditions.{is_met, quantity_in};
+ghost use Rattle.mem_core.specs.{state_in, FitsZone, IsBelowBounds, is_met, quantity_in};
 ghost use Rattle.log_check.specs.Reasons.{ShowsUnmet};
 ghost use Rattle.mem_core.specs.declared.conditions.Condition.TheVariants as kinds;
 ghost use Rattle.mem_core.specs.declared.conditions.PlaceTest.TheVariants.{Passable, Returnable};

@@ -7,8 +7,7 @@ use Rattle.step_rules.specs.declared.step.Step.{Step}
 use Rattle.step_rules.specs.declared.step.Answer.{Answer}
 use Rattle.log_lines.specs.declared.line.LogLine.{LogLine}
 use Rattle.log_lines.specs.declared.line.LogLine.TheVariants as kinds
-use Rattle.log_lines.specs.Line.{IsLogLineText}
-use Rattle.log_lines.specs.Log.{EndsBadly, IsFirstBadLogLine, IsLog, MayBegin, SayInOrder, WholeLog, says_something}
+use Rattle.log_lines.specs.{IsLogLineText, EndsBadly, IsFirstBadLogLine, IsLog, MayBegin, SayInOrder, WholeLog, says_something}
 use Rattle.log_lines.proofs.Lines.{same_line}
 use Rattle.log_lines.proofs.Logs.{ended, line_of_entry}
 

@@ -27,6 +27,6 @@ further word names i row lt is other =
     let next : suc i ≡ i + 1 = omega arith in
     rw (drop-cons names i row lt, item, other) (ap (found_from word names) next)
 
--- behind the last row nothing is found
+-- after the last row nothing is found
 pub nowhere : {T : Type 0} (word : List ℕ) (names : List (Bor (List ℕ) × T)) (i : ℕ) → length names ≤ i → found_from word names i ≡ None
 nowhere word names i le = rw (drop_of_length-le names le) refl

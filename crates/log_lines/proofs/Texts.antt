@@ -9,11 +9,9 @@ use Rattle.std.proofs.lemmas.List.Splits.{join_with_byte-slice_split, slice_spli
 use Rattle.std.proofs.lemmas.List.Sums.{fails_before_first}
 use Rattle.std.proofs.lemmas.Str.Parse.{digit_from_value}
 use Rattle.std.specs.Str.Parse.{AllDigits}
-use Rattle.log_lines.specs.Words.{Size, Wide, Narrow, GroupAction, OrderAction, bound_of, Word, Fixed, Numeral, Path}
-use Rattle.log_lines.specs.Words.{Fits}
-use Rattle.log_lines.specs.Words.{is_graphic, is_no_space, spaced, word_text}
+use Rattle.log_lines.specs.{Size, bound_of, Word, Fits, is_graphic, is_no_space, spaced, word_text, is_end, words_left, words_of}
+use Rattle.log_lines.specs.Words.{Wide, Narrow, GroupAction, OrderAction, Fixed, Numeral, Path}
 use Rattle.group_tree.specs.Bounds.{longest_path}
-use Rattle.log_lines.specs.Reading.{is_end, words_left, words_of}
 use Rattle.log_lines.proofs.Codecs.{AllFit, not_true, texts}
 
 abbrev is_space : ℕ → Bool

@@ -1,6 +1,5 @@
 -- The text of a whole log.
-use Rattle.std.specs.Prelude.{◌≡◌, ◌≢◌, ◌⊎◌, ℕ, ◌+◌, Bool, true, false, List, [], ◌∷◌, ◌++◌, All, filter, flat_map}
-use Rattle.std.specs.Prelude.{length, map}
+use Rattle.std.specs.Prelude.{◌≡◌, ◌≢◌, ◌⊎◌, ℕ, ◌+◌, Bool, true, false, List, [], ◌∷◌, ◌++◌, All, filter, flat_map, length, map}
 use Rattle.std.specs.List.{AllByRecursion, AllZip}
 use Rattle.step_rules.specs.declared.step.Step.{Step}
 use Rattle.step_rules.specs.declared.step.Answer.{Answer}

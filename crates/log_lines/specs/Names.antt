@@ -6,9 +6,8 @@ use Rattle.step_rules.specs.declared.step.Action.{Action}
 use Rattle.step_rules.specs.declared.step.Action.TheVariants as action
 use Rattle.step_rules.specs.declared.step.Answer.TheVariants as answer
 use Rattle.log_lines.specs.declared.name.NumberAction.{NumberAction}
-use Rattle.log_lines.specs.declared.name.NumberAction.TheVariants.{Open, Shut, Get, Put, TakeIn, PassBack, Credit}
-use Rattle.log_lines.specs.declared.name.NumberAction.TheVariants.{Report}
-use Rattle.log_lines.specs.declared.name.NumberAction.TheVariants.{Absorb, Drain, Publish, Return}
+use Rattle.log_lines.specs.declared.name.NumberAction.TheVariants.{Open, Shut, Get, Put, TakeIn, PassBack, Credit, Report, Absorb, Drain, Publish}
+use Rattle.log_lines.specs.declared.name.NumberAction.TheVariants.{Return}
 use Rattle.log_lines.specs.declared.name.TwoNumberAction.{TwoNumberAction}
 use Rattle.log_lines.specs.declared.name.TwoNumberAction.TheVariants.{Freeze, Unfreeze, PassOut, Collect}
 use Rattle.log_lines.specs.declared.name.GroupAction.{GroupAction}
@@ -16,8 +15,7 @@ use Rattle.log_lines.specs.declared.name.GroupAction.TheVariants.{Consume, Note,
 use Rattle.log_lines.specs.declared.name.PagesAction.{PagesAction}
 use Rattle.log_lines.specs.declared.name.PagesAction.TheVariants.{Grant, Ungrant}
 use Rattle.log_lines.specs.declared.name.ActionName.{ActionName}
-use Rattle.log_lines.specs.declared.name.ActionName.TheVariants.{Lock, Unlock, Number, TwoNumbers, Group, Pages, Fill}
-use Rattle.log_lines.specs.declared.name.ActionName.TheVariants.{Place, Limit, Flag, Make}
+use Rattle.log_lines.specs.declared.name.ActionName.TheVariants.{Lock, Unlock, Number, TwoNumbers, Group, Pages, Fill, Place, Limit, Flag, Make}
 use Rattle.log_lines.specs.declared.name.AnswerName.{AnswerName}
 use Rattle.log_lines.specs.declared.name.AnswerName.TheVariants as reply
 

@@ -14,13 +14,10 @@ use Rattle.step_rules.specs.declared.step.Answer.TheVariants as answer
 use Rattle.log_lines.specs.declared.line.LogLine.{LogLine}
 use Rattle.log_lines.specs.declared.line.LogLine.TheVariants as kinds
 use Rattle.log_lines.specs.declared.name.ActionName.{ActionName}
-use Rattle.log_lines.specs.declared.name.ActionName.TheVariants.{Lock, Unlock, Number, TwoNumbers, Group, Pages, Fill}
-use Rattle.log_lines.specs.declared.name.ActionName.TheVariants.{Place, Limit, Flag, Make}
+use Rattle.log_lines.specs.declared.name.ActionName.TheVariants.{Lock, Unlock, Number, TwoNumbers, Group, Pages, Fill, Place, Limit, Flag, Make}
 use Rattle.log_lines.specs.declared.name.AnswerName.{AnswerName}
 use Rattle.log_lines.specs.declared.name.AnswerName.TheVariants as reply
-use Rattle.log_lines.specs.Names.{action_named, action_of_group, action_of_number, action_of_two_numbers}
-use Rattle.log_lines.specs.Names.{action_of_pages}
-use Rattle.log_lines.specs.Names.{answer_named}
+use Rattle.log_lines.specs.Names.{action_named, action_of_group, action_of_number, action_of_two_numbers, action_of_pages, answer_named}
 use Rattle.log_lines.specs.Words.{is_path}
 use Rattle.log_lines.specs.Line.{is_log_comment, longest_log_line}
 

@@ -5,8 +5,7 @@ ghost use Rattle.log_lines.specs.declared.line.LogLine.{LogLine};
 ghost use Rattle.log_lines.specs.Line.{IsLogLineText, is_log_comment};
 ghost use Rattle.log_lines.specs.Log.{IsFirstBadLogLine, IsLog, WholeLog};
 ghost use Rattle.log_lines.specs.Reading.{ParsesTo, action_at, answer_at, arguments_at, parsed_entry, line_of};
-ghost use Rattle.log_lines.specs.Reading.{results_at};
-ghost use Rattle.log_lines.specs.Reading.{parsed_zone};
+ghost use Rattle.log_lines.specs.Reading.{results_at, parsed_zone};
 
 use crate::line::LogLine;
 use crate::name::{ActionName, AnswerName, action_named, answer_named};

@@ -171,7 +171,7 @@ first_stays x (y ∷ ys) f nb = elim (cases_eq y f) [
   | inr d ↦ let t : (y == f) ≡ false = ne_eqb y f d in rw t refl
 ]
 
--- what isn't just before f in the whole list isn't in the list behind the first
+-- what isn't just before f in the whole list isn't in the list after the first
 pub not_before : (x : ℕ) (xs : List ℕ) (f g : ℕ) → HasNoRepeats xs → x ≢ g → before_from x xs f ≢ Some g → unit_before xs f ≢ Some g
 not_before x [] f g apart ne nb b = cc
 not_before x (y ∷ ys) f g apart ne nb b = elim (cases_eq y f) [
@@ -242,7 +242,7 @@ before_stays x (y ∷ ys) f g apart ne na = elim (cases_eq y f) [
       ]
 ]
 
--- ---- one put behind the newest
+-- ---- one put after the newest
 
 pub among_push : (xs : List ℕ) (f g : ℕ) → is_among (xs ++ f ∷ []) g ≡ (is_among xs g || f == g)
 among_push [] f g = elim (cases_Bool (f == g)) [ inl t ↦ rw t refl | inr t ↦ rw t refl ]

@@ -9,8 +9,7 @@ use Rattle.std.proofs.lemmas.Option.{get_or_from_slice_get, slice_get_read}
 use Rattle.lru_lists.specs.declared.record.Link.{Link}
 use Rattle.lru_lists.specs.declared.packed.Packed.{Packed}
 use Rattle.lru_lists.specs.declared.packed.OnList.TheVariants.{Neither}
-use Rattle.lru_lists.specs.Queue.{link_at, nowhere}
-use Rattle.lru_lists.specs.Packed.{link_of, links_of, IsNumber}
+use Rattle.lru_lists.specs.{link_at, nowhere, link_of, links_of, IsNumber}
 
 -- the packed record of a frame on no list
 abbrev pub packed_nowhere : Packed

@@ -12,11 +12,10 @@ use Rattle.lru_lists.specs.declared.record.LruList.{LruList}
 use Rattle.lru_lists.specs.declared.record.LruList.TheVariants.{Inactive, Active}
 use Rattle.lru_lists.specs.declared.lru.Lru.{Lru}
 use Rattle.lru_lists.specs.declared.queue.Queue.{Queue}
-use Rattle.lru_lists.specs.Queue.{oldest_of, unit_behind, link_at, nowhere, is_among, HasNoRepeats, list_without, IsLinked, units_of, StaysElsewhere, SameUse}
-use Rattle.lru_lists.specs.Queue.{newest_link, unlinked}
-use Rattle.lru_lists.specs.Lists.{active_of, inactive_of, is_marked_by_touch, first_entry, entry_after, KeepsUnits, OthersStayLinked}
-use Rattle.lru_lists.specs.Lists.{OneOfAllChanges, changed_at, home_in, queue_of, with_queue, AreLinked, MovesOnly, entries_of, marked, entry_of}
-use Rattle.lru_lists.specs.Lists.{entries_without, list_at, list_of, owner_of, ChangesOwn, IsOnNone, SameOwners}
+use Rattle.lru_lists.specs.{oldest_of, unit_behind, link_at, nowhere, is_among, HasNoRepeats, list_without, IsLinked, units_of, StaysElsewhere}
+use Rattle.lru_lists.specs.{SameUse, newest_link, unlinked, active_of, inactive_of, is_marked_by_touch, first_entry, entry_after, KeepsUnits}
+use Rattle.lru_lists.specs.{OthersStayLinked, OneOfAllChanges, changed_at, home_in, queue_of, with_queue, AreLinked, MovesOnly, entries_of, marked}
+use Rattle.lru_lists.specs.{entry_of, entries_without, list_at, list_of, owner_of, ChangesOwn, IsOnNone, SameOwners}
 use Rattle.lru_lists.proofs.Lists.{other_than_first}
 use Rattle.lru_lists.proofs.Linking.{units_are}
 use Rattle.lru_lists.proofs.Records.{set_same, set_other, part_set}

@@ -21,7 +21,7 @@ pub all_frames : (links : List Link) (home : Home) (queue : Queue) → IsLinked 
 all_frames links home queue linked k d h =
     within links home queue (units_of links queue) (get_or (units_of links queue) k d) linked (at_among (units_of links queue) k d h)
 
--- what holds of all units that are left holds of those behind the next one
+-- what holds of all units that are left holds of those after the next one
 pub rest_holds : (links : List Link) (next : Option ℕ) (left unit : ℕ) → next ≡ Some unit → left ≢ 0
     → All (λ u. u < length links) (units_from links next left) → All (λ u. u < length links) (units_from links (link_at links unit).newer (left - 1))
 rest_holds links next zero unit is some all = absurd (some refl)

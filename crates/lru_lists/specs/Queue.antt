@@ -81,7 +81,7 @@ units_from links (Some x) (suc n) = x ∷ units_from links (link_at links x).new
 abbrev pub units_of : List Link → Queue → List ℕ
 units_of links queue = units_from links queue.oldest queue.length
 
--- the record of a unit that was just appended to the list behind this one
+-- the record of a unit that was just appended to the list after this one
 abbrev pub newest_link : Home → Option ℕ → Bool → Link
 newest_link home older is_dirty =
     record { home = Some home; older = older; newer = None; is_marked = false; is_dirty = is_dirty }

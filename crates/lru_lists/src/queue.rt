@@ -2,8 +2,7 @@
 
 ghost use Rattle.std.specs.Prelude.{◌≡◌, ◌<◌, ◌-◌, ◌^◌, ◌++◌, [], ◌∷◌, None, Some, IfSome, length};
 ghost use Rattle.lru_lists.specs.Queue.{link_at, units_of, list_without, IsLinked, StaysElsewhere, SameUse};
-ghost use Rattle.lru_lists.specs.Queue.{newest_link};
-ghost use Rattle.lru_lists.specs.Queue.{unlinked, pushed_queue, queue_without};
+ghost use Rattle.lru_lists.specs.Queue.{newest_link, unlinked, pushed_queue, queue_without};
 
 use crate::links::Links;
 use crate::record::{Home, Link};

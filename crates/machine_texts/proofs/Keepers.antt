@@ -9,8 +9,7 @@ use Rattle.mem_machine.specs.declared.frame_state.FrameState.{FrameState}
 use Rattle.mem_machine.specs.declared.frame_state.FrameState.TheVariants as frame_state
 use Rattle.mem_machine.specs.declared.frame_state.Place.{Place}
 use Rattle.mem_machine.specs.declared.frame_state.Place.TheVariants.{Free, Lent, Charged}
-use Rattle.mem_machine.specs.FrameStates.{place_of}
-use Rattle.mem_machine.specs.Machines.{KnownMachine, IsConsistent}
+use Rattle.mem_machine.specs.{place_of, KnownMachine, IsConsistent}
 use Rattle.mem_machine.proofs.Keepers.{keeper_there}
 use Rattle.machine_texts.specs.Places.{PlaceGroupExists, FrameGroupExists}
 

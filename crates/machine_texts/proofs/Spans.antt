@@ -62,7 +62,7 @@ abbrev pub rest_text : List Group → ℕ → List FrameState → List ℕ
 rest_text groups first [] = []
 rest_text groups first (s ∷ ss) = spans_text groups first (first + 1) (place_of s) ss
 
--- the line of a span, and those of the frames behind it
+-- the line of a span, and those of the frames after it
 abbrev split_text : List Group → (first next : ℕ) → Place → (more : ℕ) → List FrameState → List ℕ
 split_text groups first next place more frame_states = span_text groups first (next + more - 1) place ++ rest_text groups (next + more) (drop more frame_states)
 
@@ -79,7 +79,7 @@ split_one false groups first next place s ss k rest =
     let e : next ≡ next + 0 = omega arith in
     ap (λ (m : ℕ). span_text groups first (m - 1) place ++ rest_text groups m (s ∷ ss)) e
 
--- the frames that are at the place of the span are its, and those behind them have lines of their own
+-- the frames that are at the place of the span are its, and those after them have lines of their own
 split : (groups : List Group) (first next : ℕ) (place : Place) (frame_states : List FrameState)
     → spans_text groups first next place frame_states ≡ split_text groups first next place (span_length place frame_states) frame_states
 split groups first next place [] =

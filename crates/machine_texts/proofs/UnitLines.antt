@@ -2,16 +2,12 @@
 use Rattle.std.proofs.Common.{◌≡◌, ℕ, ◌+◌, ◌<◌, Option, Some, None, List, [], ◌∷◌, ◌++◌, length, map, refl, sym, ap, ◌∙◌, subst, arith}
 use Rattle.std.proofs.Common.{Result, Ok, Err, IfOk, IsOk}
 use Rattle.std.proofs.lemmas.List.{append-nil, append_assoc, length-append, map-append}
-use Rattle.frame_word.specs.ReferenceRule.{most_references}
-use Rattle.frame_word.specs.Seats.{KnownTable}
-use Rattle.boot_words.specs.Looking.{LoadsReferences}
-use Rattle.boot_words.specs.Pasts.{own_past}
-use Rattle.boot_words.specs.Seats.{zone_of_boot}
+use Rattle.frame_word.specs.{most_references, KnownTable}
+use Rattle.boot_words.specs.{LoadsReferences, own_past, zone_of_boot}
 use Rattle.lru_lists.specs.declared.record.Entry.{Entry}
 use Rattle.lru_lists.specs.declared.record.LruList.{LruList}
 use Rattle.lru_lists.specs.Lists.{entry_after, first_entry}
-use Rattle.mem_machine.specs.Machines.{KnownMachine, IsConsistent, home_of}
-use Rattle.mem_machine.specs.Showing.{ListedUnit, entries_in, listed, units_in}
+use Rattle.mem_machine.specs.{KnownMachine, IsConsistent, home_of, ListedUnit, entries_in, listed, units_in}
 use Rattle.mem_machine.proofs.Listing.{IsListed, apart_mid, after_mid, has_mid, home_inside, listed_is}
 use Rattle.machine_texts.specs.Units.{ArePinsOf, ReadsLines, ReadsUnits, lines_text, order_at, unit_text, units_text}
 use Rattle.lru_lists.specs.declared.record.LruList.TheVariants.{Inactive, Active}
@@ -170,7 +166,7 @@ both_lists t g m between n first second all some inactive active together =
       same = active.same ∙ inactive.same;
     }
 
--- two texts, one behind the other
+-- two texts, one after the other
 pub both_added : {T E : Type 0} (r w l : Result T E) (start now new : List ℕ) → IfOk r (λ _. IsOk w) → IfOk r (λ _. IsOk l)
     → (text line : List ℕ) → IfOk w (λ _. now ≡ start ++ text) → IfOk l (λ _. new ≡ now ++ line) → IfOk r (λ _. new ≡ start ++ (text ++ line))
 both_added r w l start now new a b text line told added = joined r w l start now new text line a b told added

@@ -1,13 +1,11 @@
 -- The explanation of what a command drained, reclaimed and killed.
-use Rattle.std.specs.Prelude.{ℕ, ◌==◌, Bool, true, false, Option, Some, None, List, [], ◌∷◌, ◌++◌, ◌-◌, codes}
-use Rattle.std.specs.Prelude.{if◌then◌else◌}
+use Rattle.std.specs.Prelude.{ℕ, ◌==◌, Bool, true, false, Option, Some, None, List, [], ◌∷◌, ◌++◌, ◌-◌, codes, if◌then◌else◌}
 use Rattle.std.specs.List.{list_any}
 use Rattle.std.specs.Option.{option_map}
 use Rattle.std.specs.Fmt.{decimal}
 use Rattle.group_tree.specs.declared.group.Group.{Group}
 use Rattle.group_charge.specs.declared.note.Note.{Note}
-use Rattle.group_charge.specs.declared.note.Note.TheVariants.{Limit, High, Zone, Asked, Stock, Reclaimed, Round, Oom}
-use Rattle.group_charge.specs.declared.note.Note.TheVariants.{Victim, GroupKill, Kill}
+use Rattle.group_charge.specs.declared.note.Note.TheVariants.{Limit, High, Zone, Asked, Stock, Reclaimed, Round, Oom, Victim, GroupKill, Kill}
 use Rattle.machine_texts.specs.Lines.{line_text}
 
 -- the note says that a stock was drained, that a round of reclaim was made, or that a group was killed

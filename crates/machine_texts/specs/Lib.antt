@@ -7,3 +7,8 @@ pub mod Units
 pub mod Lines
 pub mod Explanation
 pub mod Refused
+-- what other crates and the proofs import by one name, `Rattle.machine_texts.specs`
+pub use Rattle.machine_texts.specs.Blocks.{blocks_text}
+pub use Rattle.machine_texts.specs.Show.{show_text}
+pub use Rattle.machine_texts.specs.Stock.{stock_line_text}
+pub use Rattle.machine_texts.specs.Explanation.{explanation_text}

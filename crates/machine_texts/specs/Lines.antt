@@ -1,14 +1,12 @@
 -- The line of each note. Sizes are in bytes. `gone` is the path of the group that the command removed, if it removed
 -- one.
-use Rattle.std.specs.Prelude.{ℕ, Option, Some, None, unwrap_or, List, [], ◌++◌, codes, ◌+◌, ◌-◌, ◌*◌, ◌==◌, nat_lt}
-use Rattle.std.specs.Prelude.{if◌then◌else◌}
+use Rattle.std.specs.Prelude.{ℕ, Option, Some, None, unwrap_or, List, [], ◌++◌, codes, ◌+◌, ◌-◌, ◌*◌, ◌==◌, nat_lt, if◌then◌else◌}
 use Rattle.std.specs.Fmt.{decimal}
 use Rattle.group_tree.specs.declared.group.Group.{Group}
 use Rattle.group_tree.specs.Groups.{path_of}
 use Rattle.group_charge.specs.declared.note.Candidate.{Candidate}
 use Rattle.group_charge.specs.declared.note.Note.{Note}
-use Rattle.group_charge.specs.declared.note.Note.TheVariants.{Limit, High, Zone, Asked, Stock, Reclaimed, Round, Oom}
-use Rattle.group_charge.specs.declared.note.Note.TheVariants.{Victim, GroupKill, Kill}
+use Rattle.group_charge.specs.declared.note.Note.TheVariants.{Limit, High, Zone, Asked, Stock, Reclaimed, Round, Oom, Victim, GroupKill, Kill}
 use Rattle.control_files.specs.Limit.{page_bytes}
 use Rattle.machine_texts.specs.Characters.{characters}
 

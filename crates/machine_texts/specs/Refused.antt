@@ -2,9 +2,8 @@
 use Rattle.std.specs.Prelude.{ℕ, Option, Some, None, List, [], ◌++◌, codes}
 use Rattle.std.specs.Fmt.{decimal}
 use Rattle.group_tree.specs.declared.fault.Fault.{Fault}
-use Rattle.group_tree.specs.declared.fault.Fault.TheVariants.{NoParent, Exists, BadName, TreeFull, TooDeep, NoGroup}
-use Rattle.group_tree.specs.declared.fault.Fault.TheVariants.{HasChildren, Busy, PinsFull, NoFile, ReadOnly, BadLimit}
-use Rattle.group_tree.specs.declared.fault.Fault.TheVariants.{BadNumber, BadConfig, OverLimit, NoFrames, Again, Killed}
+use Rattle.group_tree.specs.declared.fault.Fault.TheVariants.{NoParent, Exists, BadName, TreeFull, TooDeep, NoGroup, HasChildren, Busy, PinsFull}
+use Rattle.group_tree.specs.declared.fault.Fault.TheVariants.{NoFile, ReadOnly, BadLimit, BadNumber, BadConfig, OverLimit, NoFrames, Again, Killed}
 use Rattle.group_tree.specs.declared.fault.Fault.TheVariants.{BadOrder, NotKept, NotPinned, WriteOnly}
 use Rattle.group_tree.specs.Faults.{number_of}
 

@@ -9,8 +9,7 @@ use Rattle.stock_word.specs.declared.view.Stock.TheVariants.{NoGroup, HeldBy, Dr
 use Rattle.control_files.specs.Limit.{page_bytes}
 use Rattle.cpu_part.specs.Cpus.{KnownCpu}
 use Rattle.frame_word.specs.Seats.{KnownTable}
-use Rattle.mem_machine.specs.Machines.{KnownMachine}
-use Rattle.mem_machine.specs.Showing.{stock_left}
+use Rattle.mem_machine.specs.{KnownMachine, stock_left}
 use Rattle.machine_texts.specs.Characters.{characters}
 
 -- the path of the group of this number; a hyphen if there is no such group

@@ -1,19 +1,13 @@
 -- The text of the kept units of a group.
-use Rattle.std.specs.Prelude.{◌≡◌, ℕ, ◌+◌, ◌<◌, ◌==◌, Bool, List, [], ◌∷◌, ◌++◌, codes, map}
-use Rattle.std.specs.Prelude.{if◌then◌else◌}
+use Rattle.std.specs.Prelude.{◌≡◌, ℕ, ◌+◌, ◌<◌, ◌==◌, Bool, List, [], ◌∷◌, ◌++◌, codes, map, if◌then◌else◌}
 use Rattle.std.specs.Option.{option_map_or}
 use Rattle.std.specs.Fmt.{decimal}
-use Rattle.frame_word.specs.ReferenceRule.{most_references}
-use Rattle.frame_word.specs.Seats.{KnownTable}
-use Rattle.boot_words.specs.Looking.{LoadsReferences}
-use Rattle.boot_words.specs.Pasts.{own_past}
-use Rattle.boot_words.specs.Seats.{zone_of_boot}
+use Rattle.frame_word.specs.{most_references, KnownTable}
+use Rattle.boot_words.specs.{LoadsReferences, own_past, zone_of_boot}
 use Rattle.lru_lists.specs.declared.record.Entry.{Entry}
 use Rattle.lru_lists.specs.declared.record.LruList.{LruList}
 use Rattle.lru_lists.specs.declared.record.LruList.TheVariants.{Inactive, Active}
-use Rattle.mem_machine.specs.FrameStates.{frame_state_at, headed_unit}
-use Rattle.mem_machine.specs.Machines.{KnownMachine}
-use Rattle.mem_machine.specs.Showing.{ListedUnit, entries_in, listed, units_in}
+use Rattle.mem_machine.specs.{frame_state_at, headed_unit, KnownMachine, ListedUnit, entries_in, listed, units_in}
 
 -- the list that a unit is on
 abbrev pub list_text : LruList → List ℕ

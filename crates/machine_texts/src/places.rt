@@ -5,8 +5,7 @@ ghost use Rattle.control_files.specs.Strings.{AddsBytes};
 ghost use Rattle.mem_machine.specs.declared.frame_state.Place.TheVariants as place;
 ghost use Rattle.mem_machine.specs.FrameStates.{place_of};
 ghost use Rattle.machine_texts.specs.Places.{FrameGroupExists, PlaceGroupExists, frames_text, is_same_place};
-ghost use Rattle.machine_texts.specs.Places.{place_text};
-ghost use Rattle.machine_texts.specs.Places.{places_text, span_text, IsAt, IsFirstElsewhere, span_length};
+ghost use Rattle.machine_texts.specs.Places.{place_text, places_text, span_text, IsAt, IsFirstElsewhere, span_length};
 
 use crate::characters::push_characters;
 use group_tree::group::GroupId;

@@ -1,10 +1,9 @@
 //! The places of the frames, and what the groups use.
 
 ghost use Rattle.std.specs.Prelude.{◌≡◌, ◌*◌, IsTrue};
-ghost use Rattle.control_files.specs.Strings.{AddsBytes};
+ghost use Rattle.control_files.specs.{AddsBytes, page_bytes};
 ghost use Rattle.group_tree.specs.Groups.{has_group};
 ghost use Rattle.group_charge.specs.Charges.{current_of};
-ghost use Rattle.control_files.specs.Limit.{page_bytes};
 ghost use Rattle.machine_texts.specs.Show.{show_text, usage_text};
 
 use crate::characters::push_characters;

@@ -8,7 +8,7 @@ ghost use Rattle.machine_texts.specs.Stock.{counts_text, cpu_text, owner_text, s
 
 use crate::characters::push_characters;
 use control_files::text::PAGE_BYTES;
-use cpu_part::{BootName, Cpu};
+use cpu_part::{BootName, CpuLists};
 use group_tree::group::GroupId;
 use group_tree::tree::Tree;
 use mem_machine::prove_groups;
@@ -21,7 +21,7 @@ use stock_word::Stock;
 /// out.
 pub fn write_stock<N: BootName>(
     tree: &Tree,
-    cpu: &Cpu<N>,
+    cpu: &CpuLists<N>,
     stock: Stock,
     text: &mut String,
 ) -> Result<(), AllocError>
@@ -79,7 +79,7 @@ fn group_of(tree: &Tree, number: u32) -> Option<GroupId>
 }
 
 // How many frames and pins the CPU has.
-fn write_counts<N: BootName>(cpu: &Cpu<N>, text: &mut String) -> Result<(), AllocError>
+fn write_counts<N: BootName>(cpu: &CpuLists<N>, text: &mut String) -> Result<(), AllocError>
     ensures { AddsBytes result text.old text.new (counts_text cpu.now) }
 {
     let list = cpu.list_len();

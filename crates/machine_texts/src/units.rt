@@ -2,8 +2,7 @@
 
 ghost use Rattle.std.specs.Prelude.{◌≡◌, ◌<◌, [], false, true, IfOk, IsOk, length};
 ghost use Rattle.control_files.specs.Strings.{AddsBytes};
-ghost use Rattle.mem_machine.specs.Resting.{Rests};
-ghost use Rattle.mem_machine.specs.Showing.{listed, units_in};
+ghost use Rattle.mem_machine.specs.{Rests, listed, units_in};
 ghost use Rattle.machine_texts.specs.Units.{ReadsLines, ReadsUnits, list_text, order_at, pins_text, rest_text};
 ghost use Rattle.machine_texts.specs.Units.{text_if, unit_text};
 

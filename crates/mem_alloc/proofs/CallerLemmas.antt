@@ -7,15 +7,11 @@ use Rattle.group_tree.proofs.CallerLemmas.{in_subtree-above}
 use Rattle.cpu_part.specs.Cpus.{KnownCpu}
 use Rattle.zone_blocks.specs.declared.config.Config.{Config}
 use Rattle.step_rules.specs.After.{Run}
-use Rattle.mem_machine.specs.Machines.{KnownMachine}
+use Rattle.mem_machine.specs.{KnownMachine, visit_state, transition}
 use Rattle.mem_alloc.specs.declared.faults.AllocFault.TheVariants.{Over}
-use Rattle.mem_alloc.specs.Room.{IsRefusedFor}
-use Rattle.mem_alloc.specs.Frames.{AllocatesFrame}
-use Rattle.mem_alloc.specs.Blocks.{AllocatesBlock}
+use Rattle.mem_alloc.specs.{IsRefusedFor, AllocatesFrame, AllocatesBlock}
 use Rattle.mem_alloc.proofs.Lowering.{lowered_there}
 use Rattle.mem_alloc.proofs.Filling.{refused_lowers}
-use Rattle.mem_machine.specs.Local.{visit_state}
-use Rattle.mem_machine.specs.Transitions.{transition}
 
 over_there : (t : KnownTable) (g pages over : ℕ) (m n : KnownMachine) (c d : KnownCpu) (steps : Run)
     → IsRefusedFor g pages (Over over) (transition t (visit_state m c) steps (visit_state n d)) → has_group n.ledger.groups over ≡ true

@@ -7,19 +7,15 @@ use Rattle.step_rules.specs.declared.step.Answer.{Answer}
 use Rattle.step_rules.specs.declared.step.Step.{Step}
 use Rattle.step_rules.specs.After.{Run}
 use Rattle.group_charge.specs.declared.note.Note.TheVariants.{Zone}
-use Rattle.mem_machine.specs.Machines.{with_note}
-use Rattle.mem_machine.specs.Local.{VisitState, visit_state}
-use Rattle.mem_machine.specs.Stocks.{stock_group}
-use Rattle.mem_machine.specs.Steps.{unlist_steps, drain_list_steps, lend_steps, refill_steps}
-use Rattle.mem_machine.specs.Transitions.{Finds, InTurn, Stays, Transition, transition}
+use Rattle.mem_machine.specs.{with_note, VisitState, visit_state, stock_group, unlist_steps, drain_list_steps, lend_steps, refill_steps, Finds}
+use Rattle.mem_machine.specs.{InTurn, Stays, Transition, transition}
 use Rattle.mem_reclaim.specs.Moves.{has_kill, is_kill}
 use Rattle.mem_reclaim.proofs.LettingGo.{quiet_drain}
 use Rattle.mem_alloc.specs.declared.faults.AllocFault.{AllocFault}
 use Rattle.mem_alloc.specs.declared.faults.AllocFault.TheVariants.{Over, NoFrames, RequesterKilled}
-use Rattle.mem_alloc.specs.Charging.{DrainsStock}
-use Rattle.mem_alloc.specs.Rounds.{AfterZoneNote, FailsInRounds, FreesInRound, MakesRound, SucceedsInRounds}
-use Rattle.mem_alloc.specs.Frames.{FillsList, HasNoFreeFrame, LendsBatch, LendsNoFrame, MakesRefillRounds, RefillsInRounds}
-use Rattle.mem_alloc.specs.Blocks.{FindsNoBlock, MakesTakeRounds, TakesAfterDrain, TakesFreeBlock, TakesInRounds, TakesOrReclaims}
+use Rattle.mem_alloc.specs.{DrainsStock, AfterZoneNote, FailsInRounds, FreesInRound, MakesRound, SucceedsInRounds, FillsList, HasNoFreeFrame}
+use Rattle.mem_alloc.specs.{LendsBatch, LendsNoFrame, MakesRefillRounds, RefillsInRounds, FindsNoBlock, MakesTakeRounds, TakesAfterDrain}
+use Rattle.mem_alloc.specs.{TakesFreeBlock, TakesInRounds, TakesOrReclaims}
 
 pub no_kill_both : (one two : Run) → has_kill one ≡ false → has_kill two ≡ false → has_kill (one ++ two) ≡ false
 no_kill_both one two a b = list_any-append (λ (e : Step × Answer). is_kill e.0.action) one two ∙ ap (λ (x : Bool). x || has_kill two) a ∙ b

@@ -7,13 +7,10 @@ use Rattle.frame_word.specs.Seats.{KnownTable}
 use Rattle.group_tree.specs.declared.group.Group.{Group}
 use Rattle.cpu_part.specs.Cpus.{KnownCpu}
 use Rattle.step_rules.specs.After.{Run}
-use Rattle.mem_machine.specs.Machines.{KnownMachine, is_killed}
-use Rattle.mem_machine.specs.Local.{VisitState}
-use Rattle.mem_machine.specs.Lending.{LendsMany}
-use Rattle.mem_alloc.specs.Kills.{IsAlive, KillsUntilRoom, has_room_at}
+use Rattle.mem_machine.specs.{KnownMachine, is_killed, VisitState, LendsMany}
+use Rattle.mem_alloc.specs.{IsAlive, KillsUntilRoom, has_room_at, ChargesKillLast, KillsComeLast, KillsEndInTime, RefillsAreWhole, WasLast}
+use Rattle.mem_alloc.specs.{IsChargedBelow, MayKillAfter}
 use Rattle.mem_reclaim.specs.Victim.{IsVictim}
-use Rattle.mem_alloc.specs.Laws.{ChargesKillLast, KillsComeLast, KillsEndInTime, RefillsAreWhole, WasLast}
-use Rattle.mem_alloc.specs.NoRash.{IsChargedBelow, MayKillAfter}
 
 -- the steps before the first kill of a set were the last to be tried
 abbrev pub was_last : (MayAsk : List Group → ℕ → ℕ → Type 0) (t : KnownTable) (start : KnownMachine) (before : Run) (g : ℕ) (rest : Run)

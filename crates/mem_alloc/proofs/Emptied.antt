@@ -4,10 +4,7 @@ use Rattle.std.proofs.lemmas.Bool.{cases_Bool, cases_lt}
 use Rattle.frame_word.specs.Seats.{KnownTable}
 use Rattle.boot_words.specs.Pasts.{IsHeld}
 use Rattle.step_rules.specs.After.{Run}
-use Rattle.mem_machine.specs.Machines.{KnownMachine, with_run}
-use Rattle.mem_machine.specs.Stocks.{HasDrained, IsDrained, of_subtree}
-use Rattle.mem_machine.specs.Steps.{note_max_steps, note_oom_steps}
-use Rattle.mem_machine.specs.Transitions.{MachineStays, transition}
+use Rattle.mem_machine.specs.{KnownMachine, with_run, HasDrained, IsDrained, of_subtree, note_max_steps, note_oom_steps, MachineStays, transition}
 use Rattle.mem_machine.proofs.StocksKept.{drained_kept}
 use Rattle.mem_reclaim.specs.declared.sets.Killed.{Killed}
 use Rattle.mem_reclaim.proofs.Grown.{held_after}

@@ -4,32 +4,24 @@ use Rattle.std.proofs.Common.{◌≡◌, ℕ, zero, suc, ◌+◌, ◌-◌, ◌<�
 use Rattle.std.proofs.Common.{arith, length-append}
 use Rattle.std.specs.Prelude.{Result, Ok, Err, IsErr, IfErr, OnOk}
 use Rattle.std.proofs.lemmas.List.{append_assoc, append-nil}
-use Rattle.zone_blocks.specs.Areas.{HasNoneFrom}
+use Rattle.zone_blocks.specs.{HasNoneFrom, IsValidConfig}
 use Rattle.frame_word.specs.Seats.{KnownTable}
 use Rattle.stock_word.specs.declared.view.Stock.TheVariants.{HeldBy}
 use Rattle.cpu_part.specs.Cpus.{KnownCpu}
 use Rattle.zone_blocks.specs.declared.config.Config.{Config}
-use Rattle.zone_blocks.specs.Config.{IsValidConfig}
 use Rattle.step_rules.specs.After.{Run}
 use Rattle.group_charge.specs.declared.note.Note.TheVariants.{Zone}
-use Rattle.mem_machine.specs.Machines.{KnownMachine, is_killed, with_note, with_run}
-use Rattle.boot_words.specs.Pasts.{IsHeld}
-use Rattle.mem_machine.specs.Local.{Makes, VisitMakes, Visits, visit_state}
-use Rattle.mem_machine.specs.Lending.{LendsMany, Refills}
-use Rattle.mem_machine.specs.Paying.{HoldsPage, MayCharge, PaysForFront}
-use Rattle.mem_machine.specs.Showing.{stock_now}
-use Rattle.mem_machine.specs.Stocks.{Drains, Fills, stock_group}
-use Rattle.mem_machine.specs.Steps.{drain_steps, refill_steps, take_front_steps}
+use Rattle.mem_machine.specs.{KnownMachine, is_killed, with_note, with_run, Makes, VisitMakes, Visits, visit_state, LendsMany, Refills, HoldsPage}
+use Rattle.mem_machine.specs.{MayCharge, PaysForFront, stock_now, Drains, Fills, stock_group, drain_steps, refill_steps, take_front_steps, BySteps}
+use Rattle.mem_machine.specs.{Finds, transition}
+use Rattle.boot_words.specs.{IsHeld, stock_in}
 use Rattle.mem_machine.proofs.StocksKept.{filled_stock, has_stock_step, stock_kept, stock_left}
-use Rattle.boot_words.specs.Words.{stock_in}
 use Rattle.mem_reclaim.specs.Staying.{Keeps}
 use Rattle.mem_alloc.specs.declared.faults.AllocFault.{AllocFault}
 use Rattle.mem_alloc.specs.declared.faults.AllocFault.TheVariants.{Over, NoFrames, RequesterKilled}
-use Rattle.mem_machine.specs.Transitions.{BySteps, Finds, transition}
-use Rattle.mem_alloc.specs.Room.{IsRefusedAt, IsRefusedFor, MakesRoom}
-use Rattle.mem_alloc.specs.Charging.{ChargesAfterDrain, ChargesNoBatch, ChargesOne, DrainsStock, FillsBatch, FillsDrainedStock, FillsStock, LacksBatch, PaysForFrame}
-use Rattle.mem_alloc.specs.Rounds.{FailsInRounds}
-use Rattle.mem_alloc.specs.Frames.{AllocatesFrame, FillsList, HasNoFreeFrame, LendsBatch, LendsNoFrame, RefillsInRounds, RefillsList}
+use Rattle.mem_alloc.specs.{IsRefusedAt, IsRefusedFor, MakesRoom, ChargesAfterDrain, ChargesNoBatch, ChargesOne, DrainsStock, FillsBatch}
+use Rattle.mem_alloc.specs.{FillsDrainedStock, FillsStock, LacksBatch, PaysForFrame, FailsInRounds, AllocatesFrame, FillsList, HasNoFreeFrame}
+use Rattle.mem_alloc.specs.{LendsBatch, LendsNoFrame, RefillsInRounds, RefillsList}
 use Rattle.mem_alloc.proofs.Making.{answer_is}
 use Rattle.mem_alloc.proofs.Lowering.{Lowers, lowers_none, lowers_both, run_lowers}
 use Rattle.mem_alloc.proofs.Killing.{relieves_lower}
@@ -108,8 +100,8 @@ pays_keep t sizes g (Err e) m n c d steps h = drain_charges_keep t sizes g (Err 
 
 -- ---- the stock holds a page
 
-filled_page : (t : KnownTable) (g k : ℕ) (m n : KnownMachine) (c d : KnownCpu) (steps : Run) → Visits t (visit_state n d)
-    → FillsStock g k (transition t (visit_state m c) steps (visit_state n d)) → 1 ≤ k → c.fresh ≡ [] → HoldsPage t (visit_state n d) g
+filled_page : (t : KnownTable) (g k : ℕ) (m n : KnownMachine) (c d : KnownCpu) (steps : Run) → Visits t n d
+    → FillsStock g k (transition t (visit_state m c) steps (visit_state n d)) → 1 ≤ k → c.fresh ≡ [] → HoldsPage t n d.number g
 filled_page t g k m n c d steps visit f some none =
     let number = ap (λ (e : KnownCpu). e.number) f.cpu in
     let fills : Fills t d.number g k m n = subst (λ (p : ℕ). Fills t p g k m n) (sym number) f.fills in
@@ -117,8 +109,8 @@ filled_page t g k m n c d steps visit f some none =
     (k - 1, filled_stock t m n d g k visit (ap (λ (e : KnownCpu). e.fresh) f.cpu ∙ none) fills ∙ ap (HeldBy g) (sym all))
 
 pub charged_page : (t : KnownTable) (sizes : Config) (g : ℕ) (r : Result (Unit {0}) AllocFault) (m n : KnownMachine) (c d : KnownCpu) (steps : Run)
-    → IsValidConfig sizes → Visits t (visit_state n d) → FillsDrainedStock sizes g r (transition t (visit_state m c) steps (visit_state n d)) → c.fresh ≡ []
-    → OnOk r (HoldsPage t (visit_state n d) g)
+    → IsValidConfig sizes → Visits t n d → FillsDrainedStock sizes g r (transition t (visit_state m c) steps (visit_state n d)) → c.fresh ≡ []
+    → OnOk r (HoldsPage t n d.number g)
 charged_page t sizes g (Ok v) m n c d steps valid visit (inl h) none = filled_page t g sizes.stock m n c d steps visit h.fills valid.stock_low none
 charged_page t sizes g (Ok v) m n c d steps valid visit (inr h) none =
     let one = h.second in
@@ -128,7 +120,7 @@ charged_page t sizes g (Err e) m n c d steps valid visit h none = tt
 -- ---- the own stock has a page
 
 -- it had one before
-pub pays_none : (t : KnownTable) (m n : KnownMachine) (c : KnownCpu) → n ≡ m → (sizes : Config) (g : ℕ) → HoldsPage t (visit_state m c) g
+pub pays_none : (t : KnownTable) (m n : KnownMachine) (c : KnownCpu) → n ≡ m → (sizes : Config) (g : ℕ) → HoldsPage t m c.number g
     → BySteps VisitMakes t (PaysForFrame sizes g (Ok tt)) (visit_state m c) (visit_state n c)
 pays_none t m n c same sizes g page = record {
   steps = [];
@@ -167,13 +159,13 @@ lent_calm p (f ∷ frames) = lent_calm p frames
 
 -- the stock has the same pages
 pub lent_stock : (t : KnownTable) (frames : List ℕ) (m n : KnownMachine) (c d : KnownCpu) → IsHeld t m.run.past → Makes t m (refill_steps c.number frames) n
-    → LendsMany frames (visit_state m c) (visit_state n d) → stock_now t (visit_state n d) ≡ stock_now t (visit_state m c)
+    → LendsMany frames (visit_state m c) (visit_state n d) → stock_now t n d.number ≡ stock_now t m c.number
 lent_stock t frames m n c d held makes lends =
     stock_kept t m n (refill_steps c.number frames) held makes (lent_calm c.number frames) c d (lent_part frames m n c d lends).number
 
 -- a reclaim leaves its pages
-pub spared_stock : (t : KnownTable) (m n : KnownMachine) (c : KnownCpu) → Visits t (visit_state m c) → Keeps t m n → c.fresh ≡ []
-    → stock_now t (visit_state n c) ≡ stock_now t (visit_state m c)
+pub spared_stock : (t : KnownTable) (m n : KnownMachine) (c : KnownCpu) → Visits t m c → Keeps t m n → c.fresh ≡ []
+    → stock_now t n c.number ≡ stock_now t m c.number
 spared_stock t m n c visit keeps none =
     let later = keeps.visit c visit in
     stock_left t n c later.held later.own none ∙ ap stock_in (keeps.stocks c.number) ∙ sym (stock_left t m c visit.held visit.own none)
@@ -235,7 +227,7 @@ module _ (t : KnownTable) (pages q : ℕ) (m k x : KnownMachine) (c : KnownCpu) 
   drained_own = record { steps = own_steps; does = drains_own; makes = by_drain }
 
   -- it had no page of the group
-  module _ (sizes : Config) (g : ℕ) (n : KnownMachine) (d : KnownCpu) (lacks : ¬ HoldsPage t (visit_state m c) g) where
+  module _ (sizes : Config) (g : ℕ) (n : KnownMachine) (d : KnownCpu) (lacks : ¬ HoldsPage t m c.number g) where
     charges_anew : (r : Result (Unit {0}) AllocFault) → BySteps VisitMakes t (FillsDrainedStock sizes g r) (visit_state x c) (visit_state n d)
         → BySteps VisitMakes t (ChargesAfterDrain sizes g r) (visit_state m c) (visit_state n d)
     charges_anew r b = record {

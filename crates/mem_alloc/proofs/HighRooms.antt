@@ -8,28 +8,20 @@ use Rattle.frame_word.specs.Seats.{KnownTable}
 use Rattle.boot_words.specs.Pasts.{IsHeld}
 use Rattle.group_tree.specs.declared.event.EventKey.TheVariants as event
 use Rattle.group_tree.specs.declared.group.Group.{Group}
-use Rattle.group_tree.specs.Ancestors.{ancestors_from, ancestors_of, depth_at, is_there}
-use Rattle.group_tree.specs.Groups.{AreGroups, has_group, parent_of}
-use Rattle.group_tree.specs.Room.{fits_limit}
+use Rattle.group_tree.specs.{ancestors_from, ancestors_of, depth_at, is_there, AreGroups, has_group, parent_of, fits_limit}
 use Rattle.group_tree.proofs.AncestorLemmas.{ancestors_of-step, ancestors_of-subtree, parent-is_there}
 use Rattle.group_tree.proofs.Walks.{parent_depth}
 use Rattle.group_charge.specs.Charges.{current_of, with_noted}
 use Rattle.group_charge.specs.declared.note.Note.TheVariants.{High}
 use Rattle.group_charge.proofs.UsageLemmas.{usage-noted}
 use Rattle.lru_lists.specs.declared.record.Link.{Link}
-use Rattle.lru_lists.specs.Lists.{owner_of}
-use Rattle.lru_lists.specs.Queue.{link_at}
+use Rattle.lru_lists.specs.{owner_of, link_at}
 use Rattle.step_rules.specs.declared.step.NoteKey.TheVariants as key
 use Rattle.step_rules.specs.After.{Run}
-use Rattle.mem_machine.specs.Machines.{KnownMachine, home_of, with_note, with_run}
-use Rattle.mem_machine.specs.Local.{Makes, StaysVisited}
-use Rattle.mem_machine.specs.Steps.{note_steps}
-use Rattle.mem_machine.specs.Transitions.{BySteps, Transition, transition}
+use Rattle.mem_machine.specs.{KnownMachine, home_of, with_note, with_run, Makes, StaysVisited, note_steps, BySteps, Transition, transition}
 use Rattle.mem_machine.proofs.Followed.{makes_both, makes_none}
 use Rattle.mem_machine.proofs.Made.{visit_same}
-use Rattle.mem_reclaim.specs.Moves.{FreesBySteps, has_kill}
-use Rattle.mem_reclaim.specs.Rounds.{ReclaimsRounds, max_rounds, pages_missing}
-use Rattle.mem_reclaim.specs.Staying.{IsDirtyUnit, Keeps, MissedAll}
+use Rattle.mem_reclaim.specs.{FreesBySteps, has_kill, ReclaimsRounds, max_rounds, pages_missing, IsDirtyUnit, Keeps, MissedAll}
 use Rattle.mem_reclaim.proofs.Grown.{hold_after, misses_after, parts_after}
 use Rattle.mem_reclaim.proofs.Keeping.{keeps_none, keeps_both}
 use Rattle.mem_alloc.specs.High.{KeepToHigh, KeepsToHigh, PathHasHighRoom, ReclaimsHigh, has_high_room, high_of, with_high_noted_at}

@@ -3,8 +3,7 @@ use Rattle.std.proofs.Common.{◌≡◌, ℕ, ◌+◌, ◌⊎◌, true, false, L
 use Rattle.std.specs.Prelude.{nat_le}
 use Rattle.std.proofs.lemmas.Bool.{false≢true, leb-false}
 use Rattle.group_tree.specs.declared.group.Group.{Group}
-use Rattle.group_tree.specs.Groups.{limit_of}
-use Rattle.group_tree.specs.Room.{fits_limit}
+use Rattle.group_tree.specs.{limit_of, fits_limit}
 use Rattle.group_charge.specs.Charges.{Ledger, current_of}
 use Rattle.step_rules.specs.declared.step.Action.{Action}
 use Rattle.step_rules.specs.declared.step.Action.TheVariants.{Kill}
@@ -13,9 +12,8 @@ use Rattle.step_rules.specs.declared.step.Step.{Step}
 use Rattle.step_rules.specs.After.{Run}
 use Rattle.mem_reclaim.specs.Moves.{is_kill, killed_by, kills_in}
 use Rattle.mem_reclaim.proofs.KillSets.{kills_both}
-use Rattle.mem_alloc.specs.Kills.{has_room_at}
-use Rattle.mem_alloc.specs.KillLaws.{ChargesKillOverLimits, ChargesKillWholeSets, GroupsDieWithTheirSets, IsOverLimit}
-use Rattle.mem_alloc.specs.NoRash.{IsChargedBelow, begins_with_kill}
+use Rattle.mem_alloc.specs.{has_room_at, ChargesKillOverLimits, ChargesKillWholeSets, GroupsDieWithTheirSets, IsOverLimit, IsChargedBelow}
+use Rattle.mem_alloc.specs.{begins_with_kill}
 use Rattle.mem_alloc.proofs.ComingLast.{kills_come_last, was_last}
 
 -- ---- the rest of a set

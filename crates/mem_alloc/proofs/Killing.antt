@@ -14,26 +14,19 @@ use Rattle.group_charge.proofs.CallerLemmas.{sum-map_same}
 use Rattle.group_charge.proofs.KeptLemmas.{number_below}
 use Rattle.group_charge.proofs.SumLemmas.{share}
 use Rattle.boot_words.specs.Pasts.{IsHeld}
-use Rattle.step_rules.specs.State.{sum_to}
-use Rattle.step_rules.specs.After.{Run}
+use Rattle.step_rules.specs.{sum_to, Run}
 use Rattle.group_charge.specs.declared.note.Note.TheVariants as notes
-use Rattle.mem_machine.specs.Machines.{IsConsistent, KnownMachine, is_killed, with_run, with_note}
-use Rattle.mem_machine.specs.Local.{Makes, StaysVisited}
-use Rattle.mem_machine.specs.Steps.{note_oom_steps}
+use Rattle.mem_machine.specs.{IsConsistent, KnownMachine, is_killed, with_run, with_note, Makes, StaysVisited, note_oom_steps, BySteps, MachineStays}
+use Rattle.mem_machine.specs.{transition, KnownRun}
 use Rattle.mem_reclaim.specs.declared.sets.Killed.{Killed}
-use Rattle.mem_reclaim.specs.Killing.{IsKilledBy, OnlyDrains, OnlyReleases, with_all_killed}
-use Rattle.mem_reclaim.specs.Sets.{IsKilledRoot, kill_set}
-use Rattle.mem_reclaim.specs.Victim.{IsVictim}
+use Rattle.mem_reclaim.specs.{IsKilledBy, OnlyDrains, OnlyReleases, with_all_killed, IsKilledRoot, kill_set, IsVictim}
 use Rattle.mem_reclaim.proofs.Choosing.{chosen_there}
 use Rattle.mem_reclaim.proofs.Dying.{victims_die}
-use Rattle.mem_machine.specs.Transitions.{BySteps, MachineStays, transition}
-use Rattle.mem_alloc.specs.Kills.{NeedsRoom, KillsVictims, KillsForRoom, KillsOneVictim, has_room_at, with_oom_noted_at}
-use Rattle.mem_alloc.specs.Room.{KillsForFewPages, RelievesLimit}
+use Rattle.mem_alloc.specs.{NeedsRoom, KillsVictims, KillsForRoom, KillsOneVictim, has_room_at, with_oom_noted_at, KillsForFewPages, RelievesLimit}
 use Rattle.mem_alloc.proofs.Lowering.{Lowers, lowers_none, lowers_both, clears_lower, keeps_lower, sum_less}
 use Rattle.mem_machine.proofs.Followed.{makes_both, makes_none}
 use Rattle.mem_machine.proofs.Made.{visit_same}
 use Rattle.mem_reclaim.proofs.Grown.{held_after}
-use Rattle.mem_machine.specs.Noted.{KnownRun}
 
 -- ---- what is kept
 

@@ -6,23 +6,17 @@ use Rattle.std.proofs.lemmas.Bool.{cases_eq, cases_lt, ne_eqb, cond-true, cond-f
 use Rattle.std.proofs.lemmas.List.Sums.{sum_by-cons}
 use Rattle.frame_word.specs.Seats.{KnownTable}
 use Rattle.group_tree.specs.declared.group.Group.{Group}
-use Rattle.group_tree.specs.Groups.{has_group, in_subtree, limit_of}
-use Rattle.group_tree.specs.Room.{fits_limit, PathHasRoom}
+use Rattle.group_tree.specs.{has_group, in_subtree, limit_of, fits_limit, PathHasRoom}
 use Rattle.group_charge.specs.declared.account.Account as charge
 use Rattle.group_charge.specs.Charges.{Ledger, current_of, usage_charged, max_noted, added, taken, peaked, charged, with_charge, with_uncharge}
 use Rattle.group_charge.proofs.CallerLemmas.{sum-map_same}
 use Rattle.group_charge.proofs.SumLemmas.{share}
 use Rattle.step_rules.specs.State.{sum_to}
 use Rattle.step_rules.specs.After.{Run}
-use Rattle.mem_machine.specs.Machines.{KnownMachine, is_killed, with_run}
-use Rattle.mem_machine.specs.Paying.{HasRoomFor}
-use Rattle.mem_machine.specs.Steps.{Drain}
-use Rattle.mem_machine.specs.Stocks.{DrainsAllBelow, of_subtree}
+use Rattle.mem_machine.specs.{KnownMachine, is_killed, with_run, HasRoomFor, Drain, DrainsAllBelow, of_subtree, transition, KnownRun}
 use Rattle.mem_reclaim.proofs.LettingGo.{drains_leave}
 use Rattle.mem_reclaim.specs.Staying.{Keeps}
-use Rattle.mem_machine.specs.Transitions.{transition}
 use Rattle.mem_alloc.specs.Room.{ClearsBelow, has_room_at, with_max_noted_at}
-use Rattle.mem_machine.specs.Noted.{KnownRun}
 
 -- the groups stay, who was killed stays killed, and no usage is higher
 pub record Lowers (t : KnownTable) (m n : KnownMachine) : Type 0 where

@@ -5,25 +5,19 @@ use Rattle.std.proofs.lemmas.Bool.{false≢true}
 use Rattle.std.proofs.lemmas.List.{append_assoc, append-nil}
 use Rattle.frame_word.specs.Seats.{KnownTable}
 use Rattle.boot_words.specs.Pasts.{IsHeld}
-use Rattle.group_tree.specs.Groups.{limit_of}
-use Rattle.group_tree.specs.Room.{IsLowestOver, fits_limit}
+use Rattle.group_tree.specs.{limit_of, IsLowestOver, fits_limit}
 use Rattle.group_charge.specs.Charges.{current_of, with_max_noted}
 use Rattle.cpu_part.specs.Cpus.{KnownCpu}
 use Rattle.step_rules.specs.After.{Run}
-use Rattle.mem_machine.specs.Machines.{KnownMachine, is_killed, with_run}
-use Rattle.mem_machine.specs.Local.{Makes, StaysVisited, VisitMakes, Visits, VisitState, visit_state}
-use Rattle.mem_machine.specs.Steps.{over_steps, note_max_steps, drain_stocks_steps, fill_steps}
-use Rattle.mem_machine.specs.Stocks.{Fills, DrainsSubtree, DrainsAllBelow, AreDrained}
-use Rattle.mem_machine.specs.Transitions.{BySteps, Transition, transition}
+use Rattle.mem_machine.specs.{KnownMachine, is_killed, with_run, Makes, StaysVisited, VisitMakes, Visits, VisitState, visit_state, over_steps}
+use Rattle.mem_machine.specs.{note_max_steps, drain_stocks_steps, fill_steps, Fills, DrainsSubtree, DrainsAllBelow, AreDrained, BySteps, Transition}
+use Rattle.mem_machine.specs.{transition}
 use Rattle.mem_reclaim.specs.Wanted.{progress}
 use Rattle.mem_reclaim.proofs.Keeping.{keeps_none}
 use Rattle.mem_reclaim.proofs.Moving.{moves_rest}
-use Rattle.mem_alloc.specs.Room.{AfterRoom, ClearsBelow, HasMadeRoom, IsRefusedAt, IsRefusedFor, IsRoomAnswer}
-use Rattle.mem_alloc.specs.High.{ReclaimsHigh}
-use Rattle.mem_alloc.specs.Room.{KillsForFewPages, MakesRoom, PreparesCharge, ReclaimsBefore, ReclaimsFor, RelievesLimit}
-use Rattle.mem_alloc.specs.Room.{with_limit_noted, with_max_noted_at}
+use Rattle.mem_alloc.specs.{AfterRoom, ClearsBelow, HasMadeRoom, IsRefusedAt, IsRefusedFor, IsRoomAnswer, ReclaimsHigh, KillsForFewPages, MakesRoom}
+use Rattle.mem_alloc.specs.{PreparesCharge, ReclaimsBefore, ReclaimsFor, RelievesLimit, with_limit_noted, with_max_noted_at, ChargesOne, FillsStock}
 use Rattle.mem_alloc.specs.declared.faults.AllocFault.{AllocFault}
-use Rattle.mem_alloc.specs.Charging.{ChargesOne, FillsStock}
 use Rattle.mem_alloc.proofs.Lowering.{Lowers, keeps_lower, lowers_both, run_lowers}
 use Rattle.mem_alloc.proofs.Killing.{relieving_lowers}
 use Rattle.mem_machine.proofs.Followed.{makes_both, makes_none}
@@ -129,7 +123,7 @@ pub record RoomSoFar (t : KnownTable) (g pages : ℕ) (c : KnownCpu) (m n : Know
   pub making : Run
   pub makes : PreparesCharge g refused_at pages (transition t m making n)
   pub runs : Makes t m making n
-  pub visit : Visits t (visit_state m c) → Visits t (visit_state n c)
+  pub visit : Visits t m c → Visits t n c
   pub lowers : Lowers t m n
   pub alive : is_killed n.killed g ≡ false
 
@@ -178,14 +172,14 @@ module _ (t : KnownTable) (g pages : ℕ) (c : KnownCpu) (m x : KnownMachine) (s
         (subst (λ (k : KnownMachine). Makes t k (over_steps g pages over) y) before_it refusing) relieves.makes)
 
     -- and its group has room now
-    pub so_far_more : HasMadeRoom g over pages n → Visits t (visit_state n e) → RoomSoFar t g pages c m n
+    pub so_far_more : HasMadeRoom g over pages n → Visits t n e → RoomSoFar t g pages c m n
     so_far_more room visit = record {
       refused_at = so_far.refused_at ++ over ∷ [];
       making = so_far.making ++ (over_steps g pages over ++ relieves.steps);
       makes = prepared_more t g pages over so_far.refused_at m x n so_far.making
           (over_steps g pages over ++ relieves.steps) so_far.makes (refused (Ok tt) room);
       runs = runs_on;
-      visit = λ v. subst (λ (k : KnownCpu). Visits t (visit_state n k)) mine_after visit;
+      visit = λ v. subst (λ (k : KnownCpu). Visits t n k) mine_after visit;
       lowers = lowers_both t m x n so_far.lowers lowered;
       alive = room.alive;
     }

@@ -12,35 +12,27 @@ use Rattle.group_tree.specs.declared.group.Group.{Group}
 use Rattle.group_tree.specs.Groups.{in_subtree, is_oom_group}
 use Rattle.lru_lists.specs.declared.record.Link.{Link}
 use Rattle.lru_lists.specs.declared.record.Home.{Home}
-use Rattle.lru_lists.specs.Lists.{owner_of}
-use Rattle.lru_lists.specs.Queue.{link_at}
+use Rattle.lru_lists.specs.{owner_of, link_at}
 use Rattle.cpu_part.specs.Cpus.{KnownCpu}
 use Rattle.step_rules.specs.declared.step.Action.TheVariants.{Kill}
 use Rattle.step_rules.specs.declared.step.Answer.{Answer}
 use Rattle.step_rules.specs.declared.step.Step.{Step}
-use Rattle.step_rules.specs.State.{Part}
-use Rattle.step_rules.specs.After.{Run}
-use Rattle.mem_machine.specs.Machines.{HeadsKeptUnit, KnownMachine, home_of, part_at, with_note, with_run}
-use Rattle.mem_machine.specs.Local.{Makes, VisitState, visit_state}
-use Rattle.mem_machine.specs.Steps.{note_group_kill_steps, note_oom_steps, over_steps}
-use Rattle.mem_machine.specs.Stocks.{AreDrained, HasDrained, Drains, of_subtree, stock_group}
+use Rattle.step_rules.specs.{Part, Run}
+use Rattle.mem_machine.specs.{HeadsKeptUnit, KnownMachine, home_of, part_at, with_note, with_run, Makes, VisitState, visit_state}
+use Rattle.mem_machine.specs.{note_group_kill_steps, note_oom_steps, over_steps, AreDrained, HasDrained, Drains, of_subtree, stock_group}
+use Rattle.mem_machine.specs.{MachineStays, OfMachineAlone, Transition, transition}
 use Rattle.mem_machine.proofs.Draining.{groups_stay}
 use Rattle.mem_machine.proofs.Followed.{makes_both, makes_none}
 use Rattle.mem_reclaim.specs.declared.sets.Killed.{Killed}
-use Rattle.mem_reclaim.specs.Moves.{has_kill, is_kill, killed_by, kills_in}
-use Rattle.mem_reclaim.specs.Staying.{Keeps, MissedAll}
-use Rattle.mem_reclaim.specs.Killing.{IsKilledBy, KillsGroups, KillsRootOrVictim, OnlyDrains, OnlyReleases}
-use Rattle.mem_reclaim.specs.Sets.{alive_in_subtree, group_kill_note, kill_set}
-use Rattle.mem_reclaim.specs.Victim.{victim_note}
+use Rattle.mem_reclaim.specs.{has_kill, is_kill, killed_by, kills_in, Keeps, MissedAll, IsKilledBy, KillsGroups, KillsRootOrVictim, OnlyDrains}
+use Rattle.mem_reclaim.specs.{OnlyReleases, alive_in_subtree, group_kill_note, kill_set, victim_note}
 use Rattle.mem_reclaim.proofs.KillSets.{kills_both}
 use Rattle.mem_reclaim.proofs.Grown.{held_after, misses_after, parts_after}
 use Rattle.mem_reclaim.proofs.LettingGo.{drains_leave, quiet_drains}
-use Rattle.mem_machine.specs.Transitions.{MachineStays, OfMachineAlone, Transition, transition}
-use Rattle.mem_alloc.specs.Kills.{KillsVictims, KillsForRoom, KillsOneVictim, KillsUntilRoom, has_room_at, with_oom_noted_at}
-use Rattle.mem_alloc.specs.Room.{AfterRoom, ClearsBelow, IsRefusedAt, IsRefusedFor, IsRefusedAtSome, KillsForFewPages, MakesRoom, PreparesCharge, ReclaimsFor, RelievesLimit}
-use Rattle.mem_alloc.specs.Room.{with_max_noted_at}
+use Rattle.mem_alloc.specs.{KillsVictims, KillsForRoom, KillsOneVictim, KillsUntilRoom, has_room_at, with_oom_noted_at, AfterRoom, ClearsBelow}
+use Rattle.mem_alloc.specs.{IsRefusedAt, IsRefusedFor, IsRefusedAtSome, KillsForFewPages, MakesRoom, PreparesCharge, ReclaimsFor, RelievesLimit}
+use Rattle.mem_alloc.specs.{with_max_noted_at, MayKill, MayKillAfter, begins_with_kill, has_oom_note, is_oom_note}
 use Rattle.mem_alloc.specs.declared.faults.AllocFault.{AllocFault}
-use Rattle.mem_alloc.specs.NoRash.{MayKill, MayKillAfter, begins_with_kill, has_oom_note, is_oom_note}
 
 -- ---- the place of a pair in a list
 

@@ -8,17 +8,12 @@ use Rattle.group_tree.specs.Groups.{in_subtree}
 use Rattle.zone_blocks.specs.declared.config.Config.{Config}
 use Rattle.cpu_part.specs.Cpus.{KnownCpu}
 use Rattle.step_rules.specs.After.{Run}
-use Rattle.mem_machine.specs.Machines.{KnownMachine}
-use Rattle.mem_machine.specs.Local.{Makes, VisitState, visit_state}
-use Rattle.mem_machine.specs.Steps.{take_front_steps}
+use Rattle.mem_machine.specs.{KnownMachine, Makes, VisitState, visit_state, take_front_steps, Transition, transition}
 use Rattle.mem_reclaim.specs.Moves.{has_kill}
 use Rattle.mem_alloc.specs.declared.faults.AllocFault.{AllocFault}
 use Rattle.mem_alloc.specs.declared.faults.AllocFault.TheVariants.{Over, NoFrames, RequesterKilled}
-use Rattle.mem_machine.specs.Transitions.{Transition, transition}
-use Rattle.mem_alloc.specs.Charging.{ChargesAfterDrain, ChargesNoBatch, ChargesOne, FillsDrainedStock, FillsStock, LacksBatch, PaysForFrame}
-use Rattle.mem_alloc.specs.Frames.{AllocatesFrame}
-use Rattle.mem_alloc.specs.Blocks.{AllocatesBlock, ChargesBlock, FindsNoBlock, RetriesBlock, TakesFreeBlock}
-use Rattle.mem_alloc.specs.NoRash.{NoRashKill}
+use Rattle.mem_alloc.specs.{ChargesAfterDrain, ChargesNoBatch, ChargesOne, FillsDrainedStock, FillsStock, LacksBatch, PaysForFrame, AllocatesFrame}
+use Rattle.mem_alloc.specs.{AllocatesBlock, ChargesBlock, FindsNoBlock, RetriesBlock, TakesFreeBlock, NoRashKill}
 use Rattle.mem_alloc.proofs.Calm.{drained_calm, drains_calm, fills_calm, finds_none_calm, takes_calm}
 pub use Rattle.mem_alloc.proofs.Calm.{no_kill_both}
 use Rattle.mem_alloc.proofs.NoRash.{Passes, RashFree, drain_same, passes_both, passes_none, passes_same, quiet_after_room, rash_both, rash_quiet, refusal_rash}

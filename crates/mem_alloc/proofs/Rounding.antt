@@ -7,13 +7,8 @@ use Rattle.cpu_part.specs.Cpus.{KnownCpu}
 use Rattle.step_rules.specs.After.{Run}
 use Rattle.group_charge.specs.declared.note.Note.{Note}
 use Rattle.group_charge.specs.declared.note.Note.TheVariants.{Zone}
-use Rattle.mem_machine.specs.Machines.{KnownMachine, with_note}
-use Rattle.mem_machine.specs.Local.{Makes, VisitMakes, Visits, VisitState, visit_state}
-use Rattle.mem_reclaim.specs.Wanted.{progress}
-use Rattle.mem_reclaim.specs.Moves.{FreesBySteps}
-use Rattle.mem_reclaim.specs.Rounds.{ReclaimsRound}
-use Rattle.mem_reclaim.specs.Staying.{Keeps, MissedAll}
-use Rattle.mem_machine.specs.Transitions.{BySteps, Transition, transition}
+use Rattle.mem_machine.specs.{KnownMachine, with_note, Makes, VisitMakes, Visits, VisitState, visit_state, BySteps, Transition, transition}
+use Rattle.mem_reclaim.specs.{progress, FreesBySteps, ReclaimsRound, Keeps, MissedAll}
 use Rattle.mem_alloc.specs.Rounds.{AfterZoneNote, FailsInRounds, FreesInRound, MakesRound, SucceedsInRounds}
 use Rattle.mem_alloc.proofs.Lowering.{Lowers, lowers_none, lowers_both, keeps_lower}
 use Rattle.mem_machine.proofs.Followed.{makes_both, makes_none}
@@ -107,7 +102,7 @@ pub spares_after_note : (t : KnownTable) (m n : KnownMachine) (c d : KnownCpu) (
 spares_after_note t m n c d note s = search rules
 
 -- a visit stays open at a note
-pub noted_visit : (t : KnownTable) (m : KnownMachine) (c : KnownCpu) (note : Note) → Visits t (visit_state m c) → Visits t (visit_state (with_note m note) c)
+pub noted_visit : (t : KnownTable) (m : KnownMachine) (c : KnownCpu) (note : Note) → Visits t m c → Visits t (with_note m note) c
 noted_visit t m c note v = visit_same t m (with_note m note) c refl v
 
 -- a note of the zone, and then what follows it
@@ -154,7 +149,7 @@ pub record RoundsSoFar (t : KnownTable) (want : ℕ) (Fails : Transition VisitSt
       → SucceedsInRounds (16 - made) want (Succeeds k) Fails (transition t (visit_state now d) rest n)
       → SucceedsInRounds 16 want (Succeeds k) Fails (transition t (visit_state m c) (steps ++ rest) n)
   pub runs : Makes t m steps now
-  pub visit : Visits t (visit_state m c) → Visits t (visit_state now d)
+  pub visit : Visits t m c → Visits t now d
   pub spares : Spares t m c now d
 
 module _ (t : KnownTable) (want : ℕ) (Fails : Transition VisitState → Type 0) (Succeeds : ℕ → Transition VisitState → Type 0)
@@ -239,7 +234,7 @@ module _ (t : KnownTable) (want : ℕ) (Fails : Transition VisitState → Type 0
         gave_pages gave = record { freed = freed; some = omega (arith, gave); round = round Fails does }
 
         -- the try failed, and pages were freed
-        pub rounds_more : freed ≢ 0 → Spares t x d then e → Visits t (visit_state then e) → RoundsSoFar t want Fails Succeeds m c (made + 1) then e
+        pub rounds_more : freed ≢ 0 → Spares t x d then e → Visits t then e → RoundsSoFar t want Fails Succeeds m c (made + 1) then e
         rounds_more gave spares visit = record {
           steps = so.steps ++ first;
           fails = λ rest n h.

@@ -5,8 +5,7 @@ use Rattle.std.proofs.lemmas.Bool.{cases_lt, false≢true}
 use Rattle.std.proofs.lemmas.List.{append-nil, length-append, take_all}
 use Rattle.frame_word.specs.Seats.{KnownTable}
 use Rattle.group_tree.specs.declared.group.Group.{Group}
-use Rattle.group_tree.specs.Groups.{has_group}
-use Rattle.group_tree.specs.Room.{PathHasRoom, IsLowestOver}
+use Rattle.group_tree.specs.{has_group, PathHasRoom, IsLowestOver}
 use Rattle.group_charge.specs.declared.charges.Over.{Over as OverLimit}
 use Rattle.group_charge.specs.Charges.{current_of, with_charge, with_uncharge}
 use Rattle.cpu_part.specs.Cpus.{KnownCpu}
@@ -14,18 +13,13 @@ use Rattle.step_rules.specs.After.{Run}
 use Rattle.mem_machine.specs.declared.blocks.TakeFault.{TakeFault}
 use Rattle.mem_machine.specs.declared.blocks.TakeFault.TheVariants as fault
 use Rattle.group_charge.specs.declared.note.Note.{Note}
-use Rattle.mem_machine.specs.Machines.{KnownMachine, is_killed, with_note, with_run}
-use Rattle.mem_machine.specs.Local.{Makes, VisitMakes, VisitState, visit_state}
-use Rattle.mem_machine.specs.Lending.{UnlistsMany}
-use Rattle.mem_machine.specs.Blocks.{TakesBlock, TakesNoBlock, RefusesBlock, block_steps, taken_steps, unplaced_steps}
-use Rattle.mem_machine.specs.Paying.{HasRoomFor}
-use Rattle.mem_machine.specs.Steps.{over_steps, drain_list_steps}
+use Rattle.mem_machine.specs.{KnownMachine, is_killed, with_note, with_run, Makes, VisitMakes, VisitState, visit_state, UnlistsMany, TakesBlock}
+use Rattle.mem_machine.specs.{TakesNoBlock, RefusesBlock, block_steps, taken_steps, unplaced_steps, HasRoomFor, over_steps, drain_list_steps, BySteps}
+use Rattle.mem_machine.specs.{Transition, transition}
 use Rattle.mem_alloc.specs.declared.faults.AllocFault.{AllocFault}
 use Rattle.mem_alloc.specs.declared.faults.AllocFault.TheVariants.{Over, NoFrames, RequesterKilled}
-use Rattle.mem_machine.specs.Transitions.{BySteps, Transition, transition}
-use Rattle.mem_alloc.specs.Room.{AfterRoom, IsRefusedFor, IsRoomAnswer}
-use Rattle.mem_alloc.specs.Blocks.{AllocatesBlock, ChargesBlock, FindsNoBlock, MayHaveBlock, RetriesBlock}
-use Rattle.mem_alloc.specs.Blocks.{TakesAfterDrain, TakesFreeBlock, TakesInRounds, TakesOrReclaims}
+use Rattle.mem_alloc.specs.{AfterRoom, IsRefusedFor, IsRoomAnswer, AllocatesBlock, ChargesBlock, FindsNoBlock, MayHaveBlock, RetriesBlock}
+use Rattle.mem_alloc.specs.{TakesAfterDrain, TakesFreeBlock, TakesInRounds, TakesOrReclaims}
 use Rattle.mem_alloc.proofs.Lowering.{Lowers, lowers_none, lowered_fits, usage_back, room_back}
 use Rattle.mem_alloc.proofs.Making.{RoomSoFar, so_far_does}
 use Rattle.mem_alloc.proofs.Rounding.{FailureSpares}

@@ -3,16 +3,11 @@ use Rattle.std.specs.Prelude.{◌≡◌, ◌⊎◌, ℕ, ◌^◌, Result, Ok, Er
 use Rattle.group_tree.specs.Room.{PathHasRoom}
 use Rattle.group_charge.specs.Charges.{current_of}
 use Rattle.step_rules.specs.After.{Run}
-use Rattle.mem_machine.specs.Machines.{KnownMachine}
-use Rattle.mem_machine.specs.Local.{VisitState, visit_state}
-use Rattle.mem_machine.specs.Lending.{UnlistsMany}
-use Rattle.mem_machine.specs.Blocks.{TakesBlock, TakesNoBlock, taken_steps, unplaced_steps}
-use Rattle.mem_machine.specs.Paying.{MayCharge}
-use Rattle.mem_machine.specs.Steps.{drain_list_steps}
+use Rattle.mem_machine.specs.{KnownMachine, VisitState, visit_state, UnlistsMany, TakesBlock, TakesNoBlock, taken_steps, unplaced_steps, MayCharge}
+use Rattle.mem_machine.specs.{drain_list_steps, InTurn, Transition, transition}
 use Rattle.mem_reclaim.specs.Rounds.{max_rounds}
 use Rattle.mem_alloc.specs.declared.faults.AllocFault.{AllocFault}
 use Rattle.mem_alloc.specs.declared.faults.AllocFault.TheVariants.{Over, NoFrames, RequesterKilled}
-use Rattle.mem_machine.specs.Transitions.{InTurn, Transition, transition}
 use Rattle.mem_alloc.specs.Room.{AfterRoom, IsRefusedFor}
 use Rattle.mem_alloc.specs.Rounds.{AfterZoneNote, FailsInRounds, SucceedsInRounds}
 use Rattle.mem_alloc.specs.Frames.{RefusesKilled, UnlessKilled}

@@ -1,13 +1,9 @@
 -- How pages for single frames are charged, through the CPU's stock.
 use Rattle.std.specs.Prelude.{◌≡◌, ◌⊎◌, ℕ, Result, Ok, Err}
 use Rattle.zone_blocks.specs.declared.config.Config.{Config}
-use Rattle.mem_machine.specs.Machines.{KnownMachine, LacksRoom, with_run}
-use Rattle.mem_machine.specs.Stocks.{Drains, Fills, stock_group}
-use Rattle.mem_machine.specs.Steps.{drain_steps, fill_steps, over_steps}
-use Rattle.mem_machine.specs.Paying.{HoldsPage}
-use Rattle.mem_machine.specs.Local.{Makes, VisitState}
+use Rattle.mem_machine.specs.{KnownMachine, LacksRoom, with_run, Drains, Fills, stock_group, drain_steps, fill_steps, over_steps, HoldsPage, Makes}
+use Rattle.mem_machine.specs.{VisitState, Finds, InTurn, MachineStays, OfMachineAlone, Stays, Transition}
 use Rattle.mem_alloc.specs.declared.faults.AllocFault.{AllocFault}
-use Rattle.mem_machine.specs.Transitions.{Finds, InTurn, MachineStays, OfMachineAlone, Stays, Transition}
 use Rattle.mem_alloc.specs.High.{PathHasHighRoom}
 use Rattle.mem_alloc.specs.Room.{AfterRoom, IsRefusedFor}
 
@@ -67,10 +63,12 @@ pub record DrainsStock (call : Transition VisitState) : Type 0 where
 -- The CPU's stock has no page of the group. It is drained, and then pages of the group are charged.
 abbrev pub ChargesAfterDrain : Config → ℕ → Result (Unit {0}) AllocFault → Transition VisitState → Type 0
 ChargesAfterDrain sizes group answer call =
-    Finds (λ now. ¬ HoldsPage call.table now group) (InTurn DrainsStock (FillsDrainedStock sizes group answer)) call
+    Finds (λ now. ¬ HoldsPage call.table now.machine now.cpu.number group)
+    (InTurn DrainsStock (FillsDrainedStock sizes group answer)) call
 
 -- The CPU's stock has a page of the group: it had one before, or one is charged. Or that charge is refused.
 abbrev pub PaysForFrame : Config → ℕ → Result (Unit {0}) AllocFault → Transition VisitState → Type 0
 PaysForFrame sizes group (Ok done) call =
-    Finds (λ now. HoldsPage call.table now group) Stays call ⊎ ChargesAfterDrain sizes group (Ok done) call
+    Finds (λ now. HoldsPage call.table now.machine now.cpu.number group) Stays call
+    ⊎ ChargesAfterDrain sizes group (Ok done) call
 PaysForFrame sizes group (Err cause) call = ChargesAfterDrain sizes group (Err cause) call

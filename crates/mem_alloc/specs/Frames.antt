@@ -1,18 +1,13 @@
 -- How single frames are allocated, from the CPU's list.
-use Rattle.std.specs.Prelude.{◌≡◌, ◌⊎◌, ℕ, ◌<◌, ◌≤◌, Bool, true, false, Result, Ok, Err}
-use Rattle.std.specs.Prelude.{List, [], ◌++◌, length}
+use Rattle.std.specs.Prelude.{◌≡◌, ◌⊎◌, ℕ, ◌<◌, ◌≤◌, Bool, true, false, Result, Ok, Err, List, [], ◌++◌, length}
 use Rattle.zone_blocks.specs.Areas.{HasNoneFrom}
 use Rattle.zone_blocks.specs.declared.config.Config.{Config}
 use Rattle.step_rules.specs.After.{Run}
-use Rattle.mem_machine.specs.Machines.{is_killed}
-use Rattle.mem_machine.specs.Local.{VisitState}
-use Rattle.mem_machine.specs.Lending.{LendsMany}
-use Rattle.mem_machine.specs.Paying.{PaysForFront}
-use Rattle.mem_machine.specs.Steps.{refill_steps, take_front_steps}
+use Rattle.mem_machine.specs.{is_killed, VisitState, LendsMany, PaysForFront, refill_steps, take_front_steps, Finds, InTurn, Stays, Transition}
+use Rattle.mem_machine.specs.{transition}
 use Rattle.mem_reclaim.specs.Rounds.{max_rounds}
 use Rattle.mem_alloc.specs.declared.faults.AllocFault.{AllocFault}
 use Rattle.mem_alloc.specs.declared.faults.AllocFault.TheVariants.{Over, NoFrames, RequesterKilled}
-use Rattle.mem_machine.specs.Transitions.{Finds, InTurn, Stays, Transition, transition}
 use Rattle.mem_alloc.specs.Charging.{DrainsStock, PaysForFrame}
 use Rattle.mem_alloc.specs.Rounds.{AfterZoneNote, FailsInRounds, SucceedsInRounds}
 

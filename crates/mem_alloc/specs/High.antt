@@ -2,22 +2,13 @@
 use Rattle.std.specs.Prelude.{◌≡◌, ◌⊎◌, ℕ, ◌+◌, ◌<◌, ◌≤◌, Bool, true, false, Option, Some, None, List, [], ◌∷◌, ◌++◌}
 use Rattle.group_tree.specs.Ancestors.{ancestors_of}
 use Rattle.group_tree.specs.declared.event.EventKey.TheVariants as event
-use Rattle.group_tree.specs.Groups.{in_subtree}
-use Rattle.group_tree.specs.Room.{fits_limit}
-use Rattle.group_charge.specs.Charges.{Ledger, current_of, settings_of, with_noted}
+use Rattle.group_tree.specs.{in_subtree, fits_limit}
+use Rattle.group_charge.specs.{Ledger, current_of, settings_of, with_noted, noted}
 use Rattle.group_charge.specs.declared.note.Note.TheVariants.{High}
-use Rattle.group_charge.specs.Notes.{noted}
 use Rattle.step_rules.specs.declared.step.NoteKey.TheVariants as key
 use Rattle.step_rules.specs.After.{Run}
-use Rattle.mem_machine.specs.Machines.{KnownMachine, with_run}
-use Rattle.mem_machine.specs.Local.{Makes}
-use Rattle.mem_machine.specs.Noted.{KnownRun}
-use Rattle.mem_machine.specs.Steps.{note_steps}
-use Rattle.mem_machine.specs.Transitions.{InTurn, MachineStays, Transition}
-use Rattle.mem_reclaim.specs.Moves.{FreesPages, has_kill}
-use Rattle.mem_reclaim.specs.Rounds.{ReclaimsRounds, max_rounds, pages_missing}
-use Rattle.mem_reclaim.specs.Staying.{Keeps, MissedAll}
-use Rattle.mem_reclaim.specs.Wanted.{progress}
+use Rattle.mem_machine.specs.{KnownMachine, with_run, Makes, KnownRun, note_steps, InTurn, MachineStays, Transition}
+use Rattle.mem_reclaim.specs.{FreesPages, has_kill, ReclaimsRounds, max_rounds, pages_missing, Keeps, MissedAll, progress}
 
 -- memory.high of the group, in pages
 abbrev pub high_of : Ledger → ℕ → Option ℕ
@@ -40,9 +31,9 @@ with_high_noted_at machine group high need = record machine {
   notes = noted machine.notes (High group high (current_of machine.ledger group) need);
 }
 
--- An event `high` is noted at the group, which the run notes. Then clean units of its subtree are freed in rounds, until
--- its usage with this many more pages is at most `high`. If it is still more, each clean unit that the subtree still
--- keeps was tried and missed.
+-- An event `high` is noted at the group, which the run notes. Then clean units of its subtree are freed in rounds,
+-- until its usage with this many more pages is at most `high`. If it is still more, each clean unit that the subtree
+-- still keeps was tried and missed.
 pub record ReclaimsToHigh (group need high : ℕ) (call : Transition KnownMachine) : Type 0 where
   pub over : high < current_of call.before.ledger group + need
   pub seen : KnownRun

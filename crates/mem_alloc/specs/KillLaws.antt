@@ -10,8 +10,7 @@ use Rattle.step_rules.specs.declared.step.Step.{Step}
 use Rattle.step_rules.specs.After.{Run}
 use Rattle.mem_machine.specs.Machines.{KnownMachine}
 use Rattle.mem_reclaim.specs.declared.sets.Killed.{Killed}
-use Rattle.mem_reclaim.specs.Moves.{kills_in}
-use Rattle.mem_reclaim.specs.Sets.{kill_set}
+use Rattle.mem_reclaim.specs.{kills_in, kill_set}
 use Rattle.mem_alloc.specs.Kills.{most_killed_for}
 use Rattle.mem_alloc.specs.Laws.{ComesLast, WasLast}
 use Rattle.mem_alloc.specs.NoRash.{IsChargedBelow, NoRashKill, begins_with_kill}

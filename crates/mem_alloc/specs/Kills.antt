@@ -1,19 +1,13 @@
 -- Which victims are killed if a limit has no room even after reclaim.
 use Rattle.std.specs.Prelude.{◌≡◌, ℕ, Bool, true, false, Option, Some, None, List, [], ◌∷◌, ◌++◌}
 use Rattle.group_tree.specs.Room.{has_room}
-use Rattle.group_charge.specs.Charges.{AreCharges, Ledger, current_of, with_oom_noted}
+use Rattle.group_charge.specs.{AreCharges, Ledger, current_of, with_oom_noted, noted}
 use Rattle.step_rules.specs.After.{Run}
 use Rattle.group_charge.specs.declared.note.Note.TheVariants.{Oom}
-use Rattle.group_charge.specs.Notes.{noted}
-use Rattle.mem_machine.specs.Machines.{IsConsistent, KnownMachine, is_killed, with_run}
-use Rattle.mem_machine.specs.Local.{Makes}
-use Rattle.mem_machine.specs.Steps.{note_oom_steps}
+use Rattle.mem_machine.specs.{IsConsistent, KnownMachine, is_killed, with_run, Makes, note_oom_steps, InTurn, MachineStays, Transition, transition}
+use Rattle.mem_machine.specs.{KnownRun}
 use Rattle.mem_reclaim.specs.declared.sets.Killed.{Killed}
-use Rattle.mem_reclaim.specs.Killing.{IsKilledBy, OnlyDrains, OnlyReleases, with_all_killed}
-use Rattle.mem_reclaim.specs.Sets.{kill_set}
-use Rattle.mem_reclaim.specs.Victim.{IsVictim}
-use Rattle.mem_machine.specs.Transitions.{InTurn, MachineStays, Transition, transition}
-use Rattle.mem_machine.specs.Noted.{KnownRun}
+use Rattle.mem_reclaim.specs.{IsKilledBy, OnlyDrains, OnlyReleases, with_all_killed, kill_set, IsVictim}
 
 -- the most pages of one charge for which groups are killed: those of an order of 3
 abbrev pub most_killed_for : ℕ

@@ -10,17 +10,13 @@ use Rattle.step_rules.specs.declared.step.Action.TheVariants.{Kill}
 use Rattle.step_rules.specs.declared.step.Answer.{Answer}
 use Rattle.step_rules.specs.declared.step.Step.{Step}
 use Rattle.step_rules.specs.After.{Run}
-use Rattle.mem_machine.specs.Machines.{IsConsistent, KnownMachine, home_of}
-use Rattle.mem_machine.specs.Local.{IsLocalRun, VisitState, lock_holder, local_of}
-use Rattle.mem_machine.specs.Stocks.{AreDrained}
+use Rattle.mem_machine.specs.{IsConsistent, KnownMachine, home_of, VisitState, lock_holder, local_of, AreDrained, Transition}
+use Rattle.mem_machine.specs.Local.{IsLocalRun}
 use Rattle.mem_reclaim.specs.declared.sets.Killed.{Killed}
-use Rattle.mem_reclaim.specs.Moves.{kills_in, missed_in}
-use Rattle.mem_reclaim.specs.Sets.{IsKilledRoot, kill_set}
-use Rattle.mem_reclaim.specs.Victim.{IsVictim}
+use Rattle.mem_reclaim.specs.{kills_in, missed_in, IsKilledRoot, kill_set, IsVictim}
 use Rattle.mem_alloc.specs.Frames.{HasNoFreeFrame, LendsBatch}
 use Rattle.mem_alloc.specs.Kills.{IsAlive, KillsForRoom, has_room_at}
 use Rattle.mem_alloc.specs.NoRash.{IsChargedBelow, NoRashKill, has_oom_note}
-use Rattle.mem_machine.specs.Transitions.{Transition}
 
 -- By these first steps of a call, everything else was tried for the limit of the group `limited`, which has no room.
 -- The steps lead to a consistent machine. One of them notes `oom` there, and each stock of the subtree is drained. For

@@ -6,25 +6,18 @@ use Rattle.frame_word.specs.Seats.{KnownTable}
 use Rattle.group_tree.specs.declared.group.Group.{Group}
 use Rattle.group_tree.specs.Groups.{in_subtree}
 use Rattle.group_charge.specs.Charges.{AreCharges}
-use Rattle.lru_lists.specs.Lists.{owner_of}
-use Rattle.lru_lists.specs.Queue.{link_at}
+use Rattle.lru_lists.specs.{owner_of, link_at}
 use Rattle.step_rules.specs.declared.step.NoteKey.TheVariants as key
 use Rattle.step_rules.specs.declared.step.Action.{Action}
 use Rattle.step_rules.specs.declared.step.Action.TheVariants.{Kill, Note}
 use Rattle.step_rules.specs.declared.step.Answer.{Answer}
 use Rattle.step_rules.specs.declared.step.Step.{Step}
 use Rattle.step_rules.specs.After.{Run}
-use Rattle.mem_machine.specs.Machines.{HeadsKeptUnit, IsConsistent, KnownMachine, home_of}
-use Rattle.mem_machine.specs.Local.{IsLocalRun, lock_holder, local_of}
-use Rattle.mem_machine.specs.Stocks.{AreDrained}
+use Rattle.mem_machine.specs.{HeadsKeptUnit, IsConsistent, KnownMachine, home_of, lock_holder, local_of, AreDrained, Transition, transition}
+use Rattle.mem_machine.specs.Local.{IsLocalRun}
 use Rattle.mem_reclaim.specs.declared.sets.Killed.{Killed}
-use Rattle.mem_reclaim.specs.Moves.{is_kill, kills_in}
-use Rattle.mem_reclaim.specs.Sets.{IsKilledRoot, kill_set}
-use Rattle.mem_reclaim.specs.Staying.{MissedAll}
-use Rattle.mem_reclaim.specs.Victim.{IsVictim}
+use Rattle.mem_reclaim.specs.{CountsMisses, is_kill, kills_in, IsKilledRoot, kill_set, MissedAll, IsVictim}
 use Rattle.mem_alloc.specs.Kills.{has_room_at, most_killed_for}
-use Rattle.mem_machine.specs.Transitions.{Transition, transition}
-use Rattle.mem_reclaim.specs.Moves.{CountsMisses}
 
 -- the step notes that only kills are left at the group's limit (`oom`)
 abbrev pub is_oom_note : ℕ → Action → Bool

@@ -1,23 +1,14 @@
 -- What is done if a limit has no room for a charge.
-use Rattle.std.specs.Prelude.{◌≡◌, ℕ, ◌<◌, ◌≤◌, true, false, Option, Some, None, Result, Ok, Err}
-use Rattle.std.specs.Prelude.{List, [], ◌∷◌, ◌++◌}
+use Rattle.std.specs.Prelude.{◌≡◌, ℕ, ◌<◌, ◌≤◌, true, false, Option, Some, None, Result, Ok, Err, List, [], ◌∷◌, ◌++◌}
 use Rattle.group_tree.specs.Groups.{limit_of}
-use Rattle.group_charge.specs.Charges.{Ledger, current_of, with_max_noted}
+use Rattle.group_charge.specs.{Ledger, current_of, with_max_noted, KnownNotes, noted}
 use Rattle.group_charge.specs.declared.note.Note.TheVariants.{Limit}
-use Rattle.group_charge.specs.Notes.{KnownNotes, noted}
 use Rattle.step_rules.specs.After.{Run}
-use Rattle.mem_machine.specs.Machines.{KnownMachine, LacksRoom, is_killed, with_run}
-use Rattle.mem_machine.specs.Local.{Makes, VisitState, visit_state}
-use Rattle.mem_machine.specs.Steps.{Drain, over_steps, note_max_steps, drain_stocks_steps}
-use Rattle.mem_machine.specs.Stocks.{DrainsAllBelow, AreDrained}
-use Rattle.mem_reclaim.specs.Wanted.{FreesNothing, Reclaiming, progress}
-use Rattle.mem_reclaim.specs.Moves.{FreesPages}
-use Rattle.mem_reclaim.specs.Rounds.{ReclaimsRounds, max_rounds, pages_missing}
-use Rattle.mem_reclaim.specs.Staying.{Keeps, MissedAll}
+use Rattle.mem_machine.specs.{KnownMachine, LacksRoom, is_killed, with_run, Makes, VisitState, visit_state, Drain, over_steps, note_max_steps}
+use Rattle.mem_machine.specs.{drain_stocks_steps, DrainsAllBelow, AreDrained, InTurn, MachineStays, OfMachineAlone, Transition, transition, KnownRun}
+use Rattle.mem_reclaim.specs.{FreesNothing, Reclaiming, progress, FreesPages, ReclaimsRounds, max_rounds, pages_missing, Keeps, MissedAll}
 use Rattle.mem_alloc.specs.declared.faults.AllocFault.{AllocFault}
 use Rattle.mem_alloc.specs.declared.faults.AllocFault.TheVariants.{Over, NoFrames, RequesterKilled}
-use Rattle.mem_machine.specs.Transitions.{InTurn, MachineStays, OfMachineAlone, Transition, transition}
-use Rattle.mem_machine.specs.Noted.{KnownRun}
 use Rattle.mem_alloc.specs.High.{ReclaimsHigh}
 -- what is killed, and whether there is room
 pub use Rattle.mem_alloc.specs.Kills.{KillsForRoom, NeedsRoom, has_room_at, most_killed_for}

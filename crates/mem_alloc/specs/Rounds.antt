@@ -2,13 +2,8 @@
 use Rattle.std.specs.Prelude.{◌≡◌, ℕ, zero, suc, ◌-◌, ◌<◌, ◌≤◌, ◌⊎◌, ◌++◌}
 use Rattle.step_rules.specs.After.{Run}
 use Rattle.group_charge.specs.declared.note.Note.TheVariants.{Zone}
-use Rattle.mem_machine.specs.Machines.{KnownMachine, with_note}
-use Rattle.mem_machine.specs.Local.{VisitState, visit_state}
-use Rattle.mem_reclaim.specs.Wanted.{progress}
-use Rattle.mem_reclaim.specs.Moves.{FreesPages}
-use Rattle.mem_reclaim.specs.Rounds.{ReclaimsRound, max_rounds}
-use Rattle.mem_reclaim.specs.Staying.{Keeps, MissedAll}
-use Rattle.mem_machine.specs.Transitions.{InTurn, Stays, Transition, transition}
+use Rattle.mem_machine.specs.{KnownMachine, with_note, VisitState, visit_state, InTurn, Stays, Transition, transition}
+use Rattle.mem_reclaim.specs.{progress, FreesPages, ReclaimsRound, max_rounds, Keeps, MissedAll}
 
 -- The round of this number: `want` pages are wanted from the root's subtree, which is all groups, and `freed` pages are
 -- freed. The round is noted. If they are fewer than wanted, each clean unit that is still kept was tried and missed.

@@ -2,20 +2,15 @@
 
 ghost use Rattle.std.specs.Prelude.{◌≡◌, ◌^◌, ◌≤◌, [], length, Err, IsTrue};
 ghost use Rattle.group_tree.specs.Groups.{has_group};
-ghost use Rattle.mem_machine.specs.Local.{KeepsVisit, Visits};
-ghost use Rattle.mem_machine.specs.Paying.{IsOfSize, MayCharge};
+ghost use Rattle.mem_machine.specs.{KeepsVisit, VisitDoes, Visits, IsOfSize, MayCharge, IsSettled};
 ghost use Rattle.mem_alloc.specs.declared.faults.AllocFault.TheVariants.{NoFrames};
-ghost use Rattle.mem_machine.specs.Transitions.{BySteps};
-ghost use Rattle.mem_machine.specs.Settling.{IsSettled};
-ghost use Rattle.mem_alloc.specs.Blocks.{AllocatesBlock, ChargesBlock, MayHaveBlock};
-ghost use Rattle.mem_alloc.specs.Blocks.{MakesTakeRounds, TakesAfterDrain};
-ghost use Rattle.mem_machine.specs.Local.{VisitMakes, visit_state};
+ghost use Rattle.mem_alloc.specs.Blocks.{AllocatesBlock, ChargesBlock, MakesTakeRounds, MayHaveBlock, TakesAfterDrain};
 
 use crate::faults::AllocFault;
 use crate::high::reclaim_high;
 use crate::reclaims::reclaim_anywhere;
 use crate::room::make_room;
-use cpu_part::{BootName, Cpu, Tables};
+use cpu_part::{BootName, CpuLists, Tables};
 use frame_word::Frame;
 use group_charge::note::Note;
 use group_tree::group::GroupId;
@@ -27,17 +22,16 @@ use zone_blocks::order::Order;
 fn charge_block<N: BootName>(
     machine: &mut Machine<N>,
     tables: &Tables<N>,
-    cpu: &mut Cpu<N>,
+    cpu: &mut CpuLists<N>,
     group: GroupId,
     order: Order,
 ) -> Result<Frame, AllocFault>
-    requires visit { Visits N.frames (visit_state machine.old cpu.old) }
+    requires visit { Visits N.frames machine.old cpu.old }
     requires may_charge { MayCharge machine.old group (2 ^ order) }
     requires settled { IsSettled cpu.old }
-    ensures charges { BySteps VisitMakes N.frames (ChargesBlock group order result)
-        (visit_state machine.old cpu.old) (visit_state machine.new cpu.new) }
+    ensures charges { VisitDoes N.frames (ChargesBlock group order result) machine.old cpu.old machine.new cpu.new }
     ensures cpu { cpu.new ≡ cpu.old }
-    ensures visit { Visits N.frames (visit_state machine.new cpu.new) }
+    ensures visit { Visits N.frames machine.new cpu.new }
     ensures room { result ≡ Err NoFrames → MayHaveBlock machine.new group order }
 {
     let pages = order.frames();
@@ -56,17 +50,16 @@ fn charge_block<N: BootName>(
 fn reclaim_until_taken<N: BootName>(
     machine: &mut Machine<N>,
     tables: &Tables<N>,
-    cpu: &mut Cpu<N>,
+    cpu: &mut CpuLists<N>,
     group: GroupId,
     order: Order,
 ) -> Result<Frame, AllocFault>
-    requires visit { Visits N.frames (visit_state machine.old cpu.old) }
+    requires visit { Visits N.frames machine.old cpu.old }
     requires room { MayHaveBlock machine.old group order }
     requires settled { IsSettled cpu.old }
-    ensures takes { BySteps VisitMakes N.frames (MakesTakeRounds group order result)
-        (visit_state machine.old cpu.old) (visit_state machine.new cpu.new) }
+    ensures takes { VisitDoes N.frames (MakesTakeRounds group order result) machine.old cpu.old machine.new cpu.new }
     ensures cpu { cpu.new ≡ cpu.old }
-    ensures visit { Visits N.frames (visit_state machine.new cpu.new) }
+    ensures visit { Visits N.frames machine.new cpu.new }
 {
     let pages = order.frames();
     for round in 0..MAX_ROUNDS {
@@ -86,16 +79,15 @@ fn reclaim_until_taken<N: BootName>(
 fn take_after_drain<N: BootName>(
     machine: &mut Machine<N>,
     tables: &Tables<N>,
-    cpu: &mut Cpu<N>,
+    cpu: &mut CpuLists<N>,
     group: GroupId,
     order: Order,
 ) -> Result<Frame, AllocFault>
-    requires visit { Visits N.frames (visit_state machine.old cpu.old) }
+    requires visit { Visits N.frames machine.old cpu.old }
     requires room { MayHaveBlock machine.old group order }
     requires settled { IsSettled cpu.old }
-    ensures takes { BySteps VisitMakes N.frames (TakesAfterDrain group order result)
-        (visit_state machine.old cpu.old) (visit_state machine.new cpu.new) }
-    ensures stays { KeepsVisit N.frames (visit_state machine.old cpu.old) (visit_state machine.new cpu.new) }
+    ensures takes { VisitDoes N.frames (TakesAfterDrain group order result) machine.old cpu.old machine.new cpu.new }
+    ensures stays { KeepsVisit N.frames cpu.old machine.new cpu.new }
     ensures fresh { cpu.new.fresh ≡ [] }
     ensures list { length cpu.new.list ≤ length cpu.old.list }
 {
@@ -127,17 +119,16 @@ fn take_after_drain<N: BootName>(
 pub fn alloc_block<N: BootName>(
     machine: &mut Machine<N>,
     tables: &Tables<N>,
-    cpu: &mut Cpu<N>,
+    cpu: &mut CpuLists<N>,
     group: GroupId,
     order: Order,
 ) -> Result<Frame, AllocFault>
-    requires visit { Visits N.frames (visit_state machine.old cpu.old) }
+    requires visit { Visits N.frames machine.old cpu.old }
     requires size { IsOfSize N.frames }
     requires there { IsTrue (has_group machine.old.ledger.groups group) }
     requires settled { IsSettled cpu.old }
-    ensures allocates { BySteps VisitMakes N.frames (AllocatesBlock group order result)
-        (visit_state machine.old cpu.old) (visit_state machine.new cpu.new) }
-    ensures stays { KeepsVisit N.frames (visit_state machine.old cpu.old) (visit_state machine.new cpu.new) }
+    ensures allocates { VisitDoes N.frames (AllocatesBlock group order result) machine.old cpu.old machine.new cpu.new }
+    ensures stays { KeepsVisit N.frames cpu.old machine.new cpu.new }
     ensures fresh { cpu.new.fresh ≡ [] }
     ensures list { length cpu.new.list ≤ length cpu.old.list }
 {

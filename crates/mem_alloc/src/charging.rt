@@ -3,18 +3,14 @@
 ghost use Rattle.std.specs.Prelude.{◌≡◌, ◌↔◌, [], IsTrue, false, true, OnOk};
 ghost use Rattle.zone_blocks.specs.Config.{IsValidConfig};
 ghost use Rattle.group_tree.specs.Groups.{has_group};
-ghost use Rattle.mem_machine.specs.Machines.{is_killed};
-ghost use Rattle.mem_machine.specs.Local.{Holds, Visits};
-ghost use Rattle.mem_machine.specs.Paying.{HoldsPage, IsOfSize, MayCharge};
-ghost use Rattle.mem_machine.specs.Stocks.{FitsStock, IsDrained};
-ghost use Rattle.mem_machine.specs.Transitions.{BySteps};
+ghost use Rattle.mem_machine.specs.{is_killed, Holds, Makes, VisitDoes, Visits, HoldsPage, IsOfSize, MayCharge};
+ghost use Rattle.mem_machine.specs.{FitsStock, IsDrained, BySteps};
 ghost use Rattle.mem_alloc.specs.Charging.{ChargesOne, FillsBatch, FillsDrainedStock, LacksBatch, PaysForFrame};
-ghost use Rattle.mem_machine.specs.Local.{Makes, VisitMakes, visit_state};
 
 use crate::faults::AllocFault;
 use crate::high::{path_has_high_room, reclaim_high};
 use crate::room::make_room;
-use cpu_part::{BootName, Cpu, Tables};
+use cpu_part::{BootName, CpuLists, Tables};
 use group_tree::group::GroupId;
 use mem_machine::Machine;
 use stock_word::Stock;
@@ -24,11 +20,11 @@ use zone_blocks::config::Config;
 fn holds_page<N: BootName>(
     machine: &mut Machine<N>,
     tables: &Tables<N>,
-    cpu: &Cpu<N>,
+    cpu: &CpuLists<N>,
     group: GroupId,
 ) -> bool
-    requires holds { Holds N.frames (visit_state machine.old cpu.now) }
-    ensures holds { IsTrue result ↔ HoldsPage N.frames (visit_state machine.old cpu.now) group }
+    requires holds { Holds N.frames machine.old cpu.now }
+    ensures holds { IsTrue result ↔ HoldsPage N.frames machine.old cpu.now.number group }
     ensures machine { machine.new ≡ machine.old }
 {
     let number = group.number();
@@ -43,16 +39,15 @@ fn holds_page<N: BootName>(
 fn fill_one<N: BootName>(
     machine: &mut Machine<N>,
     tables: &Tables<N>,
-    cpu: &Cpu<N>,
+    cpu: &CpuLists<N>,
     group: GroupId,
 ) -> Result<(), AllocFault>
-    requires visit { Visits N.frames (visit_state machine.old cpu.now) }
+    requires visit { Visits N.frames machine.old cpu.now }
     requires may_charge { MayCharge machine.old group 1 }
     requires none_fresh { cpu.now.fresh ≡ [] }
     requires drained { IsDrained N.frames machine.old cpu.now.number }
-    ensures charges { BySteps VisitMakes N.frames (ChargesOne group result)
-        (visit_state machine.old cpu.now) (visit_state machine.new cpu.now) }
-    ensures visit { Visits N.frames (visit_state machine.new cpu.now) }
+    ensures charges { VisitDoes N.frames (ChargesOne group result) machine.old cpu.now machine.new cpu.now }
+    ensures visit { Visits N.frames machine.new cpu.now }
 {
     reclaim_high(machine, tables, group, 1);
     'tries: loop {
@@ -68,19 +63,19 @@ fn fill_one<N: BootName>(
 fn fill_batch<N: BootName>(
     machine: &mut Machine<N>,
     tables: &Tables<N>,
-    cpu: &Cpu<N>,
+    cpu: &CpuLists<N>,
     group: GroupId,
     pages: u32,
 ) -> bool
-    requires visit { Visits N.frames (visit_state machine.old cpu.now) }
+    requires visit { Visits N.frames machine.old cpu.now }
     requires may_charge { MayCharge machine.old group pages }
     requires pages { FitsStock pages }
     requires none_fresh { cpu.now.fresh ≡ [] }
     requires drained { IsDrained N.frames machine.old cpu.now.number }
-    ensures fills { result ≡ true → BySteps VisitMakes N.frames (FillsBatch group pages)
-        (visit_state machine.old cpu.now) (visit_state machine.new cpu.now) }
+    ensures fills { result ≡ true
+        → VisitDoes N.frames (FillsBatch group pages) machine.old cpu.now machine.new cpu.now }
     ensures lacks { result ≡ false → BySteps Makes N.frames (LacksBatch group pages) machine.old machine.new }
-    ensures visit { Visits N.frames (visit_state machine.new cpu.now) }
+    ensures visit { Visits N.frames machine.new cpu.now }
     ensures drained { result ≡ false → IsDrained N.frames machine.new cpu.now.number }
 {
     if !path_has_high_room(machine.charges(), group, pages) {
@@ -97,20 +92,20 @@ fn fill_batch<N: BootName>(
 fn fill_drained_stock<N: BootName>(
     machine: &mut Machine<N>,
     tables: &Tables<N>,
-    cpu: &Cpu<N>,
+    cpu: &CpuLists<N>,
     sizes: Config,
     group: GroupId,
 ) -> Result<(), AllocFault>
-    requires visit { Visits N.frames (visit_state machine.old cpu.now) }
+    requires visit { Visits N.frames machine.old cpu.now }
     requires size { IsOfSize N.frames }
     requires sizes { IsValidConfig sizes }
     requires there { IsTrue (has_group machine.old.ledger.groups group) }
     requires alive { is_killed machine.old.killed group ≡ false }
     requires none_fresh { cpu.now.fresh ≡ [] }
     requires drained { IsDrained N.frames machine.old cpu.now.number }
-    ensures charges { BySteps VisitMakes N.frames (FillsDrainedStock sizes group result)
-        (visit_state machine.old cpu.now) (visit_state machine.new cpu.now) }
-    ensures visit { Visits N.frames (visit_state machine.new cpu.now) }
+    ensures charges { VisitDoes N.frames (FillsDrainedStock sizes group result)
+        machine.old cpu.now machine.new cpu.now }
+    ensures visit { Visits N.frames machine.new cpu.now }
 {
     machine.prove_room();
     if fill_batch(machine, tables, cpu, group, sizes.stock) {
@@ -123,20 +118,19 @@ fn fill_drained_stock<N: BootName>(
 pub(crate) fn pay_for_frame<N: BootName>(
     machine: &mut Machine<N>,
     tables: &Tables<N>,
-    cpu: &Cpu<N>,
+    cpu: &CpuLists<N>,
     sizes: Config,
     group: GroupId,
 ) -> Result<(), AllocFault>
-    requires visit { Visits N.frames (visit_state machine.old cpu.now) }
+    requires visit { Visits N.frames machine.old cpu.now }
     requires size { IsOfSize N.frames }
     requires sizes { IsValidConfig sizes }
     requires there { IsTrue (has_group machine.old.ledger.groups group) }
     requires alive { is_killed machine.old.killed group ≡ false }
     requires none_fresh { cpu.now.fresh ≡ [] }
-    ensures pays { BySteps VisitMakes N.frames (PaysForFrame sizes group result)
-        (visit_state machine.old cpu.now) (visit_state machine.new cpu.now) }
-    ensures visit { Visits N.frames (visit_state machine.new cpu.now) }
-    ensures page { OnOk result (HoldsPage N.frames (visit_state machine.new cpu.now) group) }
+    ensures pays { VisitDoes N.frames (PaysForFrame sizes group result) machine.old cpu.now machine.new cpu.now }
+    ensures visit { Visits N.frames machine.new cpu.now }
+    ensures page { OnOk result (HoldsPage N.frames machine.new cpu.now.number group) }
 {
     if holds_page(machine, tables, cpu, group) {
         return Ok(());

@@ -1,22 +1,16 @@
 //! Allocating single frames, from the CPU's list.
 
-ghost use Rattle.std.specs.Prelude.{◌≡◌, ◌+◌, ◌<◌, ◌≤◌, [], ◌∷◌, length};
-ghost use Rattle.std.specs.Prelude.{IsTrue, false, MatchResult, OnOk, IfOk, OnErr};
+ghost use Rattle.std.specs.Prelude.{◌≡◌, ◌+◌, ◌<◌, ◌≤◌, [], ◌∷◌, length, IsTrue, false, MatchResult, OnOk, IfOk, OnErr};
 ghost use Rattle.zone_blocks.specs.Config.{IsValidConfig};
 ghost use Rattle.group_tree.specs.Groups.{has_group};
-ghost use Rattle.mem_machine.specs.Local.{KeepsVisit, Visits};
-ghost use Rattle.mem_machine.specs.Paying.{HoldsPage, IsOfSize};
-ghost use Rattle.mem_machine.specs.Showing.{stock_now};
-ghost use Rattle.mem_machine.specs.Transitions.{BySteps};
-ghost use Rattle.mem_machine.specs.Settling.{IsSettled};
-ghost use Rattle.mem_machine.specs.Lending.{HasListRoom};
+ghost use Rattle.mem_machine.specs.{KeepsVisit, VisitDoes, Visits, HoldsPage, IsOfSize, stock_now, IsSettled};
+ghost use Rattle.mem_machine.specs.{HasListRoom};
 ghost use Rattle.mem_alloc.specs.Frames.{AllocatesFrame, FillsList, MakesRefillRounds, RefillsInRounds};
-ghost use Rattle.mem_machine.specs.Local.{visit_state, VisitMakes};
 
 use crate::charging::pay_for_frame;
 use crate::faults::AllocFault;
 use crate::reclaims::reclaim_anywhere;
-use cpu_part::{BootName, Cpu, Tables};
+use cpu_part::{BootName, CpuLists, Tables};
 use frame_word::Frame;
 use group_charge::note::Note;
 use group_tree::group::GroupId;
@@ -29,18 +23,16 @@ use zone_blocks::config::Config;
 fn make_refill_rounds<N: BootName>(
     machine: &mut Machine<N>,
     tables: &Tables<N>,
-    cpu: &mut Cpu<N>,
+    cpu: &mut CpuLists<N>,
     batch: u32,
 ) -> bool
-    requires visit { Visits N.frames (visit_state machine.old cpu.old) }
+    requires visit { Visits N.frames machine.old cpu.old }
     requires room { HasListRoom cpu.old batch }
     requires some { 1 ≤ batch }
     requires none_fresh { cpu.old.fresh ≡ [] }
-    ensures refills { BySteps VisitMakes N.frames (MakesRefillRounds batch result)
-        (visit_state machine.old cpu.old) (visit_state machine.new cpu.new) }
-    ensures visit { Visits N.frames (visit_state machine.new cpu.new) }
-    ensures stock { stock_now N.frames (visit_state machine.new cpu.new)
-        ≡ stock_now N.frames (visit_state machine.old cpu.old) }
+    ensures refills { VisitDoes N.frames (MakesRefillRounds batch result) machine.old cpu.old machine.new cpu.new }
+    ensures visit { Visits N.frames machine.new cpu.new }
+    ensures stock { stock_now N.frames machine.new cpu.new.number ≡ stock_now N.frames machine.old cpu.old.number }
 {
     for round in 0..MAX_ROUNDS {
         let freed = reclaim_anywhere(machine, tables, round + 1, 1);
@@ -59,18 +51,16 @@ fn make_refill_rounds<N: BootName>(
 fn refill_in_rounds<N: BootName>(
     machine: &mut Machine<N>,
     tables: &Tables<N>,
-    cpu: &mut Cpu<N>,
+    cpu: &mut CpuLists<N>,
     batch: u32,
 ) -> bool
-    requires visit { Visits N.frames (visit_state machine.old cpu.old) }
+    requires visit { Visits N.frames machine.old cpu.old }
     requires room { HasListRoom cpu.old batch }
     requires some { 1 ≤ batch }
     requires none_fresh { cpu.old.fresh ≡ [] }
-    ensures refills { BySteps VisitMakes N.frames (RefillsInRounds batch result)
-        (visit_state machine.old cpu.old) (visit_state machine.new cpu.new) }
-    ensures visit { Visits N.frames (visit_state machine.new cpu.new) }
-    ensures stock { stock_now N.frames (visit_state machine.new cpu.new)
-        ≡ stock_now N.frames (visit_state machine.old cpu.old) }
+    ensures refills { VisitDoes N.frames (RefillsInRounds batch result) machine.old cpu.old machine.new cpu.new }
+    ensures visit { Visits N.frames machine.new cpu.new }
+    ensures stock { stock_now N.frames machine.new cpu.new.number ≡ stock_now N.frames machine.old cpu.old.number }
 {
     machine.note(Note::Zone { order: 0 });
     make_refill_rounds(machine, tables, cpu, batch)
@@ -81,18 +71,17 @@ fn refill_in_rounds<N: BootName>(
 fn fill_list<N: BootName>(
     machine: &mut Machine<N>,
     tables: &Tables<N>,
-    cpu: &mut Cpu<N>,
+    cpu: &mut CpuLists<N>,
     sizes: Config,
     group: GroupId,
 ) -> Result<(), AllocFault>
-    requires visit { Visits N.frames (visit_state machine.old cpu.old) }
+    requires visit { Visits N.frames machine.old cpu.old }
     requires sizes { IsValidConfig sizes }
     requires none_fresh { cpu.old.fresh ≡ [] }
-    requires page { HoldsPage N.frames (visit_state machine.old cpu.old) group }
-    ensures fills { BySteps VisitMakes N.frames (FillsList sizes result)
-        (visit_state machine.old cpu.old) (visit_state machine.new cpu.new) }
-    ensures visit { Visits N.frames (visit_state machine.new cpu.new) }
-    ensures page { OnOk result (HoldsPage N.frames (visit_state machine.new cpu.new) group) }
+    requires page { HoldsPage N.frames machine.old cpu.old.number group }
+    ensures fills { VisitDoes N.frames (FillsList sizes result) machine.old cpu.old machine.new cpu.new }
+    ensures visit { Visits N.frames machine.new cpu.new }
+    ensures page { OnOk result (HoldsPage N.frames machine.new cpu.new.number group) }
     ensures front { OnOk result (1 ≤ length cpu.new.list) }
 {
     if cpu.list_len() > 0 {
@@ -123,18 +112,17 @@ fn fill_list<N: BootName>(
 pub fn alloc_frame<N: BootName>(
     machine: &mut Machine<N>,
     tables: &Tables<N>,
-    cpu: &mut Cpu<N>,
+    cpu: &mut CpuLists<N>,
     sizes: Config,
     group: GroupId,
 ) -> Result<Frame, AllocFault>
-    requires visit { Visits N.frames (visit_state machine.old cpu.old) }
+    requires visit { Visits N.frames machine.old cpu.old }
     requires size { IsOfSize N.frames }
     requires sizes { IsValidConfig sizes }
     requires there { IsTrue (has_group machine.old.ledger.groups group) }
     requires settled { IsSettled cpu.old }
-    ensures allocates { BySteps VisitMakes N.frames (AllocatesFrame sizes group result)
-        (visit_state machine.old cpu.old) (visit_state machine.new cpu.new) }
-    ensures stays { KeepsVisit N.frames (visit_state machine.old cpu.old) (visit_state machine.new cpu.new) }
+    ensures allocates { VisitDoes N.frames (AllocatesFrame sizes group result) machine.old cpu.old machine.new cpu.new }
+    ensures stays { KeepsVisit N.frames cpu.old machine.new cpu.new }
     ensures fresh { MatchResult result (λ f. cpu.new.fresh ≡ f ∷ []) (λ cause. cpu.new.fresh ≡ []) }
     ensures at_most_high { length cpu.old.list + length cpu.old.fresh ≤ sizes.high
         → length cpu.new.list + length cpu.new.fresh ≤ sizes.high }

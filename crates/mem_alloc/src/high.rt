@@ -3,8 +3,7 @@
 ghost use Rattle.std.specs.Prelude.{◌≡◌, ◌↔◌, IsTrue};
 ghost use Rattle.group_tree.specs.Groups.{has_group};
 ghost use Rattle.boot_words.specs.Pasts.{IsHeld};
-ghost use Rattle.mem_machine.specs.Local.{Makes};
-ghost use Rattle.mem_machine.specs.Transitions.{BySteps};
+ghost use Rattle.mem_machine.specs.{Makes, BySteps};
 ghost use Rattle.mem_reclaim.specs.Staying.{Keeps};
 ghost use Rattle.mem_alloc.specs.High.{KeepsToHigh, PathHasHighRoom, ReclaimsHigh, has_high_room, high_of};
 
@@ -95,8 +94,8 @@ fn keep_path_to_high<N: BootName>(
     }
 }
 
-/// Reclaims for the memory.high of the group and then of each ancestor, up to the root, before `need` pages are charged.
-/// Linux does so after the charge (`reclaim_high`).
+/// Reclaims for the memory.high of the group and then of each ancestor, up to the root, before `need` pages are
+/// charged. Linux does so after the charge (`reclaim_high`).
 #[inline(always)]
 pub(crate) fn reclaim_high<N: BootName>(
     machine: &mut Machine<N>,

@@ -5,8 +5,7 @@ ghost use Rattle.group_tree.specs.Groups.{has_group};
 ghost use Rattle.boot_words.specs.Pasts.{IsHeld};
 ghost use Rattle.mem_alloc.specs.Kills.{KillsForRoom, NeedsRoom, has_room_at};
 ghost use Rattle.mem_alloc.specs.Room.{KillsForFewPages};
-ghost use Rattle.mem_machine.specs.Local.{Makes, StaysVisited};
-ghost use Rattle.mem_machine.specs.Transitions.{BySteps};
+ghost use Rattle.mem_machine.specs.{Makes, StaysVisited, BySteps};
 
 use cpu_part::{BootName, Tables};
 use group_charge::charges::Charges;

@@ -2,9 +2,7 @@
 
 ghost use Rattle.std.specs.Prelude.{◌<◌};
 ghost use Rattle.boot_words.specs.Pasts.{IsHeld};
-ghost use Rattle.mem_reclaim.specs.Moves.{FreesBySteps};
-ghost use Rattle.mem_reclaim.specs.Rounds.{ReclaimsRound};
-ghost use Rattle.mem_reclaim.specs.Staying.{Keeps, MissedAll};
+ghost use Rattle.mem_reclaim.specs.{FreesBySteps, ReclaimsRound, Keeps, MissedAll};
 
 use cpu_part::{BootName, Tables};
 use group_tree::group::GroupId;

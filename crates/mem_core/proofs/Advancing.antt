@@ -1,6 +1,5 @@
 -- One more step of a core (for `Core::step`).
-use Rattle.std.proofs.Common.{◌≡◌, ℕ, ◌+◌, ◌^◌, ◌<◌, refl, sym, ◌∙◌, ap, subst, arith, inl, inr}
-use Rattle.std.proofs.Common.{length-append, List, [], ◌∷◌, ◌++◌}
+use Rattle.std.proofs.Common.{◌≡◌, ℕ, ◌+◌, ◌^◌, ◌<◌, refl, sym, ◌∙◌, ap, subst, arith, inl, inr, length-append, List, [], ◌∷◌, ◌++◌}
 use Rattle.zone_blocks.specs.declared.block.Block.{Block}
 use Rattle.zone_blocks.specs.Areas.{AreMaximalBlocks, IsFrontOfSmallest}
 use Rattle.step_rules.specs.declared.step.Step.{Step}
@@ -8,23 +7,18 @@ use Rattle.step_rules.specs.declared.step.Action.{Action}
 use Rattle.step_rules.specs.declared.step.Action.TheVariants.{Lock, PlaceBlock}
 use Rattle.step_rules.specs.declared.step.Answer.{Answer}
 use Rattle.step_rules.specs.declared.step.Answer.TheVariants.{Illegal, Placed}
-use Rattle.step_rules.specs.State.{Zone, State, at_boot, free_in}
+use Rattle.step_rules.specs.{Zone, at_boot, free_in, Allows, Run, after, state_of, IsLegalRun, UsageMoves, KeepsInvariant, IsHomed}
+use Rattle.step_rules.specs.State.{State}
 use Rattle.step_rules.proofs.Sums.{sum_none}
-use Rattle.step_rules.specs.Legal.{Allows}
-use Rattle.step_rules.specs.After.{Run, after, state_of, IsLegalRun}
-use Rattle.step_rules.specs.Peaks.{UsageMoves}
-use Rattle.step_rules.specs.Invariant.{KeepsInvariant, IsHomed}
 use Rattle.step_rules.proofs.Moving.{usage_step, moves_illegal}
 use Rattle.step_rules.proofs.Few.{pins_boot}
 use Rattle.step_rules.proofs.SoundSteps.{sound_step}
 use Rattle.step_rules.proofs.Runs.{after_illegal, allowed, state_more, legal_more}
-use Rattle.mem_core.specs.Rooms.{PlacesFront, pages_asked}
-use Rattle.mem_core.specs.Bounded.{IsBounded}
+use Rattle.mem_core.specs.{PlacesFront, pages_asked, IsBounded, CoreState, ShowsRun, AccountsMatchRun, state_shown, account_after, account_in}
+use Rattle.mem_core.specs.{AccountsFollow, PlacesFrontIn}
 use Rattle.mem_core.proofs.Bounding.{bounded_step}
-use Rattle.mem_core.specs.Shown.{CoreState, ShowsRun, AccountsMatchRun, state_shown}
-use Rattle.mem_core.specs.Accounts.{Account, account_after, account_in, AccountsFollow}
+use Rattle.mem_core.specs.Accounts.{Account}
 use Rattle.mem_core.proofs.Accounting.{tell_more}
-use Rattle.mem_core.specs.Promise.{PlacesFrontIn}
 use Rattle.zone_blocks.proofs.Unique.{unique_blocks}
 
 pub sound_after : (s : State) (seat : ℕ) (action : Action) (answer : Answer) → KeepsInvariant s → Allows s seat action answer → KeepsInvariant (after s seat action answer)

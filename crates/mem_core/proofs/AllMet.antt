@@ -6,9 +6,8 @@ use Rattle.step_rules.specs.declared.step.Action.TheVariants.{Lock, Unlock, Open
 use Rattle.step_rules.specs.declared.step.Action.TheVariants.{Report, Absorb, Fill, DrainStock, Grant, Ungrant, PlaceBlock, Publish, Return, Note, NoteGroupKill, SetMax, SetFlag}
 use Rattle.step_rules.specs.declared.step.Action.TheVariants.{Make, Remove, Kill}
 use Rattle.group_tree.specs.Groups.{has_child, has_group}
-use Rattle.step_rules.specs.State.{State, may_zone_act}
-use Rattle.step_rules.specs.Usage.{usage_of}
-use Rattle.step_rules.specs.Legal.{is_legal}
+use Rattle.step_rules.specs.State.{State}
+use Rattle.step_rules.specs.{may_zone_act, usage_of, is_legal}
 use Rattle.mem_core.specs.declared.conditions.Condition.{Condition}
 use Rattle.mem_core.specs.Conditions.{conditions_of, first_unmet, is_met}
 

@@ -7,9 +7,8 @@ use Rattle.step_rules.specs.declared.phase.Hold.{Hold}
 use Rattle.step_rules.specs.declared.phase.Hold.TheVariants.{Unheld, HeldBy, Visiting}
 use Rattle.step_rules.specs.declared.phase.Phase.{Phase}
 use Rattle.step_rules.specs.declared.step.Action.{Action}
-use Rattle.step_rules.specs.declared.step.Action.TheVariants.{Lock, Unlock, OpenVisit, ShutVisit, Get, Put, Freeze, Unfreeze}
-use Rattle.step_rules.specs.declared.step.Action.TheVariants.{TakeIn, PassBack, Consume, Credit, Report, Absorb, Fill, DrainStock}
-use Rattle.step_rules.specs.declared.step.Action.TheVariants.{Grant, Ungrant, PlaceBlock}
+use Rattle.step_rules.specs.declared.step.Action.TheVariants.{Lock, Unlock, OpenVisit, ShutVisit, Get, Put, Freeze, Unfreeze, TakeIn, PassBack}
+use Rattle.step_rules.specs.declared.step.Action.TheVariants.{Consume, Credit, Report, Absorb, Fill, DrainStock, Grant, Ungrant, PlaceBlock}
 use Rattle.step_rules.specs.declared.step.Answer.{Answer}
 use Rattle.step_rules.specs.declared.step.Answer.TheVariants.{Illegal, Done, Held, Left, Last, Took, Stocked, Pages, Granted, Placed}
 use Rattle.step_rules.specs.Phases.{Kind, ListFrame, has_as, is_live_phase, is_head_in_hand}
@@ -24,8 +23,7 @@ use Rattle.step_rules.proofs.PhaseLemmas.{free_is, in_hand, WasCollected, WasBar
 use Rattle.step_rules.proofs.Few.{HaveFewPins, pins_made}
 use Rattle.step_rules.proofs.LocalLaws.{no_illegal}
 use Rattle.step_rules.proofs.Placed.{zone_kept}
-use Rattle.mem_core.specs.Bounded.{IsBounded, pages_out, HolderIsThere}
-use Rattle.mem_core.specs.Rooms.{IsBelowBounds, pages_asked}
+use Rattle.mem_core.specs.{IsBounded, pages_out, HolderIsThere, IsBelowBounds, pages_asked}
 
 hand_not_live : (x : Phase) → is_head_in_hand x ≡ true → is_live_phase x ≡ false
 hand_not_live x e = elim (in_hand x e) [

@@ -7,19 +7,14 @@ use Rattle.std.proofs.lemmas.List.{take_more, take_all}
 use Rattle.std.proofs.lemmas.Option.{slice_get-get_or}
 use Rattle.step_rules.specs.declared.step.Step.{Step}
 use Rattle.step_rules.specs.declared.step.Answer.{Answer}
-use Rattle.step_rules.specs.State.{Zone, State}
-use Rattle.step_rules.specs.Legal.{Allows}
-use Rattle.step_rules.specs.After.{Run, after, state_of, IsLegalRun}
-use Rattle.step_rules.specs.Invariant.{KeepsInvariant, IsHomed}
+use Rattle.step_rules.specs.{Zone, Allows, Run, after, state_of, IsLegalRun, KeepsInvariant, IsHomed}
+use Rattle.step_rules.specs.State.{State}
 use Rattle.step_rules.proofs.Keeping.{homes_allowed}
 use Rattle.step_rules.proofs.Placed.{zone_kept}
 use Rattle.step_rules.proofs.Runs.{one_more, state_more, legal_more}
-use Rattle.mem_core.specs.Rooms.{pages_asked}
-use Rattle.mem_core.specs.Bounded.{IsBounded}
+use Rattle.mem_core.specs.{pages_asked, IsBounded, CoreState, state_shown, Leads, IsFirstIllegal, IsVerdict}
 use Rattle.mem_core.specs.declared.verdict.Verdict.{Verdict}
 use Rattle.mem_core.specs.declared.verdict.Verdict.TheVariants.{Legal, IllegalAt}
-use Rattle.mem_core.specs.Shown.{CoreState, state_shown}
-use Rattle.mem_core.specs.Checked.{Leads, IsFirstIllegal, IsVerdict}
 use Rattle.mem_core.proofs.Advancing.{sound_after, bounded_after}
 
 -- what a step keeps of a sound state, bounded by n pages

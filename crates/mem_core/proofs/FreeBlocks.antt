@@ -4,13 +4,11 @@ use Rattle.std.proofs.Math.Pow.{pow_mono, mod-mod-pow}
 use Rattle.std.proofs.Math.Nat.{zero-mod}
 use Rattle.std.proofs.lemmas.List.FromFn.{get_or-map-range_with_len}
 use Rattle.zone_blocks.specs.declared.block.Block.{Block}
-use Rattle.zone_blocks.specs.Block.{Covers}
-use Rattle.zone_blocks.specs.Areas.{IsFree, IsFreeBlock, AreMaximalBlocks, HasNoneFrom}
+use Rattle.zone_blocks.specs.{Covers, IsFree, IsFreeBlock, AreMaximalBlocks, HasNoneFrom}
 use Rattle.zone_blocks.proofs.Nested.{free_inside, greater_denied}
 use Rattle.zone_blocks.proofs.Unique.{in_maximal}
 use Rattle.step_rules.specs.declared.phase.Phase.{Phase}
-use Rattle.step_rules.specs.Phases.{is_free}
-use Rattle.step_rules.specs.State.{Zone, free_in}
+use Rattle.step_rules.specs.{is_free, Zone, free_in}
 
 -- the lower part of a free block is a free block
 pub lower_part_is_free : (free : List Bool) (b : Block) (k : ℕ) → IsFreeBlock free b → k ≤ b.order → IsFreeBlock free (record { at = b.at; order = k })

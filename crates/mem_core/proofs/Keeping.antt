@@ -1,12 +1,10 @@
 -- The promise holds of what a core shows, and of each beginning of its run (for `play` and `Core::step`).
 use Rattle.std.proofs.Common.{sym, ◌∙◌, ap, subst, refl}
-use Rattle.step_rules.specs.State.{Zone, State, is_unheld}
-use Rattle.step_rules.specs.After.{Run, IsLegalRun}
-use Rattle.step_rules.specs.Promise.{IsShown}
+use Rattle.step_rules.specs.{Zone, is_unheld, Run, IsLegalRun, IsShown}
+use Rattle.step_rules.specs.State.{State}
 use Rattle.step_rules.proofs.Runs.{legal_from}
 use Rattle.step_rules.proofs.Promising.{the_promise_is_kept}
-use Rattle.mem_core.specs.Shown.{CoreState, ShowsRun, state_shown, HasMaximalAreas}
-use Rattle.mem_core.specs.Promise.{core_shown, CoreKeepsPromise, AlwaysKeepsPromise}
+use Rattle.mem_core.specs.{CoreState, ShowsRun, state_shown, HasMaximalAreas, core_shown, CoreKeepsPromise, AlwaysKeepsPromise}
 
 shown_is_shown : (s : CoreState) → HasMaximalAreas s → IsShown (state_shown s) (core_shown s)
 shown_is_shown s areas = record {

@@ -8,14 +8,11 @@ use Rattle.mem_core.specs.declared.seat.SeatRow.{SeatRow}
 use Rattle.mem_core.specs.declared.rows.Rows.{Rows}
 use Rattle.mem_core.specs.Rows.{part_in_row, reference_of}
 use Rattle.mem_core.specs.Rows as rows
-use Rattle.mem_core.specs.Rooms.{FitsZone, IsBelowBounds}
+use Rattle.mem_core.specs.{FitsZone, IsBelowBounds, IsBounded, reference_at, part_of_seat, state_shown, seat_shown, rows_shown, core_state}
 use Rattle.mem_core.proofs.Looking.{past_default}
-use Rattle.mem_core.specs.Bounded.{IsBounded}
 use Rattle.mem_core.proofs.Bounding.{few_from}
 use Rattle.mem_core.specs.declared.reading_core.Core.TheInside.{Inside}
-use Rattle.mem_core.specs.Shown.{reference_at, part_of_seat, state_shown}
 use Rattle.mem_core.specs.Accounts.{Account}
-use Rattle.mem_core.specs.Inside.{seat_shown, rows_shown, core_state}
 
 seat_found : (xs : List SeatRow) (k f : ℕ)
     → (reference_at (slice_get (map seat_shown xs) k) f ≡ reference_of (slice_get xs k) f) ×

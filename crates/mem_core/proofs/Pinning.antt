@@ -8,9 +8,7 @@ use Rattle.step_rules.proofs.Basics.{at_each}
 use Rattle.step_rules.proofs.Sums.{sum_none, sum_part, sum_change}
 use Rattle.mem_core.specs.declared.seat.SeatRow.{SeatRow}
 use Rattle.mem_core.specs.declared.rows.Rows.{Rows}
-use Rattle.mem_core.specs.Rows.{reference_of, state_in}
-use Rattle.mem_core.specs.Rooms.{FitsZone, SeatHasRoom}
-use Rattle.mem_core.specs.Tables.{sum_of}
+use Rattle.mem_core.specs.{reference_of, state_in, FitsZone, SeatHasRoom, sum_of}
 use Rattle.mem_core.proofs.Changing.{looked_set}
 
 pub sum_times : (n x : ℕ) (h : ℕ → ℕ) → ((i : ℕ) → h i ≤ x) → sum_to n h ≤ n * x

@@ -4,11 +4,9 @@ use Rattle.std.specs.List.{zip}
 use Rattle.std.proofs.lemmas.List.{take_more, take_all, length-take-le}
 use Rattle.step_rules.specs.declared.step.Step.{Step}
 use Rattle.step_rules.specs.declared.step.Answer.{Answer}
-use Rattle.step_rules.specs.State.{Zone, State}
-use Rattle.step_rules.specs.After.{Run, state_of}
-use Rattle.step_rules.specs.Laws.{pushed}
-use Rattle.mem_core.specs.Shown.{CoreState, ShowsRun, state_shown, HasMaximalAreas}
-use Rattle.mem_core.specs.Promise.{PlacesFrontIn, AlwaysPlacesFirst}
+use Rattle.step_rules.specs.{Zone, Run, state_of, pushed}
+use Rattle.step_rules.specs.State.{State}
+use Rattle.mem_core.specs.{CoreState, ShowsRun, state_shown, HasMaximalAreas, PlacesFrontIn, AlwaysPlacesFirst}
 use Rattle.mem_core.proofs.Pushing.{each_step_push}
 
 zip-push : (steps : List Step) (answers : List Answer) (step : Step) (answer : Answer) → length steps ≡ length answers

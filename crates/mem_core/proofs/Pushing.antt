@@ -6,8 +6,7 @@ use Rattle.std.proofs.lemmas.List.{take-append-le, take_at}
 use Rattle.std.proofs.lemmas.Option.{slice_get_past}
 use Rattle.step_rules.specs.declared.step.Step.{Step}
 use Rattle.step_rules.specs.declared.step.Answer.{Answer}
-use Rattle.step_rules.specs.After.{Run}
-use Rattle.step_rules.specs.Laws.{pushed}
+use Rattle.step_rules.specs.{Run, pushed}
 
 slice_get-push_before : {X : Type 0} (xs : List X) (x : X) (k : ℕ) → k < length xs → slice_get (xs ++ x ∷ []) k ≡ slice_get xs k
 slice_get-push_before [] x k h = absurd (omega arith)

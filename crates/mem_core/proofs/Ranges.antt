@@ -1,22 +1,19 @@
 -- Phases of which a range was set (for `Rows::set_unit` and `Rows::free_unit`).
-use Rattle.std.proofs.Common.{◌≡◌, ℕ, ◌+◌, ◌-◌, ◌^◌, ◌<◌, ◌≤◌, ◌==◌, Bool, true, false, List, ◌++◌, length, take, drop, replicate, get_or}
-use Rattle.std.proofs.Common.{set, refl, sym, ◌∙◌, ap, arith, inl, inr, ◌⊎◌, cond, suc, [], ◌∷◌, append_assoc, append-nil}
+use Rattle.std.proofs.Common.{◌≡◌, ℕ, ◌+◌, ◌-◌, ◌^◌, ◌<◌, ◌≤◌, ◌==◌, Bool, true, false, List, ◌++◌, length, take, drop, replicate, get_or, set, refl}
+use Rattle.std.proofs.Common.{sym, ◌∙◌, ap, arith, inl, inr, ◌⊎◌, cond, suc, [], ◌∷◌, append_assoc, append-nil, eq-eqb}
 use Rattle.std.proofs.Math.Seq.{drop-cons, set-append_seam}
 use Rattle.std.specs.Prelude.{if◌then◌else◌, min}
-use Rattle.step_rules.specs.State.{Zone, free_in}
+use Rattle.step_rules.specs.{Zone, free_in, is_free, is_within, placed_phase, with_block}
 use Rattle.std.proofs.lemmas.Bool.{cases_lt, cases_eq, cond-true, cond-false, ne_eqb}
-use Rattle.std.proofs.Common.{eq-eqb}
 use Rattle.std.proofs.lemmas.List.{get_or_append_left, get_or-append_right, get_or-take, get_or-drop, get_or-replicate, length-take-le}
 use Rattle.std.proofs.lemmas.List.{get_or-set_same, get_or-set_other, replicate-append-replicate, take-append-drop}
 use Rattle.std.proofs.lemmas.Grind.{common_steps}
 use Rattle.std.proofs.lemmas.List.FromFn.{length-map-range_with_len}
-use Rattle.step_rules.specs.Phases.{is_free}
 use Rattle.std.proofs.Math.Pow.{pow_mono}
 use Rattle.zone_blocks.specs.declared.block.Block.{Block}
 use Rattle.step_rules.specs.declared.phase.Phase.{Phase}
 use Rattle.step_rules.specs.declared.phase.Phase.TheVariants.{InZone, Head, Tail}
 use Rattle.step_rules.specs.declared.phase.Stage.TheVariants.{Bare}
-use Rattle.step_rules.specs.After.{is_within, placed_phase, with_block}
 use Rattle.mem_core.proofs.Looking.{past_default}
 
 abbrev pub ranged : {X : Type 0} → List X → ℕ → ℕ → X → List X

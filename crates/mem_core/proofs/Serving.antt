@@ -4,13 +4,11 @@ use Rattle.std.specs.Prelude.{nat_le}
 use Rattle.std.proofs.lemmas.Bool.{cases_lt, false≢true, leb-true, ltb-true, or_cases, and_parts, eqb-true, ne_eqb}
 use Rattle.step_rules.specs.declared.phase.Phase.{Phase}
 use Rattle.step_rules.specs.declared.step.Action.TheVariants.{Get, Put, TakeIn, Credit, Consume, Unfreeze}
-use Rattle.step_rules.specs.Phases.{ListFrame, FreshFrame, has_as, is_head_in_hand, is_live_phase, passes_out}
+use Rattle.step_rules.specs.Phases.{ListFrame, FreshFrame}
+use Rattle.step_rules.specs.{has_as, is_head_in_hand, is_live_phase, passes_out, at_stage, with_part, with_phase, with_references, with_back}
+use Rattle.step_rules.specs.{after_last, with_at, is_cpu, is_frame, live_references, may_zone_act, is_legal}
 use Rattle.step_rules.specs.declared.phase.Stage.TheVariants.{AwaitsReturn, BackAt}
-use Rattle.step_rules.specs.Phases.{at_stage}
-use Rattle.step_rules.specs.After.{with_part, with_phase, with_references, with_back, after_last}
-use Rattle.step_rules.specs.State.{with_at}
-use Rattle.step_rules.specs.State.{State, is_cpu, is_frame, live_references, may_zone_act}
-use Rattle.step_rules.specs.Legal.{is_legal}
+use Rattle.step_rules.specs.State.{State}
 use Rattle.step_rules.proofs.LegalTests.{consume_tests}
 use Rattle.step_rules.proofs.Sums.{sum_part}
 use Rattle.step_rules.proofs.PhaseLemmas.{out_is, fresh_is, in_hand, WasCollected, WasBare, WasEnded}

@@ -7,8 +7,7 @@ use Rattle.std.proofs.lemmas.List.{get_or-replicate, length-replicate}
 use Rattle.std.proofs.lemmas.Option.{slice_get_within, get_or_from_slice_get}
 use Rattle.step_rules.specs.State.{no_part}
 use Rattle.mem_core.specs.declared.seat.SeatRow.{SeatRow}
-use Rattle.mem_core.specs.Rows.{part_in_row, reference_of}
-use Rattle.mem_core.specs.Rooms.{IsNewSeat}
+use Rattle.mem_core.specs.{part_in_row, reference_of, IsNewSeat}
 use Rattle.mem_core.proofs.Looking.{past_default}
 
 pub replicate_all : {X : Type 0} (n : ℕ) (x : X) (k : ℕ) → get_or (replicate n x) k x ≡ x

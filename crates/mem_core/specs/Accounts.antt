@@ -2,15 +2,13 @@
 use Rattle.std.specs.Prelude.{◌≡◌, ◌^◌, ◌<◌, ◌==◌, ℕ, Bool, true, List, All, Option, Some, None, if◌then◌else◌}
 use Rattle.std.specs.List.{slice_index_or}
 use Rattle.group_tree.specs.declared.event.EventKey.{EventKey}
-use Rattle.group_tree.specs.Events.{EventCounts, no_events, with_one_more}
-use Rattle.group_tree.specs.Groups.{has_group, in_subtree}
+use Rattle.group_tree.specs.{EventCounts, no_events, with_one_more, has_group, in_subtree}
 use Rattle.step_rules.specs.declared.step.Action.{Action}
 use Rattle.step_rules.specs.declared.step.Answer.{Answer}
 use Rattle.step_rules.specs.declared.step.Action.TheVariants.{Grant}
 use Rattle.step_rules.specs.declared.step.Answer.TheVariants.{Granted}
 use Rattle.step_rules.specs.State.{State}
-use Rattle.step_rules.specs.Peaks.{peak_follows}
-use Rattle.step_rules.specs.Events.{event_of, makes_group}
+use Rattle.step_rules.specs.{peak_follows, event_of, makes_group}
 -- a group's peak, the event counts of the group and all below it, and those of the group itself
 pub use Rattle.mem_core.specs.declared.account.Account.{Account}
 

@@ -1,30 +1,23 @@
 -- The conditions of the table of rules, each as a test of a state.
 use Rattle.std.specs.Prelude.{ℕ, ◌+◌, ◌^◌, ◌==◌, ◌||◌, nat_le, nat_lt, not, Bool, List, [], ◌∷◌, Option, find, is_none, length}
 use Rattle.group_tree.specs.Groups.{has_group, has_child, make_fault}
-use Rattle.step_rules.specs.State.{State, is_cpu, is_frame, is_unheld, is_held_by, visits, may_zone_act}
-use Rattle.step_rules.specs.State.{live_references, pins_of}
-use Rattle.step_rules.specs.Phases.{FreshFrame, has_as, is_free, is_head, is_head_in_hand, is_returnable, passes_back}
-use Rattle.step_rules.specs.Phases.{passes_out}
-use Rattle.step_rules.specs.Legal.{is_passable, no_frame_passes, no_page_pends, nothing_passes, takes_fill}
-use Rattle.step_rules.specs.Usage.{usage_of}
+use Rattle.step_rules.specs.State.{State}
+use Rattle.step_rules.specs.{is_cpu, is_frame, is_unheld, is_held_by, visits, may_zone_act, live_references, pins_of, has_as, is_free, is_head}
+use Rattle.step_rules.specs.{is_head_in_hand, is_returnable, passes_back, passes_out, is_passable, no_frame_passes, no_page_pends, nothing_passes}
+use Rattle.step_rules.specs.{takes_fill, usage_of}
+use Rattle.step_rules.specs.Phases.{FreshFrame}
 use Rattle.step_rules.specs.declared.step.Action.{Action}
-use Rattle.step_rules.specs.declared.step.Action.TheVariants.{Lock, Unlock, OpenVisit, ShutVisit, Get, Put, Freeze}
-use Rattle.step_rules.specs.declared.step.Action.TheVariants.{Unfreeze, PassOut, TakeIn, PassBack, Collect, Consume}
-use Rattle.step_rules.specs.declared.step.Action.TheVariants.{Credit, Report, Absorb, Fill, DrainStock, Grant, Ungrant}
-use Rattle.step_rules.specs.declared.step.Action.TheVariants.{PlaceBlock, Publish, Return, Note}
-use Rattle.step_rules.specs.declared.step.Action.TheVariants.{NoteGroupKill, SetMax, SetFlag, Make, Remove, Kill}
+use Rattle.step_rules.specs.declared.step.Action.TheVariants.{Lock, Unlock, OpenVisit, ShutVisit, Get, Put, Freeze, Unfreeze, PassOut, TakeIn}
+use Rattle.step_rules.specs.declared.step.Action.TheVariants.{PassBack, Collect, Consume, Credit, Report, Absorb, Fill, DrainStock, Grant, Ungrant}
+use Rattle.step_rules.specs.declared.step.Action.TheVariants.{PlaceBlock, Publish, Return, Note, NoteGroupKill, SetMax, SetFlag, Make, Remove, Kill}
 use Rattle.mem_core.specs.declared.quantity.Quantity.{Quantity}
-use Rattle.mem_core.specs.declared.quantity.Quantity.TheVariants.{Own, References, Pins, Listed, Fresh, Unreported, Reported}
-use Rattle.mem_core.specs.declared.quantity.Quantity.TheVariants.{InStock, Pending, Usage}
+use Rattle.mem_core.specs.declared.quantity.Quantity.TheVariants.{Own, References, Pins, Listed, Fresh, Unreported, Reported, InStock, Pending, Usage}
 use Rattle.mem_core.specs.declared.conditions.PlaceTest.{PlaceTest}
-use Rattle.mem_core.specs.declared.conditions.PlaceTest.TheVariants.{Free, OutTo, Passable, BackFrom, FreshAt, InHand}
-use Rattle.mem_core.specs.declared.conditions.PlaceTest.TheVariants.{Head, Returnable}
+use Rattle.mem_core.specs.declared.conditions.PlaceTest.TheVariants.{Free, OutTo, Passable, BackFrom, FreshAt, InHand, Head, Returnable}
 use Rattle.mem_core.specs.declared.conditions.Condition.{Condition}
-use Rattle.mem_core.specs.declared.conditions.Condition.TheVariants.{Cpu, ZoneSeat, AnySeat, Locked, Unlocked, HeldBy}
-use Rattle.mem_core.specs.declared.conditions.Condition.TheVariants.{Visited, Frame, Group, NonePending, NonePassing}
-use Rattle.mem_core.specs.declared.conditions.Condition.TheVariants.{NonePassingAt, AtLeast, Below, IsZero, OneUp}
-use Rattle.mem_core.specs.declared.conditions.Condition.TheVariants.{UpTo255, InPlace, TakesFill, NotKilled, NotRoot}
-use Rattle.mem_core.specs.declared.conditions.Condition.TheVariants.{NoChild, Makeable}
+use Rattle.mem_core.specs.declared.conditions.Condition.TheVariants.{Cpu, ZoneSeat, AnySeat, Locked, Unlocked, HeldBy, Visited, Frame, Group}
+use Rattle.mem_core.specs.declared.conditions.Condition.TheVariants.{NonePending, NonePassing, NonePassingAt, AtLeast, Below, IsZero, OneUp, UpTo255}
+use Rattle.mem_core.specs.declared.conditions.Condition.TheVariants.{InPlace, TakesFill, NotKilled, NotRoot, NoChild, Makeable}
 
 -- the number in a state
 abbrev pub quantity_in : State → Quantity → ℕ

@@ -1,6 +1,5 @@
 -- How many frames are of each class, so that a step needn't look at all frames.
-use Rattle.std.specs.Prelude.{◌≡◌, ℕ, ◌+◌, ◌-◌, ◌<◌, ◌==◌, ◌||◌, nat_lt, Option, Some, None, List, length, slice_set}
-use Rattle.std.specs.Prelude.{if◌then◌else◌}
+use Rattle.std.specs.Prelude.{◌≡◌, ℕ, ◌+◌, ◌-◌, ◌<◌, ◌==◌, ◌||◌, nat_lt, Option, Some, None, List, length, slice_set, if◌then◌else◌}
 use Rattle.std.specs.List.{slice_index_or}
 use Rattle.zone_blocks.specs.Config.{most_cpus}
 use Rattle.group_tree.specs.Bounds.{most_groups}
@@ -8,8 +7,7 @@ use Rattle.step_rules.specs.declared.phase.Stage.{Stage}
 use Rattle.step_rules.specs.declared.phase.Stage.TheVariants.{FreshPassing, BackPassing}
 use Rattle.step_rules.specs.declared.phase.Phase.{Phase}
 use Rattle.step_rules.specs.declared.phase.Phase.TheVariants.{InZone, Lent, Head}
-use Rattle.step_rules.specs.Phases.{keeper_of, is_out, is_returning}
-use Rattle.step_rules.specs.State.{one_if, sum_to}
+use Rattle.step_rules.specs.{keeper_of, is_out, is_returning, one_if, sum_to}
 
 -- the CPU from which the unit's head is in transit
 abbrev pub stage_transit_cpu : Stage → Option ℕ

@@ -3,8 +3,7 @@ use Rattle.std.specs.Prelude.{◌≡◌, ℕ, ◌*◌, ◌^◌, ◌<◌, ◌≤�
 use Rattle.group_tree.specs.Bounds.{most_groups}
 use Rattle.zone_blocks.specs.declared.block.Block.{Block}
 use Rattle.zone_blocks.specs.Areas.{AreMaximalBlocks}
-use Rattle.step_rules.specs.State.{free_in}
-use Rattle.step_rules.specs.Invariant.{KeepsInvariant, IsHomed}
+use Rattle.step_rules.specs.{free_in, KeepsInvariant, IsHomed}
 use Rattle.mem_core.specs.declared.seat.SeatRow.{SeatRow}
 use Rattle.mem_core.specs.declared.rows.Rows.{Rows}
 use Rattle.mem_core.specs.Rows.{state_in, part_in}

@@ -6,11 +6,9 @@ use Rattle.step_rules.specs.declared.step.Action.{Action}
 use Rattle.step_rules.specs.declared.step.Action.TheVariants.{PlaceBlock}
 use Rattle.step_rules.specs.declared.step.Answer.{Answer}
 use Rattle.step_rules.specs.declared.step.Answer.TheVariants.{Placed}
-use Rattle.step_rules.specs.Phases.{keeper_of}
-use Rattle.step_rules.specs.State.{Zone, State, is_unheld, free_in}
-use Rattle.step_rules.specs.Usage.{usage_of}
-use Rattle.step_rules.specs.After.{Run, state_of}
-use Rattle.step_rules.specs.Promise.{Shown, IsShown, Promise}
+use Rattle.step_rules.specs.{keeper_of, Zone, is_unheld, free_in, usage_of, Run, state_of, Shown, IsShown}
+use Rattle.step_rules.specs.State.{State}
+use Rattle.step_rules.specs.Promise.{Promise}
 use Rattle.mem_core.specs.Shown.{CoreState, state_shown}
 
 -- what a core shows, in the terms of the promise; `current` is what its reader of that name returns

@@ -1,21 +1,16 @@
 -- What must hold of rows before a step: they are of the zone's size, and no number is near its bound.
-use Rattle.std.specs.Prelude.{◌≡◌, ◌+◌, ◌^◌, ◌<◌, ◌≤◌, ℕ, true, false, List, All, replicate, length, vec_len}
-use Rattle.std.specs.Prelude.{vec_capacity}
+use Rattle.std.specs.Prelude.{◌≡◌, ◌+◌, ◌^◌, ◌<◌, ◌≤◌, ℕ, true, false, List, All, replicate, length, vec_len, vec_capacity}
 use Rattle.group_tree.specs.Bounds.{most_groups}
-use Rattle.zone_blocks.specs.Config.{most_cpus, most_frames}
-use Rattle.step_rules.specs.Phases.{Kind, has_as, is_live_phase}
-use Rattle.step_rules.specs.State.{State, frames_of, free_in, front_of, is_cpu, pins_of, visits}
+use Rattle.zone_blocks.specs.{most_cpus, most_frames, IsFrontOfSmallest, AreMaximalBlocks}
+use Rattle.step_rules.specs.{Kind, has_as, is_live_phase, frames_of, free_in, front_of, is_cpu, pins_of, visits, IsAnswer, IsCounted, after, no_part}
+use Rattle.step_rules.specs.State.{State}
 use Rattle.zone_blocks.specs.declared.block.Block.{Block}
-use Rattle.zone_blocks.specs.Areas.{IsFrontOfSmallest, AreMaximalBlocks}
 use Rattle.step_rules.specs.declared.step.Action.{Action}
 use Rattle.step_rules.specs.declared.step.Action.TheVariants.{Fill, Grant, PlaceBlock}
 use Rattle.step_rules.specs.declared.step.Answer.TheVariants.{Placed}
 use Rattle.step_rules.specs.declared.step.Answer.{Answer}
-use Rattle.step_rules.specs.Legal.{IsAnswer, IsCounted}
-use Rattle.step_rules.specs.After.{after}
 use Rattle.mem_core.specs.declared.seat.SeatRow.{SeatRow}
 use Rattle.mem_core.specs.declared.rows.Rows.{Rows}
-use Rattle.step_rules.specs.State.{no_part}
 use Rattle.mem_core.specs.Rows.{state_in, part_in}
 
 -- a seat has a number of references for each frame, and room on its list for all frames; the rules let it have no more

@@ -5,15 +5,12 @@ use Rattle.zone_blocks.specs.declared.block.Block.{Block}
 use Rattle.zone_blocks.specs.Areas.{AreMaximalBlocks}
 use Rattle.group_tree.specs.declared.event.EventKey.{EventKey}
 use Rattle.group_tree.specs.declared.group.Group.{Group}
-use Rattle.group_tree.specs.Events.{count_of}
-use Rattle.group_tree.specs.Groups.{has_group}
+use Rattle.group_tree.specs.{count_of, has_group}
 use Rattle.step_rules.specs.declared.phase.Hold.{Hold}
 use Rattle.step_rules.specs.declared.phase.Phase.{Phase}
 use Rattle.step_rules.specs.declared.phase.Phase.TheVariants.{InZone}
-use Rattle.step_rules.specs.State.{Zone, Part, State, no_part, free_in}
-use Rattle.step_rules.specs.After.{Run, state_of, IsLegalRun}
-use Rattle.step_rules.specs.Peaks.{IsPeak}
-use Rattle.step_rules.specs.Events.{events_in, events_local_in}
+use Rattle.step_rules.specs.{Zone, Part, no_part, free_in, Run, state_of, IsLegalRun, IsPeak, events_in, events_local_in}
+use Rattle.step_rules.specs.State.{State}
 use Rattle.zone_blocks.specs.declared.config.Config.{Config}
 use Rattle.mem_core.specs.Accounts.{Account, account_in}
 

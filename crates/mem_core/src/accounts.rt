@@ -1,14 +1,12 @@
 //! How a step changes the accounts of the groups: to the peaks and event counts that the rules give.
 
 ghost use Rattle.std.specs.Prelude.{◌≡◌, ◌^◌, ◌<◌, ◌==◌, IfOk, vec_len, replicate};
-ghost use Rattle.step_rules.specs.Peaks.{peak_follows};
-ghost use Rattle.step_rules.specs.Events.{makes_group, event_of};
+ghost use Rattle.step_rules.specs.{peak_follows, makes_group, event_of};
 ghost use Rattle.mem_core.specs.Rows.{state_in};
 ghost use Rattle.mem_core.specs.Rooms.{FitsZone, IsBelowBounds};
 ghost use Rattle.mem_core.specs.Accounts.{new_account, account_after, events_after, AccountsFollow, HaveSmallPeaks};
 ghost use Rattle.mem_core.specs.Accounts.{granted_to};
-ghost use Rattle.group_tree.specs.Bounds.{most_groups};
-ghost use Rattle.group_tree.specs.Groups.{in_subtree};
+ghost use Rattle.group_tree.specs.{most_groups, in_subtree};
 
 use crate::account::Account;
 use crate::rows::Rows;

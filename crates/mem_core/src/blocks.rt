@@ -4,9 +4,7 @@
 ghost use Rattle.std.specs.Prelude.{◌≡◌, ◌+◌, ◌<◌, ◌≤◌, ◌^◌, ◌++◌, true, IfNone, IfSome, take, drop, replicate, length};
 ghost use Rattle.zone_blocks.specs.declared.block.Block.{Block};
 ghost use Rattle.zone_blocks.specs.Areas.{IsFreeBlock, IsFrontOfSmallest, AreMaximalBlocks};
-ghost use Rattle.step_rules.specs.State.{free_in};
-ghost use Rattle.step_rules.specs.Legal.{is_legal};
-ghost use Rattle.step_rules.specs.After.{after, with_block, without_unit};
+ghost use Rattle.step_rules.specs.{free_in, is_legal, after, with_block, without_unit};
 ghost use Rattle.step_rules.specs.declared.step.Action.{Action};
 ghost use Rattle.step_rules.specs.declared.step.Answer.{Answer};
 ghost use Rattle.mem_core.specs.Rows.{state_in};

@@ -1,8 +1,7 @@
 //! The check of a whole log: whether it is a legal run.
 
 ghost use Rattle.std.specs.Prelude.{◌≡◌, ◌↔◌, IfOk};
-ghost use Rattle.step_rules.specs.State.{at_boot};
-ghost use Rattle.step_rules.specs.After.{IsLegalRun};
+ghost use Rattle.step_rules.specs.{at_boot, IsLegalRun};
 ghost use Rattle.mem_core.specs.Shown.{state_shown, zone_of_config};
 ghost use Rattle.mem_core.specs.Promise.{AlwaysKeepsPromise};
 ghost use Rattle.mem_core.specs.Checked.{IsVerdict};

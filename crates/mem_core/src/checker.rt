@@ -1,9 +1,7 @@
 //! The checker: it takes the steps of a log, each with its answer, one after another.
 
 ghost use Rattle.std.specs.Prelude.{◌≡◌, ◌+◌, ◌^◌, ◌<◌, ◌≤◌, ◌↔◌, IfErr, IfOk, IsTrue, OnErr, OnOk, vec_capacity};
-ghost use Rattle.step_rules.specs.State.{at_boot};
-ghost use Rattle.step_rules.specs.Legal.{Allows};
-ghost use Rattle.step_rules.specs.Answers.{IsPlacing};
+ghost use Rattle.step_rules.specs.{at_boot, Allows, IsPlacing};
 ghost use Rattle.step_rules.specs.declared.step.Answer.TheVariants.{Placed};
 ghost use Rattle.group_tree.specs.Groups.{AreGroups};
 ghost use Rattle.mem_core.specs.Rows.{state_in};

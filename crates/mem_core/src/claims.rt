@@ -1,11 +1,8 @@
 //! Blocks that somebody else says were placed: any free block may be.
 
 ghost use Rattle.std.specs.Prelude.{◌≡◌, ◌↔◌, ℕ, IsTrue, true, false};
-ghost use Rattle.zone_blocks.specs.Block.{IsBlock, Covers};
-ghost use Rattle.zone_blocks.specs.Areas.{IsFree, IsFreeBlock};
-ghost use Rattle.step_rules.specs.State.{free_in};
-ghost use Rattle.step_rules.specs.Legal.{Allows};
-ghost use Rattle.step_rules.specs.After.{after};
+ghost use Rattle.zone_blocks.specs.{IsBlock, Covers, IsFree, IsFreeBlock};
+ghost use Rattle.step_rules.specs.{free_in, Allows, after};
 ghost use Rattle.step_rules.specs.declared.step.Answer.TheVariants.{Placed};
 ghost use Rattle.mem_core.specs.Rows.{state_in};
 ghost use Rattle.mem_core.specs.Rooms.{FitsZone, IsBelowBounds};

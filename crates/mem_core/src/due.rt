@@ -1,8 +1,7 @@
 //! The answer that is due to a step, read without making it: the one that `serve` gives.
 
 ghost use Rattle.std.specs.Prelude.{◌≡◌, ◌<◌, length, true};
-ghost use Rattle.group_tree.specs.Bounds.{most_groups};
-ghost use Rattle.group_tree.specs.Groups.{IsLeastFreeNumber};
+ghost use Rattle.group_tree.specs.{most_groups, IsLeastFreeNumber};
 ghost use Rattle.step_rules.specs.declared.step.Action.{Action};
 ghost use Rattle.step_rules.specs.Legal.{Allows, IsAnswer, IsCounted, is_legal};
 ghost use Rattle.mem_core.specs.Rows.{state_in};

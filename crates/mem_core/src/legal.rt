@@ -1,8 +1,7 @@
 //! Which steps may be made, exactly by the table of the rules, and what several conditions share.
 
 ghost use Rattle.std.specs.Prelude.{◌≡◌, ◌∷◌, [], is_none};
-ghost use Rattle.step_rules.specs.Phases.{is_returnable};
-ghost use Rattle.step_rules.specs.Legal.{is_legal, is_passable, takes_fill};
+ghost use Rattle.step_rules.specs.{is_returnable, is_legal, is_passable, takes_fill};
 ghost use Rattle.mem_core.specs.Conditions.{conditions_of, first_unmet, zone_conditions};
 ghost use Rattle.mem_core.specs.Rows.{state_in};
 ghost use Rattle.mem_core.specs.Rooms.{FitsZone, IsBelowBounds};

@@ -2,12 +2,11 @@
 //! does.
 
 ghost use Rattle.std.specs.Prelude.{◌≡◌};
-ghost use Rattle.step_rules.specs.Phases.{ListFrame, FreshFrame, BackFrame, has_as, is_free, is_head, is_head_in_hand};
-ghost use Rattle.step_rules.specs.Phases.{is_passing, is_stage_in_hand, is_stage_passing, keeper_of, is_returnable};
-ghost use Rattle.step_rules.specs.Phases.{is_stage_returnable, passes_out, passes_back, has_stage, stage_passes_back};
-ghost use Rattle.step_rules.specs.Phases.{at_stage, passed_back, collected, stage_passed_back, stage_collected};
-ghost use Rattle.step_rules.specs.Phases.{unit_of};
-ghost use Rattle.step_rules.specs.After.{unit_size};
+ghost use Rattle.step_rules.specs.Phases.{ListFrame, FreshFrame, BackFrame};
+ghost use Rattle.step_rules.specs.{has_as, is_free, is_head, is_head_in_hand, is_passing, is_stage_in_hand};
+ghost use Rattle.step_rules.specs.{is_stage_passing, keeper_of, is_returnable, is_stage_returnable, passes_out};
+ghost use Rattle.step_rules.specs.{passes_back, has_stage, stage_passes_back, at_stage, passed_back, collected};
+ghost use Rattle.step_rules.specs.{stage_passed_back, stage_collected, unit_of, unit_size};
 
 use group_tree::group::GroupId;
 use step_rules::phase::{Phase, Stage, Way};

@@ -3,9 +3,7 @@
 ghost use Rattle.std.specs.Prelude.{◌≡◌, ℕ, ◌+◌, ◌^◌, ◌<◌, ◌≤◌, ◌++◌, ◌∷◌, [], IfOk};
 ghost use Rattle.step_rules.specs.declared.step.Answer.{Answer};
 ghost use Rattle.step_rules.specs.declared.step.Answer.TheVariants.{Illegal};
-ghost use Rattle.step_rules.specs.Legal.{Allows};
-ghost use Rattle.step_rules.specs.Peaks.{UsageMoves};
-ghost use Rattle.step_rules.specs.After.{Run, after};
+ghost use Rattle.step_rules.specs.{Allows, UsageMoves, Run, after};
 ghost use Rattle.mem_core.specs.Shown.{CoreState, ShowsRun, state_shown, zone_of_config, HasMaximalAreas};
 ghost use Rattle.mem_core.specs.Promise.{PlacesFrontIn, CoreKeepsPromise};
 ghost use Rattle.zone_blocks.specs.Config.{IsValidConfig};

@@ -1,11 +1,10 @@
 //! References on frames: each step changes those of one seat on one frame, as the rules say.
 
 ghost use Rattle.std.specs.Prelude.{◌≡◌, ◌≢◌, ◌+◌, ◌-◌, ◌<◌, ◌≤◌, ◌^◌, true, false, Some, length};
-ghost use Rattle.step_rules.specs.Legal.{is_legal};
+ghost use Rattle.step_rules.specs.{is_legal, live_references};
 ghost use Rattle.step_rules.specs.declared.step.Action.{Action};
 ghost use Rattle.mem_core.specs.Rows.{state_in};
 ghost use Rattle.mem_core.specs.Rooms.{FitsZone, IsBelowBounds, MakesOnRows};
-ghost use Rattle.step_rules.specs.State.{live_references};
 
 use crate::phases::at_stage;
 use crate::rows::Rows;

@@ -2,9 +2,8 @@
 
 ghost use Rattle.std.specs.Prelude.{◌≡◌, ◌+◌, ◌-◌, ◌<◌, ◌≤◌, ◌^◌, IfOk, vec_len, vec_capacity, length, replicate};
 ghost use Rattle.std.specs.Prelude.{slice_set};
-ghost use Rattle.step_rules.specs.State.{no_part, without};
-ghost use Rattle.step_rules.specs.After.{with_listed, with_unlisted, paid, credited, with_back, with_report, absorbed};
-ghost use Rattle.step_rules.specs.After.{filled, drained};
+ghost use Rattle.step_rules.specs.{no_part, without, with_listed, with_unlisted, paid, credited, with_back};
+ghost use Rattle.step_rules.specs.{with_report, absorbed, filled, drained};
 ghost use Rattle.zone_blocks.specs.Config.{most_frames};
 ghost use Rattle.mem_core.specs.Rows.{part_in};
 ghost use Rattle.mem_core.specs.Rooms.{SeatHasRoom, KeepsCapacity, KeepsRoom};

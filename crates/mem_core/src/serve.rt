@@ -2,8 +2,7 @@
 
 ghost use Rattle.std.specs.Prelude.{◌≡◌, ◌<◌, ◌^◌, true};
 ghost use Rattle.step_rules.specs.declared.step.Answer.TheVariants.{Illegal};
-ghost use Rattle.step_rules.specs.Legal.{is_legal, Allows};
-ghost use Rattle.step_rules.specs.After.{after};
+ghost use Rattle.step_rules.specs.{is_legal, Allows, after};
 ghost use Rattle.mem_core.specs.Rows.{state_in};
 ghost use Rattle.mem_core.specs.Rooms.{AreasFor, FitsZone, IsBelowBounds, MakesOnRows, PlacesFront, pages_asked};
 

@@ -1,8 +1,7 @@
 //! Prepaid pages: each leaves a stock for a unit, or becomes pending again, as the rules say.
 
 ghost use Rattle.std.specs.Prelude.{◌≡◌, ◌≢◌, ◌+◌, ◌-◌, ◌<◌, ◌≤◌, ◌^◌, true, false, ℕ, Some, length};
-ghost use Rattle.step_rules.specs.After.{with_more};
-ghost use Rattle.step_rules.specs.Legal.{is_legal};
+ghost use Rattle.step_rules.specs.{with_more, is_legal};
 ghost use Rattle.step_rules.specs.declared.step.Action.{Action};
 ghost use Rattle.mem_core.specs.Rows.{state_in};
 ghost use Rattle.mem_core.specs.Rooms.{FitsZone, IsBelowBounds, MakesOnRows};

@@ -2,12 +2,10 @@
 //! change, and seats and groups at each call.
 
 ghost use Rattle.std.specs.Prelude.{◌≡◌, ◌+◌, ◌*◌, ◌^◌, ◌<◌, ◌≤◌, ℕ, length, IfNone, IfSome, IsTrue, true, if◌then◌else◌};
-ghost use Rattle.group_tree.specs.Groups.{has_group, in_subtree};
-ghost use Rattle.step_rules.specs.State.{live_references, pins_of};
-ghost use Rattle.step_rules.specs.Usage.{is_in_subtree, frames_kept, stock_in_subtree, pages_prepaid};
-ghost use Rattle.step_rules.specs.Usage.{pages_pending, usage_of};
-ghost use Rattle.group_tree.specs.Room.{has_room, PathHasRoom, IsLowestOver};
-ghost use Rattle.step_rules.specs.Legal.{is_of_group, rests, nothing_passes, no_frame_passes, no_page_pends};
+ghost use Rattle.group_tree.specs.{has_group, in_subtree, has_room, PathHasRoom, IsLowestOver};
+ghost use Rattle.step_rules.specs.{live_references, pins_of, is_in_subtree, frames_kept, stock_in_subtree};
+ghost use Rattle.step_rules.specs.{pages_prepaid, pages_pending, usage_of, is_of_group, rests, nothing_passes};
+ghost use Rattle.step_rules.specs.{no_frame_passes, no_page_pends};
 ghost use Rattle.mem_core.specs.Rows.{state_in};
 ghost use Rattle.zone_blocks.specs.Config.{most_frames};
 ghost use Rattle.std.specs.List.{slice_index_or};

@@ -5,14 +5,11 @@ use Rattle.group_charge.specs.Charges.{Ledger, peak_of}
 use Rattle.frame_word.specs.Seats.{KnownTable}
 use Rattle.step_rules.specs.declared.step.Step.{Step}
 use Rattle.step_rules.specs.declared.step.Answer.{Answer}
-use Rattle.step_rules.specs.After.{Run, state_of, IsLegalRun}
-use Rattle.step_rules.specs.Laws.{pushed}
-use Rattle.step_rules.specs.Peaks.{IsPeak}
+use Rattle.step_rules.specs.{Run, state_of, IsLegalRun, pushed, IsPeak}
 use Rattle.step_rules.proofs.Peaking.{peaks_are_kept}
 use Rattle.step_rules.proofs.Noting.{events_are_counted}
 use Rattle.boot_words.proofs.Holding.{allowed_at}
-use Rattle.mem_machine.specs.Interleaving.{zone_of}
-use Rattle.mem_machine.specs.Agreeing.{AgreesWithRun}
+use Rattle.mem_machine.specs.{zone_of, AgreesWithRun}
 use Rattle.mem_machine.proofs.Agreeing.{first_agrees}
 use Rattle.mem_machine.proofs.Followed.{is_still, still_peak, below_stays, at_stays}
 use Rattle.mem_history.specs.Kept.{ABootAgrees}

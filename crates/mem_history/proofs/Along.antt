@@ -7,10 +7,8 @@ use Rattle.std.proofs.lemmas.List.{append_assoc, append-nil}
 use Rattle.step_rules.specs.declared.step.Action.{Action}
 use Rattle.step_rules.specs.declared.step.Action.TheVariants.{Lock}
 use Rattle.step_rules.specs.declared.step.Answer.TheVariants.{Illegal}
-use Rattle.step_rules.specs.State.{Zone, State}
-use Rattle.step_rules.specs.Legal.{IsAnswer}
-use Rattle.step_rules.specs.After.{Run, after, state_of, IsLegalRun}
-use Rattle.step_rules.specs.Reaches.{IsInterleaved, IsLocalRun, MayFollow, is_own, own_steps}
+use Rattle.step_rules.specs.{Zone, IsAnswer, Run, after, state_of, IsLegalRun, IsInterleaved, IsLocalRun, MayFollow, is_own, own_steps}
+use Rattle.step_rules.specs.State.{State}
 use Rattle.step_rules.proofs.Own.{IsOwn}
 use Rattle.step_rules.proofs.Runs.{allowed, legal_from}
 use Rattle.boot_words.proofs.Holding.{allowed_at, take_length}

@@ -2,12 +2,9 @@
 use Rattle.std.proofs.Common.{◌≡◌, refl, sym, subst}
 use Rattle.cpu_part.specs.Cpus.{KnownCpu}
 use Rattle.step_rules.specs.State.{at_boot}
-use Rattle.boot_words.specs.Pasts.{KnownPasts}
-use Rattle.boot_words.specs.Hidden.{hide}
-use Rattle.mem_machine.specs.Machines.{left_by}
-use Rattle.mem_machine.specs.Interleaving.{zone_of}
-use Rattle.mem_history.specs.Whole.{IsPartAt}
-use Rattle.mem_history.specs.Kept.{ABootIsShown}
+use Rattle.boot_words.specs.{KnownPasts, hide}
+use Rattle.mem_machine.specs.{left_by, zone_of}
+use Rattle.mem_history.specs.{IsPartAt, ABootIsShown}
 
 pub a_boot_is_shown : ABootIsShown
 a_boot_is_shown t m cpus boot = record {

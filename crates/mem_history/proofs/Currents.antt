@@ -3,19 +3,15 @@ use Rattle.std.proofs.Common.{◌≡◌, ℕ, ◌+◌, List, sym, ◌∙◌, ap,
 use Rattle.frame_word.specs.Seats.{KnownTable}
 use Rattle.group_charge.specs.Charges.{AreCharges, current_of}
 use Rattle.cpu_part.specs.Cpus.{KnownCpu}
-use Rattle.step_rules.specs.Invariant.{KeepsInvariant, told_pages}
+use Rattle.step_rules.specs.{KeepsInvariant, told_pages, frames_kept, pages_prepaid, usage_of, Run, state_of}
 use Rattle.step_rules.specs.State.{State}
-use Rattle.step_rules.specs.Usage.{frames_kept, pages_prepaid, usage_of}
-use Rattle.step_rules.specs.After.{Run, state_of}
 use Rattle.step_rules.proofs.CoverUsage.{usage_seen}
 use Rattle.step_rules.proofs.Runs.{sound_run}
 use Rattle.step_rules.proofs.Freeing.{zone_of_run}
 use Rattle.step_rules.proofs.Settling.{nothing_pends}
-use Rattle.mem_machine.specs.Machines.{KnownMachine, IsConsistent, left_by}
-use Rattle.mem_machine.specs.Interleaving.{zone_of}
+use Rattle.mem_machine.specs.{KnownMachine, IsConsistent, left_by, zone_of}
 use Rattle.mem_machine.proofs.Usage.{usage_hidden, usage_left}
-use Rattle.mem_history.specs.Whole.{ShowsAll}
-use Rattle.mem_history.specs.Kept.{CurrentIsKept}
+use Rattle.mem_history.specs.{ShowsAll, CurrentIsKept}
 
 -- the ledger's number is the usage by the run
 pub current_is : (t : KnownTable) (run : Run) (m : KnownMachine) (cpus : List KnownCpu) → ShowsAll t run m cpus → IsConsistent t m → AreCharges m.ledger

@@ -4,23 +4,18 @@ use Rattle.std.specs.Prelude.{min, remove}
 use Rattle.frame_word.specs.Seats.{KnownTable}
 use Rattle.frame_word.specs.declared.answers.Put.{Put as Putted}
 use Rattle.frame_word.specs.declared.answers.Put.TheVariants as put
-use Rattle.cpu_part.specs.Calls.{UnpinAnswers}
-use Rattle.cpu_part.specs.Cpus.{KnownCpu}
-use Rattle.cpu_part.specs.Known.{HasOwn}
+use Rattle.cpu_part.specs.{UnpinAnswers, KnownCpu, HasOwn}
 use Rattle.cpu_part.proofs.Legal.{fresh_once, listed_once}
 use Rattle.cpu_part.proofs.Owning.{own_credited, own_last, own_left, own_pinned, own_took}
 use Rattle.step_rules.specs.declared.step.Action.{Action}
 use Rattle.step_rules.specs.declared.step.Action.TheVariants.{Get, Put, Consume, Credit}
 use Rattle.step_rules.specs.declared.step.Answer.{Answer}
 use Rattle.step_rules.specs.declared.step.Answer.TheVariants.{Held, Left, Last, Took, Stocked}
-use Rattle.step_rules.specs.Invariant.{KeepsInvariant}
+use Rattle.step_rules.specs.{KeepsInvariant, Run, after, state_of}
 use Rattle.step_rules.specs.State.{State}
-use Rattle.step_rules.specs.After.{Run, after, state_of}
 use Rattle.step_rules.proofs.Runs.{sound_run}
-use Rattle.mem_machine.specs.Machines.{KnownMachine}
-use Rattle.mem_machine.specs.Interleaving.{zone_of}
-use Rattle.mem_history.specs.Whole.{IsOwnStep}
-use Rattle.mem_history.specs.Leading.{FastCallsLead, IsPart, put_answer}
+use Rattle.mem_machine.specs.{KnownMachine, zone_of}
+use Rattle.mem_history.specs.{IsOwnStep, FastCallsLead, IsPart, put_answer}
 use Rattle.mem_history.proofs.Wholes.{not_zone}
 
 -- the part that the step makes is the later one

@@ -18,12 +18,9 @@ use Rattle.step_rules.specs.declared.phase.Phase.{Phase}
 use Rattle.step_rules.specs.declared.phase.Phase.TheVariants as phase
 use Rattle.step_rules.specs.Phases.{ListFrame, FreshFrame, has_as, keeper_of}
 use Rattle.step_rules.specs.Phases as phases
-use Rattle.step_rules.specs.State.{Zone, State, Part, Stock, one_if, is_cpu, free_in, times}
-use Rattle.step_rules.specs.After.{Run, state_of}
-use Rattle.step_rules.specs.Lent.{lent_to}
-use Rattle.step_rules.specs.Promise.{IsShown}
-use Rattle.step_rules.specs.Views.{other_part_seen}
-use Rattle.step_rules.specs.Invariant.{PhasePaid, groups_in, KeepsInvariant}
+use Rattle.step_rules.specs.{Zone, Part, Stock, one_if, is_cpu, free_in, times, Run, state_of, lent_to, IsShown, other_part_seen, PhasePaid}
+use Rattle.step_rules.specs.{groups_in, KeepsInvariant}
+use Rattle.step_rules.specs.State.{State}
 use Rattle.step_rules.proofs.PhaseLemmas.{listed_is, fresh_is}
 use Rattle.step_rules.proofs.Freeing.{zone_of_run}
 use Rattle.step_rules.proofs.LentTo.{frames_are_lent}
@@ -31,14 +28,10 @@ use Rattle.step_rules.proofs.Promising.{the_promise_is_kept}
 use Rattle.mem_machine.specs.declared.frame_state.FrameState.{FrameState}
 use Rattle.mem_machine.specs.declared.frame_state.FrameState.TheVariants.{Free, Lent, Head, Tail}
 use Rattle.mem_machine.specs.FrameStates as frame_states
-use Rattle.mem_machine.specs.FrameStates.{frame_state_at, free_of}
+use Rattle.mem_machine.specs.{frame_state_at, free_of, phase_hidden, KnownMachine, IsConsistent, left_by, part_at, stock_group, zone_of}
 use Rattle.step_rules.proofs.Runs.{sound_run}
 use Rattle.boot_words.specs.Hidden.{hide_phase}
-use Rattle.mem_machine.specs.FrameStates.{phase_hidden}
-use Rattle.mem_machine.specs.Machines.{KnownMachine, IsConsistent, left_by, part_at, stock_group}
-use Rattle.mem_machine.specs.Interleaving.{zone_of}
-use Rattle.mem_history.specs.Whole.{ShowsAll}
-use Rattle.mem_history.specs.Kept.{TheWholeIsPromised, list_by, fresh_frames_by, keeper_by, stock_by, shown_of}
+use Rattle.mem_history.specs.{ShowsAll, TheWholeIsPromised, list_by, fresh_frames_by, keeper_by, stock_by, shown_of}
 use Rattle.mem_history.proofs.Currents.{current_is}
 
 -- an entry of a list that is long enough

@@ -1,20 +1,15 @@
 -- What the CPU that has taken the lock sees is what the run shows it. Serves `the_holder_is_shown`, `lines_follow`.
 use Rattle.std.proofs.Common.{◌≡◌, ℕ, ◌+◌, List, length, sym, ◌∙◌, ap, subst, arith}
 use Rattle.frame_word.specs.Seats.{KnownTable}
-use Rattle.cpu_part.specs.Cpus.{KnownCpu}
-use Rattle.cpu_part.specs.Known.{HasOwn}
+use Rattle.cpu_part.specs.{KnownCpu, HasOwn}
 use Rattle.cpu_part.proofs.Owning.{own_unseen}
 use Rattle.step_rules.specs.declared.phase.Hold.{Hold}
 use Rattle.step_rules.specs.declared.phase.Hold.TheVariants.{HeldBy}
-use Rattle.step_rules.specs.State.{Part, State, Zone}
-use Rattle.step_rules.specs.After.{Run, state_of, IsLegalRun}
-use Rattle.step_rules.specs.Views.{other_part_seen, seen_by}
-use Rattle.boot_words.specs.Hidden.{hide, show_own}
-use Rattle.boot_words.specs.Pasts.{cpu_past}
+use Rattle.step_rules.specs.{Part, Zone, Run, state_of, IsLegalRun, other_part_seen, seen_by}
+use Rattle.step_rules.specs.State.{State}
+use Rattle.boot_words.specs.{hide, show_own, cpu_past}
 use Rattle.boot_words.proofs.Showing.{holder_sees_both}
-use Rattle.mem_machine.specs.Machines.{KnownMachine, VisitState, left_by}
-use Rattle.mem_machine.specs.Local.{local_of}
-use Rattle.mem_machine.specs.Interleaving.{zone_of}
+use Rattle.mem_machine.specs.{KnownMachine, VisitState, left_by, local_of, zone_of}
 use Rattle.mem_history.specs.Whole.{HasTakenLock, LeavesState}
 
 -- two parts with the same lists that look the same to others

@@ -4,16 +4,11 @@ use Rattle.std.specs.Option.{option_map_or}
 use Rattle.frame_word.specs.Seats.{KnownTable}
 use Rattle.group_charge.specs.Charges.{AreCharges, current_of}
 use Rattle.cpu_part.specs.Cpus.{KnownCpu, first_cpu}
-use Rattle.step_rules.specs.State.{Stock, times}
-use Rattle.step_rules.specs.Usage.{frames_kept, pages_prepaid}
-use Rattle.step_rules.specs.After.{Run, state_of}
-use Rattle.step_rules.specs.Promise.{Shown, Promise}
+use Rattle.step_rules.specs.{Stock, times, frames_kept, pages_prepaid, Run, state_of, Shown}
+use Rattle.step_rules.specs.Promise.{Promise}
 use Rattle.mem_machine.specs.declared.frame_state.FrameState.{FrameState}
 use Rattle.mem_machine.specs.declared.frame_state.FrameState.TheVariants.{Free, Lent, Head, Tail}
-use Rattle.mem_machine.specs.FrameStates.{frame_state_at}
-use Rattle.mem_machine.specs.Agreeing.{AgreesWithRun}
-use Rattle.mem_machine.specs.Machines.{KnownMachine, IsConsistent, IsFirst, part_at, stock_group}
-use Rattle.mem_machine.specs.Interleaving.{zone_of}
+use Rattle.mem_machine.specs.{frame_state_at, AgreesWithRun, KnownMachine, IsConsistent, IsFirst, part_at, stock_group, zone_of}
 use Rattle.mem_history.specs.Whole.{ShowsAll}
 
 -- ---- a new boot

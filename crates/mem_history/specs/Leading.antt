@@ -7,14 +7,12 @@ use Rattle.frame_word.specs.declared.answers.Put.TheVariants as put
 use Rattle.stock_word.specs.declared.view.Stock.{Stock}
 use Rattle.cpu_part.specs.declared.answers.Fast.TheVariants.{Got}
 use Rattle.cpu_part.specs.declared.answers.Dropped.TheVariants.{Listed}
-use Rattle.cpu_part.specs.Cpus.{KnownCpu}
-use Rattle.cpu_part.specs.Calls.{FastAnswers, DropAnswers, PinAnswers, UnpinAnswers}
+use Rattle.cpu_part.specs.{KnownCpu, FastAnswers, DropAnswers, PinAnswers, UnpinAnswers}
 use Rattle.step_rules.specs.declared.step.Action.TheVariants.{Get, Put, Consume, Credit}
 use Rattle.step_rules.specs.declared.step.Answer.{Answer}
 use Rattle.step_rules.specs.declared.step.Answer.TheVariants.{Held, Left, Last, Took, Stocked}
 use Rattle.step_rules.specs.After.{Run, state_of}
-use Rattle.mem_machine.specs.Machines.{KnownMachine}
-use Rattle.mem_machine.specs.Interleaving.{zone_of}
+use Rattle.mem_machine.specs.{KnownMachine, zone_of}
 use Rattle.mem_history.specs.Whole.{ShowsAll, IsOwnStep}
 
 -- the answer of the step Put, for what the part's put answered

@@ -1,20 +1,15 @@
 -- One run that shows the machine and the part of every CPU, and how a line continues it.
 use Rattle.std.specs.Prelude.{◌≡◌, ℕ, suc, true, Some, List, [], ◌∷◌, ◌++◌, length, slice_get, slice_set}
 use Rattle.frame_word.specs.Seats.{KnownTable}
-use Rattle.cpu_part.specs.Cpus.{KnownCpu}
-use Rattle.cpu_part.specs.Known.{HasOwn}
+use Rattle.cpu_part.specs.{KnownCpu, HasOwn}
 use Rattle.step_rules.specs.declared.step.Action.{Action}
 use Rattle.step_rules.specs.declared.step.Action.TheVariants.{Lock, Unlock}
 use Rattle.step_rules.specs.declared.step.Answer.{Answer}
 use Rattle.step_rules.specs.declared.step.Answer.TheVariants.{Done}
 use Rattle.step_rules.specs.State.{State, is_unheld}
 use Rattle.step_rules.specs.After.{Run, after, state_of, IsLegalRun}
-use Rattle.boot_words.specs.Hidden.{hide}
-use Rattle.boot_words.specs.Runs.{IsFast}
-use Rattle.mem_machine.specs.Agreeing.{AgreesWithRun}
-use Rattle.mem_machine.specs.Machines.{KnownMachine, VisitState, left_by, with_run}
-use Rattle.mem_machine.specs.Local.{Holds, IsShut, Makes}
-use Rattle.mem_machine.specs.Interleaving.{zone_of, Shows}
+use Rattle.boot_words.specs.{hide, IsFast}
+use Rattle.mem_machine.specs.{AgreesWithRun, KnownMachine, VisitState, left_by, with_run, Holds, IsShut, Makes, zone_of, Shows}
 use Rattle.mem_machine.specs.Steps.{cpu_makes}
 
 -- the machine's past left this state, except who holds the lock, with every CPU's own part hidden
@@ -50,7 +45,7 @@ TheSameIsShown = (table : KnownTable) (run : Run) (machine other : KnownMachine)
 -- the CPU whose part is at this index holds the lock, and its visit isn't open
 pub record HasTakenLock (table : KnownTable) (cpus : List KnownCpu) (index : ℕ) (now : VisitState) : Type 0 where
   pub is_part : slice_get cpus index ≡ Some now.cpu
-  pub holds : Holds table now
+  pub holds : Holds table now.machine now.cpu
   pub shut : IsShut table now.machine now.cpu.number
 
 -- if a run shows the whole and a CPU has taken the lock, the run with that Lock shows this CPU the machine
@@ -77,7 +72,7 @@ pub record ServesAt (table : KnownTable) (cpus : List KnownCpu) (index : ℕ)
     (before : VisitState) (steps : Run) (after : VisitState) : Type 0 where
   pub taken : HasTakenLock table cpus index before
   pub leads : Makes table before.machine steps after.machine
-  pub holds : Holds table after
+  pub holds : Holds table after.machine after.cpu
 
 -- if a run shows the whole and continues legally with the line, then the longer run shows the whole after the line
 abbrev pub LinesFollow : Type 0

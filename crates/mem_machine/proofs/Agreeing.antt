@@ -4,8 +4,7 @@ use Rattle.std.specs.Option.{option_map_or}
 use Rattle.std.proofs.lemmas.Bool.{cases_eq, ne_eqb, true≢false}
 use Rattle.frame_word.specs.Seats.{KnownTable}
 use Rattle.group_tree.specs.declared.event.EventKey.{EventKey}
-use Rattle.group_tree.specs.Events.{count_of, no_events}
-use Rattle.group_tree.specs.Groups.{has_group, initial_groups}
+use Rattle.group_tree.specs.{count_of, no_events, has_group, initial_groups}
 use Rattle.group_tree.proofs.EventLemmas.{none_counted}
 use Rattle.group_tree.proofs.GroupLemmas.{has_group-any}
 use Rattle.group_charge.specs.declared.account.Account.{Account}
@@ -13,8 +12,7 @@ use Rattle.group_charge.specs.Charges.{account_at, empty_account, events_local_o
 use Rattle.step_rules.specs.Peaks.{IsPeak}
 use Rattle.step_rules.proofs.Noting.{events_are_counted}
 use Rattle.step_rules.proofs.Peaking.{peaks_are_kept}
-use Rattle.mem_machine.specs.Agreeing.{AgreesWithRun}
-use Rattle.mem_machine.specs.Interleaving.{zone_of}
+use Rattle.mem_machine.specs.{AgreesWithRun, zone_of}
 
 -- the one account there, or none
 abbrev found : Bool → Option Account

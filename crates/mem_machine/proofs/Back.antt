@@ -2,39 +2,29 @@
 use Rattle.std.proofs.Common.{true, false, ◌≡◌, ℕ, ◌^◌, ◌<◌, ◌==◌, Bool, Option, None, List, [], ◌∷◌, length, get_or, refl, sym, ap, ◌∙◌, subst, arith}
 use Rattle.std.proofs.lemmas.List.{get_or_default}
 use Rattle.zone_blocks.specs.declared.block.Block.{Block}
-use Rattle.zone_blocks.specs.Areas.{AreMaximalBlocks}
-use Rattle.zone_blocks.specs.Zone.{GivesFrames}
+use Rattle.zone_blocks.specs.{AreMaximalBlocks, GivesFrames}
 use Rattle.frame_word.specs.Seats.{KnownTable}
 use Rattle.group_charge.specs.Charges.{Ledger, with_uncharge}
 use Rattle.group_charge.proofs.CallerLemmas.{uncharge_peaks, uncharge_events}
-use Rattle.boot_words.specs.Hidden.{hide, hide_phase}
-use Rattle.boot_words.specs.Pasts.{IsHeld, IsHolder, MakesStep, MayMake}
-use Rattle.cpu_part.specs.Calls.{PassesBackUnit}
-use Rattle.cpu_part.specs.Cpus.{KnownCpu}
+use Rattle.boot_words.specs.{hide, hide_phase, IsHeld, IsHolder, MakesStep, MayMake}
+use Rattle.cpu_part.specs.{PassesBackUnit, KnownCpu}
 use Rattle.step_rules.specs.declared.phase.ChargedUnit.{ChargedUnit}
 use Rattle.step_rules.specs.declared.phase.Stage.TheVariants.{AwaitsReturn, BackAt}
 use Rattle.step_rules.specs.declared.phase.Phase.TheVariants as phase
 use Rattle.step_rules.specs.declared.step.Action.TheVariants.{PassBack, Collect, Return}
 use Rattle.step_rules.specs.declared.step.Answer.TheVariants.{Done}
-use Rattle.step_rules.specs.Invariant.{told_pages}
-use Rattle.step_rules.specs.State.{Part, State, Zone, one_if, times, with_at}
-use Rattle.step_rules.specs.After.{without_unit}
-use Rattle.step_rules.specs.Reaches.{IsLocalRun}
+use Rattle.step_rules.specs.{told_pages, Part, Zone, one_if, times, with_at, without_unit, IsLocalRun}
+use Rattle.step_rules.specs.State.{State}
 use Rattle.step_rules.proofs.Lists.{times_same, without_front, without_none}
 use Rattle.step_rules.proofs.SoundSteps.{below_frames}
 use Rattle.step_watch.specs.Watched.{Watches}
 use Rattle.mem_machine.specs.declared.frame_state.FrameState.{FrameState}
 use Rattle.mem_machine.specs.declared.frame_state.FrameState.TheVariants.{Head}
 use Rattle.mem_machine.specs.declared.counts.Counts.{Counts}
-use Rattle.mem_machine.specs.Booked.{AreBooked, AreOwners}
-use Rattle.mem_machine.specs.FrameStates.{frame_state_at, free_of, phase_hidden}
-use Rattle.mem_machine.specs.Machines.{KnownMachine, IsConsistent, IsShownBy, BalancesCounts, home_of, left_by, pages_booked}
-use Rattle.mem_machine.specs.Local.{Visits, local_of, visit_state}
-use Rattle.mem_machine.specs.Noted.{AreLocal, KnownRun, MayTake, Notes}
+use Rattle.mem_machine.specs.{AreBooked, AreOwners, frame_state_at, free_of, phase_hidden, KnownMachine, IsConsistent, IsShownBy, BalancesCounts}
+use Rattle.mem_machine.specs.{home_of, left_by, pages_booked, Visits, local_of, AreLocal, KnownRun, MayTake, Notes, FreesFrames, ReturnsBack}
+use Rattle.mem_machine.specs.{return_steps, with_last_put}
 use Rattle.mem_machine.specs.Steps.{zone_makes, cpu_makes}
-use Rattle.mem_machine.specs.Freeing.{FreesFrames}
-use Rattle.mem_machine.specs.Settling.{ReturnsBack, return_steps}
-use Rattle.mem_machine.specs.Counts.{with_last_put}
 use Rattle.mem_machine.proofs.Balances.{balanced_last_put}
 use Rattle.mem_machine.proofs.Counted.{comes_back}
 use Rattle.mem_machine.proofs.Followed.{follows_still}
@@ -46,7 +36,7 @@ use Rattle.mem_machine.proofs.Noted.{notes_both, notes_one, run_steps}
 use Rattle.mem_machine.proofs.OwnFrames.{HasFrame}
 use Rattle.mem_machine.proofs.Sight.{left_seen, shown_seen}
 
-module _ (t : KnownTable) (m : KnownMachine) (c : KnownCpu) (ok : IsConsistent t m) (visit : Visits t (visit_state m c)) (f : ℕ) (rest : List ℕ) (front : c.back ≡ f ∷ rest) where
+module _ (t : KnownTable) (m : KnownMachine) (c : KnownCpu) (ok : IsConsistent t m) (visit : Visits t m c) (f : ℕ) (rest : List ℕ) (front : c.back ≡ f ∷ rest) where
   shown : IsShownBy t m (hide (local_of t m))
   shown = shown_seen t m ok visit.held
 
@@ -159,8 +149,8 @@ module _ (t : KnownTable) (m : KnownMachine) (c : KnownCpu) (ok : IsConsistent t
 
 -- ---- of the machine as it was seen before
 
-module _ (t : KnownTable) (m now : KnownMachine) (same : m ≡ now) (c : KnownCpu) (visit_now : Visits t (visit_state now c)) (ok : IsConsistent t m) where
-  visit : Visits t (visit_state m c)
+module _ (t : KnownTable) (m now : KnownMachine) (same : m ≡ now) (c : KnownCpu) (visit_now : Visits t now c) (ok : IsConsistent t m) where
+  visit : Visits t m c
   visit = visits_here t m now same c visit_now
 
   module _ (f : ℕ) (rest : List ℕ) (front : c.back ≡ f ∷ rest) where

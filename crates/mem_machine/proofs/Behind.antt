@@ -9,16 +9,12 @@ use Rattle.step_rules.specs.declared.step.Action.{Action}
 use Rattle.step_rules.specs.declared.step.Action.TheVariants.{DrainStock}
 use Rattle.step_rules.specs.declared.step.Answer.{Answer}
 use Rattle.step_rules.specs.declared.step.Answer.TheVariants.{Pages}
-use Rattle.step_rules.specs.State.{Part, State, Zone}
-use Rattle.step_rules.specs.Legal.{Allows}
-use Rattle.step_rules.specs.After.{Run, state_of, IsLegalRun}
-use Rattle.step_rules.specs.Views.{other_part_seen, seen_by}
+use Rattle.step_rules.specs.{Part, Zone, Allows, Run, state_of, IsLegalRun, other_part_seen, seen_by}
+use Rattle.step_rules.specs.State.{State}
 use Rattle.step_rules.proofs.CoverParts.{part_seen}
 use Rattle.step_rules.proofs.Keeping.{keepers_are_there}
 use Rattle.step_rules.proofs.Runs.{legal_from, sound_run}
-use Rattle.boot_words.specs.Runs.{HasNoStepOf}
-use Rattle.boot_words.specs.Pasts.{KnownPasts, IsHeld, MakesStep, cpu_past, local_by_pasts, own_past}
-use Rattle.boot_words.specs.Seats.{zone_of_boot}
+use Rattle.boot_words.specs.{HasNoStepOf, KnownPasts, IsHeld, MakesStep, cpu_past, local_by_pasts, own_past, zone_of_boot}
 use Rattle.boot_words.proofs.Holding.{allowed_at, still_shows, take_length}
 
 -- a legal run that shows the holder what it saw, and allows the step

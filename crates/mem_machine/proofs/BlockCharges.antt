@@ -9,9 +9,7 @@ use Rattle.step_rules.proofs.Placing.{within_cases}
 use Rattle.step_rules.proofs.Sums.{sum_same, sum_both, sum_none}
 use Rattle.mem_machine.specs.declared.frame_state.FrameState.{FrameState}
 use Rattle.mem_machine.specs.declared.frame_state.FrameState.TheVariants.{Head, Tail}
-use Rattle.mem_machine.specs.FrameStates.{frame_state_at, frame_state_group, one_if_is}
-use Rattle.mem_machine.specs.Machines.{frames_charged}
-use Rattle.mem_machine.specs.Blocks.{PlacesUnit}
+use Rattle.mem_machine.specs.{frame_state_at, frame_state_group, one_if_is, frames_charged, PlacesUnit}
 use Rattle.mem_machine.proofs.PlacesUnits.{in_block, off_block}
 
 -- ---- how many numbers lie in a range

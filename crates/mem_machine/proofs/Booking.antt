@@ -7,9 +7,7 @@ use Rattle.std.proofs.lemmas.List.{get_or-set_same, get_or-set_other, length-set
 use Rattle.step_rules.specs.State.{Part, sum_to, with_at}
 use Rattle.step_rules.proofs.Basics.{at_through}
 use Rattle.step_rules.proofs.Sums.{sum_change, sum_part}
-use Rattle.mem_machine.specs.FrameStates.{one_if_is}
-use Rattle.mem_machine.specs.Machines.{booked, pages_booked}
-use Rattle.mem_machine.specs.Booked.{AreBooked}
+use Rattle.mem_machine.specs.{one_if_is, booked, pages_booked, AreBooked}
 
 -- ---- what one stock counts
 

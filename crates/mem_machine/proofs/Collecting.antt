@@ -1,14 +1,11 @@
 -- The steps by which the zone takes over a fresh frame. Serves `collect_fresh`.
 use Rattle.std.proofs.Common.{◌≡◌, ℕ, List, ◌∷◌, sym, ap, ◌∙◌, subst}
 use Rattle.frame_word.specs.Seats.{KnownTable}
-use Rattle.boot_words.specs.Composed.{MakesInTurn, take_back_run}
-use Rattle.boot_words.specs.Pasts.{KnownPasts, IsHeld}
-use Rattle.cpu_part.specs.Calls.{PassesFresh}
-use Rattle.cpu_part.specs.Cpus.{KnownCpu}
+use Rattle.boot_words.specs.{MakesInTurn, take_back_run, KnownPasts, IsHeld}
+use Rattle.cpu_part.specs.{PassesFresh, KnownCpu}
 use Rattle.cpu_part.proofs.CallerLemmas.{makes_each}
 use Rattle.step_watch.specs.Watched.{KnownWatch, Watches}
-use Rattle.mem_machine.specs.Noted.{KnownRun, Notes}
-use Rattle.mem_machine.specs.Settling.{HandsOver, collect_steps}
+use Rattle.mem_machine.specs.{KnownRun, Notes, HandsOver, collect_steps}
 use Rattle.mem_machine.proofs.Noted.{all_grow}
 
 -- they were made, and the watch took them

@@ -6,14 +6,11 @@ use Rattle.step_rules.specs.declared.phase.Phase.{Phase}
 use Rattle.step_rules.specs.declared.phase.Phase.TheVariants as phase
 use Rattle.step_rules.specs.declared.step.Action.TheVariants.{Put, Return}
 use Rattle.step_rules.specs.declared.step.Answer.TheVariants.{Done, Last}
-use Rattle.step_rules.specs.Phases.{at_stage, passed_back, collected}
-use Rattle.step_rules.specs.State.{State, with_at}
-use Rattle.step_rules.specs.Returns.{is_killed_return_phase}
-use Rattle.step_rules.specs.After.{after}
+use Rattle.step_rules.specs.{at_stage, passed_back, collected, with_at, is_killed_return_phase, after}
+use Rattle.step_rules.specs.State.{State}
 use Rattle.step_rules.proofs.Basics.{at_same}
 use Rattle.mem_machine.specs.declared.counts.Counts.{Counts}
-use Rattle.mem_machine.specs.Counts.{with_killed_fresh}
-use Rattle.mem_machine.specs.Counting.{counts_after, is_back_passing, one_more_last_put, one_more_return}
+use Rattle.mem_machine.specs.{with_killed_fresh, counts_after, is_back_passing, one_more_last_put, one_more_return}
 
 module _ (s : State) (f : ℕ) (x : Phase) (is : s.phases f ≡ x) where
   -- the phases after the frame was passed back

@@ -2,8 +2,7 @@
 use Rattle.std.proofs.Common.{◌≡◌, ◌≢◌, ℕ, zero, suc, ◌<◌, ◌≤◌, ◌⊎◌, inl, inr, ⊎_elim, List, Option, Some, None, true, false, IsTrue, refl, sym, ap, ◌∙◌, arith}
 use Rattle.std.proofs.lemmas.Bool.{cases_Bool, false_from_ne_true, false≢true}
 use Rattle.group_tree.specs.declared.group.Group.{Group}
-use Rattle.group_tree.specs.Ancestors.{depth_at}
-use Rattle.group_tree.specs.Groups.{AreGroups, has_group, in_subtree, parent_of}
+use Rattle.group_tree.specs.{depth_at, AreGroups, has_group, in_subtree, parent_of}
 use Rattle.group_tree.proofs.AncestorLemmas.{parent-depth_at, parent_of-none_root}
 use Rattle.group_tree.proofs.CallerLemmas.{in_subtree-above, in_subtree-above_parent, in_subtree-antisym, in_subtree-below, in_subtree-parent_of, in_subtree-refl, in_subtree-root, in_subtree-trans}
 

@@ -10,10 +10,8 @@ use Rattle.lru_lists.specs.declared.record.LruList.{LruList}
 use Rattle.lru_lists.specs.declared.record.LruList.TheVariants.{Inactive, Active}
 use Rattle.lru_lists.specs.declared.lru.Lru.{Lru}
 use Rattle.lru_lists.specs.Lists.{OthersStayLinked, OneOfAllChanges, AreLinked, AllLinked, ChangesOwn, list_of, list_at, entries_of, changed_at, dirtied}
-use Rattle.mem_machine.specs.FrameStates.{frame_state_at, head_group_of}
-use Rattle.mem_machine.specs.Machines.{KnownMachine, IsConsistent, OthersStay, home_of, lists_at, no_lists, group_lists, lists_of}
-use Rattle.mem_machine.specs.Marks.{Dirties}
-use Rattle.mem_machine.specs.Local.{Makes}
+use Rattle.mem_machine.specs.{frame_state_at, head_group_of, KnownMachine, IsConsistent, OthersStay, home_of, lists_at, no_lists, group_lists}
+use Rattle.mem_machine.specs.{lists_of, Dirties, Makes}
 use Rattle.mem_machine.proofs.Listed.{dirtied_owners, lists_consistent, place_here, unlisted_stay, others_stay}
 use Rattle.mem_machine.proofs.Followed.{makes_stay}
 

@@ -5,28 +5,20 @@ use Rattle.std.specs.Prelude.{slice_set}
 use Rattle.frame_word.specs.Seats.{KnownTable}
 use Rattle.group_tree.specs.Groups.{has_group}
 use Rattle.group_charge.specs.declared.note.Note.TheVariants.{Stock}
-use Rattle.group_charge.specs.Charges.{Ledger, pages_of}
-use Rattle.group_charge.specs.Notes.{KnownNotes, noted}
+use Rattle.group_charge.specs.{Ledger, pages_of, KnownNotes, noted}
 use Rattle.group_charge.proofs.CallerLemmas.{uncharge_pages}
 use Rattle.step_rules.specs.declared.step.Action.TheVariants.{DrainStock, Ungrant}
 use Rattle.step_rules.specs.declared.step.Answer.TheVariants.{Done, Pages}
-use Rattle.step_rules.specs.Invariant.{told_pages}
-use Rattle.step_rules.specs.State.{Part, State, with_at}
-use Rattle.step_rules.specs.After.{Run, drained}
-use Rattle.step_rules.specs.Reaches.{IsLocalRun}
+use Rattle.step_rules.specs.{told_pages, Part, with_at, Run, drained, IsLocalRun}
+use Rattle.step_rules.specs.State.{State}
 use Rattle.step_rules.proofs.Basics.{at_each}
-use Rattle.boot_words.specs.Hidden.{hide}
-use Rattle.boot_words.specs.Pasts.{KnownPasts, IsHeld, MakesStep, MayMake, cpu_past}
-use Rattle.boot_words.specs.Sight.{HasSameLists}
+use Rattle.boot_words.specs.{hide, KnownPasts, IsHeld, MakesStep, MayMake, cpu_past, HasSameLists}
 use Rattle.step_watch.specs.Watched.{KnownWatch, Watches}
 use Rattle.mem_machine.specs.declared.machine.Machine.TheInside.{Inside}
-use Rattle.mem_machine.specs.Booked.{AreBooked, AreOwners}
-use Rattle.mem_machine.specs.Kept.{IsSoundMachine, machine_of}
-use Rattle.mem_machine.specs.Local.{Makes, StaysVisited, lock_holder, local_of}
-use Rattle.mem_machine.specs.Machines.{KnownMachine, IsConsistent, IsCpuOf, IsShownBy, frames_charged, left_by, pages_booked, stock_group}
-use Rattle.mem_machine.specs.Noted.{AreLocal, KnownRun, MayTake, MayTakeAll, Notes, after_made}
-use Rattle.mem_machine.specs.Steps.{drain_steps, zone_makes}
-use Rattle.mem_machine.specs.Stocks.{Drains, DrainsNoted, uncharged}
+use Rattle.mem_machine.specs.{AreBooked, AreOwners, IsSoundMachine, machine_of, Makes, StaysVisited, lock_holder, local_of, KnownMachine}
+use Rattle.mem_machine.specs.{IsConsistent, IsCpuOf, IsShownBy, frames_charged, left_by, pages_booked, stock_group, AreLocal, KnownRun, MayTake}
+use Rattle.mem_machine.specs.{MayTakeAll, Notes, after_made, drain_steps, Drains, DrainsNoted, uncharged}
+use Rattle.mem_machine.specs.Steps.{zone_makes}
 use Rattle.mem_machine.proofs.AtTable.{made_at}
 use Rattle.mem_machine.proofs.Behind.{FitsDrain, fits_drain}
 use Rattle.mem_machine.proofs.Booking.{book_within, books_less, books_none, books_same, sums_less, sums_same}

@@ -11,23 +11,14 @@ use Rattle.group_charge.specs.Charges.{Ledger, AreCharges, account_at, pages_of,
 use Rattle.group_charge.proofs.CallerLemmas.{has_account, uncharge_events, uncharge_peaks}
 use Rattle.step_rules.specs.declared.step.Action.TheVariants.{DrainStock, Ungrant}
 use Rattle.step_rules.specs.declared.step.Answer.TheVariants.{Done, Pages}
-use Rattle.step_rules.specs.State.{Part, State, Zone, is_cpu, with_at}
-use Rattle.step_rules.specs.Legal.{is_legal}
-use Rattle.step_rules.specs.Laws.{IsLocalStep}
-use Rattle.step_rules.specs.After.{after, drained, with_more, with_part}
-use Rattle.step_rules.specs.Reaches.{IsLocalRun}
-use Rattle.step_rules.specs.Views.{other_part_seen}
+use Rattle.step_rules.specs.{Part, Zone, is_cpu, with_at, is_legal, IsLocalStep, after, drained, with_more, with_part, IsLocalRun, other_part_seen}
+use Rattle.step_rules.specs.State.{State}
 use Rattle.step_rules.proofs.Basics.{at_each, at_other, at_same}
 use Rattle.step_rules.proofs.LegalTests.{drain_stock_tests}
-use Rattle.boot_words.specs.Hidden.{hide}
-use Rattle.boot_words.specs.Pasts.{KnownPasts, IsHeld, MayMake}
-use Rattle.boot_words.specs.Sight.{HasSameLists}
+use Rattle.boot_words.specs.{hide, KnownPasts, IsHeld, MayMake, HasSameLists}
 use Rattle.mem_machine.specs.declared.counts.Counts.{Counts}
-use Rattle.mem_machine.specs.Counting.{counts_along}
-use Rattle.mem_machine.specs.Following.{FollowsSteps}
-use Rattle.mem_machine.specs.Machines.{IsCpuOf}
-use Rattle.mem_machine.specs.Steps.{drain_steps, ungrant_steps, zone_makes}
-use Rattle.mem_machine.specs.Stocks.{uncharged}
+use Rattle.mem_machine.specs.{counts_along, FollowsSteps, IsCpuOf, drain_steps, ungrant_steps, uncharged}
+use Rattle.mem_machine.specs.Steps.{zone_makes}
 use Rattle.mem_machine.proofs.Behind.{FitsDrain}
 use Rattle.mem_machine.proofs.Followed.{follows_same, follows_still}
 use Rattle.mem_machine.proofs.Made.{zone_acts, zone_seen}

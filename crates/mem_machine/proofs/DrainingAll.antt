@@ -18,10 +18,9 @@ use Rattle.group_charge.proofs.SumLemmas.{share}
 use Rattle.step_rules.specs.State.{Part, State}
 use Rattle.step_rules.specs.After.{Run, drained}
 use Rattle.step_rules.proofs.Basics.{at_other, at_same}
-use Rattle.mem_machine.specs.Machines.{KnownMachine, part_at, stock_group}
-use Rattle.mem_machine.specs.Local.{Makes, StaysVisited}
-use Rattle.mem_machine.specs.Steps.{Drain, drain_steps, drain_stocks_steps, pages_drained}
-use Rattle.mem_machine.specs.Stocks.{AreChosen, AreChosenBySome, AreDrainedIf, Drains, DrainsAllIf, DrainsBySteps, DrainsIf, DrainsNoted, HasDrained, IsDrained, StockTest, uncharged}
+use Rattle.mem_machine.specs.{KnownMachine, part_at, stock_group, Makes, StaysVisited, Drain, drain_steps, drain_stocks_steps, pages_drained}
+use Rattle.mem_machine.specs.{AreChosen, AreChosenBySome, AreDrainedIf, Drains, DrainsAllIf, DrainsBySteps, DrainsIf, DrainsNoted, HasDrained}
+use Rattle.mem_machine.specs.{IsDrained, StockTest, uncharged}
 use Rattle.mem_machine.proofs.Draining.{groups_stay}
 use Rattle.mem_machine.proofs.Followed.{makes_both, makes_none}
 

@@ -2,11 +2,9 @@
 use Rattle.std.proofs.Common.{◌≡◌, ◌≢◌, ℕ, ◌^◌, ◌<◌, Bool, true, Option, Some, None, List, length, refl, sym, ap, ◌∙◌, subst}
 use Rattle.std.specs.Prelude.{IfSome}
 use Rattle.zone_blocks.specs.declared.block.Block.{Block}
-use Rattle.zone_blocks.specs.Areas.{AreMaximalBlocks}
-use Rattle.zone_blocks.specs.Zone.{GivesFrames}
+use Rattle.zone_blocks.specs.{AreMaximalBlocks, GivesFrames}
 use Rattle.frame_word.specs.Seats.{KnownTable}
-use Rattle.group_charge.specs.Charges.{Ledger, UsageRises, with_uncharge}
-use Rattle.group_charge.specs.Notes.{KnownNotes, unit_noted}
+use Rattle.group_charge.specs.{Ledger, UsageRises, with_uncharge, KnownNotes, unit_noted}
 use Rattle.group_charge.proofs.CallerLemmas.{uncharge_events, uncharge_peaks}
 use Rattle.lru_lists.specs.declared.record.Link.{Link}
 use Rattle.lru_lists.specs.declared.record.Home.{Home}
@@ -15,22 +13,15 @@ use Rattle.lru_lists.specs.Lists.{AllLinked}
 use Rattle.step_rules.specs.declared.phase.ChargedUnit.{ChargedUnit}
 use Rattle.step_rules.specs.declared.step.Action.TheVariants.{Freeze, Return}
 use Rattle.step_rules.specs.declared.step.Answer.TheVariants as answer
-use Rattle.step_rules.specs.After.{Run, after}
-use Rattle.step_rules.specs.Legal.{is_legal}
+use Rattle.step_rules.specs.{Run, after, is_legal}
 use Rattle.step_rules.proofs.Basics.{at_other}
 use Rattle.boot_words.specs.Pasts.{IsHeld, MayMake, cpu_past, local_by_pasts}
 use Rattle.mem_machine.specs.declared.counts.Counts.{Counts}
 use Rattle.mem_machine.specs.declared.frame_state.FrameState.{FrameState}
 use Rattle.mem_machine.specs.declared.frame_state.FrameState.TheVariants.{Head}
-use Rattle.mem_machine.specs.FrameStates.{frame_state_at, free_of, head_group_of}
-use Rattle.mem_machine.specs.Machines.{KnownMachine, IsConsistent, IsShownBy, group_lists, home_of, lists_of}
-use Rattle.mem_machine.specs.Local.{Makes, StaysVisited, local_of}
-use Rattle.mem_machine.specs.Noted.{KnownRun, Notes}
-use Rattle.mem_machine.specs.Freeing.{FreesFrames}
-use Rattle.mem_machine.specs.Counts.{with_freeze, with_miss}
-use Rattle.mem_machine.specs.Counting.{one_more_freeze}
-use Rattle.mem_machine.specs.Lists.{LeavesList}
-use Rattle.mem_machine.specs.Evicting.{EvictsUnit, MissesUnit, evict_steps}
+use Rattle.mem_machine.specs.{frame_state_at, free_of, head_group_of, KnownMachine, IsConsistent, IsShownBy, group_lists, home_of, lists_of, Makes}
+use Rattle.mem_machine.specs.{StaysVisited, local_of, KnownRun, Notes, FreesFrames, with_freeze, with_miss, one_more_freeze, LeavesList, EvictsUnit}
+use Rattle.mem_machine.specs.{MissesUnit, evict_steps}
 use Rattle.mem_machine.proofs.Balances.{balanced_freeze}
 use Rattle.mem_machine.proofs.Counted.{returned_ended}
 use Rattle.mem_machine.proofs.Followed.{follows_same, follows_still}

@@ -11,24 +11,17 @@ use Rattle.group_charge.specs.Notes.{no_notes}
 use Rattle.lru_lists.specs.declared.record.Link.{Link}
 use Rattle.lru_lists.specs.declared.record.Home.{Home}
 use Rattle.lru_lists.specs.declared.lru.Lru.{Lru}
-use Rattle.lru_lists.specs.Lists.{AllLinked, AreLinked, HasNoUnits, list_at}
-use Rattle.lru_lists.specs.Queue.{AreNowhere}
+use Rattle.lru_lists.specs.{AllLinked, AreLinked, HasNoUnits, list_at, AreNowhere}
 use Rattle.step_rules.specs.declared.phase.ChargedUnit.{ChargedUnit}
 use Rattle.step_rules.proofs.Sums.{sum_none}
 use Rattle.mem_machine.specs.declared.frame_state.FrameState.{FrameState}
 use Rattle.mem_machine.specs.declared.frame_state.FrameState.TheVariants.{Free, Head, Tail}
-use Rattle.mem_machine.specs.FrameStates.{frame_state_at, free_of, frame_state_group, one_if_is, phase_hidden, AreUnits}
-use Rattle.mem_machine.specs.Start.{AreEmpty}
-use Rattle.mem_machine.specs.Counts.{no_counts}
-use Rattle.mem_machine.specs.Machines.{KnownMachine, FitsFrameState, IsConsistent, IsFirst, IsShownBy, BalancesCounts, home_of, frames_charged, left_by, pages_booked, booked}
+use Rattle.mem_machine.specs.{frame_state_at, free_of, frame_state_group, one_if_is, phase_hidden, AreUnits, AreEmpty, no_counts, KnownMachine}
+use Rattle.mem_machine.specs.{FitsFrameState, IsConsistent, IsFirst, IsShownBy, BalancesCounts, home_of, frames_charged, left_by, pages_booked}
+use Rattle.mem_machine.specs.{booked, AreBooked, AreOwners, Rests}
 use Rattle.step_rules.specs.State.{State, Zone, at_boot, is_unheld, one_if}
 use Rattle.step_rules.specs.After.{state_of}
-use Rattle.boot_words.specs.Hidden.{hide}
-use Rattle.boot_words.specs.Pasts.{IsZonePast, KnownPasts, own_past}
-use Rattle.boot_words.specs.Opening.{seat_at_first}
-use Rattle.boot_words.specs.Seats.{zone_of_boot}
-use Rattle.mem_machine.specs.Booked.{AreBooked, AreOwners}
-use Rattle.mem_machine.specs.Resting.{Rests}
+use Rattle.boot_words.specs.{hide, IsZonePast, KnownPasts, own_past, seat_at_first, zone_of_boot}
 
 pub empty_none : (lists : List Lru) → lists ≡ [] → AreEmpty lists 0
 empty_none lists none = record {

@@ -6,9 +6,7 @@ use Rattle.std.proofs.lemmas.List.Sums.{fold-append}
 use Rattle.std.proofs.lemmas.Bool.{cases_eq, cases_Bool, and_parts, true≢false, false≢true}
 use Rattle.group_tree.specs.declared.event.EventKey.{EventKey}
 use Rattle.group_tree.specs.declared.group.Group.{Group}
-use Rattle.group_tree.specs.Events.{EventCounts, count_of}
-use Rattle.group_tree.specs.Groups.{has_group, without_group}
-use Rattle.group_tree.specs.Room.{one_more}
+use Rattle.group_tree.specs.{EventCounts, count_of, has_group, without_group, one_more}
 use Rattle.group_tree.proofs.CallerLemmas.{has_group-with, has_group-limited, has_group-flagged, has_group-without}
 use Rattle.group_charge.specs.Charges.{Ledger, SamePeaks, SameEvents}
 use Rattle.frame_word.specs.Seats.{KnownTable}
@@ -18,21 +16,14 @@ use Rattle.step_rules.specs.declared.step.Action.TheVariants.{Lock, Grant, SetMa
 use Rattle.step_rules.specs.declared.step.Answer.{Answer}
 use Rattle.step_rules.specs.declared.step.Answer.TheVariants.{Illegal, Done, Granted, Number}
 use Rattle.step_rules.specs.State.{State}
-use Rattle.step_rules.specs.After.{Run, after}
-use Rattle.step_rules.specs.Peaks.{peak_follows}
-use Rattle.step_rules.specs.Reaches.{IsLocalRun}
-use Rattle.step_rules.specs.Events.{event_of, noted_at, is_noted_at, is_noted_in_subtree, makes_group}
-use Rattle.step_rules.specs.Usage.{is_in_subtree}
-use Rattle.step_rules.specs.Legal.{is_of_group}
+use Rattle.step_rules.specs.{Run, after, peak_follows, IsLocalRun, event_of, noted_at, is_noted_at, is_noted_in_subtree, makes_group, is_in_subtree}
+use Rattle.step_rules.specs.{is_of_group}
 use Rattle.step_rules.proofs.CallerLemmas.{noted_nowhere}
 use Rattle.step_rules.proofs.Moving.{gone_itself}
 use Rattle.boot_words.specs.Pasts.{cpu_past, local_by_pasts}
-use Rattle.mem_machine.specs.Following.{Moves, moved_along, moves_peak, moves_count, ExistsAfter, FollowsSteps}
+use Rattle.mem_machine.specs.{Moves, moved_along, moves_peak, moves_count, ExistsAfter, FollowsSteps, counts_after, counts_along, KnownMachine, Makes}
+use Rattle.mem_machine.specs.{lock_holder, local_of, KnownRun, Notes, after_made}
 use Rattle.mem_machine.specs.declared.counts.Counts.{Counts}
-use Rattle.mem_machine.specs.Counting.{counts_after, counts_along}
-use Rattle.mem_machine.specs.Machines.{KnownMachine}
-use Rattle.mem_machine.specs.Local.{Makes, lock_holder, local_of}
-use Rattle.mem_machine.specs.Noted.{KnownRun, Notes, after_made}
 use Rattle.mem_machine.proofs.Noted.{notes_none, notes_both, run_ends}
 use Rattle.mem_machine.proofs.Reaching.{run_both}
 

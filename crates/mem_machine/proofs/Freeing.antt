@@ -8,8 +8,7 @@ use Rattle.std.proofs.lemmas.Bool.{cases_eq, cases_lt, ne_eqb, cond-true, cond-f
 use Rattle.std.proofs.lemmas.Option.{none-some}
 use Rattle.std.proofs.lemmas.Nat.{pow_pos}
 use Rattle.std.proofs.lemmas.List.{get_or-set_same, get_or-set_other, length-set, ext_get_or}
-use Rattle.zone_blocks.specs.Block.{IsBlock}
-use Rattle.zone_blocks.specs.Zone.{GivesFrames, IsInUse}
+use Rattle.zone_blocks.specs.{IsBlock, GivesFrames, IsInUse}
 use Rattle.frame_word.specs.Seats.{KnownTable}
 use Rattle.group_charge.specs.Charges.{pages_of, with_uncharge}
 use Rattle.group_charge.proofs.CallerLemmas.{uncharge_pages}
@@ -18,17 +17,15 @@ use Rattle.lru_lists.specs.declared.record.Home.{Home}
 use Rattle.step_rules.specs.declared.phase.ChargedUnit.{ChargedUnit}
 use Rattle.step_rules.specs.declared.phase.Phase.{Phase}
 use Rattle.step_rules.specs.declared.phase.Phase.TheVariants as phase
-use Rattle.step_rules.specs.Phases.{unit_of}
-use Rattle.step_rules.specs.State.{sum_to, one_if}
-use Rattle.step_rules.specs.After.{is_within, unit_size, without_unit}
+use Rattle.step_rules.specs.{unit_of, one_if, is_within, unit_size, without_unit}
+use Rattle.step_rules.specs.State.{sum_to}
 use Rattle.step_rules.proofs.Sums.{sum_same, sum_both, sum_none}
 use Rattle.step_rules.proofs.Placing.{within_cases}
 use Rattle.mem_machine.specs.declared.frame_state.FrameState.{FrameState}
 use Rattle.mem_machine.specs.declared.frame_state.FrameState.TheVariants.{Free, Head, Tail}
 use Rattle.boot_words.specs.Hidden.{hide_phase}
-use Rattle.mem_machine.specs.FrameStates.{frame_state_at, is_free_state, free_of, frame_state_group, head_group_of, one_if_is, phase_hidden, AreUnits, IsUnitAt}
-use Rattle.mem_machine.specs.Machines.{KnownMachine, FitsFrameState, IsConsistent, home_of, frames_charged}
-use Rattle.mem_machine.specs.Freeing.{FreesFrames}
+use Rattle.mem_machine.specs.{frame_state_at, is_free_state, free_of, frame_state_group, head_group_of, one_if_is, phase_hidden, AreUnits, IsUnitAt}
+use Rattle.mem_machine.specs.{KnownMachine, FitsFrameState, IsConsistent, home_of, frames_charged, FreesFrames}
 use Rattle.mem_machine.proofs.Records.{free_at, length_free}
 
 -- ---- frames that are noted as free, one after the other
@@ -156,7 +153,7 @@ module _ (frame_states new : List FrameState) (f : ℕ) (unit : ChargedUnit) (he
   frame_state_out : (x : ℕ) → is_within f n x ≡ false → frame_state_at new x ≡ frame_state_at frame_states x
   frame_state_out x w = frees.records x ∙ ap (λ (b : Bool). cond b Free (frame_state_at frame_states x)) w
 
-  -- a frame behind another head isn't of the unit
+  -- a frame after another head isn't of the unit
   apart : (h x : ℕ) (u : ChargedUnit) → (h ≡ f → ⊥) → frame_state_at frame_states h ≡ Head u → h < x → x < h + 2 ^ u.order → is_within f n x ≡ false
   apart h x u ne is from below = is_out f n x (λ low high. elim (cases_lt h f) [
     | inl before ↦

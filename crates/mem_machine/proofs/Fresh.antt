@@ -5,9 +5,7 @@ use Rattle.std.specs.Prelude.{drop, is_some, slice_set}
 use Rattle.std.proofs.lemmas.Bool.{cases_eq, ne_eqb, false≢true}
 use Rattle.std.proofs.lemmas.List.{get_or-set_same, get_or-set_other, length-set, ext_get_or}
 use Rattle.zone_blocks.specs.declared.block.Block.{Block}
-use Rattle.zone_blocks.specs.Block.{IsBlock}
-use Rattle.zone_blocks.specs.Areas.{AreMaximalBlocks}
-use Rattle.zone_blocks.specs.Zone.{GivesFrames, IsInUse}
+use Rattle.zone_blocks.specs.{IsBlock, AreMaximalBlocks, GivesFrames, IsInUse}
 use Rattle.frame_word.specs.Seats.{KnownTable}
 use Rattle.group_charge.specs.Charges.{Ledger, pages_of, with_uncharge}
 use Rattle.group_charge.proofs.CallerLemmas.{uncharge_pages, uncharge_peaks, uncharge_events}
@@ -15,19 +13,15 @@ use Rattle.group_tree.specs.Bounds.{most_groups}
 use Rattle.lru_lists.specs.declared.record.Home.{Home}
 use Rattle.lru_lists.specs.declared.record.Link.{Link}
 use Rattle.lru_lists.specs.declared.lru.Lru.{Lru}
-use Rattle.boot_words.specs.Composed.{AreLegal}
-use Rattle.boot_words.specs.Hidden.{hide, hide_phase}
-use Rattle.boot_words.specs.Pasts.{MakesStep, MayMake}
+use Rattle.boot_words.specs.{AreLegal, hide, hide_phase, MakesStep, MayMake}
 use Rattle.cpu_part.specs.Cpus.{KnownCpu}
 use Rattle.step_rules.specs.declared.phase.ChargedUnit.{ChargedUnit}
 use Rattle.step_rules.specs.declared.phase.Stage.TheVariants.{FreshAt, Collected, Live}
 use Rattle.step_rules.specs.declared.phase.Phase.TheVariants as phase
 use Rattle.step_rules.specs.declared.step.Action.TheVariants.{Unfreeze, Publish, Return}
 use Rattle.step_rules.specs.declared.step.Answer.TheVariants.{Done}
-use Rattle.step_rules.specs.Invariant.{told_pages}
-use Rattle.step_rules.specs.State.{Part, State, Zone, one_if, times, with_at}
-use Rattle.step_rules.specs.After.{without_unit}
-use Rattle.step_rules.specs.Reaches.{IsLocalRun}
+use Rattle.step_rules.specs.{told_pages, Part, Zone, one_if, times, with_at, without_unit, IsLocalRun}
+use Rattle.step_rules.specs.State.{State}
 use Rattle.step_rules.proofs.Basics.{at_other, at_same}
 use Rattle.step_rules.proofs.SoundSteps.{below_frames}
 use Rattle.step_rules.proofs.Lists.{times_same, without_front, without_none}
@@ -35,16 +29,11 @@ use Rattle.step_watch.specs.Watched.{Watches}
 use Rattle.mem_machine.specs.declared.frame_state.FrameState.{FrameState}
 use Rattle.mem_machine.specs.declared.frame_state.FrameState.TheVariants.{Free, Lent, Head}
 use Rattle.mem_machine.specs.declared.counts.Counts.{Counts}
-use Rattle.mem_machine.specs.Booked.{AreBooked, AreOwners}
-use Rattle.mem_machine.specs.FrameStates.{frame_state_at, is_free_state, free_of, frame_state_group, AreUnits}
-use Rattle.mem_machine.specs.Machines.{KnownMachine, FitsFrameState, IsConsistent, IsShownBy, BalancesCounts, frames_charged, home_of, is_killed, left_by, pages_booked, stock_group}
-use Rattle.mem_machine.specs.Local.{Visits, local_of, visit_state}
-use Rattle.mem_machine.specs.Noted.{AreLocal, KnownRun, MayTake, Notes}
+use Rattle.mem_machine.specs.{AreBooked, AreOwners, frame_state_at, is_free_state, free_of, frame_state_group, AreUnits, KnownMachine, FitsFrameState}
+use Rattle.mem_machine.specs.{IsConsistent, IsShownBy, BalancesCounts, frames_charged, home_of, is_killed, left_by, pages_booked, stock_group, Visits}
+use Rattle.mem_machine.specs.{local_of, AreLocal, KnownRun, MayTake, Notes, PlacesUnit, with_killed_fresh, FreesFrames, HandsOver, KeepsFresh}
+use Rattle.mem_machine.specs.{DropsFresh, collect_steps, keep_steps, drop_steps}
 use Rattle.mem_machine.specs.Steps.{zone_makes}
-use Rattle.mem_machine.specs.Blocks.{PlacesUnit}
-use Rattle.mem_machine.specs.Counts.{with_killed_fresh}
-use Rattle.mem_machine.specs.Freeing.{FreesFrames}
-use Rattle.mem_machine.specs.Settling.{HandsOver, KeepsFresh, DropsFresh, collect_steps, keep_steps, drop_steps}
 use Rattle.mem_machine.proofs.Balances.{balanced_killed_fresh}
 use Rattle.mem_machine.proofs.BlockCharges.{charges_rise}
 use Rattle.mem_machine.proofs.Counted.{collects_none, comes_back}
@@ -99,7 +88,7 @@ frees_one frame_states new f inside frees =
           ∙ sym (get_or-set_other frame_states f g Free Free ne)
     ])
 
-module _ (t : KnownTable) (m : KnownMachine) (c : KnownCpu) (ok : IsConsistent t m) (visit : Visits t (visit_state m c))
+module _ (t : KnownTable) (m : KnownMachine) (c : KnownCpu) (ok : IsConsistent t m) (visit : Visits t m c)
     (f g : ℕ) (rest : List ℕ) (front : c.fresh ≡ f ∷ rest) (of : stock_group t m c.number ≡ Some g) where
   abbrev s : State
   s = local_of t m
@@ -282,7 +271,7 @@ module _ (t : KnownTable) (m : KnownMachine) (c : KnownCpu) (ok : IsConsistent t
       shown = subst (IsShownBy t kept) (sym kept_left) kept_shown;
     }
 
-    kept_visit : Visits t (visit_state kept d)
+    kept_visit : Visits t kept d
     kept_visit = visit_moved t m c visit kept d (keep_steps c.number f) _ noted keep_leads refl
         (own_moved (local_of t m) c visit.own part _ (one_more_held (local_of t m) c.number f v unit) c.list rest c.back
         (λ y. ap (λ (r : ℕ → ℕ). r y) (at_other (local_of t m).references 0 _ c.number (let low = (number_range t m c visit).0 in λ e. absurd (omega (arith, low, e)))))
@@ -395,9 +384,9 @@ pub front_of_some : (xs : List ℕ) → xs ≢ [] → (f : ℕ) × (rest : List 
 front_of_some [] some = absurd (some refl)
 front_of_some (x ∷ xs) some = (x, xs, refl)
 
-module _ (t : KnownTable) (m now : KnownMachine) (same : m ≡ now) (c : KnownCpu) (visit_now : Visits t (visit_state now c)) (ok : IsConsistent t m)
+module _ (t : KnownTable) (m now : KnownMachine) (same : m ≡ now) (c : KnownCpu) (visit_now : Visits t now c) (ok : IsConsistent t m)
     (g : ℕ) (of_now : stock_group t now c.number ≡ Some g) where
-  visit : Visits t (visit_state m c)
+  visit : Visits t m c
   visit = visits_here t m now same c visit_now
 
   of : stock_group t m c.number ≡ Some g

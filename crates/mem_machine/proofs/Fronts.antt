@@ -15,32 +15,19 @@ use Rattle.step_rules.specs.declared.phase.Way.TheVariants.{OnList}
 use Rattle.step_rules.specs.declared.phase.Phase.TheVariants.{Lent}
 use Rattle.step_rules.specs.declared.step.Action.TheVariants.{Consume}
 use Rattle.step_rules.specs.declared.step.Answer.TheVariants.{Took}
-use Rattle.step_rules.specs.State.{Part, State, Zone, front_of, is_cpu, one_if, sum_to, times, visits}
-use Rattle.step_rules.specs.Usage.{is_in_subtree}
-use Rattle.step_rules.specs.After.{Run, after, consumed, paid, with_part, with_phase}
-use Rattle.step_rules.specs.Legal.{IsAnswer, is_legal}
-use Rattle.step_rules.specs.Laws.{IsLocalStep}
-use Rattle.step_rules.specs.Views.{other_part_seen}
+use Rattle.step_rules.specs.{Part, Zone, front_of, is_cpu, one_if, times, visits, is_in_subtree, Run, after, consumed, paid, with_part, with_phase}
+use Rattle.step_rules.specs.{IsAnswer, is_legal, IsLocalStep, other_part_seen}
+use Rattle.step_rules.specs.State.{State, sum_to}
 use Rattle.step_rules.proofs.Basics.{at_each, at_same}
 use Rattle.step_rules.proofs.Lists.{front_stands, length_last, times_same}
-use Rattle.boot_words.specs.Hidden.{hide, hide_phase}
-use Rattle.boot_words.specs.Pasts.{KnownPasts, MakesStep, MayMake, cpu_past}
-use Rattle.boot_words.specs.Seats.{zone_of_boot}
-use Rattle.boot_words.specs.Words.{stock_in, stock_said}
-use Rattle.cpu_part.specs.Calls.{TakesFront}
-use Rattle.cpu_part.specs.Cpus.{KnownCpu}
-use Rattle.cpu_part.specs.Known.{HasOwn}
+use Rattle.boot_words.specs.{hide, hide_phase, KnownPasts, MakesStep, MayMake, cpu_past, zone_of_boot, stock_in, stock_said}
+use Rattle.cpu_part.specs.{TakesFront, KnownCpu, HasOwn}
 use Rattle.cpu_part.proofs.Owning.{own_took}
 use Rattle.step_watch.specs.Watched.{KnownWatch, Watches, cpu_makes}
 use Rattle.mem_machine.specs.declared.machine.Machine.TheInside.{Inside}
-use Rattle.mem_machine.specs.FrameStates.{frame_state_at, frame_state_group}
-use Rattle.mem_machine.specs.Kept.{IsSoundMachine, machine_of}
-use Rattle.mem_machine.specs.Local.{Makes, Visits, local_of, visit_state}
-use Rattle.mem_machine.specs.Machines.{KnownMachine, IsConsistent, left_by}
-use Rattle.mem_machine.specs.Noted.{KnownRun, Notes, after_made}
-use Rattle.mem_machine.specs.Paying.{HasRoomFor, HoldsPage, IsOfSize, PaysForFront}
-use Rattle.mem_machine.specs.Showing.{stock_now}
-use Rattle.mem_machine.specs.Steps.{take_front_steps}
+use Rattle.mem_machine.specs.{frame_state_at, frame_state_group, IsSoundMachine, machine_of, Makes, Visits, local_of, visit_state, KnownMachine}
+use Rattle.mem_machine.specs.{IsConsistent, left_by, KnownRun, Notes, after_made, HasRoomFor, HoldsPage, IsOfSize, PaysForFront, stock_now}
+use Rattle.mem_machine.specs.{take_front_steps}
 use Rattle.mem_machine.proofs.Followed.{follows_same}
 use Rattle.mem_machine.proofs.Ledgers.{ledger_visit_state}
 use Rattle.mem_machine.proofs.Made.{holder_is_cpu, makes_as, one_leads, zone_seen}
@@ -124,7 +111,7 @@ consume_hides s p g was some =
 
 -- ---- the front that is paid for
 
-module _ (t : KnownTable) (m : KnownMachine) (c : KnownCpu) (visit : Visits t (visit_state m c)) (g : ℕ) (page : HoldsPage t (visit_state m c) g) (none : c.fresh ≡ [])
+module _ (t : KnownTable) (m : KnownMachine) (c : KnownCpu) (visit : Visits t m c) (g : ℕ) (page : HoldsPage t m c.number g) (none : c.fresh ≡ [])
     (some : 1 ≤ length c.list) where
   -- the front is on the CPU's list, once
   front_phase : (local_of t m).phases (front_of ((local_of t m).parts c.number).list) ≡ Lent c.number OnList
@@ -185,11 +172,11 @@ module _ (t : KnownTable) (m : KnownMachine) (c : KnownCpu) (visit : Visits t (v
         left = front_left;
       }
 
-      front_visit : Visits t (visit_state (record m { run = run }) d)
+      front_visit : Visits t (record m { run = run }) d
       front_visit =
           let later = sym (noted.grew.sees visit.held) in
           let own = own_took (local_of t m) c visit.own g f takes.0 (c.fresh ++ f ∷ []) takes.1 refl (front_once f takes.0 takes.1) in
-          subst (λ (x : KnownCpu). Visits t (visit_state (record m { run = run }) x)) (sym takes.2) (record {
+          subst (λ (x : KnownCpu). Visits t (record m { run = run }) x) (sym takes.2) (record {
             held = noted.grew.held visit.held;
             who = noted.grew.holder visit.held ∙ visit.who;
             is_open = subst (λ (s : State). visits c.number s.hold ≡ true) later visit.is_open;
@@ -203,14 +190,14 @@ module _ (t : KnownTable) (m : KnownMachine) (c : KnownCpu) (visit : Visits t (v
 -- all of it, of the machine as it was seen before
 pub record FrontPaid (t : KnownTable) (now : KnownMachine) (g f : ℕ) (c : KnownCpu) (n : KnownMachine) (d : KnownCpu) : Type 0 where
   pub pays : PaysForFront t g f (visit_state now c) (visit_state n d)
-  pub visit : Visits t (visit_state n d)
+  pub visit : Visits t n d
   pub steps : Makes t now (take_front_steps c.number g) n
 
-pub front_paid : (t : KnownTable) (m now : KnownMachine) → m ≡ now → (c : KnownCpu) → Visits t (visit_state now c) → (g f : ℕ) → HoldsPage t (visit_state now c) g → c.fresh ≡ []
+pub front_paid : (t : KnownTable) (m now : KnownMachine) → m ≡ now → (c : KnownCpu) → Visits t now c → (g f : ℕ) → HoldsPage t now c.number g → c.fresh ≡ []
     → 1 ≤ length c.list → (d : KnownCpu) → TakesFront f c d → (run : KnownRun) → Notes t m.run (take_front_steps c.number g) run → FrontPaid t now g f c (record m { run = run }) d
 front_paid t m now same c visit_now g f page_now none some d takes run noted =
-    let visit : Visits t (visit_state m c) = subst (λ (x : KnownMachine). Visits t (visit_state x c)) (sym same) visit_now in
-    let page : HoldsPage t (visit_state m c) g = subst (λ (x : KnownMachine). HoldsPage t (visit_state x c) g) (sym same) page_now in
+    let visit : Visits t m c = subst (λ (x : KnownMachine). Visits t x c) (sym same) visit_now in
+    let page : HoldsPage t m c.number g = subst (λ (x : KnownMachine). HoldsPage t x c.number g) (sym same) page_now in
     subst (λ (x : KnownMachine). FrontPaid t x g f c (record m { run = run }) d) same (record {
       pays = front_pays t m c visit g page none some run noted f d takes;
       visit = front_visit t m c visit g page none some run noted f d takes;
@@ -226,9 +213,9 @@ front_noted t run p g n h number group later watch made saw =
     (subst (λ (k : ℕ). Watches run.watch (cpu_makes k (Consume g) Took ∷ []) watch) number saw)
 
 -- the fields after it
-pub front_sound : {N : Type 0} (t : KnownTable) (fields : Inside N) → IsSoundMachine t fields → (now : KnownMachine) → machine_of fields ≡ now → (c : KnownCpu) → Visits t (visit_state now c)
-    → (g : ℕ) → HoldsPage t (visit_state now c) g → c.fresh ≡ [] → 1 ≤ length c.list → (run : KnownRun) → Notes t (machine_of fields).run (take_front_steps c.number g) run
+pub front_sound : {N : Type 0} (t : KnownTable) (fields : Inside N) → IsSoundMachine t fields → (now : KnownMachine) → machine_of fields ≡ now → (c : KnownCpu) → Visits t now c
+    → (g : ℕ) → HoldsPage t now c.number g → c.fresh ≡ [] → 1 ≤ length c.list → (run : KnownRun) → Notes t (machine_of fields).run (take_front_steps c.number g) run
     → IsSoundMachine {N = N} t (record fields { past = run.past; watch = run.watch })
 front_sound {N} t fields ok now same c visit g page none some run noted =
-    sound_same t fields ok run (front_left t (machine_of fields) c (subst (λ (x : KnownMachine). Visits t (visit_state x c)) (sym same) visit) g
-    (subst (λ (x : KnownMachine). HoldsPage t (visit_state x c) g) (sym same) page) none some run noted)
+    sound_same t fields ok run (front_left t (machine_of fields) c (subst (λ (x : KnownMachine). Visits t x c) (sym same) visit) g
+    (subst (λ (x : KnownMachine). HoldsPage t x c.number g) (sym same) page) none some run noted)

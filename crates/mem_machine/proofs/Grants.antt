@@ -6,8 +6,7 @@ use Rattle.std.proofs.lemmas.Bool.{and_from, le-leb, cases_eq}
 use Rattle.std.proofs.lemmas.List.FromFn.{length-map-range_with_len}
 use Rattle.std.proofs.lemmas.Nat.{pow_pos}
 use Rattle.zone_blocks.specs.declared.block.Block.{Block}
-use Rattle.zone_blocks.specs.Block.{IsBlock, Covers}
-use Rattle.zone_blocks.specs.Areas.{IsFreeBlock, HasNoneFrom}
+use Rattle.zone_blocks.specs.{IsBlock, Covers, IsFreeBlock, HasNoneFrom}
 use Rattle.zone_blocks.proofs.Nested.{greater_denied}
 use Rattle.zone_blocks.proofs.Unique.{in_maximal}
 use Rattle.frame_word.specs.Seats.{KnownTable}
@@ -18,18 +17,12 @@ use Rattle.group_charge.specs.Charges.{AreCharges, current_of}
 use Rattle.step_rules.specs.declared.step.Action.TheVariants.{Grant, Ungrant, PlaceBlock}
 use Rattle.step_rules.specs.declared.step.Answer.TheVariants.{Done, Granted, Over, NoFreeBlock}
 use Rattle.step_rules.specs.Phases as phases
-use Rattle.step_rules.specs.State.{State, Zone, with_at, free_in}
-use Rattle.step_rules.specs.Usage.{usage_of}
-use Rattle.step_rules.specs.After.{after}
-use Rattle.step_rules.specs.Legal.{is_legal}
-use Rattle.step_rules.specs.Laws.{IsLocalStep}
+use Rattle.step_rules.specs.State.{State}
+use Rattle.step_rules.specs.{Zone, with_at, free_in, usage_of, after, is_legal, IsLocalStep}
 use Rattle.step_rules.proofs.Basics.{at_same, at_other}
 use Rattle.step_rules.proofs.Placing.{block_free}
-use Rattle.boot_words.specs.Hidden.{hide}
-use Rattle.boot_words.specs.Pasts.{IsHeld}
-use Rattle.mem_machine.specs.FrameStates.{free_of}
-use Rattle.mem_machine.specs.Machines.{KnownMachine, IsConsistent, IsShownBy, is_killed}
-use Rattle.mem_machine.specs.Local.{local_of}
+use Rattle.boot_words.specs.{hide, IsHeld}
+use Rattle.mem_machine.specs.{free_of, KnownMachine, IsConsistent, IsShownBy, is_killed, local_of}
 use Rattle.mem_machine.proofs.Hiding.{is_free_seen}
 use Rattle.mem_machine.proofs.Made.{zone_acts, zone_seen}
 use Rattle.mem_machine.proofs.Reaching.{zone_step}

@@ -8,8 +8,7 @@ use Rattle.group_tree.specs.declared.event.EventKey.{EventKey}
 use Rattle.group_tree.specs.declared.event.EventKey.TheVariants.{OomKill, OomGroupKill}
 use Rattle.group_tree.specs.declared.fault.Fault.{Fault}
 use Rattle.group_tree.specs.declared.group.Group.{Group}
-use Rattle.group_tree.specs.Bounds.{most_groups}
-use Rattle.group_tree.specs.Groups.{has_child, has_group, make_fault, IsLeastFreeNumber}
+use Rattle.group_tree.specs.{most_groups, has_child, has_group, make_fault, IsLeastFreeNumber}
 use Rattle.group_charge.specs.declared.settings.Settings.{Settings}
 use Rattle.group_charge.specs.Charges.{Ledger, AreCharges, CountsEvent, SamePages, SamePeaks, account_at, current_of, pages_of, with_settings}
 use Rattle.group_charge.specs.Charges.{with_new_group, with_group_removed, with_group_limit, with_oom_flag}
@@ -20,21 +19,12 @@ use Rattle.step_rules.specs.declared.step.Action.{Action}
 use Rattle.step_rules.specs.declared.step.Action.TheVariants.{Kill, Make, Note, NoteGroupKill, Remove, SetFlag, SetMax}
 use Rattle.step_rules.specs.declared.step.Answer.{Answer}
 use Rattle.step_rules.specs.declared.step.Answer.TheVariants.{Done, Number}
-use Rattle.step_rules.specs.Events.{event_key, event_of}
-use Rattle.step_rules.specs.Laws.{IsLocalStep}
-use Rattle.step_rules.specs.Legal.{is_removable}
-use Rattle.step_rules.specs.State.{State, with_at}
-use Rattle.step_rules.specs.Usage.{usage_of}
+use Rattle.step_rules.specs.{event_key, event_of, IsLocalStep, is_removable, with_at, usage_of}
+use Rattle.step_rules.specs.State.{State}
 use Rattle.step_rules.proofs.Basics.{at_each}
-use Rattle.boot_words.specs.Hidden.{hide}
-use Rattle.boot_words.specs.Pasts.{IsHeld}
-use Rattle.boot_words.specs.Sight.{HasSameLists}
-use Rattle.mem_machine.specs.Booked.{AreBooked, AreOwners}
-use Rattle.mem_machine.specs.Counting.{counts_along}
-use Rattle.mem_machine.specs.Following.{FollowsSteps}
-use Rattle.mem_machine.specs.Local.{Makes, StaysVisited, lock_holder, local_of}
-use Rattle.mem_machine.specs.Machines.{KnownMachine, AddsGroup, IsConsistent, IsShownBy, is_killed, left_by}
-use Rattle.mem_machine.specs.Noted.{KnownRun, MayTake, Notes, after_made}
+use Rattle.boot_words.specs.{hide, IsHeld, HasSameLists}
+use Rattle.mem_machine.specs.{AreBooked, AreOwners, counts_along, FollowsSteps, Makes, StaysVisited, lock_holder, local_of, KnownMachine, AddsGroup}
+use Rattle.mem_machine.specs.{IsConsistent, IsShownBy, is_killed, left_by, KnownRun, MayTake, Notes, after_made}
 use Rattle.mem_machine.specs.Steps.{zone_makes}
 use Rattle.mem_machine.proofs.LedgerMoves.{follows_flag, follows_limit, follows_make, follows_note, follows_remove, follows_settings}
 use Rattle.mem_machine.proofs.Made.{makes, one_leads, stays_visited, zone_acts}

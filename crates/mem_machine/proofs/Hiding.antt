@@ -7,16 +7,14 @@ use Rattle.step_rules.specs.declared.phase.Stage.TheVariants.{FreshAt, Live, Bac
 use Rattle.step_rules.specs.declared.phase.Way.TheVariants.{OnList}
 use Rattle.step_rules.specs.declared.phase.Phase.{Phase}
 use Rattle.step_rules.specs.declared.phase.Phase.TheVariants as phase
-use Rattle.step_rules.specs.Legal.{no_frame_passes, nothing_passes, rests}
-use Rattle.step_rules.specs.Phases.{is_free, is_passing, passes_back, passes_out}
+use Rattle.step_rules.specs.{no_frame_passes, nothing_passes, rests, is_free, is_passing, passes_back, passes_out}
 use Rattle.step_rules.specs.State.{State}
 use Rattle.step_rules.proofs.Sums.{all_each}
 use Rattle.boot_words.specs.Hidden.{hide, hide_phase}
 use Rattle.frame_word.specs.Seats.{KnownTable}
 use Rattle.mem_machine.specs.declared.frame_state.FrameState.{FrameState}
 use Rattle.mem_machine.specs.declared.frame_state.FrameState.TheVariants.{Free, Lent, Head, Tail}
-use Rattle.mem_machine.specs.FrameStates.{frame_state_at, is_free_state, phase_hidden}
-use Rattle.mem_machine.specs.Machines.{KnownMachine, IsShownBy}
+use Rattle.mem_machine.specs.{frame_state_at, is_free_state, phase_hidden, KnownMachine, IsShownBy}
 
 -- what doesn't tell a fresh frame from one of a list, nor a back frame from a live one, is the same of the hidden phase
 pub hidden_through : {Y : Type 0} (T : Phase → Y) → ((u : ChargedUnit) (q : ℕ) → T (phase.Lent q OnList) ≡ T (phase.Head u (FreshAt q)))

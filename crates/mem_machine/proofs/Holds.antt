@@ -8,19 +8,12 @@ use Rattle.step_rules.specs.declared.step.Step.{Step}
 use Rattle.step_rules.specs.declared.step.Action.TheVariants.{OpenVisit, ShutVisit}
 use Rattle.step_rules.specs.declared.step.Answer.{Answer}
 use Rattle.step_rules.specs.declared.step.Answer.TheVariants.{Done}
-use Rattle.step_rules.specs.Invariant.{told_pages}
-use Rattle.step_rules.specs.Laws.{IsLocalStep}
-use Rattle.step_rules.specs.Legal.{is_legal}
-use Rattle.step_rules.specs.State.{State, is_held_by, visits}
+use Rattle.step_rules.specs.{told_pages, IsLocalStep, is_legal, is_held_by, visits}
+use Rattle.step_rules.specs.State.{State}
 use Rattle.boot_words.specs.Hidden.{hide}
-use Rattle.cpu_part.specs.Cpus.{KnownCpu}
-use Rattle.cpu_part.specs.Known.{HasOwn}
-use Rattle.mem_machine.specs.Counting.{counts_along}
-use Rattle.mem_machine.specs.Kept.{IsSoundMachine, machine_of}
-use Rattle.mem_machine.specs.Local.{Holds, IsShut, Makes, Visits, lock_holder, local_of, visit_state}
-use Rattle.mem_machine.specs.Machines.{KnownMachine, IsShownBy, with_run}
-use Rattle.mem_machine.specs.Noted.{KnownRun, Notes, after_made}
-use Rattle.mem_machine.specs.Steps.{open_steps, shut_steps}
+use Rattle.cpu_part.specs.{KnownCpu, HasOwn}
+use Rattle.mem_machine.specs.{counts_along, IsSoundMachine, machine_of, Holds, IsShut, Makes, Visits, lock_holder, local_of, KnownMachine, IsShownBy}
+use Rattle.mem_machine.specs.{with_run, KnownRun, Notes, after_made, open_steps, shut_steps}
 use Rattle.mem_machine.specs.declared.machine.Machine.TheInside.{Inside}
 use Rattle.mem_machine.proofs.Followed.{are_still, follows_same}
 use Rattle.mem_machine.proofs.Hiding.{nothing_passes_here}
@@ -32,7 +25,7 @@ use Rattle.mem_machine.proofs.Staying.{HaveSameBooks, owners_stay, sums_stay}
 
 -- ---- a step that changes who holds the lock, and nothing else
 
-module _ {N : Type 0} (t : KnownTable) (fields : Inside N) (ok : IsSoundMachine t fields) (c : KnownCpu) (holds : Holds t (visit_state (machine_of fields) c))
+module _ {N : Type 0} (t : KnownTable) (fields : Inside N) (ok : IsSoundMachine t fields) (c : KnownCpu) (holds : Holds t (machine_of fields) c)
     (e : Step × Answer) (hold : Hold) (only : after_made (local_of t (machine_of fields)) e ≡ record (local_of t (machine_of fields)) { hold = hold })
     (run : KnownRun) (noted : Notes t (machine_of fields).run (e ∷ []) run) where
   abbrev m : KnownMachine
@@ -65,7 +58,7 @@ module _ {N : Type 0} (t : KnownTable) (fields : Inside N) (ok : IsSoundMachine 
   pub hold_then : (local_of t (with_run (machine_of {N = N} fields) run)).hold ≡ hold
   hold_then = ap (λ (s : State). s.hold) sees_then
 
-  pub holds_then : Holds t (visit_state (with_run (machine_of {N = N} fields) run) c)
+  pub holds_then : Holds t (with_run (machine_of {N = N} fields) run) c
   holds_then = record {
     held = noted.grew.held holds.held;
     who = noted.grew.holder holds.held ∙ holds.who;
@@ -81,7 +74,7 @@ module _ {N : Type 0} (t : KnownTable) (fields : Inside N) (ok : IsSoundMachine 
 
 -- ---- the two steps
 
-module _ {N : Type 0} (t : KnownTable) (fields : Inside N) (ok : IsSoundMachine t fields) (c : KnownCpu) (holds : Holds t (visit_state (machine_of fields) c)) where
+module _ {N : Type 0} (t : KnownTable) (fields : Inside N) (ok : IsSoundMachine t fields) (c : KnownCpu) (holds : Holds t (machine_of fields) c) where
   pub may_open : IsShut t (machine_of fields) c.number → IsLocalStep (local_of t (machine_of fields)) (lock_holder (machine_of fields)) 0 (OpenVisit c.number) Done
   may_open shut = zone_step (local_of t (machine_of {N = N} fields)) (lock_holder (machine_of {N = N} fields)) (OpenVisit c.number) Done refl
       (and_from _ _ (zone_acts t fields.past holds.held) (ap (is_held_by c.number) shut ∙ eq-eqb c.number c.number refl)) tt
@@ -99,5 +92,5 @@ module _ {N : Type 0} (t : KnownTable) (fields : Inside N) (ok : IsSoundMachine 
       (eq-eqb _ 0 none.0)) (eq-eqb _ 0 none.1)) tt
 
 -- a visited CPU holds the lock
-pub visit_holds : (t : KnownTable) (m : KnownMachine) (c : KnownCpu) → Visits t (visit_state m c) → Holds t (visit_state m c)
+pub visit_holds : (t : KnownTable) (m : KnownMachine) (c : KnownCpu) → Visits t m c → Holds t m c
 visit_holds t m c visit = record { held = visit.held; who = visit.who; own = visit.own }

@@ -1,10 +1,7 @@
 -- The steps of a call among the steps of other CPUs. Serves `calls_interleave`.
 use Rattle.std.proofs.Common.{ℕ, ◌++◌, sym, subst}
-use Rattle.step_rules.specs.After.{Run}
-use Rattle.step_rules.specs.Laws.{ShowsLocal}
-use Rattle.step_rules.specs.Reaches.{IsLocalRun, LocalRunsInterleave}
-use Rattle.mem_machine.specs.Local.{lock_holder, local_of}
-use Rattle.mem_machine.specs.Interleaving.{CallsInterleave, zone_of}
+use Rattle.step_rules.specs.{Run, ShowsLocal, IsLocalRun, LocalRunsInterleave}
+use Rattle.mem_machine.specs.{lock_holder, local_of, CallsInterleave, zone_of}
 
 pub calls_interleave : LocalRunsInterleave → CallsInterleave
 calls_interleave law t run steps mixed before after shows made mixes =

@@ -6,11 +6,9 @@ use Rattle.lru_lists.specs.declared.record.Link.{Link}
 use Rattle.lru_lists.specs.declared.record.Home.{Home}
 use Rattle.lru_lists.specs.declared.record.LruList.TheVariants.{Inactive}
 use Rattle.lru_lists.specs.declared.lru.Lru.{Lru}
-use Rattle.lru_lists.specs.Queue.{link_at}
-use Rattle.lru_lists.specs.Lists.{OthersStayLinked, OneOfAllChanges, AreLinked, AllLinked, ChangesOwn, MovesOnly, list_at, inactive_of, active_of}
+use Rattle.lru_lists.specs.{link_at, OthersStayLinked, OneOfAllChanges, AreLinked, AllLinked, ChangesOwn, MovesOnly, list_at, inactive_of, active_of}
 use Rattle.lru_lists.specs.Lists as lists
-use Rattle.mem_machine.specs.Machines.{lists_at, no_lists, group_lists}
-use Rattle.mem_machine.specs.Lists.{JoinsList}
+use Rattle.mem_machine.specs.{lists_at, no_lists, group_lists, JoinsList}
 use Rattle.mem_machine.proofs.Listed.{others_stay}
 
 -- a unit was added to the lists of a group

@@ -8,8 +8,7 @@ use Rattle.step_rules.proofs.Sums.{sum_part}
 use Rattle.mem_machine.specs.declared.frame_state.FrameState.{FrameState}
 use Rattle.mem_machine.specs.declared.frame_state.FrameState.TheVariants.{Free, Lent, Head, Tail}
 use Rattle.mem_machine.specs.declared.frame_state.Place.TheVariants as place
-use Rattle.mem_machine.specs.FrameStates.{frame_state_at, place_of, frame_state_group, one_if_is}
-use Rattle.mem_machine.specs.Machines.{KnownMachine, IsConsistent, frames_charged}
+use Rattle.mem_machine.specs.{frame_state_at, place_of, frame_state_group, one_if_is, KnownMachine, IsConsistent, frames_charged}
 use Rattle.mem_machine.proofs.Draining.{charged_there}
 
 -- a frame that is charged to the group counts as one

@@ -8,8 +8,7 @@ use Rattle.lru_lists.specs.declared.record.Home.{Home}
 use Rattle.lru_lists.specs.declared.lru.Lru.{Lru}
 use Rattle.lru_lists.specs.Queue.{link_at, nowhere, SameUse}
 use Rattle.lru_lists.specs.Lists.{OthersStayLinked, OneOfAllChanges, AreLinked, AllLinked, ChangesOwn, MovesOnly, inactive_of, active_of, entries_without, list_at}
-use Rattle.mem_machine.specs.Machines.{home_of, lists_at, no_lists, group_lists}
-use Rattle.mem_machine.specs.Lists.{LeavesList}
+use Rattle.mem_machine.specs.{home_of, lists_at, no_lists, group_lists, LeavesList}
 use Rattle.mem_machine.proofs.Listed.{others_stay}
 
 -- all that `leave_list` leaves

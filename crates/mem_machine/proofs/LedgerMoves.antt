@@ -9,9 +9,8 @@ use Rattle.std.proofs.lemmas.Bool.{cases_eq, ne_eqb, eqb-true, not_from_false, t
 use Rattle.std.proofs.lemmas.List.Folds.{find-append}
 use Rattle.group_tree.specs.declared.event.EventKey.{EventKey}
 use Rattle.group_tree.specs.declared.group.Group.{Group}
-use Rattle.group_tree.specs.Events.{EventCounts, is_same_key, no_events, count_of, with_one_more}
-use Rattle.group_tree.specs.Groups.{has_group, in_subtree, without_group, IsLeastFreeNumber}
-use Rattle.group_tree.specs.Room.{one_more}
+use Rattle.group_tree.specs.{EventCounts, is_same_key, no_events, count_of, with_one_more, has_group, in_subtree, without_group, IsLeastFreeNumber}
+use Rattle.group_tree.specs.{one_more}
 use Rattle.group_tree.proofs.EventLemmas.{counted, none_counted}
 use Rattle.group_tree.proofs.GroupLemmas.{find-filter, is_some-find}
 use Rattle.group_charge.specs.declared.account.Account.{Account}
@@ -23,10 +22,7 @@ use Rattle.step_rules.specs.declared.step.Action.{Action}
 use Rattle.step_rules.specs.declared.step.Action.TheVariants.{Grant, Make}
 use Rattle.step_rules.specs.declared.step.Answer.TheVariants.{Done, Granted}
 use Rattle.step_rules.specs.State.{State}
-use Rattle.step_rules.specs.After.{Run, after}
-use Rattle.step_rules.specs.Peaks.{peak_follows}
-use Rattle.step_rules.specs.Usage.{usage_of}
-use Rattle.step_rules.specs.Events.{event_of, count_after, is_noted_in_subtree, is_noted_at, makes_group}
+use Rattle.step_rules.specs.{Run, after, peak_follows, usage_of, event_of, count_after, is_noted_in_subtree, is_noted_at, makes_group}
 use Rattle.step_rules.proofs.CallerLemmas.{noted_below_so, noted_at_so}
 use Rattle.step_rules.proofs.Homes.{number_low}
 use Rattle.step_rules.proofs.Moving.{gone_itself, pending_moves, pends_split}

@@ -13,24 +13,19 @@ use Rattle.step_rules.specs.declared.step.Action.{Action}
 use Rattle.step_rules.specs.declared.step.Action.TheVariants.{Lock, Put, Freeze, Unfreeze, PassOut, TakeIn, PassBack, Collect, Consume, Credit, PlaceBlock, Return}
 use Rattle.step_rules.specs.declared.step.Answer.{Answer}
 use Rattle.step_rules.specs.declared.step.Answer.TheVariants.{Illegal, Done, Last, Placed, Stocked, Took}
-use Rattle.step_rules.specs.Invariant.{IsHomed, KeepsInvariant, PhasePaid, groups_in}
-use Rattle.step_rules.specs.Legal.{Allows, is_legal}
-use Rattle.step_rules.specs.Phases.{at_stage, collected, passed_back, stage_after_last}
-use Rattle.step_rules.specs.State.{State, Zone, at_boot, front_of, is_cpu, is_held_by, visits, with_at}
-use Rattle.step_rules.specs.After.{Run, after, consumed, is_within, state_of, IsLegalRun}
+use Rattle.step_rules.specs.{IsHomed, KeepsInvariant, PhasePaid, groups_in, Allows, is_legal, at_stage, collected, passed_back, stage_after_last}
+use Rattle.step_rules.specs.{Zone, at_boot, front_of, is_cpu, is_held_by, visits, with_at, Run, after, consumed, is_within, state_of, IsLegalRun}
+use Rattle.step_rules.specs.State.{State}
 use Rattle.step_rules.proofs.Basics.{at_each}
 use Rattle.step_rules.proofs.Freeing.{zone_of_run}
 use Rattle.step_rules.proofs.Keeping.{homes_allowed, homes_boot}
 use Rattle.step_rules.proofs.LegalTests.{credit_tests, pass_out_tests, take_in_tests}
 use Rattle.step_rules.proofs.Runs.{after_illegal, allowed, kept_along, sound_boot, sound_run}
 use Rattle.step_rules.proofs.SoundSteps.{cpu_range}
-use Rattle.boot_words.specs.Hidden.{hide_phase}
-use Rattle.boot_words.specs.Pasts.{own_past}
-use Rattle.boot_words.specs.Seats.{zone_of_boot}
+use Rattle.boot_words.specs.{hide_phase, own_past, zone_of_boot}
 use Rattle.mem_machine.specs.declared.frame_state.FrameState.{FrameState}
 use Rattle.mem_machine.specs.declared.frame_state.FrameState.TheVariants as frame
-use Rattle.mem_machine.specs.FrameStates.{frame_state_at, phase_hidden}
-use Rattle.mem_machine.specs.Machines.{KnownMachine, IsConsistent}
+use Rattle.mem_machine.specs.{frame_state_at, phase_hidden, KnownMachine, IsConsistent}
 
 -- the CPU that the frame is lent to
 abbrev lent_to : Phase → Option ℕ

@@ -1,9 +1,9 @@
 -- The lists of one group changed: its units were marked, moved or dirtied. Each frame is on a list of the same group as
 -- before, and the lists of all other groups stay. Serves all calls that change a list.
 use Rattle.std.proofs.Common.{◌≡◌, ◌≢◌, ℕ, ◌<◌, ◌==◌, ◌||◌, ◌⊎◌, Bool, true, false, Option, Some, None, List, [], ◌∷◌, ◌++◌, length, map, refl, sym, ap, ◌∙◌}
+use Rattle.std.proofs.Common.{subst, inl, inr, eq-eqb, cond, get_or, arith}
 use Rattle.mem_machine.specs.FrameStates.{frame_state_at}
 use Rattle.frame_word.specs.Seats.{KnownTable}
-use Rattle.std.proofs.Common.{subst, inl, inr, eq-eqb, cond, get_or, arith}
 use Rattle.std.specs.Prelude.{is_some, option_map, slice_set}
 use Rattle.step_rules.specs.State.{one_if}
 use Rattle.std.proofs.lemmas.List.{get_or-set_other}
@@ -15,10 +15,8 @@ use Rattle.lru_lists.specs.declared.record.Entry.{Entry}
 use Rattle.lru_lists.specs.declared.record.LruList.{LruList}
 use Rattle.lru_lists.specs.declared.record.LruList.TheVariants.{Inactive, Active}
 use Rattle.lru_lists.specs.declared.lru.Lru.{Lru}
-use Rattle.lru_lists.specs.Queue.{link_at, is_among, units_of, list_without}
-use Rattle.lru_lists.specs.Lists.{AreLinked, AllLinked, OthersStayLinked, ChangesOwn, Touches, list_of, list_at, home_in, queue_of, entries_of, entry_of, inactive_of, active_of}
-use Rattle.lru_lists.specs.Lists.{changed_at}
-use Rattle.lru_lists.specs.Lists.{entries_without, dirtied, marked}
+use Rattle.lru_lists.specs.{link_at, is_among, units_of, list_without, AreLinked, AllLinked, OthersStayLinked, ChangesOwn, Touches, list_of, list_at}
+use Rattle.lru_lists.specs.{home_in, queue_of, entries_of, entry_of, inactive_of, active_of, changed_at, dirtied, entries_without, marked}
 use Rattle.lru_lists.specs.declared.lru.Touched.{Touched}
 use Rattle.lru_lists.specs.declared.lru.Touched.TheVariants as touch
 use Rattle.mem_machine.specs.declared.frame_state.FrameState.{FrameState}

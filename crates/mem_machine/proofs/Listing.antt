@@ -8,10 +8,8 @@ use Rattle.lru_lists.specs.declared.record.Link.{Link}
 use Rattle.lru_lists.specs.declared.record.Home.{Home}
 use Rattle.lru_lists.specs.declared.record.Entry.{Entry}
 use Rattle.lru_lists.specs.declared.record.LruList.{LruList}
-use Rattle.lru_lists.specs.Queue.{link_at, nowhere, is_among, HasNoRepeats, units_of}
-use Rattle.lru_lists.specs.Lists.{entries_without, entry_after, first_entry, entry_of, queue_of}
-use Rattle.mem_machine.specs.Machines.{KnownMachine, IsConsistent, home_of, lists_at, no_lists}
-use Rattle.mem_machine.specs.Ageing.{entries_in}
+use Rattle.lru_lists.specs.{link_at, nowhere, is_among, HasNoRepeats, units_of, entries_without, entry_after, first_entry, entry_of, queue_of}
+use Rattle.mem_machine.specs.{KnownMachine, IsConsistent, home_of, lists_at, no_lists, entries_in}
 
 -- the unit of this number is among them
 abbrev pub has_unit : ℕ → List Entry → Bool

@@ -7,27 +7,20 @@ use Rattle.step_rules.specs.declared.phase.Hold.{Hold}
 use Rattle.step_rules.specs.declared.phase.Hold.TheVariants.{HeldBy, Unheld}
 use Rattle.step_rules.specs.declared.step.Action.TheVariants.{Unlock}
 use Rattle.step_rules.specs.declared.step.Answer.TheVariants.{Done}
-use Rattle.step_rules.specs.State.{Part, State, Zone, is_cpu, is_held_by}
-use Rattle.step_rules.specs.After.{Run, state_of}
-use Rattle.step_rules.specs.Views.{seen_by}
+use Rattle.step_rules.specs.{Part, Zone, is_cpu, is_held_by, Run, state_of, seen_by}
+use Rattle.step_rules.specs.State.{State}
 use Rattle.step_rules.proofs.CoverParts.{own_part, own_reference}
 use Rattle.step_rules.proofs.Runs.{state_more}
 use Rattle.step_rules.proofs.Sums.{all_each}
 use Rattle.group_tree.specs.Bounds.{most_groups}
-use Rattle.boot_words.specs.Locks.{LeavesFree}
-use Rattle.boot_words.specs.Sight.{HasSameLists}
-use Rattle.boot_words.specs.Pasts.{KnownPasts, IsHeld, IsZonePast, Locks, MayMake, Meets, Unlocks, cpu_past, local_by_pasts, own_past}
-use Rattle.boot_words.specs.Seats.{zone_of_boot}
+use Rattle.boot_words.specs.{LeavesFree, HasSameLists, KnownPasts, IsHeld, IsZonePast, MayMake, Meets, Unlocks, cpu_past, local_by_pasts, own_past}
+use Rattle.boot_words.specs.{zone_of_boot, IsAwayCpu, KnownCpuSeat, state_left}
+use Rattle.boot_words.specs.Pasts.{Locks}
 use Rattle.boot_words.proofs.Owning.{lists_are_own}
-use Rattle.boot_words.specs.Cpus.{IsAwayCpu, KnownCpuSeat, state_left}
-use Rattle.cpu_part.specs.Cpus.{KnownCpu}
-use Rattle.cpu_part.specs.Known.{HasOwn, KnowsItsPart}
+use Rattle.cpu_part.specs.{KnownCpu, HasOwn, KnowsItsPart}
 use Rattle.mem_machine.specs.declared.machine.Machine.TheInside.{Inside}
-use Rattle.mem_machine.specs.Booked.{AreBooked, AreOwners}
-use Rattle.mem_machine.specs.Kept.{IsSoundMachine, machine_of}
-use Rattle.mem_machine.specs.Machines.{KnownMachine, IsConsistent, IsShownBy, left_by, with_past}
-use Rattle.mem_machine.specs.Local.{Holds, IsShut, local_of, visit_state}
-use Rattle.mem_machine.specs.Resting.{Rests}
+use Rattle.mem_machine.specs.{AreBooked, AreOwners, IsSoundMachine, machine_of, KnownMachine, IsConsistent, IsShownBy, left_by, with_past, Holds}
+use Rattle.mem_machine.specs.{IsShut, local_of, Rests}
 use Rattle.mem_machine.proofs.Hiding.{none_passes}
 use Rattle.mem_machine.proofs.Made.{holder_is_cpu, own_same, zone_seen}
 use Rattle.mem_machine.proofs.Sight.{left_seen, shown_seen}
@@ -91,7 +84,7 @@ module _ (t : KnownTable) (before : KnownPasts) (k : KnownCpuSeat) (c : KnownCpu
   who_then : (cpu_past after.run.past).number ≡ c.number
   who_then = locks.cpu_grew.number ∙ sym knows.is.number ∙ knows.number
 
-  pub locked_holds : Holds t (visit_state after c)
+  pub locked_holds : Holds t after c
   locked_holds =
       let q = (own_past k.seat).number in
       let same : q ≡ c.number = sym knows.is.number ∙ knows.number in
@@ -117,7 +110,7 @@ rests_at t u words m now same rests =
 
 -- ---- the lock is released
 
-module _ (t : KnownTable) (m : KnownMachine) (c : KnownCpu) (ok : IsConsistent t m) (holds : Holds t (visit_state m c)) (shut : IsShut t m c.number) where
+module _ (t : KnownTable) (m : KnownMachine) (c : KnownCpu) (ok : IsConsistent t m) (holds : Holds t m c) (shut : IsShut t m c.number) where
   pub may_unlock : MayMake t m.run.past c.number Unlock
   may_unlock =
       let s = local_of t m in
@@ -128,7 +121,7 @@ module _ (t : KnownTable) (m : KnownMachine) (c : KnownCpu) (ok : IsConsistent t
       (all_each most_groups (λ g. s.pending g == 0) (λ g inside. eq-eqb (s.pending g) 0 (shown.settled g))))
       (none_passes t m s shown)
 
-module _ (t : KnownTable) (before : KnownMachine) (c : KnownCpu) (zone : KnownPasts) (k : KnownCpuSeat) (holds : Holds t (visit_state before c))
+module _ (t : KnownTable) (before : KnownMachine) (c : KnownCpu) (zone : KnownPasts) (k : KnownCpuSeat) (holds : Holds t before c)
     (unlocks : Unlocks t before.run.past zone k.seat) where
   pub unlocked_knows : IsAwayCpu t k → KnowsItsPart t k c
   unlocked_knows is =

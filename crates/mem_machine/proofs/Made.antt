@@ -7,23 +7,14 @@ use Rattle.step_rules.specs.declared.phase.Hold.{Hold}
 use Rattle.step_rules.specs.declared.phase.Hold.TheVariants.{Unheld, HeldBy, Visiting}
 use Rattle.step_rules.specs.declared.step.Step.{Step}
 use Rattle.step_rules.specs.declared.step.Answer.{Answer}
-use Rattle.step_rules.specs.State.{State, Zone, is_cpu, may_zone_act, visits}
-use Rattle.step_rules.specs.Laws.{IsLocalStep}
-use Rattle.step_rules.specs.After.{Run}
-use Rattle.step_rules.specs.Reaches.{IsLocalRun}
-use Rattle.step_rules.specs.Views.{holds_lock}
+use Rattle.step_rules.specs.State.{State}
+use Rattle.step_rules.specs.{Zone, is_cpu, may_zone_act, visits, IsLocalStep, Run, IsLocalRun, holds_lock}
 use Rattle.step_rules.proofs.Freeing.{zone_of_run}
 use Rattle.step_rules.proofs.Keeping.{keepers_are_there}
-use Rattle.boot_words.specs.Pasts.{KnownPasts, IsHeld, cpu_past, local_by_pasts}
-use Rattle.boot_words.specs.Seats.{zone_of_boot}
-use Rattle.boot_words.specs.Sight.{HasSameLists}
-use Rattle.cpu_part.specs.Cpus.{KnownCpu}
-use Rattle.cpu_part.specs.Known.{HasOwn}
-use Rattle.mem_machine.specs.Counting.{counts_along}
-use Rattle.mem_machine.specs.Following.{FollowsSteps}
-use Rattle.mem_machine.specs.Noted.{KnownRun, Notes, after_made}
-use Rattle.mem_machine.specs.Machines.{KnownMachine}
-use Rattle.mem_machine.specs.Local.{Holds, Makes, StaysVisited, Visits, lock_holder, local_of, visit_state}
+use Rattle.boot_words.specs.{KnownPasts, IsHeld, cpu_past, local_by_pasts, zone_of_boot, HasSameLists}
+use Rattle.cpu_part.specs.{KnownCpu, HasOwn}
+use Rattle.mem_machine.specs.{counts_along, FollowsSteps, KnownRun, Notes, after_made, KnownMachine, Holds, Makes, StaysVisited, Visits, lock_holder}
+use Rattle.mem_machine.specs.{local_of}
 
 -- who holds the lock may act for the zone
 holder_acts : (p : ℕ) (hold : Hold) → holds_lock p hold ≡ true → may_zone_act hold 0 ≡ true
@@ -48,11 +39,11 @@ holder_is_cpu t past is =
 pub held_here : (t : KnownTable) (m now : KnownMachine) → m ≡ now → IsHeld t now.run.past → IsHeld t m.run.past
 held_here t m now same is = subst (λ (x : KnownMachine). IsHeld t x.run.past) (sym same) is
 
-pub visits_here : (t : KnownTable) (m now : KnownMachine) → m ≡ now → (c : KnownCpu) → Visits t (visit_state now c) → Visits t (visit_state m c)
-visits_here t m now same c visit = subst (λ (x : KnownMachine). Visits t (visit_state x c)) (sym same) visit
+pub visits_here : (t : KnownTable) (m now : KnownMachine) → m ≡ now → (c : KnownCpu) → Visits t now c → Visits t m c
+visits_here t m now same c visit = subst (λ (x : KnownMachine). Visits t x c) (sym same) visit
 
-pub holds_here : (t : KnownTable) (m now : KnownMachine) → m ≡ now → (c : KnownCpu) → Holds t (visit_state now c) → Holds t (visit_state m c)
-holds_here t m now same c holds = subst (λ (x : KnownMachine). Holds t (visit_state x c)) (sym same) holds
+pub holds_here : (t : KnownTable) (m now : KnownMachine) → m ≡ now → (c : KnownCpu) → Holds t now c → Holds t m c
+holds_here t m now same c holds = subst (λ (x : KnownMachine). Holds t x c) (sym same) holds
 
 -- what was noted leads where the steps lead
 pub makes : (t : KnownTable) (m n : KnownMachine) (steps : Run) → IsHeld t m.run.past → Notes t m.run steps n.run
@@ -98,7 +89,7 @@ stays_visited t m n steps noted hold same c visit =
     }
 
 -- a machine with the same run is visited as before
-pub visit_same : (t : KnownTable) (m n : KnownMachine) (c : KnownCpu) → n.run ≡ m.run → Visits t (visit_state m c) → Visits t (visit_state n c)
+pub visit_same : (t : KnownTable) (m n : KnownMachine) (c : KnownCpu) → n.run ≡ m.run → Visits t m c → Visits t n c
 visit_same t m n c same visit = record {
   held = subst (λ (r : KnownRun). IsHeld t r.past) (sym same) visit.held;
   who = ap (λ (r : KnownRun). (cpu_past r.past).number) same ∙ visit.who;

@@ -8,10 +8,8 @@ use Rattle.zone_blocks.specs.Areas.{HasNoneFrom}
 use Rattle.frame_word.specs.Seats.{KnownTable}
 use Rattle.cpu_part.specs.Cpus.{KnownCpu}
 use Rattle.step_rules.specs.After.{Run}
-use Rattle.mem_machine.specs.Machines.{KnownMachine, VisitStateStays, OneByOne}
-use Rattle.mem_machine.specs.Local.{Visits, Makes, VisitState, visit_state}
-use Rattle.mem_machine.specs.Lending.{LendsOne, LendsNone, LendsByStep, Refills, UnlistsOne, UnlistsNone, UnlistsMany, UnlistsByStep}
-use Rattle.mem_machine.specs.Steps.{lend_steps, unlist_steps, drain_list_steps}
+use Rattle.mem_machine.specs.{KnownMachine, VisitStateStays, OneByOne, Visits, Makes, VisitState, visit_state, LendsOne, LendsNone, LendsByStep}
+use Rattle.mem_machine.specs.{Refills, UnlistsOne, UnlistsNone, UnlistsMany, UnlistsByStep, lend_steps, unlist_steps, drain_list_steps}
 use Rattle.mem_machine.proofs.Followed.{makes_none, makes_both}
 
 -- a visit state that stays
@@ -47,12 +45,12 @@ one_more IsDone (g ∷ frames) f m c x y n d before one = record {
 -- what the loop of `refill` keeps after k frames
 pub record LentSoFar (t : KnownTable) (k : ℕ) (m : KnownMachine) (c : KnownCpu) (n : KnownMachine) (d : KnownCpu) : Type 0 where
   pub refills : Refills t k (visit_state m c) (visit_state n d)
-  pub visit : Visits t (visit_state n d)
+  pub visit : Visits t n d
   pub number : d.number ≡ c.number
   pub count : length d.list + length d.fresh ≡ length c.list + length c.fresh + k
 
 pub lent_more : (t : KnownTable) (k : ℕ) (m : KnownMachine) (c : KnownCpu) (x : KnownMachine) (y : KnownCpu) (n : KnownMachine) (d : KnownCpu)
-    → LentSoFar t k m c x y → LendsByStep t (visit_state x y) (visit_state n d) → Visits t (visit_state n d) → LentSoFar t (k + 1) m c n d
+    → LentSoFar t k m c x y → LendsByStep t (visit_state x y) (visit_state n d) → Visits t n d → LentSoFar t (k + 1) m c n d
 lent_more t k m c x y n d before one visit =
     let so_far = before.refills in
     let f = one.frame in
@@ -88,16 +86,16 @@ pub record TakenSoFar (t : KnownTable) (k : ℕ) (m : KnownMachine) (c : KnownCp
   pub all : k ≡ length frames
   pub split : c.list ≡ frames ++ d.list
   pub takes : UnlistsMany frames (visit_state m c) (visit_state n d)
-  pub visit : Visits t (visit_state n d)
+  pub visit : Visits t n d
   pub steps : Makes t m (drain_list_steps c.number frames) n
   pub number : d.number ≡ c.number
 
-pub taken_start : (t : KnownTable) (m : KnownMachine) (c : KnownCpu) → Visits t (visit_state m c) → TakenSoFar t 0 m c m c
+pub taken_start : (t : KnownTable) (m : KnownMachine) (c : KnownCpu) → Visits t m c → TakenSoFar t 0 m c m c
 taken_start t m c visit =
     record { frames = []; all = refl; split = refl; takes = visit_state_stays (visit_state m c); visit = visit; steps = makes_none t m; number = refl }
 
 pub taken_more : (t : KnownTable) (k : ℕ) (m : KnownMachine) (c : KnownCpu) (x : KnownMachine) (y : KnownCpu) (n : KnownMachine) (d : KnownCpu)
-    → TakenSoFar t k m c x y → UnlistsByStep t (visit_state x y) (visit_state n d) → Visits t (visit_state n d) → TakenSoFar t (k + 1) m c n d
+    → TakenSoFar t k m c x y → UnlistsByStep t (visit_state x y) (visit_state n d) → Visits t n d → TakenSoFar t (k + 1) m c n d
 taken_more t k m c x y n d before one visit =
     let f = one.frame in
     let left : y.list ≡ f ∷ d.list = one.takes.front ∙ ap (λ (l : List ℕ). f ∷ l) (sym (ap (λ (e : KnownCpu). e.list) one.takes.cpu)) in

@@ -18,34 +18,23 @@ use Rattle.step_rules.specs.declared.phase.Stage.TheVariants.{BackAt, FreshAt, L
 use Rattle.step_rules.specs.declared.phase.Way.TheVariants.{OnList}
 use Rattle.step_rules.specs.declared.phase.Phase.{Phase}
 use Rattle.step_rules.specs.declared.phase.Phase.TheVariants as phase
-use Rattle.step_rules.specs.Phases.{unit_of}
-use Rattle.step_rules.specs.Invariant.{told_pages, IsBooked}
-use Rattle.step_rules.specs.State.{Part, State, Zone, is_cpu, is_frame, one_if, sum_to, times, visits, with_at}
-use Rattle.step_rules.specs.After.{Run, is_within, unit_size, without_unit}
+use Rattle.step_rules.specs.{unit_of, told_pages, IsBooked, Part, Zone, is_cpu, is_frame, one_if, sum_to, times, visits, with_at, Run, is_within}
+use Rattle.step_rules.specs.{unit_size, without_unit, IsLocalStep, IsLocalRun}
+use Rattle.step_rules.specs.State.{State}
 use Rattle.step_rules.specs.declared.step.Answer.{Answer}
 use Rattle.step_rules.specs.declared.step.Step.{Step}
-use Rattle.step_rules.specs.Laws.{IsLocalStep}
-use Rattle.step_rules.specs.Reaches.{IsLocalRun}
 use Rattle.step_rules.proofs.Basics.{at_each, at_other, at_same, at_through}
 use Rattle.step_rules.proofs.Lists.{times_same}
 use Rattle.step_rules.proofs.Placing.{within_cases}
 use Rattle.step_rules.proofs.Sums.{sum_change}
 use Rattle.step_rules.proofs.SoundSteps.{cpu_range}
-use Rattle.boot_words.specs.Hidden.{hide, hide_phase}
-use Rattle.boot_words.specs.Pasts.{IsHeld, cpu_past, local_by_pasts}
-use Rattle.boot_words.specs.Seats.{zone_of_boot}
-use Rattle.cpu_part.specs.Cpus.{KnownCpu}
-use Rattle.cpu_part.specs.Known.{HasOwn}
+use Rattle.boot_words.specs.{hide, hide_phase, IsHeld, cpu_past, local_by_pasts, zone_of_boot}
+use Rattle.cpu_part.specs.{KnownCpu, HasOwn}
 use Rattle.mem_machine.specs.declared.frame_state.FrameState.{FrameState}
 use Rattle.mem_machine.specs.declared.frame_state.FrameState.TheVariants.{Free, Lent, Head, Tail}
-use Rattle.mem_machine.specs.FrameStates.{frame_state_at, free_of, is_free_state, one_if_is, phase_hidden}
-use Rattle.mem_machine.specs.Booked.{AreBooked, AreOwners}
-use Rattle.mem_machine.specs.Counting.{counts_along}
-use Rattle.mem_machine.specs.Following.{FollowsSteps}
-use Rattle.mem_machine.specs.Freeing.{FreesFrames}
-use Rattle.mem_machine.specs.Machines.{KnownMachine, VisitState, IsConsistent, IsShownBy, booked, frames_charged, home_of, left_by, pages_booked, stock_group}
-use Rattle.mem_machine.specs.Noted.{AreLocal, KnownRun, MayTake, Notes, after_made}
-use Rattle.mem_machine.specs.Local.{Makes, Visits, lock_holder, local_of, visit_state}
+use Rattle.mem_machine.specs.{frame_state_at, free_of, is_free_state, one_if_is, phase_hidden, AreBooked, AreOwners, counts_along, FollowsSteps}
+use Rattle.mem_machine.specs.{FreesFrames, KnownMachine, VisitState, IsConsistent, IsShownBy, booked, frames_charged, home_of, left_by, pages_booked}
+use Rattle.mem_machine.specs.{stock_group, AreLocal, KnownRun, MayTake, Notes, after_made, Makes, Visits, lock_holder, local_of, visit_state}
 use Rattle.mem_machine.proofs.HandOvers.{IsVisited}
 use Rattle.mem_machine.proofs.Made.{holder_is_cpu, zone_acts, zone_seen}
 use Rattle.mem_machine.proofs.Noted.{run_ends}
@@ -233,7 +222,7 @@ own_moved s c own part ph references list fresh back same on_list is_fresh is_ba
 
 -- ---- the visit
 
-module _ (t : KnownTable) (m : KnownMachine) (c : KnownCpu) (visit : Visits t (visit_state m c)) where
+module _ (t : KnownTable) (m : KnownMachine) (c : KnownCpu) (visit : Visits t m c) where
   -- what is known of the CPU in each step
   pub is_visited : (f : ℕ) → is_frame (local_of t m).zone f ≡ true → IsVisited (local_of t m) c.number f
   is_visited f framed = record {
@@ -304,7 +293,7 @@ module _ (t : KnownTable) (m : KnownMachine) (c : KnownCpu) (visit : Visits t (v
       noted = noted;
     }
 
-    pub visit_moved : x.hold ≡ (local_of t m).hold → HasOwn x d → d.number ≡ c.number → Visits t (visit_state n d)
+    pub visit_moved : x.hold ≡ (local_of t m).hold → HasOwn x d → d.number ≡ c.number → Visits t n d
     visit_moved hold own same = record {
       held = noted.grew.held visit.held;
       who = noted.grew.holder visit.held ∙ visit.who ∙ sym same;
@@ -336,5 +325,5 @@ pub record AllMoved (t : KnownTable) (now : KnownMachine) (c : KnownCpu) (Does :
   pub sums_are : AreBooked t.cpus (left_by t n.run.past).parts sums
   pub owners_are : AreOwners t.cpus (left_by t n.run.past).parts owners
   pub does : Does (visit_state now c) (visit_state n d)
-  pub visit : Visits t (visit_state n d)
+  pub visit : Visits t n d
   pub makes : Makes t now steps n

@@ -14,15 +14,12 @@ use Rattle.step_rules.specs.After.{state_of}
 use Rattle.step_rules.proofs.CoverParts.{own_part}
 use Rattle.step_rules.proofs.CoverPhases.{own_seen}
 use Rattle.step_rules.proofs.Runs.{sound_run}
-use Rattle.boot_words.specs.Pasts.{cpu_past}
-use Rattle.boot_words.specs.Seats.{zone_of_boot}
+use Rattle.boot_words.specs.{cpu_past, zone_of_boot}
 use Rattle.cpu_part.specs.Cpus.{KnownCpu}
 use Rattle.mem_machine.specs.declared.frame_state.FrameState.{FrameState}
 use Rattle.mem_machine.specs.declared.frame_state.FrameState.TheVariants.{Free, Lent, Head, Tail}
-use Rattle.mem_machine.specs.FrameStates.{frame_state_at, is_free_state, frame_state_group}
-use Rattle.mem_machine.specs.Local.{Holds, group_of_fresh, local_of, phase_of, visit_state}
-use Rattle.mem_machine.specs.Machines.{KnownMachine, IsConsistent}
-use Rattle.mem_machine.specs.Places.{frames_free, frames_in_groups, NoneLentTo}
+use Rattle.mem_machine.specs.{frame_state_at, is_free_state, frame_state_group, Holds, group_of_fresh, local_of, phase_of, visit_state, KnownMachine}
+use Rattle.mem_machine.specs.{IsConsistent, frames_free, frames_in_groups, NoneLentTo}
 -- who a frame is lent to is one of the CPUs
 pub use Rattle.mem_machine.proofs.LentTo.{lent_to_cpu}
 use Rattle.mem_machine.proofs.Seen.{phase_seen}
@@ -32,7 +29,7 @@ unlisted true g p = refl
 unlisted false g p = refl
 
 -- the CPU that holds the lock has no frame that is lent to it, if it has no listed and no fresh frame
-pub none_lent : (t : KnownTable) (m : KnownMachine) (c : KnownCpu) → IsConsistent t m → Holds t (visit_state m c) → c.list ≡ [] → c.fresh ≡ [] → NoneLentTo c.number m.frame_states
+pub none_lent : (t : KnownTable) (m : KnownMachine) (c : KnownCpu) → IsConsistent t m → Holds t m c → c.list ≡ [] → c.fresh ≡ [] → NoneLentTo c.number m.frame_states
 none_lent t m c ok holds no_list no_fresh f is =
     let p = (cpu_past m.run.past).number in
     let u = state_of (zone_of_boot t) (cpu_past m.run.past).seen in

@@ -7,13 +7,9 @@ use Rattle.step_rules.specs.declared.step.Step.{Step}
 use Rattle.step_rules.specs.declared.step.Action.{Action}
 use Rattle.step_rules.specs.declared.step.Answer.{Answer}
 use Rattle.step_rules.specs.State.{State}
-use Rattle.step_rules.specs.After.{Run}
-use Rattle.step_rules.specs.Laws.{IsLocalStep}
-use Rattle.step_rules.specs.Reaches.{IsLocalRun}
-use Rattle.boot_words.specs.Pasts.{KnownPasts, MakesStep, cpu_past, local_by_pasts, own_past}
+use Rattle.step_rules.specs.{Run, IsLocalStep, IsLocalRun}
+use Rattle.boot_words.specs.{KnownPasts, MakesStep, cpu_past, local_by_pasts, own_past, AreLegal, IsPlain}
 use Rattle.boot_words.proofs.Grown.{all_grew_both}
-use Rattle.boot_words.specs.Composed.{AreLegal}
-use Rattle.boot_words.specs.Steps.{IsPlain}
 use Rattle.cpu_part.specs.Made.{MakesAll}
 use Rattle.step_watch.specs.Watched.{Builds, Watches}
 use Rattle.step_watch.proofs.Watching.{watches_none, watches_both}

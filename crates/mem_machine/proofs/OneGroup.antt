@@ -10,9 +10,8 @@ use Rattle.lru_lists.specs.declared.record.LruList.{LruList}
 use Rattle.lru_lists.specs.declared.lru.Lru.{Lru}
 use Rattle.lru_lists.specs.Lists.{OthersStayLinked, OneOfAllChanges, AreLinked, AllLinked, ChangesOwn, SameOwners, Ages, owner_of, list_of, list_at, entries_of}
 use Rattle.lru_lists.specs.Lists.{inactive_of, active_of, entries_without, entry_of, marked, first_entry, entry_after}
-use Rattle.mem_machine.specs.Machines.{KnownMachine, IsConsistent, OthersStay, UnlistedStay, home_of, lists_at, entries_in, no_lists, lists_of}
-use Rattle.mem_machine.specs.Ageing.{AgesGroup, RenewsUnit}
-use Rattle.mem_machine.specs.Local.{Makes}
+use Rattle.mem_machine.specs.{KnownMachine, IsConsistent, OthersStay, UnlistedStay, home_of, lists_at, entries_in, no_lists, lists_of, AgesGroup}
+use Rattle.mem_machine.specs.{RenewsUnit, Makes}
 use Rattle.mem_machine.proofs.Listed.{lists_consistent, others_stay, place_here, unlisted_stay}
 use Rattle.mem_machine.proofs.Followed.{makes_stay}
 
@@ -54,7 +53,7 @@ read_on now g lru is f i at list home =
     ap (λ (x : ℕ × ℕ). list_of now.links x.0 x.1) (λ j. (is.owner j, at j))
     ∙ ap (λ (h : Option Home). list_at h g) home ∙ place_here g list
 
--- the first unit of a list, and the one behind another, as they are read
+-- the first unit of a list, and the one after another, as they are read
 pub oldest_is : (m now : KnownMachine) → m ≡ now → (g : ℕ) (lru : Lru) → AreRead now g lru → (list : LruList) (unit : Option Entry)
     → unit ≡ first_entry (entries_of m.links lru list) → unit ≡ first_entry (entries_in now g list)
 oldest_is m now same g lru is list unit read = read ∙ (λ j. first_entry (entries_of (same j).links (sym is.are j) list))

@@ -6,11 +6,10 @@ use Rattle.step_rules.specs.declared.phase.Stage.TheVariants.{FreshAt, BackAt}
 use Rattle.step_rules.specs.declared.phase.Way.TheVariants.{OnList}
 use Rattle.step_rules.specs.declared.phase.Phase.{Phase}
 use Rattle.step_rules.specs.declared.phase.Phase.TheVariants.{Lent, Head}
-use Rattle.step_rules.specs.Phases.{Kind, ListFrame, FreshFrame, BackFrame, has_as, is_free, is_live_phase}
-use Rattle.step_rules.specs.State.{Part, State, Zone, frames_of, front_of, is_frame, one_if, times}
-use Rattle.step_rules.specs.After.{Run, state_of, IsLegalRun}
-use Rattle.step_rules.specs.Invariant.{PhasePaid, groups_in, IsBooked, KeepsInvariant}
-use Rattle.step_rules.specs.Views.{phase_seen_by, seen_by}
+use Rattle.step_rules.specs.{Kind, has_as, is_free, is_live_phase, Part, Zone, frames_of, front_of, is_frame, one_if, times, Run, state_of}
+use Rattle.step_rules.specs.{IsLegalRun, PhasePaid, groups_in, IsBooked, KeepsInvariant, phase_seen_by, seen_by}
+use Rattle.step_rules.specs.Phases.{ListFrame, FreshFrame, BackFrame}
+use Rattle.step_rules.specs.State.{State}
 use Rattle.step_rules.proofs.CoverParts.{own_part, own_reference}
 use Rattle.step_rules.proofs.CoverPhases.{own_back, own_fresh}
 use Rattle.step_rules.proofs.Lists.{front_stands, one_if_true}

@@ -9,8 +9,7 @@ use Rattle.std.proofs.lemmas.Nat.Bits.{bit_at-zero}
 use Rattle.std.proofs.lemmas.Option.{none-some}
 use Rattle.step_rules.specs.State.{Part, with_at}
 use Rattle.step_rules.proofs.Basics.{at_other, at_same}
-use Rattle.mem_machine.specs.Booked.{AreOwners}
-use Rattle.mem_machine.specs.Owners.{AreOwnedBy, AreStocksOf}
+use Rattle.mem_machine.specs.{AreOwners, AreOwnedBy, AreStocksOf}
 
 -- no stock was ever filled
 pub no_stocks : (owners : List (Option ℕ)) (stocks : List ℕ) → owners ≡ replicate 64 None → stocks ≡ replicate 64 0 → AreStocksOf owners stocks

@@ -7,8 +7,7 @@ use Rattle.step_rules.specs.After.{is_within}
 use Rattle.step_rules.proofs.Placing.{within_cases}
 use Rattle.mem_machine.specs.declared.frame_state.FrameState.{FrameState}
 use Rattle.mem_machine.specs.declared.frame_state.FrameState.TheVariants.{Head, Tail}
-use Rattle.mem_machine.specs.FrameStates.{frame_state_at}
-use Rattle.mem_machine.specs.Blocks.{placed_frame_state}
+use Rattle.mem_machine.specs.{frame_state_at, placed_frame_state}
 
 -- the frames from `at` up to this one are tails of the group, and all others have the records that they had
 pub record TailsTo (old : List FrameState) (at g frame : ℕ) (now : List FrameState) : Type 0 where

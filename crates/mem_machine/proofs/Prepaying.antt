@@ -11,32 +11,21 @@ use Rattle.group_charge.specs.Charges.{Ledger, AreCharges, current_of, pages_of,
 use Rattle.group_charge.proofs.CallerLemmas.{charge_pages}
 use Rattle.step_rules.specs.declared.step.Action.TheVariants.{Fill, Grant}
 use Rattle.step_rules.specs.declared.step.Answer.TheVariants.{Done, Granted, Over}
-use Rattle.step_rules.specs.Invariant.{told_pages}
-use Rattle.step_rules.specs.State.{Part, State, with_at}
-use Rattle.step_rules.specs.Legal.{is_legal, is_of_group, takes_fill}
-use Rattle.step_rules.specs.After.{Run, filled, state_of, with_part}
-use Rattle.step_rules.specs.Reaches.{IsLocalRun}
-use Rattle.step_rules.specs.Views.{other_part_seen}
+use Rattle.step_rules.specs.{told_pages, Part, with_at, is_legal, is_of_group, takes_fill, Run, filled, state_of, with_part, IsLocalRun}
+use Rattle.step_rules.specs.{other_part_seen}
+use Rattle.step_rules.specs.State.{State}
 use Rattle.step_rules.proofs.Basics.{at_each}
 use Rattle.step_rules.proofs.CoverParts.{own_part}
 use Rattle.step_rules.proofs.SoundSteps.{cpu_range}
-use Rattle.boot_words.specs.Hidden.{hide}
-use Rattle.boot_words.specs.Pasts.{IsHeld, KnownPasts, MakesStep, cpu_past}
-use Rattle.boot_words.specs.Seats.{zone_of_boot}
-use Rattle.boot_words.specs.Sight.{HasSameLists}
+use Rattle.boot_words.specs.{hide, IsHeld, KnownPasts, MakesStep, cpu_past, zone_of_boot, HasSameLists}
 use Rattle.boot_words.proofs.Returning.{none_booked}
 use Rattle.cpu_part.specs.Cpus.{KnownCpu}
 use Rattle.step_watch.specs.Watched.{KnownWatch, Watches}
 use Rattle.mem_machine.specs.declared.machine.Machine.TheInside.{Inside}
-use Rattle.mem_machine.specs.Booked.{AreBooked, AreOwners}
-use Rattle.mem_machine.specs.Following.{FollowsSteps}
-use Rattle.mem_machine.specs.Kept.{IsSoundMachine, machine_of}
-use Rattle.mem_machine.specs.Local.{Makes, StaysVisited, Visits, lock_holder, local_of, visit_state}
-use Rattle.mem_machine.specs.Machines.{KnownMachine, IsConsistent, IsShownBy, frames_charged, is_killed, left_by, pages_booked}
-use Rattle.mem_machine.specs.Noted.{KnownRun, MayTake, MayTakeAll, Notes, after_made}
-use Rattle.mem_machine.specs.Paying.{HasRoomFor, MayCharge}
-use Rattle.mem_machine.specs.Steps.{fill_steps, over_steps, zone_makes}
-use Rattle.mem_machine.specs.Stocks.{Fills, HasDrained, IsDrained, RefusesGrant}
+use Rattle.mem_machine.specs.{AreBooked, AreOwners, FollowsSteps, IsSoundMachine, machine_of, Makes, StaysVisited, Visits, lock_holder, local_of}
+use Rattle.mem_machine.specs.{KnownMachine, IsConsistent, IsShownBy, frames_charged, is_killed, left_by, pages_booked, KnownRun, MayTake, MayTakeAll}
+use Rattle.mem_machine.specs.{Notes, after_made, HasRoomFor, MayCharge, fill_steps, over_steps, Fills, HasDrained, IsDrained, RefusesGrant}
+use Rattle.mem_machine.specs.Steps.{zone_makes}
 use Rattle.mem_machine.proofs.AtTable.{made_at}
 use Rattle.mem_machine.proofs.Booking.{books_more, sums_more}
 use Rattle.mem_machine.proofs.Followed.{follows_same, same_events}
@@ -90,7 +79,7 @@ module _ (t : KnownTable) (m : KnownMachine) (u : State) (ok : IsShownBy t m u) 
 
 -- ---- the steps
 
-module _ (t : KnownTable) (m : KnownMachine) (c : KnownCpu) (ok : IsConsistent t m) (facts : AreCharges m.ledger) (visit : Visits t (visit_state m c)) (none : c.fresh ≡ [])
+module _ (t : KnownTable) (m : KnownMachine) (c : KnownCpu) (ok : IsConsistent t m) (facts : AreCharges m.ledger) (visit : Visits t m c) (none : c.fresh ≡ [])
     (drained : IsDrained t m c.number) where
   shown : IsShownBy t m (hide (local_of t m))
   shown = shown_seen t m ok visit.held
@@ -207,7 +196,7 @@ module _ (t : KnownTable) (m : KnownMachine) (c : KnownCpu) (ok : IsConsistent t
         fill_makes = makes_as t m (record m { ledger = with_charge m.ledger g k; run = run }) c.number (fill_steps c.number g k) visit.held visit.who noted
             (subst (IsLocalRun c.number (local_of t m) (fill_steps c.number g k)) (sym ends) fill_leads) fill_follows refl
 
-        pub fill_visit : Visits t (visit_state (record m { ledger = with_charge m.ledger g k; run = run }) c)
+        pub fill_visit : Visits t (record m { ledger = with_charge m.ledger g k; run = run }) c
         fill_visit = stays_visited t m (record m { ledger = with_charge m.ledger g k; run = run }) (fill_steps c.number g k) noted
             (ap (λ (s : State). s.hold) ends) (λ p. subst (HasSameLists p (local_of t m)) (sym ends) (fill_lists p)) c visit
 
@@ -237,12 +226,12 @@ module _ (t : KnownTable) (m : KnownMachine) (ok : IsConsistent t m) (facts : Ar
 
 -- what is known of the machine before it
 pub record KnowsFill (t : KnownTable) (m : KnownMachine) (c : KnownCpu) (g k : ℕ) : Type 0 where
-  pub visit : Visits t (visit_state m c)
+  pub visit : Visits t m c
   pub drained : IsDrained t m c.number
   pub there : has_group m.ledger.groups g ≡ true
   pub alive : is_killed m.killed g ≡ false
 
-pub knows_fill : (t : KnownTable) (m now : KnownMachine) → m ≡ now → (c : KnownCpu) (g k : ℕ) → Visits t (visit_state now c) → MayCharge now g k → IsDrained t now c.number
+pub knows_fill : (t : KnownTable) (m now : KnownMachine) → m ≡ now → (c : KnownCpu) (g k : ℕ) → Visits t now c → MayCharge now g k → IsDrained t now c.number
     → KnowsFill t m c g k
 knows_fill t m now same c g k visit charges drained =
     subst (λ (x : KnownMachine). KnowsFill t x c g k) (sym same) (record { visit = visit; drained = drained; there = charges.there; alive = charges.alive })
@@ -293,7 +282,7 @@ module _ {N : Type 0} (t : KnownTable) (fields : Inside N) (ok : IsSoundMachine 
 pub record AllFilled (t : KnownTable) (now : KnownMachine) (c : KnownCpu) (g k : ℕ) (after : KnownMachine) : Type 0 where
   pub fills : Fills t c.number g k now after
   pub steps : Makes t now (fill_steps c.number g k) after
-  pub visit : Visits t (visit_state after c)
+  pub visit : Visits t after c
 
 pub filled_now : (t : KnownTable) (m now : KnownMachine) → m ≡ now → (c : KnownCpu) (g k : ℕ) → IsConsistent t m → AreCharges m.ledger → KnowsFill t m c g k → c.fresh ≡ []
     → room.PathHasRoom m.ledger.groups (current_of m.ledger) g k → (run : KnownRun) → Notes t m.run (fill_steps c.number g k) run → (l : Ledger) → l ≡ with_charge m.ledger g k
@@ -320,6 +309,6 @@ module _ {N : Type 0} (t : KnownTable) (fields : Inside N) (ok : IsSoundMachine 
   refused_now now was = subst (λ (x : KnownMachine × Ledger). RefusesGrant t g k over x.0 (record before { ledger = x.1; run = run })) (λ i. (was i, sym same i))
       (refused_here t before ok.consistent facts knows.visit.held g k over knows.there knows.alive low run noted)
 
-  pub refused_visits : Visits t (visit_state (machine_of {N = N} (record fields { charges = charges; past = run.past; watch = run.watch })) c)
-  refused_visits = subst (λ (l : Ledger). Visits t (visit_state (record before { ledger = l; run = run }) c)) (sym same)
+  pub refused_visits : Visits t (machine_of {N = N} (record fields { charges = charges; past = run.past; watch = run.watch })) c
+  refused_visits = subst (λ (l : Ledger). Visits t (record before { ledger = l; run = run }) c) (sym same)
       (refused_visit t before ok.consistent facts knows.visit.held g k over knows.there knows.alive low run noted c knows.visit)

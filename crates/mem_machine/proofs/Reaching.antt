@@ -3,9 +3,7 @@ use Rattle.std.proofs.Common.{◌≡◌, ℕ, true, false, [], ◌∷◌, ◌++�
 use Rattle.step_rules.specs.declared.step.Action.{Action}
 use Rattle.step_rules.specs.declared.step.Answer.{Answer}
 use Rattle.step_rules.specs.State.{State}
-use Rattle.step_rules.specs.Legal.{is_legal, IsAnswer}
-use Rattle.step_rules.specs.After.{Run, after}
-use Rattle.step_rules.specs.Laws.{is_of_lock, IsLocalStep}
+use Rattle.step_rules.specs.{is_legal, IsAnswer, Run, after, is_of_lock, IsLocalStep}
 use Rattle.mem_machine.specs.Local.{IsLocalRun}
 
 -- a step of the zone's seat

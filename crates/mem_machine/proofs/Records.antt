@@ -5,15 +5,12 @@ use Rattle.std.specs.Cmp.{both_ways}
 use Rattle.std.proofs.lemmas.Bool.{cases_eq, false≢true}
 use Rattle.std.proofs.lemmas.Option.{none-some}
 use Rattle.std.proofs.lemmas.List.{get_or-set_same, get_or-set_other, length-set, ext_get_or}
-use Rattle.zone_blocks.specs.Block.{IsBlock, Covers}
-use Rattle.zone_blocks.specs.Areas.{IsFree}
-use Rattle.zone_blocks.specs.Zone.{TakesFrames}
+use Rattle.zone_blocks.specs.{IsBlock, Covers, IsFree, TakesFrames}
 use Rattle.step_rules.specs.State.{sum_to}
 use Rattle.step_rules.proofs.Sums.{sum_same}
 use Rattle.mem_machine.specs.declared.frame_state.FrameState.{FrameState}
 use Rattle.mem_machine.specs.declared.frame_state.FrameState.TheVariants.{Free}
-use Rattle.mem_machine.specs.FrameStates.{frame_state_at, is_free_state, free_of, frame_state_group, one_if_is, AreUnits}
-use Rattle.mem_machine.specs.Machines.{frames_charged}
+use Rattle.mem_machine.specs.{frame_state_at, is_free_state, free_of, frame_state_group, one_if_is, AreUnits, frames_charged}
 
 -- ---- which frames are free
 

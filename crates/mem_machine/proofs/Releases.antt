@@ -6,11 +6,9 @@ use Rattle.std.proofs.lemmas.Bool.{and_from, cases_eq, false≢true, lt-ltb, le-
 use Rattle.std.proofs.lemmas.List.{get_or_default}
 use Rattle.std.proofs.lemmas.Option.{none-some}
 use Rattle.zone_blocks.specs.declared.block.Block.{Block}
-use Rattle.zone_blocks.specs.Areas.{AreMaximalBlocks}
-use Rattle.zone_blocks.specs.Zone.{GivesFrames}
+use Rattle.zone_blocks.specs.{AreMaximalBlocks, GivesFrames}
 use Rattle.frame_word.specs.Seats.{KnownTable}
-use Rattle.group_charge.specs.Charges.{Ledger, with_uncharge}
-use Rattle.group_charge.specs.Notes.{KnownNotes}
+use Rattle.group_charge.specs.{Ledger, with_uncharge, KnownNotes}
 use Rattle.group_charge.proofs.CallerLemmas.{uncharge_events, uncharge_peaks}
 use Rattle.lru_lists.specs.declared.record.Link.{Link}
 use Rattle.lru_lists.specs.declared.record.Home.{Home}
@@ -25,33 +23,23 @@ use Rattle.step_rules.specs.declared.step.Action.{Action}
 use Rattle.step_rules.specs.declared.step.Action.TheVariants.{Freeze, Put, Return}
 use Rattle.step_rules.specs.declared.step.Answer.{Answer}
 use Rattle.step_rules.specs.declared.step.Answer.TheVariants as answer
-use Rattle.step_rules.specs.Phases.{at_stage, is_live_phase, is_returnable, unit_of}
-use Rattle.step_rules.specs.State.{State, Zone, is_frame, one_if, with_at}
-use Rattle.step_rules.specs.Legal.{is_legal}
-use Rattle.step_rules.specs.After.{Run, after, state_of}
-use Rattle.step_rules.specs.Laws.{IsLocalStep}
+use Rattle.step_rules.specs.{at_stage, is_live_phase, is_returnable, unit_of, Zone, is_frame, one_if, with_at, is_legal, Run, after, state_of}
+use Rattle.step_rules.specs.{IsLocalStep}
+use Rattle.step_rules.specs.State.{State}
 use Rattle.step_rules.proofs.Basics.{at_same, at_other}
 use Rattle.step_rules.proofs.Living.{live_are_referenced}
 use Rattle.step_rules.proofs.Referring.{live_from_references}
 use Rattle.step_rules.proofs.Runs.{sound_run}
-use Rattle.boot_words.specs.Hidden.{hide, hide_phase}
-use Rattle.boot_words.specs.Pasts.{KnownPasts, IsHeld, MakesStep, MayMake, cpu_past, local_by_pasts}
-use Rattle.boot_words.specs.Seats.{zone_of_boot}
+use Rattle.boot_words.specs.{hide, hide_phase, KnownPasts, IsHeld, MakesStep, MayMake, cpu_past, local_by_pasts, zone_of_boot}
 use Rattle.step_watch.specs.Watched.{Watches}
 use Rattle.mem_machine.specs.declared.counts.Counts.{Counts}
 use Rattle.mem_machine.specs.declared.frame_state.FrameState.{FrameState}
 use Rattle.mem_machine.specs.declared.frame_state.FrameState.TheVariants.{Free, Head}
-use Rattle.mem_machine.specs.FrameStates.{frame_state_at, free_of, phase_hidden}
-use Rattle.mem_machine.specs.Freeing.{FreesFrames}
-use Rattle.mem_machine.specs.Lists.{LeavesList}
+use Rattle.mem_machine.specs.{frame_state_at, free_of, phase_hidden, FreesFrames, LeavesList, Releases, release_steps, with_last_put}
+use Rattle.mem_machine.specs.{one_more_last_put, Makes, StaysVisited, lock_holder, local_of, KnownMachine, BalancesCounts, FitsFrameState}
+use Rattle.mem_machine.specs.{IsConsistent, IsShownBy, group_lists, home_of, left_by, lists_of, pages_booked, KnownRun, MayTake, Notes}
 use Rattle.mem_machine.specs.declared.releasing.Released.{Released}
 use Rattle.mem_machine.specs.declared.releasing.Released.TheVariants.{Left, Returned}
-use Rattle.mem_machine.specs.Releasing.{Releases, release_steps}
-use Rattle.mem_machine.specs.Counts.{with_last_put}
-use Rattle.mem_machine.specs.Counting.{one_more_last_put}
-use Rattle.mem_machine.specs.Local.{Makes, StaysVisited, lock_holder, local_of}
-use Rattle.mem_machine.specs.Machines.{KnownMachine, BalancesCounts, FitsFrameState, IsConsistent, IsShownBy, group_lists, home_of, left_by, lists_of, pages_booked}
-use Rattle.mem_machine.specs.Noted.{KnownRun, MayTake, Notes}
 use Rattle.mem_machine.specs.Steps.{zone_makes}
 use Rattle.mem_machine.proofs.Balances.{balanced_last_put}
 use Rattle.mem_machine.proofs.Behind.{behind}

@@ -7,22 +7,17 @@ use Rattle.step_rules.specs.declared.phase.Phase.{Phase}
 use Rattle.step_rules.specs.declared.phase.Phase.TheVariants as phase
 use Rattle.step_rules.specs.declared.phase.Stage.TheVariants.{FreshAt, BackAt, Live}
 use Rattle.step_rules.specs.declared.phase.Way.TheVariants.{OnList}
-use Rattle.step_rules.specs.Invariant.{IsBooked}
-use Rattle.step_rules.specs.State.{Part, State, one_if, times}
-use Rattle.step_rules.specs.After.{Run, state_of}
-use Rattle.step_rules.specs.Views.{other_part_seen}
+use Rattle.step_rules.specs.{IsBooked, Part, one_if, times, Run, state_of, other_part_seen}
+use Rattle.step_rules.specs.State.{State}
 use Rattle.step_rules.proofs.CoverParts.{own_part, other_part, other_reference}
 use Rattle.step_rules.proofs.Runs.{sound_run}
-use Rattle.boot_words.specs.Hidden.{group_or_0, hide, show_phase}
-use Rattle.boot_words.specs.Pasts.{cpu_past}
-use Rattle.boot_words.specs.Seats.{zone_of_boot}
+use Rattle.boot_words.specs.{group_or_0, hide, show_phase, cpu_past, zone_of_boot}
 use Rattle.boot_words.proofs.Showing.{holder_sees_both}
 use Rattle.cpu_part.specs.Cpus.{KnownCpu}
 use Rattle.mem_machine.specs.declared.frame_state.FrameState.{FrameState}
 use Rattle.mem_machine.specs.declared.frame_state.FrameState.TheVariants.{Free, Lent, Head, Tail}
-use Rattle.mem_machine.specs.FrameStates.{frame_state_at, phase_hidden}
-use Rattle.mem_machine.specs.Machines.{KnownMachine, IsConsistent, home_of, left_by, part_at}
-use Rattle.mem_machine.specs.Local.{Holds, group_of_fresh, local_of, number_or_0, phase_of, visit_state}
+use Rattle.mem_machine.specs.{frame_state_at, phase_hidden, KnownMachine, IsConsistent, home_of, left_by, part_at, Holds, group_of_fresh, local_of}
+use Rattle.mem_machine.specs.{number_or_0, phase_of, visit_state}
 use Rattle.mem_machine.proofs.Sight.{left_seen, shown_seen}
 
 same_number : (o : Option ℕ) → group_or_0 o ≡ number_or_0 o
@@ -37,7 +32,7 @@ phase_as c part g f (Lent q) group fresh back =
 phase_as c part g f (Head unit) group fresh back = ap (λ (l : List ℕ). cond (nat_le 1 (times f l)) (phase.Head unit (BackAt c.number)) (phase.Head unit Live)) back
 phase_as c part g f (Tail h) group fresh back = refl
 
-module _ (t : KnownTable) (m : KnownMachine) (c : KnownCpu) (ok : IsConsistent t m) (holds : Holds t (visit_state m c)) where
+module _ (t : KnownTable) (m : KnownMachine) (c : KnownCpu) (ok : IsConsistent t m) (holds : Holds t m c) where
   -- what was seen, whole
   abbrev whole : State
   whole = state_of (zone_of_boot t) (cpu_past m.run.past).seen

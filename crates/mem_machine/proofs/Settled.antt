@@ -12,12 +12,10 @@ use Rattle.step_rules.specs.State.{Part, State, with_at}
 use Rattle.step_rules.specs.After.{absorbed, with_report, without_frame}
 use Rattle.step_rules.proofs.Basics.{at_each}
 use Rattle.boot_words.specs.Pasts.{IsHeld}
-use Rattle.mem_machine.specs.Booked.{AreOwners}
-use Rattle.mem_machine.specs.Machines.{KnownMachine, is_killed, left_by, stock_group}
-use Rattle.mem_machine.specs.Local.{Makes, Visits, group_of_fresh, local_of, number_or_0, visit_state}
-use Rattle.mem_machine.specs.Noted.{after_made}
-use Rattle.mem_machine.specs.Settling.{FindsNoneBack, FindsNoneFresh, HandsOver, KeepsFresh, DropsFresh, SettlesFresh, SettlesAllFresh, ReturnsBack, ReturnsAllBack, LeavesOthers, Settles}
-use Rattle.mem_machine.specs.Settling.{collect_steps, fresh_steps, is_fresh_killed, return_steps, settle_steps}
+use Rattle.mem_machine.specs.{AreOwners, KnownMachine, is_killed, left_by, stock_group, Makes, Visits, group_of_fresh, local_of, number_or_0}
+use Rattle.mem_machine.specs.{visit_state, after_made, FindsNoneBack, FindsNoneFresh, HandsOver, KeepsFresh, DropsFresh, SettlesFresh}
+use Rattle.mem_machine.specs.{SettlesAllFresh, ReturnsBack, ReturnsAllBack, LeavesOthers, Settles, collect_steps, fresh_steps, is_fresh_killed}
+use Rattle.mem_machine.specs.{return_steps, settle_steps}
 use Rattle.mem_machine.proofs.Followed.{makes_both, makes_none}
 use Rattle.mem_machine.proofs.Made.{visits_here}
 use Rattle.mem_machine.proofs.Moved.{fresh_group_here, number_range}
@@ -82,7 +80,7 @@ named_group t m c g of = ap number_or_0 of
 
 -- ---- whose the stock is
 
-module _ (t : KnownTable) (m now : KnownMachine) (same : m ≡ now) (c : KnownCpu) (visit : Visits t (visit_state now c)) where
+module _ (t : KnownTable) (m now : KnownMachine) (same : m ≡ now) (c : KnownCpu) (visit : Visits t now c) where
   pub number_here : (1 ≤ c.number) × (c.number ≤ t.cpus)
   number_here = number_range t m c (visits_here t m now same c visit)
 
@@ -132,7 +130,7 @@ pub record FreshSoFar (t : KnownTable) (m : KnownMachine) (c : KnownCpu) (x : Kn
   pub settles : (n : KnownMachine) (d : KnownCpu) → SettlesAllFresh t y.fresh (visit_state x y) (visit_state n d) → SettlesAllFresh t c.fresh (visit_state m c) (visit_state n d)
   pub steps : (b : KnownMachine) → Makes t x (flat_map (fresh_steps (is_fresh_killed t (visit_state m c)) c.number) y.fresh) b
       → Makes t m (flat_map (fresh_steps (is_fresh_killed t (visit_state m c)) c.number) c.fresh) b
-  pub visit : Visits t (visit_state x y)
+  pub visit : Visits t x y
   pub others : LeavesOthers c y
   pub back : y.back ≡ c.back
   pub killed : is_fresh_killed t (visit_state x y) ≡ is_fresh_killed t (visit_state m c)
@@ -143,7 +141,7 @@ same_others c = record { number = refl; list = refl; pins = refl }
 pub both_others : (c d e : KnownCpu) → LeavesOthers c d → LeavesOthers d e → LeavesOthers c e
 both_others c d e a b = record { number = b.number ∙ a.number; list = b.list ∙ a.list; pins = b.pins ∙ a.pins }
 
-pub fresh_start : (t : KnownTable) (m : KnownMachine) (c : KnownCpu) → Visits t (visit_state m c) → FreshSoFar t m c m c
+pub fresh_start : (t : KnownTable) (m : KnownMachine) (c : KnownCpu) → Visits t m c → FreshSoFar t m c m c
 fresh_start t m c visit = record {
   settles = λ n d rest. rest;
   steps = λ b rest. rest;
@@ -154,7 +152,7 @@ fresh_start t m c visit = record {
 }
 
 pub fresh_more : (t : KnownTable) (m : KnownMachine) (c : KnownCpu) (x : KnownMachine) (y : KnownCpu) (x' : KnownMachine) (y' : KnownCpu) (f : ℕ)
-    → FreshSoFar t m c x y → SettlesFresh t f (visit_state x y) (visit_state x' y') → Visits t (visit_state x' y')
+    → FreshSoFar t m c x y → SettlesFresh t f (visit_state x y) (visit_state x' y') → Visits t x' y'
     → Makes t x (fresh_steps (is_fresh_killed t (visit_state x y)) y.number f) x' → FreshSoFar t m c x' y'
 fresh_more t m c x y x' y' f so_far one visit run =
     let over = settled_over t f x y x' y' one in
@@ -201,15 +199,15 @@ fresh_end t m c x y n d so_far none =
 pub record BackSoFar (t : KnownTable) (m : KnownMachine) (c : KnownCpu) (x : KnownMachine) (y : KnownCpu) : Type 0 where
   pub returns : (n : KnownMachine) (d : KnownCpu) → ReturnsAllBack y.back (visit_state x y) (visit_state n d) → ReturnsAllBack c.back (visit_state m c) (visit_state n d)
   pub steps : (b : KnownMachine) → Makes t x (flat_map (return_steps c.number) y.back) b → Makes t m (flat_map (return_steps c.number) c.back) b
-  pub visit : Visits t (visit_state x y)
+  pub visit : Visits t x y
   pub others : LeavesOthers c y
   pub fresh : y.fresh ≡ c.fresh
 
-pub back_start : (t : KnownTable) (m : KnownMachine) (c : KnownCpu) → Visits t (visit_state m c) → BackSoFar t m c m c
+pub back_start : (t : KnownTable) (m : KnownMachine) (c : KnownCpu) → Visits t m c → BackSoFar t m c m c
 back_start t m c visit = record { returns = λ n d rest. rest; steps = λ b rest. rest; visit = visit; others = same_others c; fresh = refl }
 
 pub back_more : (t : KnownTable) (m : KnownMachine) (c : KnownCpu) (x : KnownMachine) (y : KnownCpu) (x' : KnownMachine) (y' : KnownCpu) (f : ℕ)
-    → BackSoFar t m c x y → ReturnsBack f (visit_state x y) (visit_state x' y') → Visits t (visit_state x' y')
+    → BackSoFar t m c x y → ReturnsBack f (visit_state x y) (visit_state x' y') → Visits t x' y'
     → Makes t x (return_steps y.number f) x' → BackSoFar t m c x' y'
 back_more t m c x y x' y' f so_far one visit run =
     let p : ℕ = c.number in

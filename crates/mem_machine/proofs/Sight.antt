@@ -3,18 +3,13 @@
 use Rattle.std.proofs.Common.{◌≡◌, ℕ, ◌+◌, ◌==◌, ◌||◌, Bool, true, false, length, cond, refl, ap, sym, ◌∙◌, subst, arith}
 use Rattle.std.specs.List.{fold}
 use Rattle.frame_word.specs.Seats.{KnownTable}
-use Rattle.step_rules.specs.State.{Part, State}
-use Rattle.step_rules.specs.After.{Run, state_of, with_part}
-use Rattle.step_rules.specs.Views.{other_part_seen, references_seen_by, seen_by}
+use Rattle.step_rules.specs.{Part, Run, state_of, with_part, other_part_seen, references_seen_by, seen_by}
+use Rattle.step_rules.specs.State.{State}
 use Rattle.step_rules.proofs.Basics.{cond-ap}
 use Rattle.step_rules.proofs.CoverParts.{part_seen}
 use Rattle.step_rules.proofs.CoverPhases.{seen_through}
-use Rattle.boot_words.specs.Hidden.{hide, hide_phase, zone_references}
-use Rattle.boot_words.specs.Pasts.{KnownPasts, IsHeld, cpu_past, local_by_pasts}
-use Rattle.boot_words.specs.Seats.{zone_of_boot}
-use Rattle.mem_machine.specs.Local.{local_of}
-use Rattle.mem_machine.specs.Machines.{KnownMachine, IsConsistent, IsShownBy, left_by}
-use Rattle.mem_machine.specs.Noted.{KnownRun, Notes, after_made}
+use Rattle.boot_words.specs.{hide, hide_phase, zone_references, KnownPasts, IsHeld, cpu_past, local_by_pasts, zone_of_boot}
+use Rattle.mem_machine.specs.{local_of, KnownMachine, IsConsistent, IsShownBy, left_by, KnownRun, Notes, after_made}
 
 twice_seen : (part : Part) → other_part_seen (other_part_seen part) ≡ other_part_seen part
 twice_seen part =

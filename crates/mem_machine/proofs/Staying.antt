@@ -9,14 +9,10 @@ use Rattle.group_charge.specs.Charges.{AreCharges, current_of, pages_of}
 use Rattle.group_charge.proofs.CallerLemmas.{pages-le-current, usage-le-root}
 use Rattle.step_rules.specs.State.{Part, State}
 use Rattle.step_rules.specs.After.{Run}
-use Rattle.boot_words.specs.Hidden.{hide}
-use Rattle.boot_words.specs.Pasts.{IsHeld}
+use Rattle.boot_words.specs.{hide, IsHeld}
 use Rattle.mem_machine.specs.declared.machine.Machine.TheInside.{Inside}
-use Rattle.mem_machine.specs.Booked.{AreBooked, AreOwners}
-use Rattle.mem_machine.specs.Kept.{IsSoundMachine, machine_of}
-use Rattle.mem_machine.specs.Local.{local_of}
-use Rattle.mem_machine.specs.Machines.{KnownMachine, IsConsistent, IsShownBy, frames_charged, left_by, pages_booked}
-use Rattle.mem_machine.specs.Noted.{KnownRun, Notes, after_made}
+use Rattle.mem_machine.specs.{AreBooked, AreOwners, IsSoundMachine, machine_of, local_of, KnownMachine, IsConsistent, IsShownBy, frames_charged}
+use Rattle.mem_machine.specs.{left_by, pages_booked, KnownRun, Notes, after_made}
 use Rattle.mem_machine.proofs.Booking.{books_same, sums_same}
 use Rattle.mem_machine.proofs.Draining.{charged_there}
 use Rattle.mem_machine.proofs.Sight.{left_seen, left_then}

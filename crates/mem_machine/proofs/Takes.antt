@@ -2,31 +2,22 @@
 use Rattle.std.proofs.Common.{◌≡◌, ℕ, ◌<◌, ◌==◌, Bool, Option, List, [], ◌∷◌, length, refl, sym, ap, ◌∙◌, subst, arith, eq-eqb}
 use Rattle.std.specs.Prelude.{slice_set}
 use Rattle.zone_blocks.specs.declared.block.Block.{Block}
-use Rattle.zone_blocks.specs.Areas.{AreMaximalBlocks}
-use Rattle.zone_blocks.specs.Zone.{GivesFrames, IsInUse}
+use Rattle.zone_blocks.specs.{AreMaximalBlocks, GivesFrames, IsInUse}
 use Rattle.frame_word.specs.Seats.{KnownTable}
-use Rattle.cpu_part.specs.Cpus.{KnownCpu}
-use Rattle.cpu_part.specs.Calls.{PassesFront}
+use Rattle.cpu_part.specs.{KnownCpu, PassesFront}
 use Rattle.step_rules.specs.declared.phase.Way.TheVariants.{OnList}
 use Rattle.step_rules.specs.declared.phase.Phase.TheVariants as phase
 use Rattle.step_rules.specs.declared.step.Action.TheVariants.{PassBack, Collect}
 use Rattle.step_rules.specs.declared.step.Answer.TheVariants.{Done}
-use Rattle.step_rules.specs.Invariant.{told_pages}
-use Rattle.step_rules.specs.State.{Part, Zone, front_of, one_if, times, with_at}
-use Rattle.step_rules.specs.Reaches.{IsLocalRun}
+use Rattle.step_rules.specs.{told_pages, Part, Zone, front_of, one_if, times, with_at, IsLocalRun}
 use Rattle.step_rules.proofs.Lists.{times_same, without_front, without_none}
 use Rattle.step_rules.proofs.SoundSteps.{below_frames}
-use Rattle.boot_words.specs.Hidden.{hide_phase}
-use Rattle.boot_words.specs.Pasts.{KnownPasts, MakesStep, MayMake}
+use Rattle.boot_words.specs.{hide_phase, KnownPasts, MakesStep, MayMake}
 use Rattle.step_watch.specs.Watched.{KnownWatch, Watches}
 use Rattle.mem_machine.specs.declared.frame_state.FrameState.TheVariants.{Free, Lent}
-use Rattle.mem_machine.specs.Booked.{AreBooked, AreOwners}
-use Rattle.mem_machine.specs.FrameStates.{frame_state_at, frame_state_group, free_of, is_free_state}
-use Rattle.mem_machine.specs.Lending.{UnlistsOne}
-use Rattle.mem_machine.specs.Local.{Visits, local_of, visit_state}
-use Rattle.mem_machine.specs.Machines.{KnownMachine, IsConsistent, left_by}
-use Rattle.mem_machine.specs.Noted.{KnownRun, MayTakeAll, Notes}
-use Rattle.mem_machine.specs.Steps.{cpu_makes, unlist_steps, zone_makes}
+use Rattle.mem_machine.specs.{AreBooked, AreOwners, frame_state_at, frame_state_group, free_of, is_free_state, UnlistsOne, Visits, local_of}
+use Rattle.mem_machine.specs.{KnownMachine, IsConsistent, left_by, KnownRun, MayTakeAll, Notes, unlist_steps}
+use Rattle.mem_machine.specs.Steps.{cpu_makes, zone_makes}
 use Rattle.mem_machine.proofs.Counted.{collects_none}
 use Rattle.mem_machine.proofs.HandOvers.{IsVisited, part_without, unlist_run, unlisted_state}
 use Rattle.mem_machine.proofs.Lends.{all_moved}
@@ -37,7 +28,7 @@ use Rattle.mem_machine.proofs.OwnFrames.{HasFrame}
 use Rattle.mem_machine.proofs.Records.{free_given}
 use Rattle.mem_machine.proofs.Sight.{shown_seen}
 
-module _ (t : KnownTable) (m : KnownMachine) (c : KnownCpu) (ok : IsConsistent t m) (visit : Visits t (visit_state m c)) (f : ℕ) (rest : List ℕ) (front : c.list ≡ f ∷ rest) where
+module _ (t : KnownTable) (m : KnownMachine) (c : KnownCpu) (ok : IsConsistent t m) (visit : Visits t m c) (f : ℕ) (rest : List ℕ) (front : c.list ≡ f ∷ rest) where
   mine : HasFrame (local_of t m) c.number (phase.Lent c.number OnList) f
   mine = front_here t m c visit f rest front
 
@@ -88,8 +79,8 @@ module _ (t : KnownTable) (m : KnownMachine) (c : KnownCpu) (ok : IsConsistent t
 
 -- ---- of the machine as it was seen before
 
-module _ (t : KnownTable) (m now : KnownMachine) (same : m ≡ now) (c : KnownCpu) (visit : Visits t (visit_state now c)) (ok : IsConsistent t m) where
-  here : Visits t (visit_state m c)
+module _ (t : KnownTable) (m now : KnownMachine) (same : m ≡ now) (c : KnownCpu) (visit : Visits t now c) (ok : IsConsistent t m) where
+  here : Visits t m c
   here = visits_here t m now same c visit
 
   unlist_may : (f : ℕ) (rest : List ℕ) → c.list ≡ f ∷ rest → MayTakeAll t m.run.past (unlist_steps c.number f)

@@ -9,13 +9,10 @@ use Rattle.std.proofs.lemmas.List.FromFn.{get_or-map-range_with_len, length-map-
 use Rattle.std.proofs.lemmas.Nat.{pow_pos}
 use Rattle.std.proofs.lemmas.Option.{none-some}
 use Rattle.zone_blocks.specs.declared.block.Block.{Block}
-use Rattle.zone_blocks.specs.Block.{IsBlock}
-use Rattle.zone_blocks.specs.Areas.{IsFree, IsFreeBlock, AreMaximalBlocks, HasNoneFrom, IsFrontOfSmallest}
-use Rattle.zone_blocks.specs.Zone.{TakesFrames, block_at}
+use Rattle.zone_blocks.specs.{IsBlock, IsFree, IsFreeBlock, AreMaximalBlocks, HasNoneFrom, IsFrontOfSmallest, TakesFrames, block_at}
 use Rattle.zone_blocks.proofs.Halves.{lower_half}
 use Rattle.frame_word.specs.Seats.{KnownTable}
-use Rattle.group_tree.specs.Groups.{has_group}
-use Rattle.group_tree.specs.Room.{PathHasRoom, IsLowestOver}
+use Rattle.group_tree.specs.{has_group, PathHasRoom, IsLowestOver}
 use Rattle.group_charge.specs.Charges.{Ledger, current_of, pages_of, with_charge, with_uncharge, PagesRise, AreCharges}
 use Rattle.group_charge.proofs.CallerLemmas.{uncharge_events, uncharge_pages, uncharge_peaks}
 use Rattle.lru_lists.specs.declared.record.Home.{Home}
@@ -28,24 +25,18 @@ use Rattle.step_rules.specs.declared.step.Action.TheVariants.{Grant, PlaceBlock,
 use Rattle.step_rules.specs.declared.step.Answer.TheVariants.{Done, Granted, NoFreeBlock, Over, Placed}
 use Rattle.step_rules.specs.Phases.{at_stage, is_head, is_head_in_hand}
 use Rattle.step_rules.specs.Phases as phases
-use Rattle.step_rules.specs.State.{State, Zone, free_in, is_frame, one_if}
-use Rattle.step_rules.specs.After.{Run, after, is_within, placed_phase}
-use Rattle.step_rules.specs.Legal.{is_legal}
-use Rattle.step_rules.specs.Reaches.{IsLocalRun}
+use Rattle.step_rules.specs.State.{State}
+use Rattle.step_rules.specs.{Zone, free_in, is_frame, one_if, Run, after, is_within, placed_phase, is_legal, IsLocalRun}
 use Rattle.step_rules.proofs.Basics.{at_same, at_other}
 use Rattle.step_rules.proofs.Placing.{within_cases}
-use Rattle.boot_words.specs.Hidden.{hide, hide_phase}
-use Rattle.boot_words.specs.Pasts.{IsHeld, MakesStep}
+use Rattle.boot_words.specs.{hide, hide_phase, IsHeld, MakesStep}
 use Rattle.step_watch.specs.Watched.{Watches}
 use Rattle.mem_machine.specs.declared.frame_state.FrameState.{FrameState}
 use Rattle.mem_machine.specs.declared.frame_state.FrameState.TheVariants.{Free, Head, Tail}
-use Rattle.mem_machine.specs.FrameStates.{frame_state_at, is_free_state, free_of, frame_state_group, head_group_of, phase_hidden}
-use Rattle.mem_machine.specs.Machines.{KnownMachine, FitsFrameState, IsConsistent, IsShownBy, home_of, is_killed}
-use Rattle.mem_machine.specs.Noted.{KnownRun, MayTakeAll, Notes, after_made}
-use Rattle.mem_machine.specs.Paying.{MayCharge}
-use Rattle.mem_machine.specs.Steps.{over_steps, zone_makes}
-use Rattle.mem_machine.specs.Blocks.{PlacesUnit, TakesBlock, TakesNoBlock, taken_steps, unplaced_steps}
-use Rattle.mem_machine.specs.Local.{Makes, StaysVisited, lock_holder, local_of}
+use Rattle.mem_machine.specs.{frame_state_at, is_free_state, free_of, frame_state_group, head_group_of, phase_hidden, KnownMachine, FitsFrameState}
+use Rattle.mem_machine.specs.{IsConsistent, IsShownBy, home_of, is_killed, KnownRun, MayTakeAll, Notes, after_made, MayCharge, over_steps, PlacesUnit}
+use Rattle.mem_machine.specs.{TakesBlock, TakesNoBlock, taken_steps, unplaced_steps, Makes, StaysVisited, lock_holder, local_of}
+use Rattle.mem_machine.specs.Steps.{zone_makes}
 use Rattle.mem_machine.proofs.BlockCharges.{charges_rise}
 use Rattle.mem_machine.proofs.Followed.{follows_same, same_events}
 use Rattle.mem_machine.proofs.Grants.{is_granted, is_not_placed, is_over, is_taken_back, may_place, none_pends, with_granted}

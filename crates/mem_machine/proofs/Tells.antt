@@ -5,22 +5,16 @@ use Rattle.std.specs.List.{slice_get}
 use Rattle.std.proofs.lemmas.Bool.{cases_Bool, and_parts, eqb-true, or_left, or_right, true≢false}
 use Rattle.std.proofs.lemmas.List.{append_assoc, append-nil}
 use Rattle.std.proofs.Math.Seq.{take-append_seam}
-use Rattle.group_tree.specs.Events.{count_of}
-use Rattle.group_tree.specs.Groups.{has_group, in_subtree}
+use Rattle.group_tree.specs.{count_of, has_group, in_subtree}
 use Rattle.group_charge.specs.Charges.{peak_of, events_of, events_local_of}
 use Rattle.step_rules.specs.declared.step.Step.{Step}
 use Rattle.step_rules.specs.declared.step.Action.{Action}
 use Rattle.step_rules.specs.declared.step.Action.TheVariants.{Grant, Note, NoteGroupKill, Kill, Make}
 use Rattle.step_rules.specs.declared.step.Answer.{Answer}
 use Rattle.step_rules.specs.declared.step.Answer.TheVariants.{Illegal, Done, Granted, Number}
-use Rattle.step_rules.specs.State.{Zone, State}
-use Rattle.step_rules.specs.Legal.{is_legal, Allows}
-use Rattle.step_rules.specs.Usage.{usage_of}
-use Rattle.step_rules.specs.After.{Run, after, state_of, IsLegalRun}
-use Rattle.step_rules.specs.Laws.{ShowsLocal, IsLocalStep, pushed}
-use Rattle.step_rules.specs.Reaches.{is_own, own_steps, IsLocalRun, MayFollow, IsInterleaved}
-use Rattle.step_rules.specs.Peaks.{IsPeak, peak_follows}
-use Rattle.step_rules.specs.Events.{is_noted_at, is_noted_in_subtree, events_in, events_local_in}
+use Rattle.step_rules.specs.{Zone, is_legal, Allows, usage_of, Run, after, state_of, IsLegalRun, ShowsLocal, IsLocalStep, pushed, is_own, own_steps}
+use Rattle.step_rules.specs.{IsLocalRun, MayFollow, IsInterleaved, IsPeak, peak_follows, is_noted_at, is_noted_in_subtree, events_in, events_local_in}
+use Rattle.step_rules.specs.State.{State}
 use Rattle.step_rules.proofs.LegalTests.{grant_tests, make_tests, kill_tests}
 use Rattle.step_rules.proofs.Runs.{allowed, sound_run}
 use Rattle.step_rules.proofs.CoverUsage.{usage_seen}
@@ -28,10 +22,7 @@ use Rattle.step_rules.proofs.Interleaving.{local_runs_interleave}
 use Rattle.step_rules.proofs.LocalLaws.{own_step_is_legal, other_step_is_hidden}
 use Rattle.step_rules.proofs.Peaking.{peaks_are_kept}
 use Rattle.step_rules.proofs.Noting.{events_are_counted}
-use Rattle.mem_machine.specs.Following.{Moves, moved_along, moves_peak, moves_count, ExistsAfter}
-use Rattle.mem_machine.specs.Local.{lock_holder, local_of}
-use Rattle.mem_machine.specs.Interleaving.{zone_of}
-use Rattle.mem_machine.specs.Agreeing.{LedgersAgree}
+use Rattle.mem_machine.specs.{Moves, moved_along, moves_peak, moves_count, ExistsAfter, lock_holder, local_of, zone_of, LedgersAgree}
 use Rattle.mem_machine.proofs.Noted.{run_ends}
 use Rattle.mem_machine.proofs.Followed.{is_still, only_made, Stays, Test, still_peak, below_stays, at_stays, count_begins}
 

@@ -8,9 +8,7 @@ use Rattle.lru_lists.specs.declared.record.Home.{Home}
 use Rattle.lru_lists.specs.declared.lru.Lru.{Lru}
 use Rattle.lru_lists.specs.declared.lru.Touched.{Touched}
 use Rattle.lru_lists.specs.Lists.{OthersStayLinked, OneOfAllChanges, AreLinked, AllLinked, ChangesOwn, Touches, list_of}
-use Rattle.mem_machine.specs.Machines.{KnownMachine, IsConsistent, home_of, no_lists}
-use Rattle.mem_machine.specs.Marks.{TouchesUnit}
-use Rattle.mem_machine.specs.Local.{Makes}
+use Rattle.mem_machine.specs.{KnownMachine, IsConsistent, home_of, no_lists, TouchesUnit, Makes}
 use Rattle.mem_machine.proofs.Listed.{touched_owners, lists_consistent, unlisted_stay, others_stay}
 use Rattle.mem_machine.proofs.Dirties.{owner_bound, on_list, owned, stands, its_lists}
 use Rattle.mem_machine.proofs.Followed.{makes_stay}

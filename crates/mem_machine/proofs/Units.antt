@@ -10,8 +10,7 @@ use Rattle.step_rules.specs.After.{is_within}
 use Rattle.step_rules.proofs.Placing.{within_cases}
 use Rattle.mem_machine.specs.declared.frame_state.FrameState.{FrameState}
 use Rattle.mem_machine.specs.declared.frame_state.FrameState.TheVariants.{Head, Tail}
-use Rattle.mem_machine.specs.FrameStates.{frame_state_at, frame_state_group, head_group_of, AreUnits, IsUnitAt, IsTailOf}
-use Rattle.mem_machine.specs.Blocks.{PlacesUnit}
+use Rattle.mem_machine.specs.{frame_state_at, frame_state_group, head_group_of, AreUnits, IsUnitAt, IsTailOf, PlacesUnit}
 use Rattle.mem_machine.proofs.PlacesUnits.{head_of_block, tail_of_block, off_block}
 
 -- the unit and the group that a record names

@@ -1,7 +1,6 @@
 -- The usage by the rules of the steps is the ledger's: a CPU's fresh frames count for the group of its stock, and are in
 -- its stock's book. Serves `take_block`, `remove` and `fill_stock`.
-use Rattle.std.proofs.Common.{◌≡◌, ℕ, ◌+◌, ◌==◌, Bool, true, false, cond, Option, Some, List}
-use Rattle.std.proofs.Common.{refl, sym, ap, ◌∙◌, arith}
+use Rattle.std.proofs.Common.{◌≡◌, ℕ, ◌+◌, ◌==◌, Bool, true, false, cond, Option, Some, List, refl, sym, ap, ◌∙◌, arith}
 use Rattle.std.proofs.lemmas.Bool.{ne_eqb}
 use Rattle.group_tree.specs.declared.group.Group.{Group}
 use Rattle.group_tree.specs.Groups.{in_subtree}
@@ -12,25 +11,19 @@ use Rattle.step_rules.specs.declared.phase.Stage.TheVariants.{FreshAt, Live, Bac
 use Rattle.step_rules.specs.declared.phase.Way.TheVariants.{OnList}
 use Rattle.step_rules.specs.declared.phase.Phase.{Phase}
 use Rattle.step_rules.specs.declared.phase.Phase.TheVariants as phase
-use Rattle.step_rules.specs.Invariant.{KeepsInvariant, PhasePaid, groups_in, told_pages}
-use Rattle.step_rules.specs.Phases.{keeper_of}
-use Rattle.step_rules.specs.State.{Part, State, one_if, sum_to}
-use Rattle.step_rules.specs.After.{Run, state_of}
-use Rattle.step_rules.specs.Usage.{is_in_subtree, frames_kept, stock_in_subtree, pages_prepaid, pages_pending, usage_of}
-use Rattle.step_rules.specs.Views.{other_part_seen, parts_seen_by, phase_seen_by, seen_by}
+use Rattle.step_rules.specs.{KeepsInvariant, PhasePaid, groups_in, told_pages, keeper_of, Part, one_if, sum_to, Run, state_of, is_in_subtree}
+use Rattle.step_rules.specs.{frames_kept, stock_in_subtree, pages_prepaid, pages_pending, usage_of, other_part_seen, parts_seen_by, phase_seen_by}
+use Rattle.step_rules.specs.{seen_by}
+use Rattle.step_rules.specs.State.{State}
 use Rattle.step_rules.proofs.CoverParts.{other_part}
 use Rattle.step_rules.proofs.CoverUsage.{usage_seen}
 use Rattle.step_rules.proofs.Freeing.{zone_of_run}
 use Rattle.step_rules.proofs.Runs.{sound_run}
 use Rattle.step_rules.proofs.Sums.{sum_same, sum_none}
-use Rattle.boot_words.specs.Hidden.{hide, hide_phase}
-use Rattle.boot_words.specs.Pasts.{IsHeld, cpu_past, own_past}
-use Rattle.boot_words.specs.Seats.{zone_of_boot}
+use Rattle.boot_words.specs.{hide, hide_phase, IsHeld, cpu_past, own_past, zone_of_boot}
 use Rattle.mem_machine.specs.declared.frame_state.FrameState.{FrameState}
 use Rattle.mem_machine.specs.declared.frame_state.FrameState.TheVariants.{Free, Lent, Head, Tail}
-use Rattle.mem_machine.specs.FrameStates.{frame_state_at, frame_state_group, phase_hidden}
-use Rattle.mem_machine.specs.Machines.{KnownMachine, IsConsistent, left_by}
-use Rattle.mem_machine.specs.Local.{local_of}
+use Rattle.mem_machine.specs.{frame_state_at, frame_state_group, phase_hidden, KnownMachine, IsConsistent, left_by, local_of}
 use Rattle.mem_machine.proofs.Ledgers.{cond_zero, ledger_visit_state}
 
 -- ---- a state counts as much if every CPU's own part is hidden

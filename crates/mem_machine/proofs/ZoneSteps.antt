@@ -6,9 +6,7 @@ use Rattle.frame_word.specs.Seats.{KnownTable}
 use Rattle.cpu_part.specs.Known.{HasOwn}
 use Rattle.step_rules.specs.State.{State, Part, visits}
 use Rattle.step_rules.specs.After.{Run}
-use Rattle.mem_machine.specs.Local.{StaysVisited, local_of}
-use Rattle.mem_machine.specs.Machines.{KnownMachine}
-use Rattle.mem_machine.specs.Noted.{Notes, after_made}
+use Rattle.mem_machine.specs.{StaysVisited, local_of, KnownMachine, Notes, after_made}
 use Rattle.mem_machine.proofs.Staying.{HaveSameBooks}
 
 -- the same parts have the same books

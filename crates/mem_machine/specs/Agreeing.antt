@@ -2,18 +2,15 @@
 use Rattle.std.specs.Prelude.{◌≡◌, ℕ, ◌++◌, true}
 use Rattle.frame_word.specs.Seats.{KnownTable}
 use Rattle.group_tree.specs.declared.event.EventKey.{EventKey}
-use Rattle.group_tree.specs.Events.{count_of}
-use Rattle.group_tree.specs.Groups.{has_group}
+use Rattle.group_tree.specs.{count_of, has_group}
 use Rattle.group_charge.specs.Charges.{Ledger, peak_of, events_of, events_local_of}
-use Rattle.step_rules.specs.After.{Run, state_of}
-use Rattle.step_rules.specs.Peaks.{IsPeak}
-use Rattle.step_rules.specs.Events.{events_in, events_local_in}
+use Rattle.step_rules.specs.{Run, state_of, IsPeak, events_in, events_local_in}
 use Rattle.mem_machine.specs.Local.{lock_holder, Makes}
 use Rattle.mem_machine.specs.Machines.{KnownMachine}
 use Rattle.mem_machine.specs.Interleaving.{zone_of, Shows, IsInterleaving}
 
--- for each group that exists after the run, the ledger has the peak that the group reached in the run, and the counts of
--- the events that the run noted
+-- for each group that exists after the run, the ledger has the peak that the group reached in the run, and the counts
+-- of the events that the run noted
 pub record AgreesWithRun (table : KnownTable) (run : Run) (ledger : Ledger) : Type 0 where
   pub peak : (group : ℕ) → has_group (state_of (zone_of table) run).groups group ≡ true
       → IsPeak (zone_of table) run group (peak_of ledger group)

@@ -10,8 +10,7 @@ use Rattle.step_rules.specs.declared.step.Action.TheVariants.{Put, Freeze, Colle
 use Rattle.step_rules.specs.declared.step.Answer.{Answer}
 use Rattle.step_rules.specs.declared.step.Answer.TheVariants.{Done, Last, Missed}
 use Rattle.step_rules.specs.State.{State}
-use Rattle.step_rules.specs.Returns.{is_killed_return_phase}
-use Rattle.step_rules.specs.After.{Run, after}
+use Rattle.step_rules.specs.{is_killed_return_phase, Run, after}
 use Rattle.mem_machine.specs.declared.counts.Counts.{Counts}
 use Rattle.mem_machine.specs.Counts.{with_killed_fresh, with_miss}
 

@@ -1,8 +1,7 @@
 -- How reclaim tries a kept unit: the unit is frozen and freed if only the zone has a reference, else it is missed.
 use Rattle.std.specs.Prelude.{◌≡◌, ℕ, ◌^◌, Option, Some, None, [], ◌∷◌}
 use Rattle.zone_blocks.specs.Areas.{AreMaximalBlocks}
-use Rattle.group_charge.specs.Notes.{unit_noted}
-use Rattle.group_charge.specs.Charges.{UsageRises, with_uncharge}
+use Rattle.group_charge.specs.{unit_noted, UsageRises, with_uncharge}
 use Rattle.step_rules.specs.declared.phase.ChargedUnit.{ChargedUnit}
 use Rattle.step_rules.specs.declared.step.Action.TheVariants.{Freeze, Return}
 use Rattle.step_rules.specs.declared.step.Answer.TheVariants.{Done, Missed}

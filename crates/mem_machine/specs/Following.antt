@@ -4,16 +4,13 @@ use Rattle.std.specs.Prelude.{◌≡◌, ℕ, Bool, true, List, [], ◌∷◌}
 use Rattle.std.specs.List.{fold}
 use Rattle.group_tree.specs.declared.event.EventKey.{EventKey}
 use Rattle.group_tree.specs.declared.group.Group.{Group}
-use Rattle.group_tree.specs.Events.{count_of}
-use Rattle.group_tree.specs.Groups.{has_group}
+use Rattle.group_tree.specs.{count_of, has_group}
 use Rattle.group_charge.specs.Charges.{Ledger, peak_of, events_of, events_local_of}
 use Rattle.step_rules.specs.declared.step.Step.{Step}
 use Rattle.step_rules.specs.declared.step.Action.{Action}
 use Rattle.step_rules.specs.declared.step.Answer.{Answer}
 use Rattle.step_rules.specs.State.{State}
-use Rattle.step_rules.specs.After.{Run, after}
-use Rattle.step_rules.specs.Peaks.{peak_follows}
-use Rattle.step_rules.specs.Events.{count_after, is_noted_at, is_noted_in_subtree}
+use Rattle.step_rules.specs.{Run, after, peak_follows, count_after, is_noted_at, is_noted_in_subtree}
 use Rattle.mem_machine.specs.Noted.{after_made}
 
 -- how a step with its answer changes a number, by the state before it

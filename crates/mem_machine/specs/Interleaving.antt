@@ -1,10 +1,7 @@
 -- What a call's list of steps means among the steps of other CPUs.
 use Rattle.std.specs.Prelude.{◌≡◌, ℕ, ◌++◌}
 use Rattle.frame_word.specs.Seats.{KnownTable}
-use Rattle.step_rules.specs.State.{Zone}
-use Rattle.step_rules.specs.After.{Run}
-use Rattle.step_rules.specs.Laws.{ShowsLocal}
-use Rattle.step_rules.specs.Reaches.{own_steps, IsInterleaved}
+use Rattle.step_rules.specs.{Zone, Run, ShowsLocal, own_steps, IsInterleaved}
 use Rattle.mem_machine.specs.Local.{lock_holder, local_of, Makes}
 use Rattle.mem_machine.specs.Machines.{KnownMachine}
 

@@ -2,8 +2,7 @@
 use Rattle.std.specs.Prelude.{◌≡◌, ◌≢◌, ℕ, Some, None, [], ◌∷◌, ◌++◌, false}
 use Rattle.lru_lists.specs.declared.record.LruList.{LruList}
 use Rattle.lru_lists.specs.declared.record.LruList.TheVariants.{Inactive}
-use Rattle.lru_lists.specs.Queue.{link_at, nowhere, SameUse}
-use Rattle.lru_lists.specs.Lists.{inactive_of, active_of, entries_without}
+use Rattle.lru_lists.specs.{link_at, nowhere, SameUse, inactive_of, active_of, entries_without}
 use Rattle.mem_machine.specs.Machines.{KnownMachine, GroupLists, OthersStay, UnlistedStay, home_of, lists_at, lists_of}
 
 -- The unit joins the newest end of its group's inactive list, clean and unmarked. Every other frame is on the list that

@@ -1,9 +1,8 @@
--- What the CPU that holds the lock sees of the machine and its own part, in the words of the rules, and which steps lead
--- from one machine to another.
+-- What the CPU that holds the lock sees of the machine and its own part, in the words of the rules, and which steps
+-- lead from one machine to another.
 use Rattle.std.specs.Prelude.{◌≡◌, ℕ, ◌==◌, ◌&&◌, nat_le, true, Option, Some, None, if◌then◌else◌}
 use Rattle.frame_word.specs.Seats.{KnownTable}
-use Rattle.cpu_part.specs.Cpus.{KnownCpu}
-use Rattle.cpu_part.specs.Known.{HasOwn}
+use Rattle.cpu_part.specs.{KnownCpu, HasOwn}
 use Rattle.step_rules.specs.declared.phase.Hold.TheVariants.{HeldBy}
 use Rattle.step_rules.specs.declared.phase.Way.TheVariants.{OnList}
 use Rattle.step_rules.specs.declared.phase.Stage.TheVariants.{FreshAt, Live, BackAt}
@@ -20,6 +19,7 @@ pub use Rattle.mem_machine.specs.Machines.{VisitState, visit_state}
 use Rattle.mem_machine.specs.declared.frame_state.FrameState.{FrameState}
 use Rattle.mem_machine.specs.declared.frame_state.FrameState.TheVariants.{Free, Lent, Head, Tail}
 use Rattle.mem_machine.specs.Machines.{KnownMachine, stock_group}
+use Rattle.mem_machine.specs.Transitions.{BySteps, Transition}
 use Rattle.mem_machine.specs.Following.{FollowsSteps}
 use Rattle.mem_machine.specs.Counting.{counts_along}
 
@@ -45,11 +45,17 @@ pub record Makes (table : KnownTable) (before : KnownMachine) (steps : Run) (aft
 abbrev pub VisitMakes : KnownTable → VisitState → Run → VisitState → Type 0
 VisitMakes table before steps after = Makes table before.machine steps after.machine
 
+-- some steps lead from the first machine and CPU to the others, and `Does` holds of that transition
+abbrev pub VisitDoes : KnownTable → (Transition VisitState → Type 0) → KnownMachine → KnownCpu → KnownMachine → KnownCpu
+    → Type 0
+VisitDoes table Does machine cpu machine_after cpu_after =
+    BySteps VisitMakes table Does (visit_state machine cpu) (visit_state machine_after cpu_after)
+
 -- the CPU holds the lock, and its lists and pins are its own in what it sees
-pub record Holds (table : KnownTable) (now : VisitState) : Type 0 where
-  pub held : IsHeld table now.machine.run.past
-  pub who : lock_holder now.machine ≡ now.cpu.number
-  pub own : HasOwn (local_of table now.machine) now.cpu
+pub record Holds (table : KnownTable) (machine : KnownMachine) (cpu : KnownCpu) : Type 0 where
+  pub held : IsHeld table machine.run.past
+  pub who : lock_holder machine ≡ cpu.number
+  pub own : HasOwn (local_of table machine) cpu
 
 -- this CPU holds the lock, and its visit is open
 abbrev pub IsOpen : KnownTable → KnownMachine → ℕ → Type 0
@@ -60,22 +66,22 @@ abbrev pub IsShut : KnownTable → KnownMachine → ℕ → Type 0
 IsShut table machine cpu = (local_of table machine).hold ≡ HeldBy cpu
 
 -- The CPU is visited: it holds the lock, its visit is open, and its lists and pins are its own in what it sees.
-pub record Visits (table : KnownTable) (now : VisitState) : Type 0 where
-  pub held : IsHeld table now.machine.run.past
-  pub who : lock_holder now.machine ≡ now.cpu.number
-  pub is_open : IsOpen table now.machine now.cpu.number
-  pub own : HasOwn (local_of table now.machine) now.cpu
+pub record Visits (table : KnownTable) (machine : KnownMachine) (cpu : KnownCpu) : Type 0 where
+  pub held : IsHeld table machine.run.past
+  pub who : lock_holder machine ≡ cpu.number
+  pub is_open : IsOpen table machine cpu.number
+  pub own : HasOwn (local_of table machine) cpu
 
 -- each CPU that was visited before is visited after
 abbrev pub StaysVisited : KnownTable → KnownMachine → KnownMachine → Type 0
-StaysVisited table before after =
-    (cpu : KnownCpu) → Visits table (visit_state before cpu) → Visits table (visit_state after cpu)
+StaysVisited table before after = (cpu : KnownCpu) → Visits table before cpu → Visits table after cpu
 
 -- what a visit keeps: the CPU is still visited, and has the same number and the same back frames
-pub record KeepsVisit (table : KnownTable) (before after : VisitState) : Type 0 where
-  pub visit : Visits table after
-  pub number : after.cpu.number ≡ before.cpu.number
-  pub back : after.cpu.back ≡ before.cpu.back
+pub record KeepsVisit (table : KnownTable) (before : KnownCpu) (machine : KnownMachine) (after : KnownCpu)
+    : Type 0 where
+  pub visit : Visits table machine after
+  pub number : after.number ≡ before.number
+  pub back : after.back ≡ before.back
 
 -- the number, or 0 if there is none
 abbrev pub number_or_0 : Option ℕ → ℕ
@@ -86,9 +92,9 @@ number_or_0 (Some number) = number
 abbrev pub group_of_fresh : KnownTable → VisitState → ℕ
 group_of_fresh table now = number_or_0 (stock_group table now.machine now.cpu.number)
 
--- The phase of a frame with this record, as the CPU sees it, whose fresh frames are of this group. A lent frame is fresh
--- if it is one of the CPU's own fresh frames, else listed. The head of a unit is back if it is one of the CPU's back
--- frames, else live.
+-- The phase of a frame with this record, as the CPU sees it, whose fresh frames are of this group. A lent frame is
+-- fresh if it is one of the CPU's own fresh frames, else listed. The head of a unit is back if it is one of the CPU's
+-- back frames, else live.
 abbrev pub phase_of : KnownCpu → (group frame : ℕ) → FrameState → Phase
 phase_of cpu group frame Free = phase.InZone
 phase_of cpu group frame (Lent other) =

@@ -4,10 +4,8 @@ use Rattle.std.specs.List.{slice_index_or}
 use Rattle.zone_blocks.specs.declared.block.Block.{Block}
 use Rattle.zone_blocks.specs.Areas.{AreMaximalBlocks}
 use Rattle.frame_word.specs.Seats.{KnownTable}
-use Rattle.group_charge.specs.Charges.{Ledger, pages_of, current_of, initial_ledger, with_new_group}
-use Rattle.group_tree.specs.Bounds.{most_groups}
-use Rattle.group_tree.specs.Groups.{IsLeastFreeNumber}
-use Rattle.group_tree.specs.Room.{IsLowestOver}
+use Rattle.group_charge.specs.{Ledger, pages_of, current_of, initial_ledger, with_new_group, KnownNotes, forgotten, no_notes, noted}
+use Rattle.group_tree.specs.{most_groups, IsLeastFreeNumber, IsLowestOver}
 use Rattle.lru_lists.specs.declared.record.Link.{Link}
 use Rattle.lru_lists.specs.declared.record.Home.{Home}
 use Rattle.lru_lists.specs.declared.record.Entry.{Entry}
@@ -15,15 +13,10 @@ use Rattle.lru_lists.specs.declared.record.LruList.{LruList}
 use Rattle.lru_lists.specs.declared.record.LruList.TheVariants.{Inactive, Active}
 use Rattle.lru_lists.specs.declared.lru.Lru.{Lru}
 use Rattle.lru_lists.specs.declared.queue.Queue.{Queue}
-use Rattle.lru_lists.specs.Queue.{link_at, AreNowhere}
-use Rattle.lru_lists.specs.Lists.{AllLinked, entries_of}
-use Rattle.step_rules.specs.Invariant.{told_pages}
-use Rattle.step_rules.specs.State.{Part, State, one_if, sum_to}
-use Rattle.step_rules.specs.After.{state_of}
-use Rattle.boot_words.specs.Hidden.{hide}
-use Rattle.boot_words.specs.Pasts.{KnownPasts, own_past}
-use Rattle.boot_words.specs.Seats.{zone_of_boot}
-use Rattle.boot_words.specs.Opening.{seat_at_first}
+use Rattle.lru_lists.specs.{link_at, AreNowhere, AllLinked, entries_of}
+use Rattle.step_rules.specs.{told_pages, Part, one_if, sum_to, state_of}
+use Rattle.step_rules.specs.State.{State}
+use Rattle.boot_words.specs.{hide, KnownPasts, own_past, zone_of_boot, seat_at_first}
 use Rattle.cpu_part.specs.Cpus.{KnownCpu}
 use Rattle.mem_machine.specs.declared.frame_state.FrameState.{FrameState}
 use Rattle.mem_machine.specs.declared.frame_state.FrameState.TheVariants.{Free}
@@ -31,7 +24,6 @@ use Rattle.mem_machine.specs.declared.counts.Counts.{Counts}
 use Rattle.step_watch.specs.Watched.{KnownWatch}
 use Rattle.mem_machine.specs.Noted.{KnownRun}
 use Rattle.group_charge.specs.declared.note.Note.{Note}
-use Rattle.group_charge.specs.Notes.{KnownNotes, forgotten, no_notes, noted}
 -- the units freed are the last puts, the freezes and the killed fresh frames together, or the greatest count if that
 -- is less
 pub use Rattle.mem_machine.specs.Counts.{BalancesCounts}
@@ -171,8 +163,9 @@ abbrev pub pages_booked : ℕ → (ℕ → Part) → ℕ → ℕ
 pages_booked cpus parts group = sum_to (cpus + 1) (λ cpu. booked group (parts cpu))
 
 -- The machine's fields are what this state shows. The record of each frame is its phase. The zone has one reference on
--- each frame that is on a list, and no other. No page is pending, unreported or unabsorbed, and the pages booked to each
--- stock fit a stock word. The own charge of a group is the frames charged to it and the pages booked to its stocks.
+-- each frame that is on a list, and no other. No page is pending, unreported or unabsorbed, and the pages booked to
+-- each stock fit a stock word. The own charge of a group is the frames charged to it and the pages booked to its
+-- stocks.
 pub record IsShownBy (table : KnownTable) (machine : KnownMachine) (state : State) : Type 0 where
   pub groups : state.groups ≡ machine.ledger.groups
   pub killed : (group : ℕ) → state.killed group ≡ is_killed machine.killed group

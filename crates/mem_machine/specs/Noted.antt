@@ -5,10 +5,8 @@ use Rattle.frame_word.specs.Seats.{KnownTable}
 use Rattle.step_rules.specs.declared.step.Step.{Step}
 use Rattle.step_rules.specs.declared.step.Answer.{Answer}
 use Rattle.step_rules.specs.State.{State}
-use Rattle.step_rules.specs.After.{Run, after}
-use Rattle.step_rules.specs.Laws.{IsLocalStep}
-use Rattle.boot_words.specs.Pasts.{KnownPasts, IsHeld, MakesStep, cpu_past, local_by_pasts, own_past}
-use Rattle.boot_words.specs.Growth.{GrewByAll}
+use Rattle.step_rules.specs.{Run, after, IsLocalStep}
+use Rattle.boot_words.specs.{KnownPasts, IsHeld, MakesStep, cpu_past, local_by_pasts, own_past, GrewByAll}
 use Rattle.step_watch.specs.Watched.{KnownWatch, Watches}
 
 -- the zone's past, which has that of the lock's holder too, and the watch
@@ -20,8 +18,8 @@ pub record KnownRun : Type 0 where
 abbrev pub after_made : State → Step × Answer → State
 after_made s made = after s made.0.seat made.0.action made.1
 
--- The pasts have grown by these steps: if a CPU held the lock, it still does, and sees what the steps make of what it saw.
--- Then both pasts, the zone's and the CPU's, have these steps after what they had, in this order.
+-- The pasts have grown by these steps: if a CPU held the lock, it still does, and sees what the steps make of what it
+-- saw. Then both pasts, the zone's and the CPU's, have these steps after what they had, in this order.
 pub record PastsGrowBy (table : KnownTable) (before : KnownPasts) (steps : Run) (later : KnownPasts) : Type 0 where
   pub held : IsHeld table before → IsHeld table later
   pub holder : IsHeld table before → (cpu_past later).number ≡ (cpu_past before).number

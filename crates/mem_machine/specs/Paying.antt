@@ -10,14 +10,15 @@ use Rattle.mem_machine.specs.Machines.{KnownMachine, VisitState, is_killed, left
 use Rattle.mem_machine.specs.Showing.{stock_now}
 
 -- the CPU's stock is of this group, isn't drained, and has a page
-abbrev pub HoldsPage : KnownTable → VisitState → ℕ → Type 0
-HoldsPage table now group = (more : ℕ) × (stock_now table now ≡ HeldBy group (more + 1))
+abbrev pub HoldsPage : KnownTable → KnownMachine → (cpu group : ℕ) → Type 0
+HoldsPage table machine cpu group = (more : ℕ) × (stock_now table machine cpu ≡ HeldBy group (more + 1))
 
 -- The frame at the front of the CPU's list is fresh now, and the stock of the group has one page less. Others see no
 -- change.
 pub record PaysForFront (table : KnownTable) (group frame : ℕ) (before after : VisitState) : Type 0 where
   pub takes : TakesFront frame before.cpu after.cpu
-  pub page : (more : ℕ) → stock_now table before ≡ HeldBy group (more + 1) → stock_now table after ≡ HeldBy group more
+  pub page : (more : ℕ) → stock_now table before.machine before.cpu.number ≡ HeldBy group (more + 1)
+      → stock_now table after.machine after.cpu.number ≡ HeldBy group more
   pub machine : after.machine ≡ record before.machine { run = after.machine.run }
   pub left : left_by table after.machine.run.past ≡ left_by table before.machine.run.past
 

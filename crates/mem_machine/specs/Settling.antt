@@ -24,8 +24,8 @@ pub record HandsOver (frame : ℕ) (before after : KnownCpu) : Type 0 where
   pub cpu : after ≡ record before { fresh = after.fresh }
 
 -- The oldest fresh frame becomes a kept unit of one frame, of this group. It is in use, has one reference of the zone,
--- and is on the group's inactive list. Its page stays charged, now for the frame: by the steps it is no longer booked to
--- the stock.
+-- and is on the group's inactive list. Its page stays charged, now for the frame: by the steps it is no longer booked
+-- to the stock.
 pub record KeepsFresh (group frame : ℕ) (before after : VisitState) : Type 0 where
   pub listed : ListsUnit group frame before.machine after.machine
   pub machine : after.machine ≡ record before.machine {
@@ -36,8 +36,8 @@ pub record KeepsFresh (group frame : ℕ) (before after : VisitState) : Type 0 w
   }
   pub cpu : HandsOver frame before.cpu after.cpu
 
--- a drop: the oldest fresh frame is free again, and its page is no longer charged to the group, nor by the steps booked to
--- the stock
+-- a drop: the oldest fresh frame is free again, and its page is no longer charged to the group, nor by the steps booked
+-- to the stock
 pub record DropsFresh (group frame : ℕ) (before after : VisitState) : Type 0 where
   pub frees : FreesFrames frame 1 before.machine.frame_states after.machine.frame_states
   pub areas : AreMaximalBlocks (free_of after.machine.frame_states) after.machine.blocks
@@ -168,7 +168,8 @@ settle_steps table now = all_fresh_steps table now ++ return_all_steps now
 -- if a fresh frame was settled, its steps lead from the visit state before to the visit state after
 abbrev pub MakesFreshSteps : KnownTable → Option ℕ → VisitState → VisitState → Type 0
 MakesFreshSteps table next before after =
-    IfSome next (λ frame. VisitMakes table before (fresh_steps (is_fresh_killed table before) before.cpu.number frame) after)
+    IfSome next
+    (λ frame. VisitMakes table before (fresh_steps (is_fresh_killed table before) before.cpu.number frame) after)
 
 -- if the unit of a back frame was freed, its steps lead from the visit state before to the visit state after
 abbrev pub MakesReturnSteps : KnownTable → Option ℕ → VisitState → VisitState → Type 0

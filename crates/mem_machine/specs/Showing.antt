@@ -2,17 +2,15 @@
 use Rattle.std.specs.Prelude.{ℕ, List, ◌++◌, map}
 use Rattle.frame_word.specs.Seats.{KnownTable}
 use Rattle.stock_word.specs.declared.view.Stock.{Stock}
-use Rattle.boot_words.specs.Words.{stock_in}
+use Rattle.boot_words.specs.{stock_in, own_past, zone_of_boot}
 use Rattle.lru_lists.specs.declared.record.Entry.{Entry}
 use Rattle.lru_lists.specs.declared.record.LruList.{LruList}
 use Rattle.lru_lists.specs.declared.record.LruList.TheVariants.{Inactive, Active}
 use Rattle.step_rules.specs.After.{state_of}
-use Rattle.boot_words.specs.Pasts.{own_past}
-use Rattle.boot_words.specs.Seats.{zone_of_boot}
 use Rattle.mem_machine.specs.Local.{local_of}
 -- the units of one of the group's lists, from the oldest to the newest
 pub use Rattle.mem_machine.specs.Machines.{entries_in}
-use Rattle.mem_machine.specs.Machines.{KnownMachine, VisitState, inactive_in, active_in}
+use Rattle.mem_machine.specs.Machines.{KnownMachine, inactive_in, active_in}
 
 -- a kept unit with the list that it is on
 pub record ListedUnit : Type 0 where
@@ -30,8 +28,8 @@ units_in machine group = map (listed Inactive) (inactive_in machine group)
     ++ map (listed Active) (active_in machine group)
 
 -- the CPU's own stock, as it sees it under the lock
-abbrev pub stock_now : KnownTable → VisitState → Stock
-stock_now table now = stock_in ((local_of table now.machine).parts now.cpu.number)
+abbrev pub stock_now : KnownTable → KnownMachine → ℕ → Stock
+stock_now table machine cpu = stock_in ((local_of table machine).parts cpu)
 
 -- the CPU's stock after the machine's past
 abbrev pub stock_left : KnownTable → KnownMachine → ℕ → Stock

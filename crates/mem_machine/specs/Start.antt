@@ -3,8 +3,7 @@ use Rattle.std.specs.Prelude.{◌≡◌, ℕ, ◌<◌, List, length}
 use Rattle.std.specs.List.{slice_index_or}
 use Rattle.lru_lists.specs.declared.record.Link.{Link}
 use Rattle.lru_lists.specs.declared.lru.Lru.{Lru}
-use Rattle.lru_lists.specs.Queue.{AreNowhere}
-use Rattle.lru_lists.specs.Lists.{AreLinked}
+use Rattle.lru_lists.specs.{AreNowhere, AreLinked}
 
 -- These are the pairs of lists of this many owners, from owner 0 on. Each is empty: it agrees with any links in which
 -- no frame is on a list.

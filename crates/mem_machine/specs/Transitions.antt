@@ -45,8 +45,8 @@ pub record Finds {S : Type 0} (Is : S → Type 0) (Does : Transition S → Type 
   pub is : Is call.before
   pub does : Does call
 
--- Some list of steps leads from one state to the other, as `AreMade` says: `VisitMakes` of a visit state, `Makes` of the
--- machine alone. `Does` holds of that transition.
+-- Some list of steps leads from one state to the other, as `AreMade` says: `VisitMakes` of a visit state, `Makes` of
+-- the machine alone. `Does` holds of that transition.
 pub record BySteps {S : Type 0} (AreMade : KnownTable → S → Run → S → Type 0) (table : KnownTable)
     (Does : Transition S → Type 0) (before after : S) : Type 0 where
   pub steps : Run

@@ -1,7 +1,7 @@
 //! Taking blocks of frames and charging them to a group.
 
 ghost use Rattle.std.specs.Prelude.{◌≡◌, ◌+◌, ◌^◌, ◌≤◌, IfOk, IfErr, [], length};
-ghost use Rattle.mem_machine.specs.Local.{Makes, Visits, visit_state};
+ghost use Rattle.mem_machine.specs.Local.{Makes, Visits};
 ghost use Rattle.mem_machine.specs.Paying.{MayCharge};
 ghost use Rattle.mem_machine.specs.Blocks.{PlacesUnit, TakesBlock, RefusesBlock, block_steps};
 
@@ -10,7 +10,7 @@ use crate::lists::join_list;
 use crate::machine::Machine;
 use crate::proving::prove_charges;
 use crate::stepping::make_step;
-use cpu_part::{BootName, Cpu, Tables};
+use cpu_part::{BootName, CpuLists, Tables};
 use frame_word::Frame;
 use group_charge::charges::Over;
 use group_tree::group::GroupId;
@@ -51,18 +51,18 @@ impl<N: BootName> Machine<N> {
     pub fn take_block(
         &mut self,
         tables: &Tables<N>,
-        cpu: &mut Cpu<N>,
+        cpu: &mut CpuLists<N>,
         group: GroupId,
         order: Order,
     ) -> Result<Frame, TakeFault>
-        requires visit { Visits N.frames (visit_state self.old cpu.old) }
+        requires visit { Visits N.frames self.old cpu.old }
         requires charges { MayCharge self.old group (2 ^ order) }
         requires none_fresh { cpu.old.fresh ≡ [] }
         requires none_back { cpu.old.back ≡ [] }
         ensures takes { IfOk result (λ head. TakesBlock group order head self.old self.new) }
         ensures refuses { IfErr result (λ fault. RefusesBlock group order fault self.old self.new) }
         ensures cpu { cpu.new ≡ cpu.old }
-        ensures visit { Visits N.frames (visit_state self.new cpu.new) }
+        ensures visit { Visits N.frames self.new cpu.new }
         ensures steps { Makes N.frames self.old (block_steps group order result) self.new }
     {
         let pages = order.frames();

@@ -1,12 +1,12 @@
 //! What the end of a boot needs: how many frames are charged, and that none is lent.
 
 ghost use Rattle.std.specs.Prelude.{◌≡◌, ◌≤◌, []};
-ghost use Rattle.mem_machine.specs.Local.{Holds, visit_state};
+ghost use Rattle.mem_machine.specs.Local.{Holds};
 ghost use Rattle.mem_machine.specs.Places.{frames_in_groups, NoneLentTo};
 
 use crate::machine::Machine;
 use crate::proving::{prove_charges, prove_sizes};
-use cpu_part::{BootName, Cpu, Tables};
+use cpu_part::{BootName, CpuLists, Tables};
 use group_tree::group::{GroupId, MAX_GROUPS};
 
 impl<N: BootName> Machine<N> {
@@ -27,8 +27,8 @@ impl<N: BootName> Machine<N> {
 
     /// Shows that no frame is lent to the CPU that holds the lock, if it has no listed and no fresh frame. It does
     /// nothing.
-    pub fn prove_none_lent(&self, cpu: &Cpu<N>)
-        requires holds { Holds N.frames (visit_state self.now cpu.now) }
+    pub fn prove_none_lent(&self, cpu: &CpuLists<N>)
+        requires holds { Holds N.frames self.now cpu.now }
         requires none_listed { cpu.now.list ≡ [] }
         requires none_fresh { cpu.now.fresh ≡ [] }
         ensures { NoneLentTo cpu.now.number self.now.frame_states }

@@ -1,8 +1,7 @@
 //! Freeing units.
 
 ghost use Rattle.std.specs.Prelude.{◌≡◌, ◌+◌, ◌^◌, ◌≤◌, length};
-ghost use Rattle.zone_blocks.specs.Areas.{AreMaximalBlocks};
-ghost use Rattle.zone_blocks.specs.Zone.{IsInUse, GivesFrames};
+ghost use Rattle.zone_blocks.specs.{AreMaximalBlocks, IsInUse, GivesFrames};
 ghost use Rattle.group_charge.specs.Charges.{pages_of, with_uncharge, UsageRises};
 ghost use Rattle.mem_machine.specs.Freeing.{FreesFrames};
 

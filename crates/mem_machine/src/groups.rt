@@ -3,9 +3,8 @@
 ghost use Rattle.std.specs.Prelude.{◌≡◌, ◌≢◌, [], IsTrue, IfOk, OnErr, false, true, slice_set};
 ghost use Rattle.std.specs.Result.{result_err};
 ghost use Rattle.group_tree.specs.Groups.{has_group, has_child, make_fault};
-ghost use Rattle.group_charge.specs.Charges.{current_of, SameUsage, with_group_limit, with_group_removed};
-ghost use Rattle.group_charge.specs.Charges.{with_group_kill_noted, with_kill_noted, with_noted, with_oom_flag};
-ghost use Rattle.group_charge.specs.Charges.{with_settings};
+ghost use Rattle.group_charge.specs.{current_of, SameUsage, with_group_limit, with_group_removed};
+ghost use Rattle.group_charge.specs.{with_group_kill_noted, with_kill_noted, with_noted, with_oom_flag, with_settings};
 ghost use Rattle.step_rules.specs.Events.{event_key};
 ghost use Rattle.mem_machine.specs.Machines.{is_killed, AddsGroup};
 ghost use Rattle.boot_words.specs.Pasts.{IsHeld};

@@ -3,23 +3,23 @@
 ghost use Rattle.std.specs.Prelude.{◌≡◌, []};
 ghost use Rattle.cpu_part.specs.Known.{KnowsItsPart};
 ghost use Rattle.boot_words.specs.Pasts.{Locks, Meets, Unlocks};
-ghost use Rattle.mem_machine.specs.Local.{Holds, IsShut, visit_state};
+ghost use Rattle.mem_machine.specs.Local.{Holds, IsShut};
 ghost use Rattle.mem_machine.specs.Machines.{with_past};
 ghost use Rattle.mem_machine.specs.Resting.{Rests};
 ghost use Rattle.mem_machine.specs.Showing.{stock_left};
 
 use crate::machine::Machine;
 use boot_words::CpuSeat;
-use cpu_part::{BootName, Cpu, Tables};
+use cpu_part::{BootName, CpuLists, Tables};
 
 impl<N: BootName> Machine<N> {
-    /// The CPU takes the lock, which is free. Its past, which it gives away, is the machine's until `unlock`. The caller
-    /// holds the mutex that keeps other CPUs out meanwhile.
-    pub fn lock(&mut self, tables: &Tables<N>, cpu: &Cpu<N>, past: &mut CpuSeat)
+    /// The CPU takes the lock, which is free. Its past, which it gives away, is the machine's until `unlock`. The
+    /// caller holds the mutex that keeps other CPUs out meanwhile.
+    pub fn lock(&mut self, tables: &Tables<N>, cpu: &CpuLists<N>, past: &mut CpuSeat)
         requires rests { Rests N.frames self.old }
         requires knows { KnowsItsPart N.frames past.old cpu.now }
         ensures machine { self.new ≡ with_past self.old self.new.run.past }
-        ensures holds { Holds N.frames (visit_state self.new cpu.now) }
+        ensures holds { Holds N.frames self.new cpu.now }
         ensures shut { IsShut N.frames self.new cpu.now.number }
         ensures given { past.new ≡ record past.old { seat = record { table = N.frames.table; pasts = [] } } }
         ensures run { Locks N.frames self.old.run.past past.old.seat self.new.run.past }
@@ -29,8 +29,8 @@ impl<N: BootName> Machine<N> {
 
     /// The CPU releases the lock, and has its own past again. Its visit is shut, and it knows its own part as the
     /// machine's calls left it, and its stock.
-    pub fn unlock(&mut self, tables: &Tables<N>, cpu: &Cpu<N>, past: &mut CpuSeat)
-        requires holds { Holds N.frames (visit_state self.old cpu.now) }
+    pub fn unlock(&mut self, tables: &Tables<N>, cpu: &CpuLists<N>, past: &mut CpuSeat)
+        requires holds { Holds N.frames self.old cpu.now }
         requires shut { IsShut N.frames self.old cpu.now.number }
         requires number { past.old.number ≡ cpu.now.number }
         ensures machine { self.new ≡ with_past self.old self.new.run.past }
@@ -42,9 +42,9 @@ impl<N: BootName> Machine<N> {
         tables.words.unlock(&mut self.past, past);
     }
 
-    /// The CPU, which doesn't hold the lock, and the zone, whose lock is free, now see the same run: all that either saw.
-    /// The machine rests as before, and the CPU still knows its own part.
-    pub fn meet(&mut self, tables: &Tables<N>, cpu: &Cpu<N>, past: &mut CpuSeat)
+    /// The CPU, which doesn't hold the lock, and the zone, whose lock is free, now see the same run: all that either
+    /// saw. The machine rests as before, and the CPU still knows its own part.
+    pub fn meet(&mut self, tables: &Tables<N>, cpu: &CpuLists<N>, past: &mut CpuSeat)
         requires rests { Rests N.frames self.old }
         requires knows { KnowsItsPart N.frames past.old cpu.now }
         ensures machine { self.new ≡ with_past self.old self.new.run.past }

@@ -69,9 +69,9 @@ impl<N: BootName> Model for Machine<N> {
 }
 
 impl<N: BootName> Machine<N> {
-    /// The machine of a new boot, from the zone's seat, by which no step was made yet. All frames are free, and only the
-    /// root exists. The watch is off. This call reserves all memory that later calls need; it returns `AllocError` if
-    /// memory runs out.
+    /// The machine of a new boot, from the zone's seat, by which no step was made yet. All frames are free, and only
+    /// the root exists. The watch is off. This call reserves all memory that later calls need; it returns `AllocError`
+    /// if memory runs out.
     pub fn new(alloc: Global, tables: &Tables<N>, past: PastSeat) -> Result<Machine<N>, AllocError>
         requires past { past ≡ seat_at_first N.frames.table 0 }
         ensures first { IfOk result (λ machine. IsFirst N.frames machine) }

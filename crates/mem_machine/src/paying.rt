@@ -8,18 +8,18 @@ ghost use Rattle.mem_machine.specs.Steps.{take_front_steps};
 
 use crate::machine::Machine;
 use crate::proving::prove_charges;
-use cpu_part::{BootName, Cpu, Tables};
+use cpu_part::{BootName, CpuLists, Tables};
 use frame_word::Frame;
 use group_tree::group::GroupId;
 use step_rules::step::{Action, Answer};
 use stock_word::Stock;
 
 impl<N: BootName> Machine<N> {
-    /// The stock of the CPU that holds the lock, as it is now: its group, its pages, and whether it was drained. Another
-    /// CPU's visit may have drained it since the CPU itself last saw it. This is one load, and no step.
-    pub fn look_at_stock(&mut self, tables: &Tables<N>, cpu: &Cpu<N>) -> Stock
-        requires holds { Holds N.frames (visit_state self.old cpu.now) }
-        ensures stock { result ≡ stock_now N.frames (visit_state self.old cpu.now) }
+    /// The stock of the CPU that holds the lock, as it is now: its group, its pages, and whether it was drained.
+    /// Another CPU's visit may have drained it since the CPU itself last saw it. This is one load, and no step.
+    pub fn look_at_stock(&mut self, tables: &Tables<N>, cpu: &CpuLists<N>) -> Stock
+        requires holds { Holds N.frames self.old cpu.now }
+        ensures stock { result ≡ stock_now N.frames self.old cpu.now.number }
         ensures machine { self.new ≡ self.old }
     {
         tables.words.look(&mut self.past, cpu.number())
@@ -36,15 +36,15 @@ impl<N: BootName> Machine<N> {
 
     /// Takes the front of the visited CPU's list for `group`, and pays with a page of the CPU's stock, which is of that
     /// group. The frame is fresh now. The CPU has been settled, so no frame was fresh before.
-    pub fn take_front(&mut self, tables: &Tables<N>, cpu: &mut Cpu<N>, group: GroupId) -> Frame
-        requires visit { Visits N.frames (visit_state self.old cpu.old) }
-        requires page { HoldsPage N.frames (visit_state self.old cpu.old) group }
+    pub fn take_front(&mut self, tables: &Tables<N>, cpu: &mut CpuLists<N>, group: GroupId) -> Frame
+        requires visit { Visits N.frames self.old cpu.old }
+        requires page { HoldsPage N.frames self.old cpu.old.number group }
         requires front { 1 ≤ length cpu.old.list }
         requires none_fresh { cpu.old.fresh ≡ [] }
         ensures pays { PaysForFront N.frames group result (visit_state self.old cpu.old)
             (visit_state self.new cpu.new) }
         ensures frame { result < N.frames.frames }
-        ensures visit { Visits N.frames (visit_state self.new cpu.new) }
+        ensures visit { Visits N.frames self.new cpu.new }
         ensures steps { Makes N.frames self.old (take_front_steps cpu.old.number group) self.new }
     {
         let cpu_number = cpu.number();

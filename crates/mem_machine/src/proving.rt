@@ -2,8 +2,7 @@
 //! such a contract, and does nothing.
 
 ghost use Rattle.std.specs.Prelude.{◌≡◌, ◌^◌, ◌<◌, ◌≤◌, IsTrue};
-ghost use Rattle.group_tree.specs.Bounds.{most_groups};
-ghost use Rattle.group_tree.specs.Groups.{AreGroups, has_group};
+ghost use Rattle.group_tree.specs.{most_groups, AreGroups, has_group};
 ghost use Rattle.group_charge.specs.Charges.{AreCharges, current_of, total_pages};
 ghost use Rattle.mem_machine.specs.Machines.{IsConsistent};
 

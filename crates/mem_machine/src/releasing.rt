@@ -3,7 +3,7 @@
 ghost use Rattle.std.specs.Prelude.{◌<◌};
 ghost use Rattle.boot_words.specs.Pasts.{IsHeld};
 ghost use Rattle.mem_machine.specs.Machines.{HeadsKeptUnit};
-ghost use Rattle.mem_machine.specs.Local.{Makes, StaysVisited, Visits, visit_state};
+ghost use Rattle.mem_machine.specs.Local.{Makes, StaysVisited, Visits};
 ghost use Rattle.mem_machine.specs.Releasing.{Releases, release_steps};
 
 use crate::frame_state::FrameState;
@@ -11,7 +11,7 @@ use crate::freed::free_unit;
 use crate::lists::leave_list;
 use crate::machine::Machine;
 use crate::stepping::make_step;
-use cpu_part::{BootName, Cpu, Tables};
+use cpu_part::{BootName, CpuLists, Tables};
 use frame_word::{Frame, Put};
 use step_rules::step::{Action, Answer};
 
@@ -68,12 +68,12 @@ impl<N: BootName> Machine<N> {
     }
 
     /// Releases a kept unit as `put_zone_reference` does, in the visit of this CPU.
-    pub fn release(&mut self, tables: &Tables<N>, cpu: &Cpu<N>, head: Frame) -> Released
-        requires visit { Visits N.frames (visit_state self.old cpu.now) }
+    pub fn release(&mut self, tables: &Tables<N>, cpu: &CpuLists<N>, head: Frame) -> Released
+        requires visit { Visits N.frames self.old cpu.now }
         requires frame { head < N.frames.frames }
         requires kept { HeadsKeptUnit self.old head }
         ensures releases { Releases head result self.old self.new }
-        ensures visit { Visits N.frames (visit_state self.new cpu.now) }
+        ensures visit { Visits N.frames self.new cpu.now }
         ensures steps { Makes N.frames self.old (release_steps head result) self.new }
     {
         self.put_zone_reference(tables, head)

@@ -2,10 +2,9 @@
 
 ghost use Rattle.std.specs.Prelude.{◌≡◌, ◌≢◌, ◌-◌, ◌≤◌, ℕ, List, [], ◌∷◌, true, Some, slice_set};
 ghost use Rattle.std.specs.List.{slice_index_or};
-ghost use Rattle.boot_words.specs.Composed.{AreLegal};
-ghost use Rattle.boot_words.specs.Pasts.{local_by_pasts, IsHeld, IsHolder};
+ghost use Rattle.boot_words.specs.{AreLegal, local_by_pasts, IsHeld, IsHolder};
 ghost use Rattle.mem_machine.specs.Machines.{is_killed, stock_group};
-ghost use Rattle.mem_machine.specs.Local.{VisitMakes, Visits, visit_state};
+ghost use Rattle.mem_machine.specs.Local.{Makes, Visits, visit_state};
 ghost use Rattle.mem_machine.specs.Noted.{Notes};
 ghost use Rattle.mem_machine.specs.Settling.{HandsOver, KeepsFresh, DropsFresh, SettlesNext, SettlesAllFresh, Settles};
 ghost use Rattle.mem_machine.specs.Settling.{ReturnsNext, ReturnsAllBack, LeavesOthers};
@@ -19,7 +18,7 @@ use crate::lists::join_list;
 use crate::machine::Machine;
 use crate::stepping::make_step;
 use boot_words::PastSeat;
-use cpu_part::{BootName, Cpu, Tables};
+use cpu_part::{BootName, CpuLists, Tables};
 use frame_word::Frame;
 use group_tree::group::{GroupId, MAX_GROUPS};
 use step_rules::phase::ChargedUnit;
@@ -36,11 +35,11 @@ fn watch_collected(watch: &mut Watch, cpu: u32, frame: u32)
     watch.take(0, || (Action::Absorb { cpu }, Answer::Pages(1)));
 }
 
-// Moves the oldest fresh frame of the visited CPU into the zone's hand. Its page is no longer booked to the CPU's stock,
-// which is of this group, nor in the group's sum.
+// Moves the oldest fresh frame of the visited CPU into the zone's hand. Its page is no longer booked to the CPU's
+// stock, which is of this group, nor in the group's sum.
 fn collect_fresh<N: BootName>(
     tables: &Tables<N>,
-    cpu: &mut Cpu<N>,
+    cpu: &mut CpuLists<N>,
     past: &mut PastSeat,
     watch: &mut Watch,
     sums: &mut [u32; MAX_GROUPS],
@@ -71,14 +70,13 @@ fn collect_fresh<N: BootName>(
 
 impl<N: BootName> Machine<N> {
     // Keeps the oldest fresh frame for the group that paid for it.
-    fn keep_one(&mut self, tables: &Tables<N>, cpu: &mut Cpu<N>, group: GroupId) -> Frame
-        requires visit { Visits N.frames (visit_state self.old cpu.old) }
+    fn keep_one(&mut self, tables: &Tables<N>, cpu: &mut CpuLists<N>, group: GroupId) -> Frame
+        requires visit { Visits N.frames self.old cpu.old }
         requires fresh { cpu.old.fresh ≢ [] }
         requires group { stock_group N.frames self.old cpu.old.number ≡ Some group }
         ensures keeps { KeepsFresh group result (visit_state self.old cpu.old) (visit_state self.new cpu.new) }
-        ensures visit { Visits N.frames (visit_state self.new cpu.new) }
-        ensures steps { VisitMakes N.frames (visit_state self.old cpu.old)
-            (keep_steps cpu.old.number result) (visit_state self.new cpu.new) }
+        ensures visit { Visits N.frames self.new cpu.new }
+        ensures steps { Makes N.frames self.old (keep_steps cpu.old.number result) self.new }
     {
         let head = collect_fresh(
             tables,
@@ -102,15 +100,14 @@ impl<N: BootName> Machine<N> {
     }
 
     // Frees the oldest fresh frame, whose group is killed, and uncharges its page from the group.
-    fn drop_one(&mut self, tables: &Tables<N>, cpu: &mut Cpu<N>, group: GroupId) -> Frame
-        requires visit { Visits N.frames (visit_state self.old cpu.old) }
+    fn drop_one(&mut self, tables: &Tables<N>, cpu: &mut CpuLists<N>, group: GroupId) -> Frame
+        requires visit { Visits N.frames self.old cpu.old }
         requires fresh { cpu.old.fresh ≢ [] }
         requires group { stock_group N.frames self.old cpu.old.number ≡ Some group }
         requires killed { is_killed self.old.killed group ≡ true }
         ensures drops { DropsFresh group result (visit_state self.old cpu.old) (visit_state self.new cpu.new) }
-        ensures visit { Visits N.frames (visit_state self.new cpu.new) }
-        ensures steps { VisitMakes N.frames (visit_state self.old cpu.old)
-            (drop_steps cpu.old.number result) (visit_state self.new cpu.new) }
+        ensures visit { Visits N.frames self.new cpu.new }
+        ensures steps { Makes N.frames self.old (drop_steps cpu.old.number result) self.new }
     {
         let frame = collect_fresh(
             tables,
@@ -138,10 +135,10 @@ impl<N: BootName> Machine<N> {
     }
 
     // Takes the oldest back frame, if there is one, into the zone's hand, and frees its unit.
-    fn return_one(&mut self, tables: &Tables<N>, cpu: &mut Cpu<N>) -> Option<Frame>
-        requires { Visits N.frames (visit_state self.old cpu.old) }
+    fn return_one(&mut self, tables: &Tables<N>, cpu: &mut CpuLists<N>) -> Option<Frame>
+        requires { Visits N.frames self.old cpu.old }
         ensures returns { ReturnsNext result (visit_state self.old cpu.old) (visit_state self.new cpu.new) }
-        ensures visit { Visits N.frames (visit_state self.new cpu.new) }
+        ensures visit { Visits N.frames self.new cpu.new }
         ensures steps { MakesReturnSteps N.frames result (visit_state self.old cpu.old) (visit_state self.new cpu.new) }
     {
         let cpu_number = cpu.number();
@@ -182,10 +179,10 @@ impl<N: BootName> Machine<N> {
     }
 
     // Settles the oldest fresh frame, if there is one: it is kept for its group, or dropped if that group is killed.
-    fn settle_one(&mut self, tables: &Tables<N>, cpu: &mut Cpu<N>) -> Option<Frame>
-        requires { Visits N.frames (visit_state self.old cpu.old) }
+    fn settle_one(&mut self, tables: &Tables<N>, cpu: &mut CpuLists<N>) -> Option<Frame>
+        requires { Visits N.frames self.old cpu.old }
         ensures settles { SettlesNext N.frames result (visit_state self.old cpu.old) (visit_state self.new cpu.new) }
-        ensures visit { Visits N.frames (visit_state self.new cpu.new) }
+        ensures visit { Visits N.frames self.new cpu.new }
         ensures steps { MakesFreshSteps N.frames result (visit_state self.old cpu.old) (visit_state self.new cpu.new) }
     {
         if cpu.fresh_len() == 0 {
@@ -202,30 +199,28 @@ impl<N: BootName> Machine<N> {
     }
 
     // Settles all fresh frames, in the order in which they were taken.
-    fn settle_fresh(&mut self, tables: &Tables<N>, cpu: &mut Cpu<N>)
-        requires { Visits N.frames (visit_state self.old cpu.old) }
+    fn settle_fresh(&mut self, tables: &Tables<N>, cpu: &mut CpuLists<N>)
+        requires { Visits N.frames self.old cpu.old }
         ensures settles { SettlesAllFresh N.frames cpu.old.fresh (visit_state self.old cpu.old)
             (visit_state self.new cpu.new) }
         ensures others { LeavesOthers cpu.old cpu.new }
         ensures back { cpu.new.back ≡ cpu.old.back }
         ensures none_fresh { cpu.new.fresh ≡ [] }
-        ensures visit { Visits N.frames (visit_state self.new cpu.new) }
-        ensures steps { let before = visit_state self.old cpu.old in
-            VisitMakes N.frames before (all_fresh_steps N.frames before) (visit_state self.new cpu.new) }
+        ensures visit { Visits N.frames self.new cpu.new }
+        ensures steps { Makes N.frames self.old (all_fresh_steps N.frames (visit_state self.old cpu.old)) self.new }
     {
         while let Some(_frame) = self.settle_one(tables, cpu) {}
     }
 
     // Frees the units of all back frames, in the order of their last puts.
-    fn settle_back(&mut self, tables: &Tables<N>, cpu: &mut Cpu<N>)
-        requires { Visits N.frames (visit_state self.old cpu.old) }
+    fn settle_back(&mut self, tables: &Tables<N>, cpu: &mut CpuLists<N>)
+        requires { Visits N.frames self.old cpu.old }
         ensures returns { ReturnsAllBack cpu.old.back (visit_state self.old cpu.old) (visit_state self.new cpu.new) }
         ensures others { LeavesOthers cpu.old cpu.new }
         ensures fresh { cpu.new.fresh ≡ cpu.old.fresh }
         ensures none_back { cpu.new.back ≡ [] }
-        ensures visit { Visits N.frames (visit_state self.new cpu.new) }
-        ensures steps { let before = visit_state self.old cpu.old in
-            VisitMakes N.frames before (return_all_steps before) (visit_state self.new cpu.new) }
+        ensures visit { Visits N.frames self.new cpu.new }
+        ensures steps { Makes N.frames self.old (return_all_steps (visit_state self.old cpu.old)) self.new }
     {
         while let Some(_frame) = self.return_one(tables, cpu) {}
     }
@@ -233,15 +228,14 @@ impl<N: BootName> Machine<N> {
     /// Settles the visited CPU. Each fresh frame, in the order in which they were taken, becomes a kept unit of the
     /// group that paid for it. If that group has been killed, the frame is freed and its page uncharged, which counts
     /// as a drop. Then the units of the back frames are freed, in the order of their last puts.
-    pub fn settle(&mut self, tables: &Tables<N>, cpu: &mut Cpu<N>)
-        requires { Visits N.frames (visit_state self.old cpu.old) }
+    pub fn settle(&mut self, tables: &Tables<N>, cpu: &mut CpuLists<N>)
+        requires { Visits N.frames self.old cpu.old }
         ensures settles { Settles N.frames (visit_state self.old cpu.old) (visit_state self.new cpu.new) }
         ensures others { LeavesOthers cpu.old cpu.new }
         ensures none_fresh { cpu.new.fresh ≡ [] }
         ensures none_back { cpu.new.back ≡ [] }
-        ensures visit { Visits N.frames (visit_state self.new cpu.new) }
-        ensures steps { let before = visit_state self.old cpu.old in
-            VisitMakes N.frames before (settle_steps N.frames before) (visit_state self.new cpu.new) }
+        ensures visit { Visits N.frames self.new cpu.new }
+        ensures steps { Makes N.frames self.old (settle_steps N.frames (visit_state self.old cpu.old)) self.new }
     {
         self.settle_fresh(tables, cpu);
         self.settle_back(tables, cpu);

@@ -2,9 +2,7 @@
 
 ghost use Rattle.std.specs.Prelude.{◌≡◌, ◌+◌, ◌<◌};
 ghost use Rattle.frame_word.specs.ReferenceRule.{most_references};
-ghost use Rattle.boot_words.specs.Pasts.{own_past};
-ghost use Rattle.boot_words.specs.Seats.{zone_of_boot};
-ghost use Rattle.boot_words.specs.Looking.{LoadsReferences};
+ghost use Rattle.boot_words.specs.{own_past, zone_of_boot, LoadsReferences};
 ghost use Rattle.mem_machine.specs.Machines.{HeadsKeptUnit, entries_in};
 ghost use Rattle.mem_machine.specs.Resting.{Rests};
 

@@ -3,8 +3,7 @@
 ghost use Rattle.std.specs.Prelude.{◌≡◌, true, false, replicate, length, IfOk};
 ghost use Rattle.zone_blocks.specs.Areas.{AreMaximalBlocks};
 ghost use Rattle.lru_lists.specs.Queue.{AreNowhere};
-ghost use Rattle.group_charge.specs.Charges.{initial_ledger};
-ghost use Rattle.group_charge.specs.Notes.{no_notes};
+ghost use Rattle.group_charge.specs.{initial_ledger, no_notes};
 ghost use Rattle.mem_machine.specs.Start.{AreEmpty};
 ghost use Rattle.mem_machine.specs.declared.frame_state.FrameState.TheVariants.{Free};
 ghost use Rattle.group_tree.specs.Bounds.{most_groups};

@@ -1,8 +1,7 @@
 //! Making the steps that no word is of.
 
 ghost use Rattle.std.specs.Prelude.{◌∷◌, []};
-ghost use Rattle.boot_words.specs.Pasts.{IsHeld, MakesStep};
-ghost use Rattle.boot_words.specs.Steps.{IsPlain};
+ghost use Rattle.boot_words.specs.{IsHeld, MakesStep, IsPlain};
 ghost use Rattle.step_rules.specs.declared.step.Action.{Action};
 ghost use Rattle.step_rules.specs.declared.step.Answer.{Answer};
 ghost use Rattle.step_watch.specs.Watched.{Builds};

@@ -4,7 +4,7 @@ ghost use Rattle.std.specs.Prelude.{◌≡◌, ◌<◌, [], IsTrue, OnOk, IfErr}
 ghost use Rattle.boot_words.specs.Pasts.{IsHeld};
 ghost use Rattle.group_tree.specs.Groups.{has_group};
 ghost use Rattle.mem_machine.specs.Machines.{IsCpuOf, LacksRoom};
-ghost use Rattle.mem_machine.specs.Local.{Makes, StaysVisited, Visits, visit_state};
+ghost use Rattle.mem_machine.specs.Local.{Makes, StaysVisited, Visits};
 ghost use Rattle.mem_machine.specs.Stocks.{AreDrained, AreOwnDrained, FitsStock, IsDrained, stock_group};
 ghost use Rattle.mem_machine.specs.Stocks.{of_subtree, AreChosen, AreChosenBySome, AreDrainedIf, Drains, DrainsAllIf};
 ghost use Rattle.mem_machine.specs.Stocks.{DrainsBySteps, DrainsGroup, DrainsNoted, DrainsSubtree, StockTest};
@@ -17,7 +17,7 @@ use crate::machine::Machine;
 use crate::proving::{prove_charges, prove_sizes};
 use crate::stepping::make_step;
 use crate::subtrees::is_at_or_below;
-use cpu_part::{BootName, Cpu, Tables};
+use cpu_part::{BootName, CpuLists, Tables};
 use group_charge::charges::Over;
 use group_charge::note::Note;
 use group_tree::group::GroupId;
@@ -132,11 +132,11 @@ impl<N: BootName> Machine<N> {
     pub fn fill_stock(
         &mut self,
         tables: &Tables<N>,
-        cpu: &Cpu<N>,
+        cpu: &CpuLists<N>,
         group: GroupId,
         pages: u32,
     ) -> Result<(), Over>
-        requires visit { Visits N.frames (visit_state self.old cpu.now) }
+        requires visit { Visits N.frames self.old cpu.now }
         requires charges { MayCharge self.old group pages }
         requires pages { FitsStock pages }
         requires none_fresh { cpu.now.fresh ≡ [] }
@@ -145,7 +145,7 @@ impl<N: BootName> Machine<N> {
         ensures steps { OnOk result (Makes N.frames self.old (fill_steps cpu.now.number group pages) self.new) }
         ensures over { IfErr result (λ over. LacksRoom self.old group pages over.group) }
         ensures refused { IfErr result (λ over. RefusesGrant N.frames group pages over.group self.old self.new) }
-        ensures visit { Visits N.frames (visit_state self.new cpu.now) }
+        ensures visit { Visits N.frames self.new cpu.now }
     {
         let cpu_number = cpu.number();
         prove_charges(&self.charges);

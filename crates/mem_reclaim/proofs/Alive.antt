@@ -6,8 +6,7 @@ use Rattle.std.proofs.lemmas.Bool.{cond-true, cond-false}
 use Rattle.std.proofs.lemmas.List.{append-nil, map-id}
 use Rattle.std.proofs.lemmas.List.FromFn.{filter_of_map_range_with_len_more}
 use Rattle.mem_machine.specs.Machines.{KnownMachine}
-use Rattle.mem_reclaim.specs.Sets.{alive_in_subtree}
-use Rattle.mem_reclaim.specs.Victim.{may_be_killed}
+use Rattle.mem_reclaim.specs.{alive_in_subtree, may_be_killed}
 
 -- those with a number below k
 abbrev pub alive_to : KnownMachine → ℕ → ℕ → List ℕ

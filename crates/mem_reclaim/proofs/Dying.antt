@@ -10,9 +10,8 @@ use Rattle.group_tree.proofs.CallerLemmas.{either_above, in_subtree-below, in_su
 use Rattle.group_charge.proofs.KeptLemmas.{number_below}
 use Rattle.mem_machine.specs.Machines.{KnownMachine, is_killed}
 use Rattle.mem_reclaim.specs.declared.sets.Killed.{Killed}
-use Rattle.mem_reclaim.specs.Laws.{FlaggedGroupsDieWhole, IsChosen, HasAllOrNone, OnlyTheLivingDie, VictimsDie}
-use Rattle.mem_reclaim.specs.Sets.{HasNoFlagged, IsKilledRoot, IsHighestFlagged, alive_in_subtree, kill_set}
-use Rattle.mem_reclaim.specs.Victim.{may_be_killed}
+use Rattle.mem_reclaim.specs.{FlaggedGroupsDieWhole, IsChosen, HasAllOrNone, OnlyTheLivingDie, VictimsDie, HasNoFlagged, IsKilledRoot}
+use Rattle.mem_reclaim.specs.{IsHighestFlagged, alive_in_subtree, kill_set, may_be_killed}
 use Rattle.mem_reclaim.proofs.Alive.{alive_more, alive_next, alive_to}
 use Rattle.mem_reclaim.proofs.KilledRoots.{on_path_is, victim_unflagged}
 use Rattle.mem_reclaim.proofs.KillSets.{all_one}

@@ -8,15 +8,10 @@ use Rattle.group_charge.specs.declared.note.Note.{Note}
 use Rattle.step_rules.specs.declared.step.Step.{Step}
 use Rattle.step_rules.specs.declared.step.Answer.{Answer}
 use Rattle.step_rules.specs.State.{State}
-use Rattle.step_rules.specs.After.{Run}
-use Rattle.step_rules.specs.Views.{other_part_seen}
-use Rattle.boot_words.specs.Growth.{GrewByAll}
-use Rattle.boot_words.specs.Pasts.{IsHeld, own_past}
-use Rattle.boot_words.specs.Runs.{HasNoStepOf}
+use Rattle.step_rules.specs.{Run, other_part_seen}
+use Rattle.boot_words.specs.{GrewByAll, IsHeld, own_past, HasNoStepOf}
 use Rattle.boot_words.specs.declared.past.Past.{Past}
-use Rattle.mem_machine.specs.Machines.{KnownMachine, part_at, with_note}
-use Rattle.mem_machine.specs.Local.{Makes, local_of}
-use Rattle.mem_machine.specs.Noted.{after_made}
+use Rattle.mem_machine.specs.{KnownMachine, part_at, with_note, Makes, local_of, after_made}
 use Rattle.mem_machine.proofs.Sight.{left_seen, left_then}
 use Rattle.mem_reclaim.specs.Moves.{is_miss, missed_in, misses_of}
 

@@ -7,18 +7,13 @@ use Rattle.group_tree.specs.Groups.{in_subtree}
 use Rattle.group_charge.specs.Charges.{current_of}
 use Rattle.lru_lists.specs.declared.record.Link.{Link}
 use Rattle.lru_lists.specs.declared.record.Home.{Home}
-use Rattle.lru_lists.specs.Queue.{link_at}
-use Rattle.lru_lists.specs.Lists.{SameOwners, owner_of}
+use Rattle.lru_lists.specs.{link_at, SameOwners, owner_of}
 use Rattle.cpu_part.specs.Cpus.{KnownCpu}
-use Rattle.mem_machine.specs.Machines.{KnownMachine, home_of, left_by, visit_state}
-use Rattle.mem_machine.specs.Local.{Makes, Visits}
+use Rattle.mem_machine.specs.{KnownMachine, home_of, left_by, Makes, Visits, KnownRun, evict_steps, MissesUnit, EvictsUnit, Evicts}
 use Rattle.boot_words.specs.Pasts.{IsHeld, local_by_pasts, own_past}
-use Rattle.mem_machine.specs.Noted.{KnownRun}
 use Rattle.mem_machine.proofs.Made.{visit_same}
-use Rattle.mem_reclaim.specs.Moves.{missed_in}
+use Rattle.mem_reclaim.specs.{missed_in, IsDirtyUnit, Keeps, OnlyLeave, IsMissed}
 use Rattle.mem_reclaim.proofs.Grown.{hold_after, misses_after, parts_after}
-use Rattle.mem_machine.specs.Evicting.{evict_steps, MissesUnit, EvictsUnit, Evicts}
-use Rattle.mem_reclaim.specs.Staying.{IsDirtyUnit, Keeps, OnlyLeave, IsMissed}
 
 -- ---- one call after another
 
@@ -102,7 +97,7 @@ on_path_low : (b : Bool) (n pages : ℕ) → n ≤ cond b (n + pages) n
 on_path_low true n pages = omega arith
 on_path_low false n pages = omega arith
 
-module _ (t : KnownTable) (m n : KnownMachine) (f : ℕ) (visit : (c : KnownCpu) → Visits t (visit_state m c) → Visits t (visit_state n c)) (held : IsHeld t m.run.past) where
+module _ (t : KnownTable) (m n : KnownMachine) (f : ℕ) (visit : (c : KnownCpu) → Visits t m c → Visits t n c) (held : IsHeld t m.run.past) where
   keeps_missed : MissesUnit m n → Makes t m (evict_steps f None) n → Keeps t m n
   keeps_missed is runs =
       let links : n.links ≡ m.links = ap (λ (x : KnownMachine). x.links) is in

@@ -12,29 +12,21 @@ use Rattle.group_tree.specs.Groups.{in_subtree, is_oom_group}
 use Rattle.group_charge.specs.Charges.{current_of, with_group_kill_noted}
 use Rattle.step_rules.specs.declared.step.Action.{Action}
 use Rattle.step_rules.specs.declared.step.Action.TheVariants as action
-use Rattle.step_rules.specs.After.{Run}
-use Rattle.step_rules.specs.Legal.{is_of_group}
+use Rattle.step_rules.specs.{Run, is_of_group, Part}
 use Rattle.group_charge.specs.declared.note.Note.{Note}
 use Rattle.group_charge.specs.Notes.{noted}
-use Rattle.mem_machine.specs.Machines.{KnownMachine, is_killed, part_at, with_note}
+use Rattle.mem_machine.specs.{KnownMachine, is_killed, part_at, with_note, Makes, StaysVisited, kill_steps, note_group_kill_steps, AreOwnDrained}
+use Rattle.mem_machine.specs.{HasDrained}
 use Rattle.boot_words.specs.Pasts.{IsHeld}
-use Rattle.mem_machine.specs.Local.{Makes, StaysVisited}
 use Rattle.mem_machine.proofs.Made.{visit_same}
 use Rattle.mem_reclaim.proofs.Grown.{held_after, missed_append, parts_after}
-use Rattle.step_rules.specs.State.{Part}
-use Rattle.mem_machine.specs.Steps.{kill_steps, note_group_kill_steps}
-use Rattle.mem_machine.specs.Stocks.{AreOwnDrained, HasDrained}
 use Rattle.mem_machine.proofs.Followed.{makes_both, makes_none}
 use Rattle.mem_reclaim.specs.declared.noting.CountsBeforeKill.{CountsBeforeKill}
 use Rattle.mem_reclaim.specs.declared.sets.Killed.{Killed}
-use Rattle.mem_reclaim.specs.Killing.{HasNoKeptUnit, IsKilledBy, KillsGroups, KillsRootOrVictim, KillsGroupBySteps, KillsGroupNoted, KillsGroupsBySteps}
-use Rattle.mem_reclaim.specs.Killing.{KillsSubtree, AreKillsOf}
-use Rattle.mem_reclaim.specs.Killing.{OnlyDrains, OnlyReleases, counts_before_kill, killed_note, with_all_killed}
-use Rattle.mem_reclaim.specs.KillNotes.{NotesVictim}
-use Rattle.mem_reclaim.specs.Moves.{Rises, has_kill, is_kill, killed_by, kills_in, missed_in, returned_in}
-use Rattle.mem_reclaim.specs.Sets.{HasNoFlagged, IsKilledRoot, IsHighestFlagged, alive_in_subtree, group_kill_note, kill_set}
-use Rattle.mem_reclaim.specs.Staying.{OnlyLeave}
-use Rattle.mem_reclaim.specs.Victim.{may_be_killed, victim_note}
+use Rattle.mem_reclaim.specs.{HasNoKeptUnit, IsKilledBy, KillsGroups, KillsRootOrVictim, KillsGroupBySteps, KillsGroupNoted, KillsGroupsBySteps}
+use Rattle.mem_reclaim.specs.{KillsSubtree, AreKillsOf, OnlyDrains, OnlyReleases, counts_before_kill, killed_note, with_all_killed, NotesVictim}
+use Rattle.mem_reclaim.specs.{Rises, has_kill, is_kill, killed_by, kills_in, missed_in, returned_in, HasNoFlagged, IsKilledRoot, IsHighestFlagged}
+use Rattle.mem_reclaim.specs.{alive_in_subtree, group_kill_note, kill_set, OnlyLeave, may_be_killed, victim_note}
 use Rattle.mem_reclaim.proofs.KilledRoots.{on_path_is, victim_unflagged}
 use Rattle.mem_reclaim.proofs.Alive.{alive_more, alive_same, alive_to}
 use Rattle.mem_reclaim.proofs.LettingGo.{only_lets_both, only_lets_none, only_lets_same}

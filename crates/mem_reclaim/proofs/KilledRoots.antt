@@ -4,8 +4,7 @@ use Rattle.std.specs.Prelude.{IfSome, not}
 use Rattle.std.proofs.lemmas.Bool.{and_parts, and_cases, and_from, cases_Bool, cases_eq, eq-eqb, false_from_ne_true, ne_eqb, not-true, not_from_false}
 use Rattle.std.proofs.lemmas.Bool.{true≢false}
 use Rattle.group_tree.specs.declared.group.Group.{Group}
-use Rattle.group_tree.specs.Ancestors.{ancestors_of, is_passed}
-use Rattle.group_tree.specs.Groups.{AreGroups, has_group, in_subtree, is_oom_group, parent_of}
+use Rattle.group_tree.specs.{ancestors_of, is_passed, AreGroups, has_group, in_subtree, is_oom_group, parent_of}
 use Rattle.group_tree.proofs.CallerLemmas.{either_above, in_subtree-antisym, in_subtree-below, in_subtree-refl}
 use Rattle.group_tree.proofs.Walks.{TurnAt, WalkAt, at_end_passed, at_next, at_on, at_start, at_turn, passed_here, passed_none, passed_on, passed_other}
 use Rattle.mem_reclaim.specs.Sets.{HasNoFlagged, IsFlaggedAbove, is_flagged_between}

@@ -11,21 +11,15 @@ use Rattle.lru_lists.specs.declared.record.Home.{Home}
 use Rattle.lru_lists.specs.declared.record.Entry.{Entry}
 use Rattle.lru_lists.specs.declared.record.LruList.{LruList}
 use Rattle.lru_lists.specs.declared.record.LruList.TheVariants.{Inactive, Active}
-use Rattle.lru_lists.specs.Queue.{link_at}
-use Rattle.lru_lists.specs.Lists.{entries_without, first_entry}
+use Rattle.lru_lists.specs.{link_at, entries_without, first_entry}
 use Rattle.step_rules.specs.State.{Part, State}
 use Rattle.step_rules.specs.After.{Run}
 use Rattle.mem_machine.specs.declared.releasing.Released.{Released}
 use Rattle.mem_machine.specs.declared.releasing.Released.TheVariants.{Left, Returned}
-use Rattle.mem_machine.specs.Machines.{KnownMachine, IsConsistent, home_of, lists_of, part_at, with_run}
+use Rattle.mem_machine.specs.{KnownMachine, IsConsistent, home_of, lists_of, part_at, with_run, Makes, StaysVisited, local_of, after_made, entries_in}
+use Rattle.mem_machine.specs.{LeavesList, Releases, release_steps, Drain, drain_stocks_steps, kill_steps, drain_steps, AreOwnDrained, DrainsNoted}
+use Rattle.mem_machine.specs.{DrainsIf, DrainsAllIf, DrainsGroup, HasDrained, StockTest, of_group, stock_group, uncharged}
 use Rattle.boot_words.specs.Pasts.{IsHeld}
-use Rattle.mem_machine.specs.Local.{Makes, StaysVisited, local_of}
-use Rattle.mem_machine.specs.Noted.{after_made}
-use Rattle.mem_machine.specs.Ageing.{entries_in}
-use Rattle.mem_machine.specs.Lists.{LeavesList}
-use Rattle.mem_machine.specs.Releasing.{Releases, release_steps}
-use Rattle.mem_machine.specs.Steps.{Drain, drain_stocks_steps, kill_steps, drain_steps}
-use Rattle.mem_machine.specs.Stocks.{AreOwnDrained, DrainsNoted, DrainsIf, DrainsAllIf, DrainsGroup, HasDrained, StockTest, of_group, stock_group, uncharged}
 use Rattle.mem_machine.proofs.Draining.{groups_stay}
 use Rattle.mem_machine.proofs.Falling.{current_falls}
 use Rattle.std.specs.List.{fold}
@@ -37,9 +31,8 @@ use Rattle.step_rules.specs.declared.step.Step.{Step}
 use Rattle.step_rules.specs.declared.step.Answer.{Answer}
 use Rattle.mem_machine.proofs.DrainingAll.{below_owners, below_still}
 use Rattle.mem_machine.specs.declared.counts.Counts.{Counts}
-use Rattle.mem_reclaim.specs.Moves.{Rises, has_kill, is_kill, missed_in, misses_of, returned_in}
-use Rattle.mem_reclaim.specs.Staying.{OnlyLeave}
-use Rattle.mem_reclaim.specs.Killing.{KillsGroupBySteps, HasNoKeptUnit, KeepsStocks, ReleasesUnits, ReleasesUnitsBySteps, OnlyDrains, OnlyReleases, with_killed}
+use Rattle.mem_reclaim.specs.{Rises, has_kill, is_kill, missed_in, misses_of, returned_in, OnlyLeave, KillsGroupBySteps, HasNoKeptUnit, KeepsStocks}
+use Rattle.mem_reclaim.specs.{ReleasesUnits, ReleasesUnitsBySteps, OnlyDrains, OnlyReleases, with_killed}
 use Rattle.mem_machine.proofs.Listing.{has_unit, listed_is, home_inside, has_mid}
 use Rattle.mem_reclaim.proofs.Rising.{drains_return_none, returned_both, rises_both, units_rise}
 use Rattle.mem_machine.proofs.Followed.{makes_both, makes_none}

@@ -11,20 +11,11 @@ use Rattle.lru_lists.specs.declared.record.Home.{Home}
 use Rattle.lru_lists.specs.declared.record.Entry.{Entry}
 use Rattle.lru_lists.specs.declared.record.LruList.{LruList}
 use Rattle.lru_lists.specs.declared.record.LruList.TheVariants.{Inactive, Active}
-use Rattle.lru_lists.specs.Queue.{link_at}
-use Rattle.lru_lists.specs.Lists.{entries_without, entry_of, marked}
+use Rattle.lru_lists.specs.{link_at, entries_without, entry_of, marked}
 use Rattle.step_rules.specs.After.{Run}
-use Rattle.mem_machine.specs.Machines.{KnownMachine, home_of}
+use Rattle.mem_machine.specs.{IsConsistent, KnownMachine, home_of, Makes, RenewsUnit, entries_in, EvictsUnit, Evicts, evict_steps}
 use Rattle.boot_words.specs.Pasts.{IsHeld}
-use Rattle.mem_machine.specs.Local.{Makes}
-use Rattle.mem_machine.specs.Machines.{IsConsistent}
-use Rattle.mem_reclaim.specs.Moves.{missed_in, misses_of}
-use Rattle.mem_machine.specs.Ageing.{RenewsUnit, entries_in}
-use Rattle.mem_machine.specs.Evicting.{EvictsUnit, Evicts, evict_steps}
-use Rattle.mem_reclaim.specs.Wanted.{progress}
-use Rattle.mem_reclaim.specs.Moves.{FreesBySteps}
-use Rattle.mem_reclaim.specs.Units.{TriesReclaimAs, TriesReclaim}
-use Rattle.mem_reclaim.specs.Staying.{OnlyLeave, IsMissed}
+use Rattle.mem_reclaim.specs.{FreesBySteps, missed_in, misses_of, progress, TriesReclaimAs, TriesReclaim, OnlyLeave, IsMissed}
 use Rattle.mem_reclaim.proofs.Moving.{moves_rest, moves_none, moves_try, missed_here}
 use Rattle.mem_reclaim.proofs.Wanting.{rested}
 

@@ -12,24 +12,18 @@ use Rattle.step_rules.specs.declared.step.Step.{Step}
 use Rattle.step_rules.specs.declared.step.Action.TheVariants.{Freeze}
 use Rattle.step_rules.specs.declared.step.Answer.{Answer}
 use Rattle.step_rules.specs.declared.step.Answer.TheVariants.{Done, Missed}
-use Rattle.step_rules.specs.Phases.{at_stage, unit_of}
+use Rattle.step_rules.specs.{at_stage, unit_of, Run, after, unit_size}
 use Rattle.step_rules.specs.State.{State}
-use Rattle.step_rules.specs.After.{Run, after, unit_size}
 use Rattle.step_rules.proofs.Basics.{at_same}
 use Rattle.mem_machine.specs.declared.frame_state.FrameState.TheVariants.{Head}
-use Rattle.boot_words.specs.Hidden.{hide_phase, hide_stage}
-use Rattle.boot_words.specs.Pasts.{IsHeld, own_past}
-use Rattle.mem_machine.specs.FrameStates.{frame_state_at, phase_hidden}
-use Rattle.mem_machine.specs.Noted.{KnownRun}
+use Rattle.boot_words.specs.{hide_phase, hide_stage, IsHeld, own_past}
+use Rattle.mem_machine.specs.{frame_state_at, phase_hidden, KnownRun, KnownMachine, IsConsistent, Makes, lock_holder, local_of, Evicts, evict_steps}
 use Rattle.mem_machine.proofs.Sight.{shown_seen}
 use Rattle.mem_reclaim.proofs.Grown.{misses_after, missed_append}
-use Rattle.mem_machine.specs.Machines.{KnownMachine, IsConsistent}
-use Rattle.mem_machine.specs.Local.{IsLocalRun, Makes, lock_holder, local_of}
-use Rattle.mem_machine.specs.Evicting.{Evicts, evict_steps}
+use Rattle.mem_machine.specs.Local.{IsLocalRun}
 use Rattle.mem_machine.specs.Steps.{zone_makes}
 use Rattle.mem_machine.specs.declared.counts.Counts.{Counts}
-use Rattle.mem_reclaim.specs.Moves.{FreesPages, Rises, all_missed_in, pages_freed_by, pages_returned, returned_in}
-use Rattle.mem_reclaim.specs.Moves.{missed_in, is_kill, has_kill}
+use Rattle.mem_reclaim.specs.{FreesPages, Rises, all_missed_in, pages_freed_by, pages_returned, returned_in, missed_in, is_kill, has_kill}
 use Rattle.mem_reclaim.proofs.Rising.{missed_both, returned_both, rises_both, rises_none, rises_one}
 use Rattle.mem_machine.proofs.Followed.{makes_both, makes_none}
 

@@ -4,10 +4,8 @@ use Rattle.group_tree.specs.Room.{max_count}
 use Rattle.group_charge.specs.Charges.{current_of}
 use Rattle.group_charge.specs.declared.note.Note.TheVariants as note
 use Rattle.mem_machine.specs.Machines.{KnownMachine, with_note}
-use Rattle.mem_reclaim.specs.Killing.{KillsRootOrVictim, KillsGroupNoted, kept_units}
-use Rattle.mem_reclaim.specs.Laws.{LoneKillsAreNotedAsMade, MissedUnitsWereTried, RoundsAreNotedAsMade, TheVictimIsOne}
-use Rattle.mem_reclaim.specs.Moves.{Rises, all_missed_in, returned_in}
-use Rattle.mem_reclaim.specs.Victim.{own_frames, victim_note}
+use Rattle.mem_reclaim.specs.{KillsRootOrVictim, KillsGroupNoted, kept_units, LoneKillsAreNotedAsMade, MissedUnitsWereTried, RoundsAreNotedAsMade}
+use Rattle.mem_reclaim.specs.{TheVictimIsOne, Rises, all_missed_in, returned_in, own_frames, victim_note}
 
 pub the_victim_is_one : TheVictimIsOne
 the_victim_is_one m g None None one two = refl

@@ -1,6 +1,5 @@
 -- Passes over a group and over the groups of a subtree. Serves all of `passes` and `reclaim`.
-use Rattle.std.proofs.Common.{◌≡◌, ◌≢◌, ℕ, ◌+◌, ◌-◌, ◌^◌, ◌<◌, ◌≤◌, Bool, true, false, List, [], ◌∷◌}
-use Rattle.std.proofs.Common.{sym, ap, ◌∙◌, subst, inl, inr, arith, nat_lt}
+use Rattle.std.proofs.Common.{◌≡◌, ◌≢◌, ℕ, ◌+◌, ◌-◌, ◌^◌, ◌<◌, ◌≤◌, Bool, true, false, List, [], ◌∷◌, sym, ap, ◌∙◌, subst, inl, inr, arith, nat_lt}
 use Rattle.std.specs.Int.{bit_at}
 use Rattle.std.proofs.lemmas.Bool.{cases_eq, ltb-true}
 use Rattle.std.proofs.lemmas.Nat.Bits.{bit_at-zero}
@@ -11,16 +10,11 @@ use Rattle.group_charge.specs.Charges.{current_of}
 use Rattle.lru_lists.specs.declared.record.Home.{Home}
 use Rattle.lru_lists.specs.declared.record.LruList.{LruList}
 use Rattle.lru_lists.specs.declared.record.LruList.TheVariants.{Inactive, Active}
-use Rattle.mem_machine.specs.Machines.{KnownMachine, IsConsistent}
-use Rattle.mem_machine.specs.Local.{Makes}
-use Rattle.mem_machine.specs.Ageing.{AgesGroup}
-use Rattle.mem_machine.specs.Subtrees.{IsSubtree}
+use Rattle.mem_machine.specs.{KnownMachine, IsConsistent, Makes, AgesGroup, IsSubtree}
 use Rattle.mem_machine.proofs.Dirties.{owner_bound}
-use Rattle.mem_reclaim.specs.Wanted.{WhileWanted}
-use Rattle.mem_reclaim.specs.Moves.{FreesPages, FreesBySteps}
-use Rattle.mem_reclaim.specs.Units.{ScansList}
-use Rattle.mem_reclaim.specs.Passes.{AgesAndScans, PassesGroup, ReclaimsPass, subtree_of}
-use Rattle.mem_reclaim.specs.Staying.{Keeps, OnlyLeave, IsMissed, MissedAll, MissedOfGroup, UsageFalls}
+use Rattle.mem_reclaim.specs.{WhileWanted, FreesPages, FreesBySteps, ScansList, AgesAndScans, PassesGroup, ReclaimsPass, Keeps, OnlyLeave, IsMissed}
+use Rattle.mem_reclaim.specs.{MissedAll, MissedOfGroup, UsageFalls}
+use Rattle.mem_reclaim.specs.Passes.{subtree_of}
 use Rattle.mem_reclaim.proofs.Members.{first_taken, members, no_members, same_members}
 use Rattle.mem_reclaim.proofs.Wanting.{SoFar, so_far_none, so_far_more, so_far_done, so_far_enough}
 use Rattle.mem_reclaim.proofs.Moving.{moves_none, moves_both}

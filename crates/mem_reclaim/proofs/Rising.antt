@@ -10,11 +10,8 @@ use Rattle.step_rules.specs.declared.step.Answer.{Answer}
 use Rattle.step_rules.specs.After.{Run}
 use Rattle.mem_machine.specs.declared.releasing.Released.{Released}
 use Rattle.mem_machine.specs.declared.releasing.Released.TheVariants.{Left, Returned}
-use Rattle.mem_machine.specs.Machines.{KnownMachine}
-use Rattle.mem_machine.specs.Releasing.{Releases, release_steps}
-use Rattle.mem_machine.specs.Steps.{Drain, drain_steps, drain_stocks_steps}
-use Rattle.mem_reclaim.specs.Moves.{Rises, all_missed_in, is_any_miss, is_return, returned_in}
-use Rattle.mem_reclaim.specs.Killing.{ReleasesUnits}
+use Rattle.mem_machine.specs.{KnownMachine, Releases, release_steps, Drain, drain_steps, drain_stocks_steps}
+use Rattle.mem_reclaim.specs.{Rises, all_missed_in, is_any_miss, is_return, returned_in, ReleasesUnits}
 
 -- ---- one count
 

@@ -4,18 +4,14 @@ use Rattle.std.specs.Prelude.{nat_lt}
 use Rattle.std.proofs.lemmas.Bool.{lt-ltb}
 use Rattle.std.proofs.lemmas.List.{append_assoc, append-nil}
 use Rattle.frame_word.specs.Seats.{KnownTable}
-use Rattle.group_charge.specs.Charges.{current_of}
+use Rattle.group_charge.specs.{current_of, noted}
 use Rattle.step_rules.specs.After.{Run}
 use Rattle.group_charge.specs.declared.note.Note.{Note}
 use Rattle.group_charge.specs.declared.note.Note.TheVariants.{Asked}
-use Rattle.group_charge.specs.Notes.{noted}
 use Rattle.mem_machine.specs.Machines.{KnownMachine, with_note}
 use Rattle.mem_machine.proofs.Made.{visit_same}
-use Rattle.mem_reclaim.specs.Wanted.{AfterNote, FreesNothing, Reclaiming, progress}
-use Rattle.mem_reclaim.specs.Moves.{FreesPages, FreesBySteps}
-use Rattle.mem_reclaim.specs.Passes.{Reclaims}
-use Rattle.mem_reclaim.specs.Rounds.{ReclaimsAmount, ReclaimsPages, ReclaimsRound, ReclaimsRounds, pages_missing, round_note}
-use Rattle.mem_reclaim.specs.Staying.{Keeps, MissedAll}
+use Rattle.mem_reclaim.specs.{AfterNote, FreesNothing, Reclaiming, progress, FreesPages, FreesBySteps, Reclaims, ReclaimsAmount, ReclaimsPages}
+use Rattle.mem_reclaim.specs.{ReclaimsRound, ReclaimsRounds, pages_missing, round_note, Keeps, MissedAll}
 use Rattle.mem_reclaim.proofs.Wanting.{rested}
 use Rattle.mem_reclaim.proofs.Moving.{moves_rest, moves_both}
 use Rattle.mem_reclaim.proofs.Keeping.{keeps_none, keeps_both}

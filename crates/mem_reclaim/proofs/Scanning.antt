@@ -11,14 +11,9 @@ use Rattle.group_charge.specs.Charges.{current_of}
 use Rattle.lru_lists.specs.declared.record.Entry.{Entry}
 use Rattle.lru_lists.specs.declared.record.LruList.{LruList}
 use Rattle.lru_lists.specs.declared.record.LruList.TheVariants.{Inactive}
-use Rattle.lru_lists.specs.Queue.{link_at}
-use Rattle.lru_lists.specs.Lists.{entry_after, first_entry, entry_of, entries_without}
-use Rattle.mem_machine.specs.Machines.{KnownMachine, IsConsistent, home_of}
-use Rattle.mem_machine.specs.Ageing.{entries_in}
-use Rattle.mem_reclaim.specs.Moves.{misses_of, FreesBySteps}
-use Rattle.mem_reclaim.specs.Wanted.{WhileWanted, progress}
-use Rattle.mem_reclaim.specs.Units.{TriesReclaim, ScansList}
-use Rattle.mem_reclaim.specs.Staying.{Keeps, OnlyLeave, IsMissed}
+use Rattle.lru_lists.specs.{link_at, entry_after, first_entry, entry_of, entries_without}
+use Rattle.mem_machine.specs.{KnownMachine, IsConsistent, home_of, entries_in}
+use Rattle.mem_reclaim.specs.{misses_of, FreesBySteps, WhileWanted, progress, TriesReclaim, ScansList, Keeps, OnlyLeave, IsMissed}
 use Rattle.mem_reclaim.proofs.Wanting.{SoFar, so_far_none, so_far_more, so_far_done, so_far_enough}
 use Rattle.mem_reclaim.proofs.Keeping.{keeps_none, keeps_both, only_both}
 use Rattle.mem_reclaim.proofs.Meeting.{MetList, met_list, met_leaves, met_misses}
@@ -34,7 +29,7 @@ abbrev pub MissedOrLeft : KnownMachine → ℕ → LruList → KnownMachine → 
 MissedOrLeft m g list now todo = (f : ℕ) → home_of now.links f ≡ Some (record { owner = g; list = list }) → (link_at now.links f).is_dirty ≡ false
     → (has_unit f todo ≡ true) ⊎ (misses_of m f < misses_of now f)
 
--- Some units stayed, some are still to be met, and some moved behind them
+-- Some units stayed, some are still to be met, and some moved after them
 pub record ScanSoFar (t : KnownTable) (spares_marked : Bool) (g : ℕ) (list : LruList) (want : ℕ) (m : KnownMachine) (i freed : ℕ) (next : Option Entry)
     (now : KnownMachine) : Type 0 where
   pub stayed : List Entry

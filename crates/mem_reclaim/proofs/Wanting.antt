@@ -4,8 +4,7 @@ use Rattle.std.proofs.lemmas.List.{append_assoc, append-nil}
 use Rattle.frame_word.specs.Seats.{KnownTable}
 use Rattle.step_rules.specs.After.{Run}
 use Rattle.mem_machine.specs.Machines.{KnownMachine}
-use Rattle.mem_reclaim.specs.Wanted.{FreesNothing, Reclaiming, WhileWanted, progress}
-use Rattle.mem_reclaim.specs.Moves.{FreesPages, FreesBySteps}
+use Rattle.mem_reclaim.specs.{FreesNothing, Reclaiming, WhileWanted, progress, FreesPages, FreesBySteps}
 use Rattle.mem_reclaim.proofs.Moving.{moves_rest, moves_both}
 
 pub rested : (m : KnownMachine) → FreesNothing (progress 0 m [] m)

@@ -1,6 +1,5 @@
 -- How a group is killed, and how its kept units are released.
-use Rattle.std.specs.Prelude.{◌≡◌, ◌≢◌, ℕ, ◌+◌, ◌-◌, ◌≤◌, true, false, Option, Some, None, List, [], ◌∷◌, ◌++◌}
-use Rattle.std.specs.Prelude.{Bool, length, slice_set}
+use Rattle.std.specs.Prelude.{◌≡◌, ◌≢◌, ℕ, ◌+◌, ◌-◌, ◌≤◌, true, false, Option, Some, None, List, [], ◌∷◌, ◌++◌, Bool, length, slice_set}
 use Rattle.std.specs.List.{fold}
 use Rattle.frame_word.specs.Seats.{KnownTable}
 use Rattle.group_tree.specs.Groups.{is_oom_group}
@@ -8,20 +7,13 @@ use Rattle.group_charge.specs.Charges.{current_of, with_group_kill_noted, with_k
 use Rattle.lru_lists.specs.declared.record.Entry.{Entry}
 use Rattle.lru_lists.specs.declared.record.Home.{Home}
 use Rattle.lru_lists.specs.Queue.{link_at}
-use Rattle.cpu_part.specs.Cpus.{KnownCpu}
 use Rattle.step_rules.specs.After.{Run}
 use Rattle.mem_machine.specs.declared.releasing.Released.{Released}
 use Rattle.group_charge.specs.declared.note.Note.{Note}
 use Rattle.group_charge.specs.declared.note.Note.TheVariants as note
-use Rattle.mem_machine.specs.Noted.{KnownRun}
-use Rattle.mem_machine.specs.Machines.{HeadsKeptUnit, KnownMachine, active_in, home_of, inactive_in, part_at}
-use Rattle.mem_machine.specs.Local.{Visits}
-use Rattle.mem_machine.specs.Machines.{visit_state, with_run}
-use Rattle.mem_machine.specs.Machines.{with_note}
-use Rattle.mem_machine.specs.Local.{Makes, local_of}
-use Rattle.mem_machine.specs.Releasing.{Releases, release_steps}
-use Rattle.mem_machine.specs.Steps.{Drain, drain_stocks_steps, kill_steps, note_group_kill_steps}
-use Rattle.mem_machine.specs.Stocks.{DrainsAllIf, IsDrained, of_group, stock_group}
+use Rattle.mem_machine.specs.{KnownRun, HeadsKeptUnit, KnownMachine, active_in, home_of, inactive_in, part_at, with_run, Makes, StaysVisited}
+use Rattle.mem_machine.specs.{local_of, with_note, Releases, release_steps, Drain, drain_stocks_steps, kill_steps, note_group_kill_steps, DrainsAllIf}
+use Rattle.mem_machine.specs.{IsDrained, of_group, stock_group}
 use Rattle.mem_reclaim.specs.Moves.{Rises, has_kill, kills_in, missed_in, misses_of, returned_in}
 use Rattle.mem_reclaim.specs.declared.noting.CountsBeforeKill.{CountsBeforeKill}
 use Rattle.mem_reclaim.specs.declared.sets.Killed.{Killed}
@@ -169,8 +161,8 @@ abbrev pub KillsRootOrVictim : Bool → KnownTable → ℕ → Killed → KnownM
 KillsRootOrVictim true table limited killed = KillsSubtree table limited killed.killed_root
 KillsRootOrVictim false table limited killed = KillsGroupNoted table limited killed.victim
 
--- A victim and all groups that die with it are killed for the group `limited`, by some steps.
--- First a note says who is the victim and why. Then the whole subtree is killed if its flag is on, else the victim alone.
+-- A victim and all groups that die with it are killed for the group `limited`, by some steps. First a note says who is
+-- the victim and why. Then the whole subtree is killed if its flag is on, else the victim alone.
 pub record IsKilledBy (table : KnownTable) (limited : ℕ) (killed : Killed) (before after : KnownMachine) : Type 0 where
   pub next : ℕ
   pub follows : IsNext before limited killed.victim next
@@ -202,7 +194,7 @@ pub record OnlyReleases (table : KnownTable) (before after : KnownMachine) : Typ
   pub groups : after.ledger.groups ≡ before.ledger.groups
   pub hold : (local_of table after).hold ≡ (local_of table before).hold
   pub usage : (group : ℕ) → current_of after.ledger group ≤ current_of before.ledger group
-  pub visit : (cpu : KnownCpu) → Visits table (visit_state before cpu) → Visits table (visit_state after cpu)
+  pub visit : StaysVisited table before after
   pub leaves : OnlyLeave before after
   pub dirt : (frame : ℕ) → HeadsKeptUnit after frame
       → (link_at after.links frame).is_dirty ≡ (link_at before.links frame).is_dirty

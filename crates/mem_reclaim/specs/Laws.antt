@@ -2,8 +2,7 @@
 -- is killed as a whole, or no group of it is.
 use Rattle.std.specs.Prelude.{◌≡◌, ℕ, ◌-◌, ◌<◌, ◌≤◌, ◌⊎◌, true, false, Option, Some, List, Contains}
 use Rattle.frame_word.specs.Seats.{KnownTable}
-use Rattle.group_tree.specs.Groups.{AreGroups, in_subtree, is_oom_group}
-use Rattle.group_tree.specs.Room.{max_count}
+use Rattle.group_tree.specs.{AreGroups, in_subtree, is_oom_group, max_count}
 use Rattle.group_charge.specs.Charges.{current_of}
 use Rattle.group_protection.specs.Protections.{IsKeptByMin, effective, min_key}
 use Rattle.lru_lists.specs.declared.record.Home.{Home}

@@ -7,13 +7,10 @@ use Rattle.step_rules.specs.declared.step.Action.{Action}
 use Rattle.step_rules.specs.declared.step.Action.TheVariants.{Freeze, Return, Kill}
 use Rattle.step_rules.specs.declared.step.Answer.{Answer}
 use Rattle.step_rules.specs.declared.step.Answer.TheVariants.{Done, Missed}
-use Rattle.step_rules.specs.Phases.{unit_of}
+use Rattle.step_rules.specs.{unit_of, Run, after, unit_size}
 use Rattle.step_rules.specs.State.{State}
-use Rattle.step_rules.specs.After.{Run, after, unit_size}
 use Rattle.boot_words.specs.Pasts.{own_past}
-use Rattle.mem_machine.specs.Machines.{KnownMachine}
-use Rattle.mem_machine.specs.Local.{Makes, local_of}
-use Rattle.mem_machine.specs.Transitions.{Transition, transition}
+use Rattle.mem_machine.specs.{KnownMachine, Makes, local_of, Transition, transition}
 use Rattle.mem_reclaim.specs.Wanted.{Reclaiming, progress}
 
 -- how many pages this step frees: those of the unit that it returns to the zone

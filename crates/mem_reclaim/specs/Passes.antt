@@ -2,10 +2,9 @@
 use Rattle.std.specs.Prelude.{◌≡◌, ℕ, ◌-◌, ◌≤◌, ◌==◌, ◌&&◌, ◌⊎◌, Bool, true, false, not, min, max, nat_lt, if◌then◌else◌}
 use Rattle.std.specs.Prelude.{List, [], ◌∷◌, ◌++◌, filter}
 use Rattle.std.specs.List.{range_with_len}
-use Rattle.group_tree.specs.Bounds.{most_groups}
+use Rattle.group_tree.specs.{most_groups, in_subtree}
 use Rattle.group_tree.specs.declared.event.EventKey.TheVariants as event
 use Rattle.group_tree.specs.declared.group.Group.{Group}
-use Rattle.group_tree.specs.Groups.{in_subtree}
 use Rattle.group_charge.specs.declared.settings.Settings.{Settings}
 use Rattle.group_charge.specs.Charges.{are_protecting, current_of, with_noted}
 use Rattle.group_protection.specs.Protections.{effective, low_key, min_key}

@@ -1,10 +1,8 @@
 -- Which groups are killed with a victim: a whole subtree, or the victim alone (memory.oom.group of cgroup-v2.rst).
-use Rattle.std.specs.Prelude.{◌≡◌, ℕ, ◌&&◌, ◌⊎◌, Bool, true, false, Option, Some, None, List, [], ◌∷◌, length, filter}
-use Rattle.std.specs.Prelude.{if◌then◌else◌}
+use Rattle.std.specs.Prelude.{◌≡◌, ℕ, ◌&&◌, ◌⊎◌, Bool, true, false, Option, Some, None, List, [], ◌∷◌, length, filter, if◌then◌else◌}
 use Rattle.std.specs.List.{range_with_len}
-use Rattle.group_tree.specs.Bounds.{most_groups}
+use Rattle.group_tree.specs.{most_groups, in_subtree, is_oom_group}
 use Rattle.group_tree.specs.declared.group.Group.{Group}
-use Rattle.group_tree.specs.Groups.{in_subtree, is_oom_group}
 use Rattle.group_charge.specs.declared.note.Note.{Note}
 use Rattle.group_charge.specs.declared.note.Note.TheVariants as note
 use Rattle.mem_machine.specs.Machines.{KnownMachine}

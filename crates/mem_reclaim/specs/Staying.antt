@@ -7,11 +7,8 @@ use Rattle.group_protection.specs.Protections.{IsKeptByMin}
 use Rattle.lru_lists.specs.declared.record.Link.{Link}
 use Rattle.lru_lists.specs.declared.record.Home.{Home}
 use Rattle.lru_lists.specs.declared.record.LruList.{LruList}
-use Rattle.lru_lists.specs.Queue.{link_at}
-use Rattle.lru_lists.specs.Lists.{owner_of}
-use Rattle.cpu_part.specs.Cpus.{KnownCpu}
-use Rattle.mem_machine.specs.Machines.{HeadsKeptUnit, KnownMachine, home_of, part_at, visit_state}
-use Rattle.mem_machine.specs.Local.{Visits, local_of}
+use Rattle.lru_lists.specs.{link_at, owner_of}
+use Rattle.mem_machine.specs.{HeadsKeptUnit, KnownMachine, home_of, part_at, StaysVisited, local_of}
 use Rattle.mem_reclaim.specs.Moves.{misses_of}
 
 -- the frame heads a kept unit that is dirty
@@ -29,7 +26,7 @@ pub record Keeps (table : KnownTable) (before after : KnownMachine) : Type 0 whe
   pub settings : after.ledger.settings ≡ before.ledger.settings
   pub hold : (local_of table after).hold ≡ (local_of table before).hold
   pub usage : (group : ℕ) → current_of after.ledger group ≤ current_of before.ledger group
-  pub visit : (cpu : KnownCpu) → Visits table (visit_state before cpu) → Visits table (visit_state after cpu)
+  pub visit : StaysVisited table before after
   pub dirty : (frame : ℕ) → IsDirtyUnit before.links frame → IsDirtyUnit after.links frame
   pub owners : (frame : ℕ) → HeadsKeptUnit after frame
       → owner_of (home_of after.links frame) ≡ owner_of (home_of before.links frame)

@@ -2,8 +2,7 @@
 use Rattle.std.specs.Prelude.{◌≡◌, ℕ, ◌&&◌, Bool, true, false, Option, unwrap_or, []}
 use Rattle.lru_lists.specs.declared.record.Entry.{Entry}
 use Rattle.lru_lists.specs.declared.record.LruList.{LruList}
-use Rattle.mem_machine.specs.Ageing.{RenewsUnit, entries_in}
-use Rattle.mem_machine.specs.Evicting.{Evicts, evict_steps}
+use Rattle.mem_machine.specs.{RenewsUnit, entries_in, Evicts, evict_steps}
 use Rattle.mem_reclaim.specs.Wanted.{FreesNothing, Progress, Reclaiming, WhileWanted}
 
 -- the unit gets a second chance: it moves, unmarked, to the newest end of the group's inactive list

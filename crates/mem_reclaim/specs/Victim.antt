@@ -1,7 +1,6 @@
 -- Which group is killed if a limit can't be kept otherwise.
 use Rattle.std.specs.Prelude.{◌≡◌, ℕ, ◌≤◌, ◌==◌, ◌&&◌, ◌⊎◌, not, nat_le, Bool, true, false, Option, Some, None}
-use Rattle.group_tree.specs.Bounds.{most_groups}
-use Rattle.group_tree.specs.Groups.{in_subtree}
+use Rattle.group_tree.specs.{most_groups, in_subtree}
 use Rattle.step_rules.specs.State.{one_if, sum_to}
 use Rattle.group_charge.specs.declared.note.Candidate.{Candidate}
 use Rattle.group_charge.specs.declared.note.Note.{Note}

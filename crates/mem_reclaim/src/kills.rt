@@ -3,10 +3,8 @@
 ghost use Rattle.std.specs.Prelude.{◌≡◌, ◌≢◌, ◌<◌, All, IfSome, IsTrue, None, [], ◌∷◌, false, slice_set, true};
 ghost use Rattle.group_tree.specs.Groups.{has_group};
 ghost use Rattle.lru_lists.specs.declared.record.LruList.{LruList};
-ghost use Rattle.mem_machine.specs.Machines.{is_killed};
-ghost use Rattle.mem_machine.specs.Ageing.{entries_in};
+ghost use Rattle.mem_machine.specs.{is_killed, entries_in, AreOwnDrained};
 ghost use Rattle.boot_words.specs.Pasts.{IsHeld};
-ghost use Rattle.mem_machine.specs.Stocks.{AreOwnDrained};
 ghost use Rattle.mem_reclaim.specs.Victim.{IsVictim};
 ghost use Rattle.mem_reclaim.specs.Sets.{alive_in_subtree, kill_set};
 ghost use Rattle.mem_reclaim.specs.Killing.{HasNoKeptUnit, KeepsStocks, KillsGroupBySteps, KillsGroups};
@@ -168,8 +166,7 @@ pub fn kill<N: BootName>(
     ensures drained { IfSome result (λ killed.
         All (λ g. AreOwnDrained N.frames g machine.new) (kill_set machine.old killed)) }
     ensures stocks { OnlyDrains N.frames machine.old machine.new }
-    ensures none_kept { IfSome result (λ killed.
-        All (λ g. HasNoKeptUnit g machine.new) (kill_set machine.old killed)) }
+    ensures none_kept { IfSome result (λ killed. All (λ g. HasNoKeptUnit g machine.new) (kill_set machine.old killed)) }
     ensures keeps { OnlyReleases N.frames machine.old machine.new }
 {
     let victim = victim(machine, group)?;

@@ -7,14 +7,12 @@ use Rattle.group_tree.specs.Groups.{has_group, number_at}
 use Rattle.group_charge.specs.Charges.{Ledger}
 use Rattle.cpu_part.specs.Cpus.{KnownCpu}
 use Rattle.zone_blocks.specs.declared.config.Config.{Config}
-use Rattle.mem_machine.specs.Machines.{KnownMachine}
-use Rattle.mem_machine.specs.Local.{VisitMakes, VisitState, visit_state}
+use Rattle.mem_machine.specs.{KnownMachine, VisitMakes, VisitState, visit_state}
 use Rattle.mem_alloc.specs.declared.faults.AllocFault.{AllocFault}
 use Rattle.mem_alloc.specs.declared.faults.AllocFault.TheVariants.{Over, NoFrames, RequesterKilled}
 use Rattle.mem_alloc.specs.Frames.{AllocatesFrame}
 use Rattle.mem_alloc.proofs.CallerLemmas.{frame_over_there}
-use Rattle.mem_system.specs.Allocations.{Allocates, AllocatesAs, FreshOf, outcome_of}
-use Rattle.mem_system.specs.Outcomes.{HasItsGroups, reply_of}
+use Rattle.mem_system.specs.{Allocates, AllocatesAs, FreshOf, outcome_of, HasItsGroups, reply_of}
 use Rattle.mem_system.specs.Commands.{BySteps, Transition, transition}
 use Rattle.mem_system.proofs.Telling.{path_told}
 

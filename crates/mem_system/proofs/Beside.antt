@@ -10,12 +10,8 @@ use Rattle.step_rules.specs.declared.step.Action.{Action}
 use Rattle.step_rules.specs.declared.step.Action.TheVariants.{Collect, Freeze, Grant, Kill, Make, Note, NoteGroupKill, Put, Return}
 use Rattle.step_rules.specs.declared.step.Answer.{Answer}
 use Rattle.step_rules.specs.declared.step.Answer.TheVariants.{Done, Granted, Illegal, Last, Missed, Number}
-use Rattle.step_rules.specs.State.{State, Zone, at_boot}
-use Rattle.step_rules.specs.Legal.{Allows, is_legal}
-use Rattle.step_rules.specs.After.{IsLegalRun, Run, after, state_of}
-use Rattle.step_rules.specs.Laws.{pushed}
-use Rattle.step_rules.specs.Peaks.{IsPeak}
-use Rattle.step_rules.specs.Events.{makes_group}
+use Rattle.step_rules.specs.State.{State}
+use Rattle.step_rules.specs.{Zone, at_boot, Allows, is_legal, IsLegalRun, Run, after, state_of, pushed, IsPeak, makes_group}
 use Rattle.step_rules.proofs.LegalTests.{collect_tests, freeze_tests, grant_tests, kill_tests, make_tests, return_tests}
 use Rattle.step_rules.proofs.Noting.{events_are_counted}
 use Rattle.step_rules.proofs.Peaking.{peaks_are_kept}
@@ -23,9 +19,7 @@ use Rattle.step_rules.proofs.Runs.{allowed, legal_from, state_more}
 use Rattle.boot_words.specs.Runs.{HasNoStepOf}
 use Rattle.boot_words.proofs.Holding.{allowed_at, append_none, take_length}
 use Rattle.mem_machine.specs.declared.counts.Counts.{Counts}
-use Rattle.mem_machine.specs.Agreeing.{AgreesWithRun}
-use Rattle.mem_machine.specs.Counting.{counts_after, counts_along, one_more_last_put}
-use Rattle.mem_machine.specs.Interleaving.{zone_of}
+use Rattle.mem_machine.specs.{AgreesWithRun, counts_after, counts_along, one_more_last_put, zone_of}
 use Rattle.mem_machine.proofs.Followed.{at_stays, below_stays, is_still, only_made, still_peak}
 use Rattle.mem_system.specs.Locked.{counts_in}
 

@@ -5,8 +5,7 @@ use Rattle.std.specs.Prelude.{All, min}
 use Rattle.std.proofs.lemmas.Bool.{cases_eq}
 use Rattle.std.proofs.lemmas.List.{take_all, drop_all}
 use Rattle.group_tree.specs.Room.{max_count}
-use Rattle.frame_word.specs.Seats.{KnownTable}
-use Rattle.frame_word.specs.Totals.{sum_over}
+use Rattle.frame_word.specs.{KnownTable, sum_over}
 use Rattle.stock_word.specs.Stock.{stock_pages_of}
 use Rattle.cpu_part.specs.Known.{HasOwn}
 use Rattle.cpu_part.proofs.Owning.{own_same}
@@ -18,33 +17,21 @@ use Rattle.step_rules.specs.State.{Part, State, Zone, is_unheld, live_references
 use Rattle.step_rules.specs.After.{Run, state_of}
 use Rattle.step_rules.proofs.Freeing.{zone_of_run}
 use Rattle.step_rules.proofs.Sums.{sum_only}
-use Rattle.boot_words.specs.Closed.{IsClosedRun}
-use Rattle.boot_words.specs.Growth.{IsRunSoFar}
-use Rattle.boot_words.specs.Hidden.{hide, hide_phase, hide_stage}
-use Rattle.boot_words.specs.Pasts.{own_past}
-use Rattle.boot_words.specs.Rule.{AllOf, BeginsRun, of_number, words_in}
-use Rattle.boot_words.specs.Seats.{zone_of_boot}
-use Rattle.boot_words.specs.Sight.{HasSameLists, IsSettledAndDrained}
-use Rattle.boot_words.specs.Words.{stock_in, stock_said, word_in_phase}
+use Rattle.boot_words.specs.{IsClosedRun, IsRunSoFar, hide, hide_phase, hide_stage, own_past, AllOf, BeginsRun, of_number, words_in, zone_of_boot}
+use Rattle.boot_words.specs.{HasSameLists, IsSettledAndDrained, stock_in, stock_said, word_in_phase}
 use Rattle.boot_words.proofs.Counting.{is_low, is_none}
 use Rattle.boot_words.proofs.Left.{zone_left}
 use Rattle.boot_words.proofs.Owning.{lists_are_own}
 use Rattle.boot_words.proofs.Returning.{none_booked}
 use Rattle.mem_machine.specs.declared.frame_state.FrameState.{FrameState}
 use Rattle.mem_machine.specs.declared.frame_state.FrameState.TheVariants.{Free, Lent, Head, Tail}
-use Rattle.mem_machine.specs.FrameStates.{frame_state_at, phase_hidden}
-use Rattle.mem_machine.specs.Machines.{KnownMachine, IsConsistent, IsShownBy, left_by, part_at}
-use Rattle.mem_machine.specs.Places.{NoneLentTo}
-use Rattle.mem_machine.specs.Resting.{Rests}
-use Rattle.mem_machine.specs.Stocks.{HasDrained}
+use Rattle.mem_machine.specs.{frame_state_at, phase_hidden, KnownMachine, IsConsistent, IsShownBy, left_by, part_at, NoneLentTo, Rests, HasDrained}
 use Rattle.mem_machine.proofs.NoneLent.{lent_to_cpu, each_is_placed}
 use Rattle.step_watch.proofs.Watching.{watches_both}
 use Rattle.mem_system.specs.declared.audit.Audit.{Audit}
-use Rattle.mem_system.specs.Cpus.{CpuInRun, KnowsItself, parts_of, pasts_of}
-use Rattle.mem_system.specs.Ends.{AreLastWords, Closes, ForEachCpu, SettlesInVisit, VisitsUnderLock, Empties, IsEmptied, IsAuditOf, HasNoPage, KnownEmptiedBoot}
-use Rattle.mem_system.specs.Ends.{MachineAndCpu, MakesLastVisits, steps_of_visits, drops_of, pins_of_all}
-use Rattle.mem_system.specs.Left.{NothingIsLeft}
-use Rattle.mem_system.specs.Locked.{KnownLocked, IsQuiet}
+use Rattle.mem_system.specs.{CpuInRun, KnowsItself, parts_of, pasts_of, AreLastWords, Closes, ForEachCpu, SettlesInVisit, VisitsUnderLock, Empties}
+use Rattle.mem_system.specs.{IsEmptied, IsAuditOf, HasNoPage, KnownEmptiedBoot, MachineAndCpu, MakesLastVisits, steps_of_visits, drops_of}
+use Rattle.mem_system.specs.{pins_of_all, NothingIsLeft, KnownLocked, IsQuiet}
 use Rattle.mem_system.proofs.Locking.{visits_watched}
 use Rattle.mem_system.proofs.Running.{visits_go_on}
 

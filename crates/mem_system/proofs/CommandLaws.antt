@@ -7,23 +7,15 @@ use Rattle.group_tree.specs.declared.fault.Fault.TheVariants as fault
 use Rattle.zone_blocks.specs.declared.config.Config.{Config}
 use Rattle.zone_blocks.specs.Config.{IsValidConfig}
 use Rattle.control_files.specs.Files.{name_of_file}
-use Rattle.boot_words.specs.Rule.{words_in}
-use Rattle.boot_words.specs.Seats.{zone_of_boot}
+use Rattle.boot_words.specs.{words_in, zone_of_boot}
 use Rattle.cpu_part.specs.Cpus.{KnownCpu}
-use Rattle.step_rules.specs.State.{one_if}
-use Rattle.step_rules.specs.After.{Run}
-use Rattle.mem_machine.specs.Local.{VisitState, visit_state}
-use Rattle.mem_machine.specs.Machines.{home_of}
-use Rattle.mem_machine.specs.Settling.{settle_steps}
-use Rattle.mem_machine.specs.Steps.{open_steps, shut_steps}
+use Rattle.step_rules.specs.{one_if, Run}
+use Rattle.mem_machine.specs.{VisitState, visit_state, home_of, settle_steps, open_steps, shut_steps, Transition, transition}
 use Rattle.mem_reclaim.specs.Moves.{has_kill, kills_in}
 use Rattle.mem_reclaim.proofs.KillSets.{kills_both, quiet_kills}
-use Rattle.mem_machine.specs.Transitions.{Transition, transition}
-use Rattle.mem_system.specs.declared.command.Reply.TheVariants as reply
-use Rattle.mem_system.specs.CommandLaws.{EndsLeaveEmptyWords, OnlyCommandsKill, OnlyReclaimFallsShort, ReleasesCutLists}
-use Rattle.mem_system.specs.Commands.{ListStaysWithin}
-use Rattle.mem_system.specs.Releases.{ListsFrame, ReturnsFrames}
-use Rattle.mem_system.specs.Visits.{visit_state_of}
+use Rattle.mem_system.specs.declared.command.ReplyWithText.TheVariants as reply
+use Rattle.mem_system.specs.{EndsLeaveEmptyWords, OnlyCommandsKill, OnlyReclaimFallsShort, ReleasesCutLists, ListStaysWithin, ListsFrame}
+use Rattle.mem_system.specs.{ReturnsFrames, visit_state_of}
 use Rattle.mem_system.proofs.Listing.{cut_off}
 
 -- ---- whom the steps of a visit kill

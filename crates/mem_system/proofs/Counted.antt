@@ -1,9 +1,9 @@
 -- The machine counts what its run counts: from the boot on, through each visit, and through steps of others. Serves the
 -- invariant of `Locked`.
 use Rattle.std.proofs.Common.{◌≡◌, ◌≢◌, ℕ, ◌==◌, Bool, true, false, List, [], ◌∷◌, ◌++◌, cond, take, refl, sym, ap, ◌∙◌, subst, inl, inr, zero, suc, append_assoc}
+use Rattle.std.proofs.Common.{arith, eq-eqb}
 use Rattle.std.specs.Prelude.{IfSome}
 use Rattle.std.specs.List.{slice_get}
-use Rattle.std.proofs.Common.{arith, eq-eqb}
 use Rattle.std.proofs.lemmas.Bool.{cases_Bool, or_left, or_right, true≢false}
 use Rattle.std.proofs.lemmas.List.{append_cancel_left}
 use Rattle.frame_word.specs.Seats.{KnownTable}
@@ -21,32 +21,21 @@ use Rattle.step_rules.specs.declared.step.Action.{Action}
 use Rattle.step_rules.specs.declared.step.Action.TheVariants.{Collect, Lock, Return, Unlock}
 use Rattle.step_rules.specs.declared.step.Answer.{Answer}
 use Rattle.step_rules.specs.declared.step.Answer.TheVariants.{Done, Illegal}
-use Rattle.step_rules.specs.State.{State, Zone, at_boot}
-use Rattle.step_rules.specs.Legal.{IsAnswer, IsCounted}
-use Rattle.step_rules.specs.After.{IsLegalRun, Run, after, state_of}
-use Rattle.step_rules.specs.Views.{phase_seen_by, seen_by, stage_seen_by}
-use Rattle.step_rules.specs.Laws.{ShowsLocal, pushed}
-use Rattle.step_rules.specs.Reaches.{IsInterleaved, IsLocalRun, MayFollow, is_own, own_steps}
-use Rattle.step_rules.specs.Returns.{is_killed_return_phase}
+use Rattle.step_rules.specs.State.{State}
+use Rattle.step_rules.specs.{Zone, at_boot, IsAnswer, IsCounted, IsLegalRun, Run, after, state_of, phase_seen_by, seen_by, stage_seen_by, ShowsLocal}
+use Rattle.step_rules.specs.{pushed, IsInterleaved, IsLocalRun, MayFollow, is_own, own_steps, is_killed_return_phase}
 use Rattle.step_rules.proofs.LocalLaws.{other_step_is_hidden, own_step_is_legal}
 use Rattle.step_rules.proofs.Peaking.{peaks_are_kept}
 use Rattle.step_rules.proofs.Runs.{allowed, state_more}
-use Rattle.boot_words.specs.Pasts.{IsHeld, KnownPasts, Locks, Meets, Unlocks, cpu_past, own_past}
-use Rattle.boot_words.specs.Rule.{AllOf}
-use Rattle.boot_words.specs.Runs.{HasNoStepOf}
+use Rattle.boot_words.specs.{IsHeld, KnownPasts, Meets, Unlocks, cpu_past, own_past, AllOf, HasNoStepOf}
+use Rattle.boot_words.specs.Pasts.{Locks}
 use Rattle.boot_words.proofs.Holding.{allowed_at, append_none}
 use Rattle.mem_machine.specs.declared.counts.Counts.{Counts}
-use Rattle.mem_machine.specs.Agreeing.{AgreesWithRun}
-use Rattle.mem_machine.specs.Counting.{counts_after, counts_along, is_back_passing, one_more_last_put, one_more_return}
-use Rattle.mem_machine.specs.Counts.{no_counts, with_killed_fresh}
-use Rattle.mem_machine.specs.Interleaving.{zone_of}
-use Rattle.mem_machine.specs.Local.{Makes, local_of, lock_holder}
-use Rattle.mem_machine.specs.Machines.{IsFirst, KnownMachine, with_past}
-use Rattle.mem_machine.specs.Resting.{Rests}
+use Rattle.mem_machine.specs.{AgreesWithRun, counts_after, counts_along, is_back_passing, one_more_last_put, one_more_return, no_counts}
+use Rattle.mem_machine.specs.{with_killed_fresh, zone_of, Makes, local_of, lock_holder, IsFirst, KnownMachine, with_past, Rests}
 use Rattle.mem_machine.proofs.Agreeing.{first_agrees}
 use Rattle.mem_machine.proofs.Tells.{ledgers_agree}
-use Rattle.mem_system.specs.Counted.{VisitsFindCounts}
-use Rattle.mem_system.specs.Locked.{CountsItsRun, counts_in}
+use Rattle.mem_system.specs.{VisitsFindCounts, CountsItsRun, counts_in}
 use Rattle.mem_system.proofs.Beside.{CountsRun, counted_beside, counts_both, other_uncounted}
 use Rattle.mem_system.proofs.Mixed.{AreBehindOthers, all_own, as_many, gained, just_these, zone_and_cpu}
 

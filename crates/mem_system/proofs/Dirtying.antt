@@ -8,39 +8,27 @@ use Rattle.frame_word.specs.Seats.{KnownTable}
 use Rattle.zone_blocks.specs.declared.config.Config.{Config}
 use Rattle.group_tree.specs.declared.fault.Fault.TheVariants.{NotKept}
 use Rattle.step_rules.specs.declared.step.Action.TheVariants.{Consume}
-use Rattle.step_rules.specs.After.{Run, after, paid}
-use Rattle.step_rules.specs.Legal.{is_legal}
-use Rattle.step_rules.specs.Reaches.{IsLocalRun}
-use Rattle.step_rules.specs.State.{Part, State, Zone, times}
+use Rattle.step_rules.specs.{Run, after, paid, is_legal, IsLocalRun, Part, Zone, times}
+use Rattle.step_rules.specs.State.{State}
 use Rattle.step_rules.proofs.Basics.{at_same}
 use Rattle.step_rules.proofs.Lists.{times_same}
 use Rattle.step_rules.proofs.SoundSteps.{below_frames}
-use Rattle.boot_words.specs.Pasts.{cpu_past}
-use Rattle.boot_words.specs.Seats.{zone_of_boot}
+use Rattle.boot_words.specs.{cpu_past, zone_of_boot}
 use Rattle.lru_lists.specs.declared.record.Home.{Home}
-use Rattle.mem_machine.specs.Machines.{IsConsistent, KnownMachine, home_of, is_killed, with_run}
-use Rattle.mem_machine.specs.Lending.{LendsMany}
-use Rattle.mem_machine.specs.Local.{VisitState, local_of, lock_holder, number_or_0, visit_state}
-use Rattle.mem_machine.specs.Settling.{ReturnsAllBack, SettlesAllFresh, is_fresh_killed, settle_steps}
-use Rattle.mem_machine.specs.Steps.{open_steps, shut_steps, take_front_steps}
-use Rattle.mem_machine.specs.Stocks.{stock_group}
-use Rattle.mem_machine.specs.Transitions.{Transition, transition}
+use Rattle.mem_machine.specs.{IsConsistent, KnownMachine, home_of, is_killed, with_run, LendsMany, VisitState, local_of, lock_holder, number_or_0}
+use Rattle.mem_machine.specs.{visit_state, ReturnsAllBack, SettlesAllFresh, is_fresh_killed, settle_steps, open_steps, shut_steps, take_front_steps}
+use Rattle.mem_machine.specs.{stock_group, Transition, transition}
 use Rattle.mem_machine.proofs.Listing.{home_inside}
 use Rattle.mem_machine.proofs.Made.{zone_seen}
 use Rattle.mem_machine.proofs.OwnFrames.{fresh_own}
 use Rattle.mem_reclaim.proofs.Grown.{parts_after}
-use Rattle.mem_alloc.specs.Blocks.{AllocatesBlock, FindsNoBlock, TakesFreeBlock}
-use Rattle.mem_alloc.specs.Charging.{LacksBatch, PaysForFrame}
-use Rattle.mem_alloc.specs.Frames.{AllocatesFrame, FillsList, LendsBatch, LendsNoFrame}
-use Rattle.mem_alloc.specs.Room.{MakesRoom, PreparesCharge}
-use Rattle.mem_alloc.specs.Rounds.{SucceedsInRounds}
-use Rattle.mem_system.specs.declared.command.Cmd.{Cmd}
-use Rattle.mem_system.specs.declared.command.Cmd.TheVariants.{Alloc, Dirty}
-use Rattle.mem_system.specs.declared.command.Reply.{Reply}
-use Rattle.mem_system.specs.declared.command.Reply.TheVariants.{Done, Frame, Refused}
-use Rattle.mem_system.specs.Allocations.{FreshOf}
-use Rattle.mem_system.specs.Units.{NotesDirt}
-use Rattle.mem_system.specs.Visits.{IsServed, LockedState, begun, visit_state_of, with_run_at}
+use Rattle.mem_alloc.specs.{AllocatesBlock, FindsNoBlock, TakesFreeBlock, LacksBatch, PaysForFrame, AllocatesFrame, FillsList, LendsBatch}
+use Rattle.mem_alloc.specs.{LendsNoFrame, MakesRoom, PreparesCharge, SucceedsInRounds}
+use Rattle.mem_system.specs.declared.command.LockedCommand.{LockedCommand}
+use Rattle.mem_system.specs.declared.command.LockedCommand.TheVariants.{Alloc, Dirty}
+use Rattle.mem_system.specs.declared.command.ReplyWithText.{ReplyWithText}
+use Rattle.mem_system.specs.declared.command.ReplyWithText.TheVariants.{Done, Frame, Refused}
+use Rattle.mem_system.specs.{FreshOf, NotesDirt, IsServed, LockedState, begun, visit_state_of, with_run_at}
 
 -- the frame heads a kept unit
 abbrev pub IsHome : KnownMachine → ℕ → Type 0
@@ -200,7 +188,7 @@ module _ (t : KnownTable) (path : Bor (List ℕ)) (f : ℕ) (start now : LockedS
       omega (arith, low, same)
 
   -- when the CPU is settled in its next visit
-  group_then : (cmd : Cmd) (r : Reply) (end : LockedState) (d : IsServed t cmd r now end)
+  group_then : (cmd : LockedCommand) (r : ReplyWithText) (end : LockedState) (d : IsServed t cmd r now end)
       → stock_group t (with_run now.locked.machine d.serves.seen) now.cpu.part.number ≡ Some group
   group_then cmd r end d =
       let q = now.cpu.part.number in
@@ -227,7 +215,7 @@ one_fresh t f m n alive s = (_, ap (λ (k : KnownMachine). home_of k.links f) s.
 module _ (t : KnownTable) (path : Bor (List ℕ)) (f : ℕ) (start now : LockedState) where
   -- the frame that the Alloc gave is a kept unit, once its CPU is settled
   settled_home : (order : ℕ) → IsServed t (Alloc path order) (Frame f) start now → FreshOf (Frame f) order now.cpu.part.fresh → now.cpu.part.back ≡ []
-      → (r : Reply) (end : LockedState) (d : IsServed t (Dirty f) r now end) → IsHome d.serves.settled.machine f
+      → (r : ReplyWithText) (end : LockedState) (d : IsServed t (Dirty f) r now end) → IsHome d.serves.settled.machine f
   settled_home zero a fresh back r end d =
       let m = with_run_at (begun (visit_state_of now)) d.serves.seen in
       let s = d.serves.settles in
@@ -249,14 +237,14 @@ module _ (t : KnownTable) (path : Bor (List ℕ)) (f : ℕ) (start now : LockedS
             ∙ (ap (λ (x : KnownMachine). home_of x.links f) a.serves.machine ∙ kept.1),
       )
 
-  unit_noted : (r : Reply) (call : Transition KnownMachine) → NotesDirt f true r call → IsHome call.before f → r ≡ Done
+  unit_noted : (r : ReplyWithText) (call : Transition KnownMachine) → NotesDirt f true r call → IsHome call.before f → r ≡ Done
   unit_noted Done call h home = refl
   unit_noted (Refused NotKept) call h home = absurd (none-some home.0 (sym h.on_no_list ∙ home.1))
   unit_noted r call h home = absurd h
 
   -- so the reply to the Dirty is Done
   pub dirty_done : (order : ℕ) → IsServed t (Alloc path order) (Frame f) start now → FreshOf (Frame f) order now.cpu.part.fresh → now.cpu.part.back ≡ []
-      → (r : Reply) (end : LockedState) → IsServed t (Dirty f) r now end → r ≡ Done
+      → (r : ReplyWithText) (end : LockedState) → IsServed t (Dirty f) r now end → r ≡ Done
   dirty_done order a fresh back r end d = unit_noted r _ d.serves.executes.does.does (settled_home order a fresh back r end d)
 
   -- the frame is one of the zone

@@ -2,14 +2,9 @@
 use Rattle.std.proofs.Common.{◌≡◌, ℕ, ◌<◌, List, [], ◌∷◌, ◌++◌, length, map, get_or, refl, sym, ap, subst, arith}
 use Rattle.std.specs.List.{remove}
 use Rattle.frame_word.specs.Seats.{KnownTable}
-use Rattle.boot_words.specs.Closed.{HasCpuPast, IsClosedRun, pasts_of_cpus}
-use Rattle.boot_words.specs.Pasts.{own_past}
-use Rattle.boot_words.specs.Rule.{AllOf}
-use Rattle.boot_words.specs.Seats.{zone_of_boot}
-use Rattle.mem_machine.specs.Machines.{KnownMachine}
-use Rattle.mem_machine.specs.Resting.{Rests}
-use Rattle.mem_system.specs.Cpus.{CpuInRun, KnowsItself, pasts_of, seat_of}
-use Rattle.mem_system.specs.Ends.{IsClosed}
+use Rattle.boot_words.specs.{HasCpuPast, IsClosedRun, pasts_of_cpus, own_past, AllOf, zone_of_boot}
+use Rattle.mem_machine.specs.{KnownMachine, Rests}
+use Rattle.mem_system.specs.{CpuInRun, KnowsItself, pasts_of, seat_of, IsClosed}
 
 -- the front and the rest
 pub front_of : (cpus : List CpuInRun) (c : CpuInRun) → 0 < length cpus → c ≡ get_or cpus 0 c → cpus ≡ c ∷ remove cpus 0

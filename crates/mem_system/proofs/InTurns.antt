@@ -7,8 +7,7 @@ use Rattle.std.proofs.lemmas.List.Elements.{All-push}
 use Rattle.frame_word.specs.Seats.{KnownTable}
 use Rattle.cpu_part.specs.Cpus.{KnownCpu}
 use Rattle.mem_machine.specs.Machines.{KnownMachine}
-use Rattle.mem_system.specs.Cpus.{CpuInRun, parts_of}
-use Rattle.mem_system.specs.Ends.{ForEachCpu, IsEmptied, LendsAndFillsNone, MachineAndCpu, machine_and_cpu, pins_of_all}
+use Rattle.mem_system.specs.{CpuInRun, parts_of, ForEachCpu, IsEmptied, LendsAndFillsNone, MachineAndCpu, machine_and_cpu, pins_of_all}
 
 -- the visits of the first i CPUs lead from the first machine to this one, and the others are as they were
 pub record SoFar (Visit : MachineAndCpu → MachineAndCpu → Type 0) (i : ℕ) (m : KnownMachine) (cpus : List CpuInRun) (x : KnownMachine) (now : List CpuInRun) : Type 0 where

@@ -1,30 +1,21 @@
 -- Serves the commands that lower a usage or set a limit, and `execute`.
-use Rattle.std.proofs.Common.{◌≡◌, ℕ, ◌+◌, ◌<◌, ◌≤◌, ◌++◌, [], List, Option, Some, None, true, false}
-use Rattle.std.proofs.Common.{refl, sym, ◌∙◌, subst, arith}
+use Rattle.std.proofs.Common.{◌≡◌, ℕ, ◌+◌, ◌<◌, ◌≤◌, ◌++◌, [], List, Option, Some, None, true, false, refl, sym, ◌∙◌, subst, arith}
 use Rattle.frame_word.specs.Seats.{KnownTable}
 use Rattle.group_tree.specs.declared.group.Group.{Group}
 use Rattle.group_tree.specs.Groups.{has_group, has_child}
 use Rattle.group_charge.specs.Charges.{current_of}
 use Rattle.cpu_part.specs.Cpus.{KnownCpu}
-use Rattle.mem_machine.specs.Machines.{KnownMachine, with_run}
-use Rattle.mem_machine.specs.Local.{KeepsVisit, Makes, Visits, visit_state}
-use Rattle.mem_machine.specs.Steps.{drain_stocks_steps, set_max_steps}
-use Rattle.mem_machine.specs.Stocks.{AreDrained, DrainsSubtree, of_subtree}
-use Rattle.mem_machine.specs.Transitions.{BySteps, transition}
+use Rattle.mem_machine.specs.{KnownMachine, with_run, KeepsVisit, Makes, Visits, drain_stocks_steps, set_max_steps, AreDrained, DrainsSubtree}
+use Rattle.mem_machine.specs.{of_subtree, BySteps, transition}
 use Rattle.mem_machine.proofs.Followed.{makes_both, makes_none}
-use Rattle.mem_reclaim.specs.Moves.{FreesBySteps}
-use Rattle.mem_reclaim.specs.Rounds.{ReclaimsRounds, pages_missing}
-use Rattle.mem_reclaim.specs.Staying.{Keeps, MissedAll}
+use Rattle.mem_reclaim.specs.{FreesBySteps, ReclaimsRounds, pages_missing, Keeps, MissedAll}
 use Rattle.mem_reclaim.proofs.LettingGo.{drains_leave}
-use Rattle.mem_alloc.specs.Kills.{KillsForRoom}
-use Rattle.mem_alloc.specs.Room.{with_limit_noted}
-use Rattle.mem_system.specs.Leaves.{IsLeafAt}
-use Rattle.mem_system.specs.Usage.{LowersUsage, LowersAbove, LowersToHigh, KeepsToLimit, with_high_told}
-use Rattle.mem_system.specs.Files.{SetsLimit, with_limit_of}
+use Rattle.mem_alloc.specs.{KillsForRoom, with_limit_noted}
+use Rattle.mem_system.specs.{IsLeafAt, LowersUsage, LowersAbove, LowersToHigh, KeepsToLimit, with_high_told, SetsLimit, with_limit_of}
 use Rattle.mem_system.proofs.Found.{found_there}
 
 -- a call on the machine alone keeps the visit if the CPU is visited after it
-pub keeps_visit : (t : KnownTable) (m n : KnownMachine) (c : KnownCpu) → Visits t (visit_state n c) → KeepsVisit t (visit_state m c) (visit_state n c)
+pub keeps_visit : (t : KnownTable) (m n : KnownMachine) (c : KnownCpu) → Visits t n c → KeepsVisit t c n c
 keeps_visit t m n c v = record { visit = v; number = refl; back = refl }
 
 -- ---- a usage that is lowered

@@ -8,12 +8,11 @@ use Rattle.step_rules.specs.After.{Run}
 use Rattle.mem_machine.specs.Machines.{KnownMachine}
 use Rattle.mem_reclaim.specs.declared.sets.Killed.{Killed}
 use Rattle.control_files.specs.Limit.{ReadsAs}
-use Rattle.mem_alloc.specs.KillLaws.{IsOverLimit}
-use Rattle.mem_alloc.specs.Laws.{WasLast}
+use Rattle.mem_alloc.specs.{IsOverLimit, WasLast}
 use Rattle.mem_alloc.proofs.ComingLast.{kills_come_last}
 use Rattle.mem_alloc.proofs.KillLaws.{die_with_their_sets, over_limit}
-use Rattle.mem_system.specs.declared.command.Cmd.{Cmd}
-use Rattle.mem_system.specs.declared.command.Cmd.TheVariants.{Alloc, Write}
+use Rattle.mem_system.specs.declared.command.LockedCommand.{LockedCommand}
+use Rattle.mem_system.specs.declared.command.LockedCommand.TheVariants.{Alloc, Write}
 use Rattle.mem_system.specs.Asks.{Ask, AsksForLimit, AsksForPages, MayAskFor}
 use Rattle.mem_system.specs.KillLaws.{CommandsKillOverLimits, CommandsKillWholeSets, IsAboveWritten, IsOverOnPath, KillsFor}
 use Rattle.mem_system.proofs.Found.{found_there}
@@ -24,7 +23,7 @@ commands_kill_whole_sets cmd said call served before rest made g is kills =
     made g served.no_rash is kills
 
 -- when everything else was tried for what the command asked
-module _ (cmd : Cmd) (was : List Group) (t : KnownTable) (s : KnownMachine) (tried : Run) (killed : Killed)
+module _ (cmd : LockedCommand) (was : List Group) (t : KnownTable) (s : KnownMachine) (tried : Run) (killed : Killed)
     (last : WasLast (MayAskFor cmd was) t s tried killed) where
   abbrev asked : Ask
   asked = record { groups_before = was; groups = last.now.ledger.groups; limited = last.limited; pages = last.need }
@@ -59,7 +58,7 @@ module _ (cmd : Cmd) (was : List Group) (t : KnownTable) (s : KnownMachine) (tri
         few = asks.below.few;
       }
 
-kills_for : (cmd : Cmd) (was : List Group) (t : KnownTable) (s : KnownMachine) (tried : Run) (killed : Killed)
+kills_for : (cmd : LockedCommand) (was : List Group) (t : KnownTable) (s : KnownMachine) (tried : Run) (killed : Killed)
     (last : WasLast (MayAskFor cmd was) t s tried killed) → KillsFor cmd was last.now.ledger last.limited
 kills_for (Write path file value) was t s tried killed last =
     above_written (Write path file value) was t s tried killed last path.now file.now value.now last.asked

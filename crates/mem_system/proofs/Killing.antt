@@ -1,4 +1,4 @@
--- No kill of a command comes before everything else was tried. Serves `serve`.
+-- No kill of a command comes before everything else was tried. Serves `serve_outcome`.
 use Rattle.std.proofs.Common.{◌≡◌, ℕ, ◌+◌, ◌≤◌, ◌^◌, Bool, true, false, Option, Some, None, List, [], ◌∷◌, ◌++◌, refl, sym, ap, ◌∙◌, subst, inl, inr, arith}
 use Rattle.std.specs.Prelude.{Result, Ok, Err, nat_le}
 use Rattle.std.specs.List.{flat_map}
@@ -7,8 +7,7 @@ use Rattle.frame_word.specs.Seats.{KnownTable}
 use Rattle.boot_words.specs.Pasts.{IsHeld}
 use Rattle.group_tree.specs.declared.group.Group.{Group}
 use Rattle.group_tree.specs.declared.fault.Fault.TheVariants as fault
-use Rattle.group_tree.specs.Groups.{in_subtree, limit_of, number_at, with_limit}
-use Rattle.group_tree.specs.Room.{fits_limit}
+use Rattle.group_tree.specs.{in_subtree, limit_of, number_at, with_limit, fits_limit}
 use Rattle.group_tree.proofs.CallerLemmas.{limit_of-limited}
 use Rattle.group_charge.specs.Charges.{current_of}
 use Rattle.zone_blocks.specs.declared.config.Config.{Config}
@@ -17,39 +16,29 @@ use Rattle.control_files.specs.declared.file.File.TheVariants.{Max, High, OomGro
 use Rattle.cpu_part.specs.Cpus.{KnownCpu}
 use Rattle.step_rules.specs.After.{Run}
 use Rattle.mem_machine.specs.declared.releasing.Released.TheVariants as released
-use Rattle.mem_machine.specs.Machines.{KnownMachine, with_run}
-use Rattle.mem_machine.specs.Local.{VisitState, visit_state}
-use Rattle.mem_machine.specs.Releasing.{release_steps}
-use Rattle.mem_machine.specs.Settling.{return_all_steps, all_fresh_steps, fresh_steps, is_fresh_killed, return_steps, settle_steps}
-use Rattle.mem_machine.specs.Steps.{drain_stocks_steps, lend_steps, open_steps, remove_steps, set_max_steps, shut_steps}
-use Rattle.mem_machine.specs.Stocks.{of_subtree}
-use Rattle.mem_machine.specs.Transitions.{Transition, transition}
+use Rattle.mem_machine.specs.{KnownMachine, with_run, VisitState, visit_state, release_steps, return_all_steps, all_fresh_steps, fresh_steps}
+use Rattle.mem_machine.specs.{is_fresh_killed, return_steps, settle_steps, drain_stocks_steps, lend_steps, open_steps, remove_steps, set_max_steps}
+use Rattle.mem_machine.specs.{shut_steps, of_subtree, Transition, transition}
 use Rattle.mem_reclaim.specs.Moves.{has_kill}
 use Rattle.mem_reclaim.proofs.LettingGo.{drains_leave, quiet_drains}
 use Rattle.mem_alloc.specs.declared.faults.AllocFault.{AllocFault}
 use Rattle.mem_alloc.specs.declared.faults.AllocFault.TheVariants.{Over, NoFrames, RequesterKilled}
-use Rattle.mem_alloc.specs.Kills.{has_room_at}
-use Rattle.mem_alloc.specs.Room.{with_limit_noted}
-use Rattle.mem_alloc.specs.NoRash.{NoRashKill}
+use Rattle.mem_alloc.specs.{has_room_at, with_limit_noted, NoRashKill}
 use Rattle.mem_alloc.proofs.Calm.{back_calm}
 use Rattle.mem_alloc.proofs.NoRash.{Passes, RashFree, drained_on, keeps_pass, missed_since, passes_both, passes_same, rash_both, rash_quiet, tame_kills}
 use Rattle.mem_alloc.proofs.NoRashAllocs.{block_no_rash, frame_no_rash, no_kill_both}
-use Rattle.mem_system.specs.declared.command.Cmd.{Cmd}
-use Rattle.mem_system.specs.declared.command.Cmd.TheVariants.{Mkdir, Rmdir, Write, Read, Settle, Owner, Release, Alloc}
-use Rattle.mem_system.specs.declared.command.Reply.{Reply}
-use Rattle.mem_system.specs.declared.command.Reply.TheVariants as reply
-use Rattle.mem_system.specs.Groups.{MakesGroup, Removes}
-use Rattle.mem_system.specs.Files.{IsFileOf, IsLimitFor, SetsFile, SetsLimit, Writes, with_high_of, with_limit_of}
-use Rattle.mem_system.specs.Usage.{LowersUsage, LowersAbove, LowersByKills, LowersToHigh, KeepsToLimit, with_high_told}
-use Rattle.mem_system.specs.Allocations.{Allocates, AllocatesFor}
-use Rattle.mem_system.specs.Releases.{CutsList, ListsFrame, ReleasesFrame, ReturnsFrames}
-use Rattle.mem_system.specs.Asks.{MayAskFor}
-use Rattle.mem_system.specs.Commands.{Executes}
+use Rattle.mem_system.specs.declared.command.LockedCommand.{LockedCommand}
+use Rattle.mem_system.specs.declared.command.LockedCommand.TheVariants.{Mkdir, Rmdir, Write, Read, Settle, Owner, Release, Alloc}
+use Rattle.mem_system.specs.declared.command.ReplyWithText.{ReplyWithText}
+use Rattle.mem_system.specs.declared.command.ReplyWithText.TheVariants as reply
+use Rattle.mem_system.specs.{MakesGroup, Removes, IsFileOf, IsLimitFor, SetsFile, SetsLimit, Writes, with_high_of, with_limit_of, LowersUsage}
+use Rattle.mem_system.specs.{LowersAbove, LowersByKills, LowersToHigh, KeepsToLimit, with_high_told, Allocates, AllocatesFor, CutsList, ListsFrame}
+use Rattle.mem_system.specs.{ReleasesFrame, ReturnsFrames, MayAskFor, Executes}
 use Rattle.mem_system.proofs.Found.{found_there}
 
 -- ---- commands that kill nobody
 
-makes_quiet : (path : List ℕ) (said : Reply) (call : Transition KnownMachine) → MakesGroup path said call → has_kill call.steps ≡ false
+makes_quiet : (path : List ℕ) (said : ReplyWithText) (call : Transition KnownMachine) → MakesGroup path said call → has_kill call.steps ≡ false
 makes_quiet path (reply.Group n) call h = ap has_kill h.steps_are
 makes_quiet path (reply.Refused fault) call h = ap has_kill h.1.steps_are
 makes_quiet path other call h = absurd h
@@ -66,7 +55,7 @@ high_quiet g (Some high) call h = elim (cases_lt high (current_of call.before.le
   | inr within ↦ ap has_kill (h.within within).steps_are
 ]
 
-removes_quiet : (path : List ℕ) (said : Reply) (call : Transition KnownMachine) → Removes path said call → has_kill call.steps ≡ false
+removes_quiet : (path : List ℕ) (said : ReplyWithText) (call : Transition KnownMachine) → Removes path said call → has_kill call.steps ≡ false
 removes_quiet path reply.Done call h =
     ap has_kill h.steps_are
     ∙ no_kill_both h.lowering (remove_steps h.group) (lowers_quiet h.group 0 (transition call.table call.before h.lowering h.emptied) h.lowers) refl
@@ -90,7 +79,7 @@ returns_quiet sizes f call h =
     ] in
     ap has_kill h.steps_are ∙ no_kill_both (release_steps f released.Returned) h.listing refl listed
 
-releases_quiet : (sizes : Config) (f : ℕ) (said : Reply) (call : Transition VisitState) → ReleasesFrame sizes f said call → has_kill call.steps ≡ false
+releases_quiet : (sizes : Config) (f : ℕ) (said : ReplyWithText) (call : Transition VisitState) → ReleasesFrame sizes f said call → has_kill call.steps ≡ false
 releases_quiet sizes f (reply.Left left) call h = ap has_kill h.steps_are
 releases_quiet sizes f reply.Returned call h = returns_quiet sizes f call h
 releases_quiet sizes f (reply.Refused fault.NotKept) call h = ap has_kill h.does.stays.steps_are
@@ -172,7 +161,7 @@ module _ (t : KnownTable) (MayAsk : List Group → ℕ → ℕ → Type 0) (s : 
     set_no_rash g Reclaim steps n is h = quiet steps (ap has_kill h.steps_are ∙ h.reclaims.moves.no_kill)
     set_no_rash g file steps n is h = absurd h
 
-    writes_no_rash : (said : Reply) (steps : Run) (n : KnownMachine) → Writes path name value said (transition t s steps n) → NoRashKill t MayAsk s steps
+    writes_no_rash : (said : ReplyWithText) (steps : Run) (n : KnownMachine) → Writes path name value said (transition t s steps n) → NoRashKill t MayAsk s steps
     writes_no_rash reply.Done steps n h = set_no_rash h.group h.file steps n h.is_file h.sets
     writes_no_rash (reply.Refused fault) steps n h = elim h [
       | inl r ↦ quiet steps (ap has_kill r.1.steps_are)
@@ -196,7 +185,7 @@ module _ (t : KnownTable) (MayAsk : List Group → ℕ → ℕ → Type 0) (s : 
           block_no_rash t MayAsk s c held h.group order (λ over below few. asks h.group over h.found below few) answer steps n (h.allocates.block block)
     ]
 
-    allocates_no_rash : (said : Reply) (steps : Run) (n : VisitState) → Allocates sizes path order said (transition t (visit_state s c) steps n)
+    allocates_no_rash : (said : ReplyWithText) (steps : Run) (n : VisitState) → Allocates sizes path order said (transition t (visit_state s c) steps n)
         → NoRashKill t MayAsk s steps
     allocates_no_rash (reply.Frame f) steps n h = allocates_for (Ok f) steps n h
     allocates_no_rash (reply.OverLimit g text) steps n h = allocates_for (Err (Over g)) steps n h.0
@@ -209,7 +198,7 @@ module _ (t : KnownTable) (MayAsk : List Group → ℕ → ℕ → Type 0) (s : 
 -- ---- all commands
 
 module _ (t : KnownTable) (sizes : Config) (s : KnownMachine) (c : KnownCpu) (held : IsHeld t s.run.past) where
-  pub obeys_no_rash : (cmd : Cmd) (said : Reply) (steps : Run) (n : VisitState) → Executes sizes cmd said (transition t (visit_state s c) steps n)
+  pub obeys_no_rash : (cmd : LockedCommand) (said : ReplyWithText) (steps : Run) (n : VisitState) → Executes sizes cmd said (transition t (visit_state s c) steps n)
       → NoRashKill t (MayAskFor cmd s.ledger.groups) s steps
   obeys_no_rash (Mkdir path) said steps n h =
       quiet t (MayAskFor (Mkdir path) s.ledger.groups) s held steps (makes_quiet path.now said (transition t s steps n.machine) h.does)

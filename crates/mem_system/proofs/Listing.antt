@@ -9,11 +9,7 @@ use Rattle.zone_blocks.specs.declared.config.Config.{Config}
 use Rattle.mem_machine.specs.declared.frame_state.FrameState.{FrameState}
 use Rattle.mem_machine.specs.declared.frame_state.FrameState.TheVariants.{Free}
 use Rattle.mem_machine.specs.declared.releasing.Released.TheVariants.{Returned}
-use Rattle.mem_machine.specs.FrameStates.{frame_state_at}
-use Rattle.mem_machine.specs.Machines.{KnownMachine}
-use Rattle.mem_machine.specs.Lending.{UnlistsMany}
-use Rattle.mem_machine.specs.Local.{visit_state, Makes, VisitMakes}
-use Rattle.mem_machine.specs.Releasing.{ReturnsUnit, release_steps}
+use Rattle.mem_machine.specs.{frame_state_at, KnownMachine, UnlistsMany, visit_state, Makes, VisitMakes, ReturnsUnit, release_steps}
 use Rattle.mem_system.specs.Commands.{BySteps}
 use Rattle.mem_system.specs.Releases.{ListsFrame, ReturnsFrames}
 use Rattle.mem_machine.proofs.Followed.{makes_both}

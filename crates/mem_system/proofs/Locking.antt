@@ -9,11 +9,8 @@ use Rattle.step_rules.specs.declared.step.Action.TheVariants.{Lock, Unlock}
 use Rattle.step_rules.specs.declared.step.Answer.TheVariants.{Done}
 use Rattle.step_watch.specs.Watched.{KnownWatch, Watches}
 use Rattle.step_watch.proofs.Watching.{watches_none, watches_both}
-use Rattle.mem_machine.specs.Machines.{KnownMachine, left_by, part_at, with_past, with_run, with_watch}
-use Rattle.mem_machine.specs.Noted.{KnownRun}
-use Rattle.mem_machine.specs.FrameStates.{frame_state_at}
-use Rattle.mem_machine.specs.Local.{Holds, VisitState, VisitMakes, visit_state}
-use Rattle.mem_machine.specs.Stocks.{HasDrained}
+use Rattle.mem_machine.specs.{KnownMachine, left_by, part_at, with_past, with_run, with_watch, KnownRun, frame_state_at, Holds, VisitState}
+use Rattle.mem_machine.specs.{VisitMakes, visit_state, HasDrained}
 use Rattle.mem_machine.specs.Steps.{cpu_makes}
 use Rattle.mem_machine.proofs.Sight.{left_seen}
 use Rattle.mem_system.specs.Commands.{Transition, BySteps}
@@ -30,7 +27,7 @@ run_twice m x n r v first second =
 -- a visit between the lock and its release, which the watch takes too
 pub locked_visit : (t : KnownTable) (Does : Transition VisitState → Type 0) (m m0 m1 n1 n2 n : KnownMachine) (c d : KnownCpu) (p : ℕ) → p ≡ c.number
     → m0 ≡ with_past m m0.run.past → m1 ≡ with_watch m0 m1.run.watch → Watches m0.run.watch (cpu_makes p Lock Done ∷ []) m1.run.watch
-    → Holds t (visit_state m1 c) → BySteps VisitMakes t Does (visit_state m1 c) (visit_state n1 d)
+    → Holds t m1 c → BySteps VisitMakes t Does (visit_state m1 c) (visit_state n1 d)
     → n2 ≡ with_watch n1 n2.run.watch → Watches n1.run.watch (cpu_makes p Unlock Done ∷ []) n2.run.watch → n ≡ with_past n2 n.run.past
     → (seat seat' : KnownCpuSeat) → (own_past seat.seat).number ≡ c.number → Locks t m.run.past seat.seat m0.run.past → Unlocks t n2.run.past n.run.past seat'.seat
     → VisitsUnderLock t Does (machine_and_cpu m (cpu_in_run c seat)) (machine_and_cpu n (cpu_in_run d seat'))
@@ -50,12 +47,12 @@ locked_visit t Does m m0 m1 n1 n2 n c d p named locks found lock holds visit lef
     }
 
 -- what the CPU sees, after a step that the watch takes
-pub holds_seen : (t : KnownTable) (m n : KnownMachine) (c : KnownCpu) → n ≡ with_watch m n.run.watch → Holds t (visit_state m c) → Holds t (visit_state n c)
-holds_seen t m n c is holds = subst (λ (k : KnownMachine). Holds t (visit_state k c)) (sym is) (record { held = holds.held; who = holds.who; own = holds.own })
+pub holds_seen : (t : KnownTable) (m n : KnownMachine) (c : KnownCpu) → n ≡ with_watch m n.run.watch → Holds t m c → Holds t n c
+holds_seen t m n c is holds = subst (λ (k : KnownMachine). Holds t k c) (sym is) (record { held = holds.held; who = holds.who; own = holds.own })
 
 -- the CPU that holds the lock stays the same
 pub same_holder : (t : KnownTable) (Does : Transition VisitState → Type 0) (m n : KnownMachine) (c d : KnownCpu) → BySteps VisitMakes t Does (visit_state m c) (visit_state n d)
-    → Holds t (visit_state m c) → Holds t (visit_state n d) → d.number ≡ c.number
+    → Holds t m c → Holds t n d → d.number ≡ c.number
 same_holder t Does m n c d visit first last = sym last.who ∙ visit.makes.holder ∙ first.who
 
 -- ---- the parts of the run, after a lock and its release
@@ -67,7 +64,7 @@ part_unlocked : (t : KnownTable) (held zone cpu : KnownPasts) → IsHeld t held 
 part_unlocked t held zone cpu is unlocks q = ap (λ (s : State). s.parts q) unlocks.left ∙ sym (ap (λ (s : State). s.parts q) (left_seen t held is))
 
 -- the machine of a CPU's visit, when the CPU has released the lock
-pub part_given : (t : KnownTable) (n1 n2 n : KnownMachine) (d : KnownCpu) (past : KnownPasts) → n2 ≡ with_watch n1 n2.run.watch → Holds t (visit_state n1 d)
+pub part_given : (t : KnownTable) (n1 n2 n : KnownMachine) (d : KnownCpu) (past : KnownPasts) → n2 ≡ with_watch n1 n2.run.watch → Holds t n1 d
     → Unlocks t n2.run.past n.run.past past → (q : ℕ) → part_at t n q ≡ part_at t n1 q
 part_given t n1 n2 n d past left holds gives q =
     part_unlocked t n1.run.past n.run.past past holds.held (subst (λ (x : KnownPasts). Unlocks t x n.run.past past) (ap (λ (k : KnownMachine). k.run.past) left) gives) q

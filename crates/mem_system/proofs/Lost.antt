@@ -10,27 +10,21 @@ use Rattle.step_rules.specs.declared.phase.Stage.TheVariants.{FreshAt, Live, Bac
 use Rattle.step_rules.specs.declared.phase.Way.TheVariants.{OnList}
 use Rattle.step_rules.specs.declared.phase.Phase.{Phase}
 use Rattle.step_rules.specs.declared.phase.Phase.TheVariants as phase
-use Rattle.step_rules.specs.Phases.{BackFrame, FreshFrame, ListFrame, has_as, is_live_phase}
-use Rattle.step_rules.specs.Invariant.{KeepsInvariant}
-use Rattle.step_rules.specs.State.{State, Zone, one_if, sum_to, times}
-use Rattle.step_rules.specs.After.{state_of}
+use Rattle.step_rules.specs.Phases.{BackFrame, FreshFrame, ListFrame}
+use Rattle.step_rules.specs.{has_as, is_live_phase, KeepsInvariant, Zone, one_if, times, state_of}
+use Rattle.step_rules.specs.State.{State, sum_to}
 use Rattle.step_rules.proofs.Freeing.{zone_of_run}
 use Rattle.step_rules.proofs.Living.{live_are_referenced}
 use Rattle.step_rules.proofs.Runs.{sound_run}
-use Rattle.boot_words.specs.Hidden.{hide, hide_phase, hide_stage}
-use Rattle.boot_words.specs.Pasts.{own_past}
-use Rattle.boot_words.specs.Seats.{zone_of_boot}
+use Rattle.boot_words.specs.{hide, hide_phase, hide_stage, own_past, zone_of_boot}
 use Rattle.boot_words.proofs.Backs.{back_of, backs_are_cpus}
 use Rattle.boot_words.proofs.Left.{zone_left}
-use Rattle.cpu_part.specs.Cpus.{KnownCpu}
-use Rattle.cpu_part.specs.Known.{HasOwn}
+use Rattle.cpu_part.specs.{KnownCpu, HasOwn}
 use Rattle.lru_lists.specs.declared.record.Home.{Home}
 use Rattle.mem_machine.specs.declared.frame_state.FrameState.{FrameState}
 use Rattle.mem_machine.specs.declared.frame_state.FrameState.TheVariants.{Lent, Head}
-use Rattle.mem_machine.specs.FrameStates.{frame_state_at, head_group_of, phase_hidden}
-use Rattle.mem_machine.specs.Local.{number_or_0}
-use Rattle.mem_machine.specs.Machines.{FitsFrameState, KnownMachine, IsConsistent, home_of, left_by}
-use Rattle.mem_machine.specs.Resting.{Rests}
+use Rattle.mem_machine.specs.{frame_state_at, head_group_of, phase_hidden, number_or_0, FitsFrameState, KnownMachine, IsConsistent, home_of, left_by}
+use Rattle.mem_machine.specs.{Rests}
 use Rattle.mem_machine.proofs.NoneLent.{lent_to_cpu}
 use Rattle.mem_system.specs.Lost.{AreAllCpus, ConsistentMachinesLoseNoUnit, SomeCpu, IsKeptFor, HasUnit, HasLent}
 

@@ -5,11 +5,9 @@ use Rattle.std.proofs.lemmas.Bool.{eq-eqb, ne_eqb}
 use Rattle.std.proofs.lemmas.List.Elements.{filter-append}
 use Rattle.step_rules.specs.declared.step.Step.{Step}
 use Rattle.step_rules.specs.declared.step.Answer.{Answer}
-use Rattle.step_rules.specs.State.{State, one_if}
-use Rattle.step_rules.specs.After.{Run, after}
-use Rattle.step_rules.specs.Reaches.{IsLocalRun, is_own, own_steps}
-use Rattle.boot_words.specs.Growth.{GrewByAll}
-use Rattle.boot_words.specs.Runs.{HasNoStepOf}
+use Rattle.step_rules.specs.State.{State}
+use Rattle.step_rules.specs.{one_if, Run, after, IsLocalRun, is_own, own_steps}
+use Rattle.boot_words.specs.{GrewByAll, HasNoStepOf}
 use Rattle.boot_words.specs.declared.past.Past.{Past}
 use Rattle.boot_words.proofs.Holding.{append_none}
 

@@ -6,11 +6,8 @@ use Rattle.std.proofs.lemmas.Bool.{false≢true}
 use Rattle.atomic_table.specs.Seated.{TableId}
 use Rattle.frame_word.specs.Seats.{KnownTable}
 use Rattle.boot_words.specs.declared.past.Past.{Past}
-use Rattle.boot_words.specs.Cpus.{IsAwayCpu, KnownCpuSeat, state_left}
-use Rattle.boot_words.specs.Opening.{cpu_at_first, cpus_at_first}
-use Rattle.boot_words.specs.Runs.{no_past}
-use Rattle.cpu_part.specs.Cpus.{KnownCpu, IsIdle, first_cpu}
-use Rattle.cpu_part.specs.Known.{HasOwn, KnowsItsPart}
+use Rattle.boot_words.specs.{IsAwayCpu, KnownCpuSeat, state_left, cpu_at_first, cpus_at_first, no_past}
+use Rattle.cpu_part.specs.{KnownCpu, IsIdle, first_cpu, HasOwn, KnowsItsPart}
 use Rattle.mem_system.specs.Boots.{first_cpus, first_pasts}
 
 -- the seats that are left after i CPUs were dealt

@@ -7,30 +7,20 @@ use Rattle.std.proofs.lemmas.List.Sums.{sum_by-append, sum_by-cons}
 use Rattle.frame_word.specs.Seats.{KnownTable}
 use Rattle.frame_word.specs.declared.answers.Put.{Put}
 use Rattle.frame_word.specs.declared.answers.Put.TheVariants.{Left, Last}
-use Rattle.step_rules.specs.After.{Run}
-use Rattle.step_rules.specs.State.{times}
-use Rattle.boot_words.specs.Cpus.{KnownCpuSeat}
-use Rattle.boot_words.specs.Growth.{GrewByAll}
-use Rattle.boot_words.specs.Pasts.{own_past}
-use Rattle.boot_words.specs.Rule.{AllOf, BeginsRun}
-use Rattle.boot_words.specs.Seats.{zone_of_boot}
+use Rattle.step_rules.specs.{Run, times}
+use Rattle.boot_words.specs.{KnownCpuSeat, GrewByAll, own_past, AllOf, BeginsRun, zone_of_boot}
 use Rattle.boot_words.proofs.Gaining.{grown_number}
 use Rattle.boot_words.proofs.Grown.{all_grew_both}
-use Rattle.cpu_part.specs.Cpus.{KnownCpu}
-use Rattle.cpu_part.specs.Calls.{UnpinAnswers}
-use Rattle.cpu_part.specs.Told.{steps_of_put}
-use Rattle.cpu_part.specs.Known.{KnowsItsPart}
+use Rattle.cpu_part.specs.{KnownCpu, UnpinAnswers, steps_of_put, KnowsItsPart}
 use Rattle.cpu_part.proofs.Counts.{one_shorter}
 use Rattle.cpu_part.proofs.Knowing.{pinned_inside}
-use Rattle.mem_machine.specs.Local.{VisitState}
-use Rattle.mem_machine.specs.Machines.{KnownMachine}
-use Rattle.mem_system.specs.Cpus.{CpuInRun, between_locks, parts_of, pasts_of}
+use Rattle.mem_machine.specs.{VisitState, KnownMachine}
+use Rattle.mem_system.specs.{CpuInRun, between_locks, parts_of, pasts_of, IsSound, KnownLocked, Empties, ForEachCpu, SettlesInVisit, VisitsUnderLock}
+use Rattle.mem_system.specs.{machine_and_cpu, pins_of_all, steps_of_visits, EndsCpu, PutsAndEnds, EachPuts, MadePut, PutsPins, frames_put}
+use Rattle.mem_system.specs.{unpin_steps}
 use Rattle.mem_system.specs.declared.ending.SystemEnd.{SystemEnd}
-use Rattle.mem_system.specs.Locked.{IsSound, KnownLocked}
 use Rattle.mem_system.specs.Commands.{Transition}
-use Rattle.mem_system.specs.Ends.{Empties, Ends, ForEachCpu, SettlesInVisit, VisitsUnderLock, machine_and_cpu, pins_of_all, steps_of_visits}
-use Rattle.mem_system.specs.Ending.{EndsCpu, PutsAndEnds}
-use Rattle.mem_system.specs.Puts.{EachPuts, MadePut, PutsPins, frames_put, unpin_steps}
+use Rattle.mem_system.specs.Ends.{Ends}
 
 -- ---- one CPU
 

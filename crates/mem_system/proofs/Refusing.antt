@@ -3,14 +3,10 @@ use Rattle.std.proofs.Common.{ℕ, [], List, refl, inl}
 use Rattle.frame_word.specs.Seats.{KnownTable}
 use Rattle.group_tree.specs.declared.fault.Fault.{Fault}
 use Rattle.group_tree.specs.declared.fault.Fault.TheVariants.{BadName, HasChildren, NoGroup}
-use Rattle.mem_machine.specs.Machines.{KnownMachine}
-use Rattle.mem_machine.specs.Local.{Makes}
-use Rattle.mem_machine.specs.Transitions.{BySteps, transition}
+use Rattle.mem_machine.specs.{KnownMachine, Makes, BySteps, transition}
 use Rattle.mem_machine.proofs.Followed.{makes_none}
-use Rattle.mem_system.specs.declared.command.Reply.TheVariants.{Refused}
-use Rattle.mem_system.specs.Files.{HasNoFile, Writes}
-use Rattle.mem_system.specs.Groups.{Removes}
-use Rattle.mem_system.specs.Leaves.{HasNoLeaf}
+use Rattle.mem_system.specs.declared.command.ReplyWithText.TheVariants.{Refused}
+use Rattle.mem_system.specs.{HasNoFile, Writes, Removes, HasNoLeaf}
 
 -- there is no group to remove
 pub none_removed : (t : KnownTable) (path : List ℕ) (fault : Fault) (m : KnownMachine) → HasNoLeaf m.ledger.groups path fault

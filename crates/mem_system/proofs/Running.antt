@@ -1,4 +1,4 @@
--- How the pasts of the zone and of a CPU go through visits. Serves `serve` and the visits at the end of a system.
+-- How the pasts of the zone and of a CPU go through visits. Serves `serve_outcome` and the visits at the end of a system.
 use Rattle.std.proofs.Common.{◌≡◌, ℕ, List, [], ◌∷◌, ◌++◌, Some, length, refl, sym, ap, ◌∙◌, subst, inr, append_assoc}
 use Rattle.std.specs.Prelude.{◌⊎◌, slice_get, slice_set}
 use Rattle.frame_word.specs.Seats.{KnownTable}
@@ -9,20 +9,16 @@ use Rattle.step_rules.specs.declared.step.Answer.TheVariants.{Done}
 use Rattle.step_rules.specs.State.{State}
 use Rattle.step_rules.specs.After.{Run, after}
 use Rattle.boot_words.specs.declared.past.Past.{Past}
-use Rattle.boot_words.specs.Runs.{GrewBy}
-use Rattle.boot_words.specs.Rule.{AllOf}
-use Rattle.boot_words.specs.Pasts.{KnownPasts, Locks, Unlocks, cpu_past, own_past}
-use Rattle.boot_words.specs.Growth.{GainsSteps, IsRunSoFar}
+use Rattle.boot_words.specs.{GrewBy, AllOf, KnownPasts, Unlocks, cpu_past, own_past, GainsSteps, IsRunSoFar}
+use Rattle.boot_words.specs.Pasts.{Locks}
 use Rattle.boot_words.proofs.Grown.{all_grew_both}
 use Rattle.boot_words.proofs.Holding.{append_none}
 use Rattle.boot_words.proofs.Gaining.{gains_go_on, of_two_seats, visit_gains}
-use Rattle.mem_machine.specs.Machines.{KnownMachine, with_run}
-use Rattle.mem_machine.specs.Noted.{PastsGrowBy}
-use Rattle.mem_machine.specs.Local.{IsLocalRun, VisitState, local_of}
+use Rattle.mem_machine.specs.{KnownMachine, with_run, PastsGrowBy, VisitState, local_of}
+use Rattle.mem_machine.specs.Local.{IsLocalRun}
 use Rattle.mem_machine.specs.Steps.{cpu_makes}
 use Rattle.mem_system.specs.Commands.{Transition}
-use Rattle.mem_system.specs.Cpus.{CpuInRun, VisitsInRun, between_locks, pasts_of}
-use Rattle.mem_system.specs.Ends.{ForEachCpu, VisitsUnderLock, machine_and_cpu, steps_of_visits}
+use Rattle.mem_system.specs.{CpuInRun, VisitsInRun, between_locks, pasts_of, ForEachCpu, VisitsUnderLock, machine_and_cpu, steps_of_visits}
 
 -- A visit in the run: the CPU takes the lock, the pasts grow by these steps, and the CPU releases the lock.
 pub visit_in_run : (t : KnownTable) (p : ℕ) (steps : Run) (zone past held held' zone' past' : KnownPasts) → (own_past past).number ≡ p
@@ -69,7 +65,7 @@ visit_under_lock_gains t Does m c n d v zone =
     visit_gains (own_past m.run.past) (own_past c.past) (between_locks p steps) (own_past n.run.past) (own_past d.past) v.run.zone_grew v.run.cpu_grew zone
     (λ other some ne. of_two_seats p (between_locks p steps) (inr refl, locked_of_two p a steps b leads) other some (λ is. ne (is ∙ sym v.run.number)))
 
--- the first past behind others, and what stands there when it is another
+-- the first past after others, and what stands there when it is another
 at_front : (before : List Past) (p : Past) (rest : List Past) → slice_get (before ++ p ∷ rest) (length before) ≡ Some p
 at_front [] p rest = refl
 at_front (x ∷ before) p rest = at_front before p rest

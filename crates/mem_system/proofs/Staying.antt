@@ -3,9 +3,7 @@ use Rattle.std.proofs.Common.{◌≡◌, ℕ, List, [], ◌∷◌, ap, ◌∙◌
 use Rattle.std.proofs.lemmas.Bool.{cases_Bool}
 use Rattle.frame_word.specs.Seats.{KnownTable}
 use Rattle.cpu_part.specs.Cpus.{KnownCpu}
-use Rattle.mem_machine.specs.Machines.{KnownMachine}
-use Rattle.mem_machine.specs.Local.{visit_state}
-use Rattle.mem_machine.specs.Settling.{SettlesFresh, SettlesAllFresh, ReturnsAllBack, Settles, is_fresh_killed}
+use Rattle.mem_machine.specs.{KnownMachine, visit_state, SettlesFresh, SettlesAllFresh, ReturnsAllBack, Settles, is_fresh_killed}
 
 module _ (t : KnownTable) where
   settled_fresh : (f : ℕ) (m n : KnownMachine) (c d : KnownCpu) → SettlesFresh t f (visit_state m c) (visit_state n d) → n.ledger.groups ≡ m.ledger.groups

@@ -9,14 +9,10 @@ use Rattle.frame_word.specs.Seats.{KnownTable}
 use Rattle.cpu_part.specs.Cpus.{KnownCpu}
 use Rattle.mem_machine.specs.declared.frame_state.FrameState.{FrameState}
 use Rattle.mem_machine.specs.declared.frame_state.FrameState.TheVariants.{Free, Lent}
-use Rattle.mem_machine.specs.FrameStates.{frame_state_at}
-use Rattle.mem_machine.specs.Machines.{KnownMachine, is_killed, with_run}
-use Rattle.mem_machine.specs.Lending.{UnlistsMany}
-use Rattle.mem_machine.specs.Stocks.{Drains, IsDrained, stock_group}
+use Rattle.mem_machine.specs.{frame_state_at, KnownMachine, is_killed, with_run, UnlistsMany, Drains, IsDrained, stock_group, visit_state, Makes}
+use Rattle.mem_machine.specs.{VisitMakes, number_or_0, Settles, fresh_steps, is_fresh_killed, return_all_steps, settle_steps, open_steps, shut_steps}
+use Rattle.mem_machine.specs.{drain_list_steps, drain_steps}
 use Rattle.boot_words.specs.Pasts.{IsHeld}
-use Rattle.mem_machine.specs.Local.{visit_state, Makes, VisitMakes, number_or_0}
-use Rattle.mem_machine.specs.Settling.{Settles, fresh_steps, is_fresh_killed, return_all_steps, settle_steps}
-use Rattle.mem_machine.specs.Steps.{open_steps, shut_steps, drain_list_steps, drain_steps}
 use Rattle.mem_machine.proofs.DrainingAll.{drained_now, drained_still}
 use Rattle.mem_machine.proofs.StocksKept.{drained_kept, groups_kept, has_stock_step}
 use Rattle.mem_system.specs.Commands.{BySteps}

@@ -5,27 +5,17 @@ use Rattle.std.proofs.lemmas.Bool.{false≢true}
 use Rattle.frame_word.specs.Seats.{KnownTable}
 use Rattle.step_rules.specs.declared.phase.Hold.{Hold}
 use Rattle.step_rules.specs.declared.phase.Hold.TheVariants.{HeldBy, Unheld, Visiting}
-use Rattle.step_rules.specs.State.{Part, is_unheld, visits}
-use Rattle.step_rules.specs.After.{Run, state_of}
-use Rattle.boot_words.specs.Cpus.{KnownCpuSeat}
-use Rattle.boot_words.specs.Pasts.{IsHeld, Locks, Unlocks, own_past}
-use Rattle.boot_words.specs.Seats.{zone_of_boot}
-use Rattle.cpu_part.specs.Cpus.{KnownCpu}
-use Rattle.cpu_part.specs.Known.{KnowsItsPart}
-use Rattle.mem_machine.specs.Machines.{KnownMachine, is_killed, with_past, with_run, without_notes}
-use Rattle.mem_machine.specs.Local.{Holds, IsShut, Makes, number_or_0, visit_state}
-use Rattle.mem_machine.specs.Resting.{Rests}
-use Rattle.mem_machine.specs.Settling.{Settles, fresh_steps, return_all_steps, settle_steps}
-use Rattle.mem_machine.specs.Steps.{open_steps, shut_steps}
-use Rattle.mem_machine.specs.Transitions.{transition}
+use Rattle.step_rules.specs.{Part, is_unheld, visits, Run, state_of}
+use Rattle.boot_words.specs.{KnownCpuSeat, IsHeld, Unlocks, own_past, zone_of_boot}
+use Rattle.boot_words.specs.Pasts.{Locks}
+use Rattle.cpu_part.specs.{KnownCpu, KnowsItsPart}
+use Rattle.mem_machine.specs.{KnownMachine, is_killed, with_past, with_run, without_notes, Holds, IsShut, Makes, number_or_0, visit_state, Rests}
+use Rattle.mem_machine.specs.{Settles, fresh_steps, return_all_steps, settle_steps, open_steps, shut_steps, transition}
 use Rattle.mem_machine.proofs.Followed.{makes_both}
 use Rattle.mem_reclaim.proofs.Grown.{held_after, misses_after}
-use Rattle.mem_system.specs.declared.command.Cmd.{Cmd}
-use Rattle.mem_system.specs.declared.command.Reply.{Reply}
-use Rattle.mem_system.specs.Commands.{Executes}
-use Rattle.mem_system.specs.Cpus.{cpu_in_run}
-use Rattle.mem_system.specs.Locked.{AllShut, CountsItsRun, KnownLocked}
-use Rattle.mem_system.specs.Visits.{IsServed, locked_state, visit_steps}
+use Rattle.mem_system.specs.declared.command.LockedCommand.{LockedCommand}
+use Rattle.mem_system.specs.declared.command.ReplyWithText.{ReplyWithText}
+use Rattle.mem_system.specs.{Executes, cpu_in_run, AllShut, CountsItsRun, KnownLocked, IsServed, locked_state, visit_steps}
 use Rattle.mem_system.proofs.Counted.{visit_counted}
 use Rattle.mem_system.proofs.Killing.{around_quiet, obeys_no_rash}
 use Rattle.mem_system.proofs.Locking.{part_locked, run_twice}
@@ -42,8 +32,8 @@ pub resting_shut : (t : KnownTable) (m : KnownMachine) → Rests t m → AllShut
 resting_shut t m rests p = free_shut p (state_of (zone_of_boot t) (own_past m.run.past).seen).hold rests.free
 
 -- notes that are forgotten leave who holds the lock, and what it sees
-pub forgotten_holds : (t : KnownTable) (m n : KnownMachine) (c : KnownCpu) → n ≡ without_notes m → Holds t (visit_state m c) → Holds t (visit_state n c)
-forgotten_holds t m n c is holds = subst (λ (k : KnownMachine). Holds t (visit_state k c)) (sym is) (record { held = holds.held; who = holds.who; own = holds.own })
+pub forgotten_holds : (t : KnownTable) (m n : KnownMachine) (c : KnownCpu) → n ≡ without_notes m → Holds t m c → Holds t n c
+forgotten_holds t m n c is holds = subst (λ (k : KnownMachine). Holds t k c) (sym is) (record { held = holds.held; who = holds.who; own = holds.own })
 
 pub forgotten_shut : (t : KnownTable) (m n : KnownMachine) (p : ℕ) → n ≡ without_notes m → IsShut t m p → IsShut t n p
 forgotten_shut t m n p is shut = subst (λ (k : KnownMachine). IsShut t k p) (sym is) shut
@@ -61,7 +51,7 @@ pub record GoesThrough (t : KnownTable) (m : KnownMachine) (c : KnownCpu) (seat 
   pub knows : KnowsItsPart t seat c
   pub locks : found ≡ with_past m found.run.past
   pub takes : Locks t m.run.past seat.seat found.run.past
-  pub holds : Holds t (visit_state found c)
+  pub holds : Holds t found c
   pub shut : IsShut t found c.number
   pub forgets : begun ≡ without_notes found
   pub opens : entered ≡ with_run begun entered.run
@@ -73,7 +63,7 @@ pub record GoesThrough (t : KnownTable) (m : KnownMachine) (c : KnownCpu) (seat 
   pub still : d.number ≡ settled.number
   pub shuts : left ≡ with_run done left.run
   pub shutting : Makes t done (shut_steps d.number) left
-  pub left_holds : Holds t (visit_state left d)
+  pub left_holds : Holds t left d
   pub left_shut : IsShut t left d.number
   pub unlocks : k ≡ with_past left k.run.past
   pub gives : Unlocks t left.run.past k.run.past seat'.seat
@@ -130,7 +120,7 @@ module _ (t : KnownTable) (m : KnownMachine) (c : KnownCpu) (seat : KnownCpuSeat
       visit_counted t m v.found v.left k (visit_steps t (visit_state m c) inner) seat.seat seat'.seat rests told v.locks v.takes all_made v.unlocks v.gives rests_after
 
 -- the whole command
-pub served : (t : KnownTable) (cmd : Cmd) (reply : Reply) (l k : KnownLocked) (c : KnownCpu) (seat : KnownCpuSeat) (inner : Run) (d : KnownCpu) (seat' : KnownCpuSeat)
+pub served : (t : KnownTable) (cmd : LockedCommand) (reply : ReplyWithText) (l k : KnownLocked) (c : KnownCpu) (seat : KnownCpuSeat) (inner : Run) (d : KnownCpu) (seat' : KnownCpuSeat)
     (v : GoesThrough t l.machine c seat inner k.machine d seat') → k.sizes ≡ l.sizes
     → Executes l.sizes cmd reply (transition t (visit_state v.mid v.settled) inner (visit_state v.done d))
     → IsServed t cmd reply (locked_state l (cpu_in_run c seat)) (locked_state k (cpu_in_run d seat'))
@@ -163,14 +153,14 @@ served t cmd reply l k c seat inner d seat' v sizes executed =
       taken = record {
         locks = v.takes;
         watch = ap (λ (x : KnownMachine). x.run.watch) v.locks;
-        holds = subst (λ (x : KnownMachine). Holds t (visit_state x c)) (found_is t m c seat inner k.machine d seat' v) v.holds;
+        holds = subst (λ (x : KnownMachine). Holds t x c) (found_is t m c seat inner k.machine d seat' v) v.holds;
         shut = subst (λ (x : KnownMachine). IsShut t x p) (found_is t m c seat inner k.machine d seat' v) v.shut;
       };
       opens = opened t m c seat inner k.machine d seat' v;
       makes = subst (λ (x : KnownMachine × KnownMachine). Makes t x.0 steps x.1)
           (λ i. (found_is t m c seat inner k.machine d seat' v i, left_is t m c seat inner k.machine d seat' v i)) all;
       released = record {
-        holds = subst (λ (x : KnownMachine). Holds t (visit_state x d)) (left_is t m c seat inner k.machine d seat' v) v.left_holds;
+        holds = subst (λ (x : KnownMachine). Holds t x d) (left_is t m c seat inner k.machine d seat' v) v.left_holds;
         shut = subst (λ (x : KnownMachine). IsShut t x d.number) (left_is t m c seat inner k.machine d seat' v) v.left_shut;
         watch = ap (λ (x : KnownMachine). x.run.watch) v.unlocks;
         unlocks = v.gives;

@@ -4,22 +4,15 @@ use Rattle.group_tree.specs.declared.fault.Fault.{Fault}
 use Rattle.group_tree.specs.declared.fault.Fault.TheVariants.{Again, BadLimit, BadNumber}
 use Rattle.control_files.specs.declared.file.File.{File}
 use Rattle.control_files.specs.declared.file.File.TheVariants.{Current, Max, High, Peak, Events, EventsLocal, OomGroup, Reclaim}
-use Rattle.control_files.specs.Files.{is_writable}
-use Rattle.control_files.specs.Flag.{IsNoFlagText}
-use Rattle.control_files.specs.Limit.{ReadsAmount, ReadsAs, IsNoAmountText, IsNoLimitText, IsTooGreat}
+use Rattle.control_files.specs.{is_writable, IsNoFlagText, ReadsAmount, ReadsAs, IsNoAmountText, IsNoLimitText, IsTooGreat}
 use Rattle.frame_word.specs.Seats.{KnownTable}
-use Rattle.mem_machine.specs.Machines.{KnownMachine}
-use Rattle.mem_machine.specs.Local.{Makes}
+use Rattle.mem_machine.specs.{KnownMachine, Makes, BySteps, Transition, transition}
 use Rattle.mem_machine.proofs.Followed.{makes_both, makes_none}
 use Rattle.group_charge.specs.Charges.{current_of}
-use Rattle.mem_reclaim.specs.Moves.{FreesBySteps}
-use Rattle.mem_reclaim.specs.Rounds.{ReclaimsAmount}
-use Rattle.mem_reclaim.specs.Staying.{Keeps, MissedAll}
-use Rattle.mem_machine.specs.Transitions.{BySteps, Transition, transition}
-use Rattle.mem_system.specs.declared.command.Reply.{Reply}
-use Rattle.mem_system.specs.declared.command.Reply.TheVariants.{Done, Refused}
-use Rattle.mem_system.specs.Files.{IsFileOf, RefusesValue, Writes, WritesTo, with_high_of}
-use Rattle.mem_system.specs.Usage.{LowersToHigh}
+use Rattle.mem_reclaim.specs.{FreesBySteps, ReclaimsAmount, Keeps, MissedAll}
+use Rattle.mem_system.specs.declared.command.ReplyWithText.{ReplyWithText}
+use Rattle.mem_system.specs.declared.command.ReplyWithText.TheVariants.{Done, Refused}
+use Rattle.mem_system.specs.{IsFileOf, RefusesValue, Writes, WritesTo, with_high_of, LowersToHigh}
 
 pub refused_limit : (value : List ℕ) (fault : Fault) → (fault ≡ BadNumber) ⊎ (fault ≡ BadLimit) → (fault ≡ BadNumber → IsTooGreat value)
     → (fault ≡ BadLimit → IsNoLimitText value) → RefusesValue Max value fault
@@ -73,14 +66,14 @@ refused_at t path name value g file fault m is why = record {
 
 -- what a write to the file does, by its path and its name
 written_by : (t : KnownTable) (path name value : List ℕ) (g : ℕ) (file : File) (call : Transition KnownMachine)
-    → IsFileOf call.before.ledger.groups path name g file → (reply : Reply) → WritesTo file value g reply call → Writes path name value reply call
+    → IsFileOf call.before.ledger.groups path name g file → (reply : ReplyWithText) → WritesTo file value g reply call → Writes path name value reply call
 written_by t path name value g file call is Done sets = record { group = g; file = file; is_file = is; sets = sets }
 written_by t path name value g file call is (Refused fault) (inl refused) =
     inl (inr (record { group = g; file = file; is_file = is; refuses = refused.0 }), refused.1)
 written_by t path name value g file call is (Refused fault) (inr short) = inr (record { group = g; file = file; is_file = is; falls = short })
 written_by t path name value g file call is other none = absurd none
 
-pub written_at : (t : KnownTable) (path name value : List ℕ) (g : ℕ) (file : File) (m n : KnownMachine) (reply : Reply)
+pub written_at : (t : KnownTable) (path name value : List ℕ) (g : ℕ) (file : File) (m n : KnownMachine) (reply : ReplyWithText)
     → IsFileOf m.ledger.groups path name g file → BySteps Makes t (WritesTo file value g reply) m n
     → BySteps Makes t (Writes path name value reply) m n
 written_at t path name value g file m n reply is made = record {

@@ -3,16 +3,14 @@ use Rattle.std.specs.Prelude.{◌≡◌, ◌≢◌, ℕ, zero, ◌<◌, ◌≤�
 use Rattle.group_tree.specs.declared.fault.Fault.TheVariants as fault
 use Rattle.group_tree.specs.Groups.{number_at, path_of}
 use Rattle.zone_blocks.specs.declared.config.Config.{Config}
-use Rattle.mem_machine.specs.Local.{VisitState}
+use Rattle.mem_machine.specs.{VisitState, Transition, Stays}
 use Rattle.mem_alloc.specs.declared.faults.AllocFault.{AllocFault}
 use Rattle.mem_alloc.specs.declared.faults.AllocFault.TheVariants.{Over, NoFrames, RequesterKilled}
-use Rattle.mem_machine.specs.Transitions.{Transition, Stays}
-use Rattle.mem_alloc.specs.Frames.{AllocatesFrame}
-use Rattle.mem_alloc.specs.Blocks.{AllocatesBlock}
+use Rattle.mem_alloc.specs.{AllocatesFrame, AllocatesBlock}
 use Rattle.mem_system.specs.declared.outcome.Outcome.{Outcome}
 use Rattle.mem_system.specs.declared.outcome.Outcome.TheVariants as outcome
-use Rattle.mem_system.specs.declared.command.Reply.{Reply}
-use Rattle.mem_system.specs.declared.command.Reply.TheVariants.{Frame, OverLimit, Refused}
+use Rattle.mem_system.specs.declared.command.ReplyWithText.{ReplyWithText}
+use Rattle.mem_system.specs.declared.command.ReplyWithText.TheVariants.{Frame, OverLimit, Refused}
 
 -- an allocation of this order for the group: a single frame if the order is 0, else a block
 pub record AllocatesAs (sizes : Config) (group order : ℕ) (answer : Result ℕ AllocFault)
@@ -36,7 +34,7 @@ pub record HasBadOrder (path : List ℕ) (order : ℕ) (call : Transition VisitS
   pub stays : Stays call
 
 -- Alloc: the reply is the frame or the head of the block, or a refusal for the first cause that holds
-abbrev pub Allocates : Config → (path : List ℕ) (order : ℕ) → Reply → Transition VisitState → Type 0
+abbrev pub Allocates : Config → (path : List ℕ) (order : ℕ) → ReplyWithText → Transition VisitState → Type 0
 Allocates sizes path order (Frame head) call = AllocatesFor sizes path order (Ok head) call
 Allocates sizes path order (OverLimit over text) call =
     AllocatesFor sizes path order (Err (Over over)) call × (path_of call.after.machine.ledger.groups over ≡ Some text)
@@ -55,6 +53,6 @@ outcome_of (Err NoFrames) = outcome.Refused fault.NoFrames
 outcome_of (Err RequesterKilled) = outcome.Refused fault.Killed
 
 -- the fresh frames after an allocation of this order: the frame that the reply names if the order is 0, else none
-abbrev pub FreshOf : Reply → (order : ℕ) (fresh : List ℕ) → Type 0
+abbrev pub FreshOf : ReplyWithText → (order : ℕ) (fresh : List ℕ) → Type 0
 FreshOf (Frame head) zero fresh = fresh ≡ head ∷ []
 FreshOf other order fresh = fresh ≡ []

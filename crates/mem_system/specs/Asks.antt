@@ -3,8 +3,8 @@ use Rattle.std.specs.Prelude.{◌≡◌, ℕ, ◌^◌, Option, Some, List}
 use Rattle.group_tree.specs.declared.group.Group.{Group}
 use Rattle.group_tree.specs.Groups.{number_at, with_limit}
 use Rattle.mem_alloc.specs.NoRash.{IsChargedBelow}
-use Rattle.mem_system.specs.declared.command.Cmd.{Cmd}
-use Rattle.mem_system.specs.declared.command.Cmd.TheVariants.{Write, Alloc}
+use Rattle.mem_system.specs.declared.command.LockedCommand.{LockedCommand}
+use Rattle.mem_system.specs.declared.command.LockedCommand.TheVariants.{Write, Alloc}
 use Rattle.mem_system.specs.Files.{IsLimitFor}
 
 -- What groups are killed for: the limit of this group has no room for this many more pages. With it come the groups and
@@ -30,13 +30,13 @@ pub record AsksForLimit (path name value : List ℕ) (asked : Ask) : Type 0 wher
   pub no_page : asked.pages ≡ 0
 
 -- the command may have groups killed for this
-abbrev pub MayAsk : Cmd → Ask → Type 0
+abbrev pub MayAsk : LockedCommand → Ask → Type 0
 MayAsk (Alloc path order) asked = AsksForPages path.now order asked
 MayAsk (Write path file value) asked = AsksForLimit path.now file.now value.now asked
 MayAsk other asked = ⊥
 
 -- a command that found groups `was` may have groups killed for this limit and this many more pages, by the groups as
 -- they are now
-abbrev pub MayAskFor : Cmd → (was now : List Group) (limited pages : ℕ) → Type 0
+abbrev pub MayAskFor : LockedCommand → (was now : List Group) (limited pages : ℕ) → Type 0
 MayAskFor cmd was now limited pages =
     MayAsk cmd (record { groups_before = was; groups = now; limited = limited; pages = pages })

@@ -2,11 +2,7 @@
 use Rattle.std.specs.Prelude.{◌≡◌, ℕ, zero, suc, ◌+◌, List, [], ◌∷◌}
 use Rattle.frame_word.specs.Seats.{KnownTable}
 use Rattle.boot_words.specs.declared.past.Past.{Past}
-use Rattle.boot_words.specs.Runs.{no_past}
-use Rattle.boot_words.specs.Pasts.{KnownPasts}
-use Rattle.boot_words.specs.Cpus.{IsAwayCpu, KnownCpuSeat}
-use Rattle.boot_words.specs.Opening.{cpus_at_first, seat_at_first}
-use Rattle.boot_words.specs.Rule.{AllOf}
+use Rattle.boot_words.specs.{no_past, KnownPasts, IsAwayCpu, KnownCpuSeat, cpus_at_first, seat_at_first, AllOf}
 use Rattle.cpu_part.specs.Cpus.{KnownCpu, first_cpu}
 use Rattle.zone_blocks.specs.declared.config.Config.{Config}
 use Rattle.zone_blocks.specs.Config.{IsValidConfig}

@@ -11,10 +11,10 @@ use Rattle.control_files.specs.Files.{name_of_file}
 use Rattle.mem_machine.specs.Local.{VisitState}
 use Rattle.mem_reclaim.specs.Moves.{kills_in}
 use Rattle.mem_system.specs.declared.audit.Audit.{Audit}
-use Rattle.mem_system.specs.declared.command.Cmd.{Cmd}
-use Rattle.mem_system.specs.declared.command.Cmd.TheVariants.{Write}
-use Rattle.mem_system.specs.declared.command.Reply.{Reply}
-use Rattle.mem_system.specs.declared.command.Reply.TheVariants.{Refused}
+use Rattle.mem_system.specs.declared.command.LockedCommand.{LockedCommand}
+use Rattle.mem_system.specs.declared.command.LockedCommand.TheVariants.{Write}
+use Rattle.mem_system.specs.declared.command.ReplyWithText.{ReplyWithText}
+use Rattle.mem_system.specs.declared.command.ReplyWithText.TheVariants.{Refused}
 use Rattle.mem_system.specs.Commands.{ListStaysWithin}
 use Rattle.boot_words.specs.Words.{Words}
 use Rattle.mem_system.specs.Ends.{Closes, HasEmptyWords, KnownEmptiedBoot}
@@ -24,7 +24,7 @@ use Rattle.mem_system.specs.Visits.{Transition, LockedState, Serves}
 -- all kills among the steps of a visit are the command's own: neither settling nor the visit itself kills a group
 abbrev pub OnlyCommandsKill : Type 0
 OnlyCommandsKill =
-    (cmd : Cmd) (reply : Reply) (call : Transition LockedState) (served : Serves cmd reply call)
+    (cmd : LockedCommand) (reply : ReplyWithText) (call : Transition LockedState) (served : Serves cmd reply call)
     → kills_in call.steps ≡ kills_in served.inner
 
 -- a Write that is refused changes nothing and makes no step, or it is one of memory.reclaim, refused with Again
@@ -38,7 +38,7 @@ OnlyReclaimFallsShort =
 -- a Release leaves at most `high` frames in the CPU's list, if there were at most as many
 abbrev pub ReleasesCutLists : Type 0
 ReleasesCutLists =
-    (sizes : Config) (frame : ℕ) (reply : Reply) (call : Transition VisitState) → IsValidConfig sizes
+    (sizes : Config) (frame : ℕ) (reply : ReplyWithText) (call : Transition VisitState) → IsValidConfig sizes
     → ReleasesFrame sizes frame reply call → ListStaysWithin sizes call.before.cpu call.after.cpu
 
 -- the last words: no CPU's words hold a page, and no frame's word counts more than the zone's reference

@@ -4,18 +4,15 @@ use Rattle.frame_word.specs.Seats.{KnownTable}
 use Rattle.cpu_part.specs.Cpus.{KnownCpu}
 use Rattle.zone_blocks.specs.declared.config.Config.{Config}
 use Rattle.zone_blocks.specs.Config.{IsValidConfig}
-use Rattle.mem_machine.specs.Local.{Visits}
-use Rattle.mem_machine.specs.Local.{VisitState}
+use Rattle.mem_machine.specs.{VisitState, Visits, KnownMachine}
 -- a call, described by the state before it, its steps and the state after it
-pub use Rattle.mem_machine.specs.Transitions.{Transition, transition, of_machine, OfMachine, OfMachineAlone, BySteps}
-pub use Rattle.mem_machine.specs.Transitions.{MachineStays, Stays}
+pub use Rattle.mem_machine.specs.Transitions.{Transition, transition, of_machine, OfMachine, OfMachineAlone, BySteps, MachineStays, Stays}
 pub use Rattle.mem_machine.specs.Settling.{IsSettled}
 pub use Rattle.mem_reclaim.specs.Moves.{CountsMisses}
-use Rattle.mem_system.specs.declared.command.Cmd.{Cmd}
-use Rattle.mem_system.specs.declared.command.Cmd.TheVariants.{Mkdir, Rmdir, Write, Read, Settle, Owner}
-use Rattle.mem_system.specs.declared.command.Cmd.TheVariants.{Touch, Dirty, Clean, Release, Alloc}
-use Rattle.mem_system.specs.declared.command.Reply.{Reply}
-use Rattle.mem_system.specs.declared.command.Reply.TheVariants.{Done}
+use Rattle.mem_system.specs.declared.command.LockedCommand.{LockedCommand}
+use Rattle.mem_system.specs.declared.command.LockedCommand.TheVariants.{Mkdir, Rmdir, Write, Read, Settle, Owner, Touch, Dirty, Clean, Release, Alloc}
+use Rattle.mem_system.specs.declared.command.ReplyWithText.{ReplyWithText}
+use Rattle.mem_system.specs.declared.command.ReplyWithText.TheVariants.{Done}
 use Rattle.mem_system.specs.Boots.{IsSizedAs}
 use Rattle.mem_system.specs.Groups.{MakesGroup, Removes}
 use Rattle.mem_system.specs.Files.{Reads, Writes}
@@ -25,7 +22,7 @@ use Rattle.mem_system.specs.Releases.{ReleasesFrame}
 use Rattle.mem_system.specs.Allocations.{Allocates, FreshOf}
 
 -- each frame that the command names has a number below `frames`
-abbrev pub NamesFrameBelow : (frames : ℕ) → Cmd → Type 0
+abbrev pub NamesFrameBelow : (frames : ℕ) → LockedCommand → Type 0
 NamesFrameBelow frames (Owner frame) = frame < frames
 NamesFrameBelow frames (Touch frame) = frame < frames
 NamesFrameBelow frames (Dirty frame) = frame < frames
@@ -34,20 +31,19 @@ NamesFrameBelow frames (Release frame) = frame < frames
 NamesFrameBelow frames other = Unit {0}
 
 -- each frame that the command names is a frame of the zone
-abbrev pub IsOfZone : KnownTable → Cmd → Type 0
+abbrev pub IsOfZone : KnownTable → LockedCommand → Type 0
 IsOfZone table command = NamesFrameBelow table.frames command
 
 -- What a command finds inside its visit. The CPU is visited and settled, the sizes are in their ranges, and the tables
 -- have these sizes.
-pub record MayExecute (table : KnownTable) (sizes : Config)
-    (now : VisitState) : Type 0 where
-  pub visit : Visits table now
-  pub settled : IsSettled now.cpu
+pub record MayExecute (table : KnownTable) (sizes : Config) (machine : KnownMachine) (cpu : KnownCpu) : Type 0 where
+  pub visit : Visits table machine cpu
+  pub settled : IsSettled cpu
   pub valid : IsValidConfig sizes
   pub sized : IsSizedAs sizes table
 
 -- what the command does inside the visit, and its reply
-abbrev pub Executes : Config → Cmd → Reply → Transition VisitState → Type 0
+abbrev pub Executes : Config → LockedCommand → ReplyWithText → Transition VisitState → Type 0
 Executes sizes (Mkdir path) reply call = OfMachineAlone (MakesGroup path.now reply) call
 Executes sizes (Rmdir path) reply call = OfMachineAlone (Removes path.now reply) call
 Executes sizes (Write path file value) reply call = OfMachineAlone (Writes path.now file.now value.now reply) call
@@ -61,12 +57,12 @@ Executes sizes (Release frame) reply call = ReleasesFrame sizes frame reply call
 Executes sizes (Alloc path order) reply call = Allocates sizes path.now order reply call
 
 -- the fresh frames after a command: the frame that an Alloc of order 0 returned, and none after any other command
-abbrev pub FreshAfter : Cmd → Reply → (fresh : List ℕ) → Type 0
+abbrev pub FreshAfter : LockedCommand → ReplyWithText → (fresh : List ℕ) → Type 0
 FreshAfter (Alloc path order) reply fresh = FreshOf reply order fresh
 FreshAfter other reply fresh = fresh ≡ []
 
 -- what a command leaves to settle: no back frame, and no fresh frame except the one that an Alloc returned
-abbrev pub IsSettledAfter : Cmd → Reply → KnownCpu → Type 0
+abbrev pub IsSettledAfter : LockedCommand → ReplyWithText → KnownCpu → Type 0
 IsSettledAfter cmd reply cpu = FreshAfter cmd reply cpu.fresh × (cpu.back ≡ [])
 
 -- if the CPU's list had at most `high` frames, it still has at most `high`

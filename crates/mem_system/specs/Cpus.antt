@@ -6,11 +6,8 @@ use Rattle.step_rules.specs.declared.step.Answer.TheVariants.{Done}
 use Rattle.step_rules.specs.After.{Run}
 use Rattle.stock_word.specs.declared.view.Stock.{Stock}
 use Rattle.boot_words.specs.declared.past.Past.{Past}
-use Rattle.boot_words.specs.Pasts.{KnownPasts, own_past}
-use Rattle.boot_words.specs.Growth.{GrewByAll}
-use Rattle.boot_words.specs.Cpus.{KnownCpuSeat}
-use Rattle.cpu_part.specs.Cpus.{KnownCpu}
-use Rattle.cpu_part.specs.Known.{KnowsItsPart}
+use Rattle.boot_words.specs.{KnownPasts, own_past, GrewByAll, KnownCpuSeat}
+use Rattle.cpu_part.specs.{KnownCpu, KnowsItsPart}
 use Rattle.mem_machine.specs.Steps.{cpu_makes}
 
 -- a CPU as callers have it: its part, its own past of the run, and the stock that it saw last

@@ -2,8 +2,8 @@
 use Rattle.std.specs.Prelude.{ℕ, List}
 use Rattle.std.specs.Borrow.{Bor}
 use Rattle.frame_word.specs.Seats.{KnownTable}
-use Rattle.mem_system.specs.declared.command.Cmd.TheVariants.{Alloc, Dirty}
-use Rattle.mem_system.specs.declared.command.Reply.TheVariants.{Done}
+use Rattle.mem_system.specs.declared.command.LockedCommand.TheVariants.{Alloc, Dirty}
+use Rattle.mem_system.specs.declared.command.ReplyWithText.TheVariants.{Done}
 use Rattle.mem_system.specs.declared.outcome.Outcome.{Outcome}
 use Rattle.mem_system.specs.declared.outcome.Outcome.TheVariants.{Frame}
 use Rattle.mem_system.specs.Visits.{IsServed, LockedState, ServesOutcome}

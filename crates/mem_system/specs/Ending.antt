@@ -3,10 +3,7 @@
 use Rattle.std.specs.Prelude.{◌≡◌, List, ◌++◌, IsPermutation}
 use Rattle.frame_word.specs.Seats.{KnownTable}
 use Rattle.step_rules.specs.After.{Run}
-use Rattle.boot_words.specs.Growth.{GrewByAll}
-use Rattle.boot_words.specs.Pasts.{own_past}
-use Rattle.boot_words.specs.Seats.{zone_of_boot}
-use Rattle.boot_words.specs.Rule.{AllOf, BeginsRun}
+use Rattle.boot_words.specs.{GrewByAll, own_past, zone_of_boot, AllOf, BeginsRun}
 use Rattle.boot_words.specs.declared.past.Past.{Past}
 use Rattle.mem_system.specs.declared.ending.SystemEnd.{SystemEnd}
 use Rattle.mem_system.specs.Cpus.{CpuInRun, between_locks, parts_of}

@@ -1,34 +1,21 @@
 -- How a system ends. Each CPU is settled, then each CPU's list is returned and its stock drained, each in a visit under
 -- the lock, and then the table is closed.
-use Rattle.std.specs.Prelude.{◌≡◌, ℕ, ◌+◌, ◌≤◌, ◌<◌, is_some, true, List, [], ◌∷◌, ◌++◌, length, min}
-use Rattle.std.specs.Prelude.{sum_by, slice_index, All}
+use Rattle.std.specs.Prelude.{◌≡◌, ℕ, ◌+◌, ◌≤◌, ◌<◌, is_some, true, List, [], ◌∷◌, ◌++◌, length, min, sum_by, slice_index, All}
 use Rattle.step_rules.specs.declared.step.Action.TheVariants.{Lock, Unlock}
 use Rattle.step_rules.specs.declared.step.Answer.TheVariants.{Done}
-use Rattle.step_rules.specs.State.{is_unheld, one_if}
-use Rattle.step_rules.specs.After.{Run, state_of}
+use Rattle.step_rules.specs.{is_unheld, one_if, Run, state_of}
 use Rattle.frame_word.specs.Seats.{KnownTable}
 use Rattle.stock_word.specs.declared.view.Stock.{Stock}
-use Rattle.stock_word.specs.Stock.{word_of, stock_pages_of}
-use Rattle.stock_word.specs.StockRule.{stock_index, report_index}
+use Rattle.stock_word.specs.{word_of, stock_pages_of, stock_index, report_index}
 use Rattle.group_tree.specs.Room.{max_count}
-use Rattle.boot_words.specs.Seats.{zone_of_boot}
-use Rattle.boot_words.specs.Pasts.{cpu_past, own_past}
-use Rattle.boot_words.specs.Hidden.{hide}
-use Rattle.boot_words.specs.Rule.{words_in}
-use Rattle.boot_words.specs.Closed.{IsClosedRun, IsEndOfRun, pasts_of_cpus}
-use Rattle.boot_words.specs.Cpus.{KnownCpuSeat}
-use Rattle.boot_words.specs.Growth.{IsRunSoFar}
+use Rattle.boot_words.specs.{zone_of_boot, cpu_past, own_past, hide, words_in, IsClosedRun, IsEndOfRun, pasts_of_cpus, KnownCpuSeat, IsRunSoFar}
 use Rattle.cpu_part.specs.Cpus.{KnownCpu, IsIdle}
-use Rattle.mem_machine.specs.Machines.{KnownMachine, IsConsistent, IsShownBy, home_of, part_at, with_run}
-use Rattle.mem_machine.specs.Noted.{KnownRun}
-use Rattle.mem_machine.specs.Settling.{Settles}
-use Rattle.mem_machine.specs.Lending.{UnlistsMany}
-use Rattle.mem_machine.specs.Stocks.{Drains, IsDrained, stock_group}
-use Rattle.mem_machine.specs.Steps.{cpu_makes, open_steps, shut_steps, drain_list_steps, drain_steps}
-use Rattle.mem_machine.specs.Places.{frames_free, frames_in_groups, NoneLentTo}
+use Rattle.mem_machine.specs.{KnownMachine, IsConsistent, IsShownBy, home_of, part_at, with_run, KnownRun, Settles, UnlistsMany, Drains, IsDrained}
+use Rattle.mem_machine.specs.{stock_group, open_steps, shut_steps, drain_list_steps, drain_steps, frames_free, frames_in_groups, NoneLentTo}
+use Rattle.mem_machine.specs.{VisitState, visit_state, VisitMakes}
+use Rattle.mem_machine.specs.Steps.{cpu_makes}
 use Rattle.mem_system.specs.declared.audit.Audit.{Audit}
 use Rattle.mem_system.specs.Locked.{KnownLocked, IsQuiet}
-use Rattle.mem_machine.specs.Local.{VisitState, visit_state, VisitMakes}
 use Rattle.mem_system.specs.Commands.{Transition, BySteps}
 use Rattle.mem_system.specs.Cpus.{CpuInRun, VisitsInRun, between_locks, parts_of, pasts_of}
 use Rattle.mem_system.specs.Visits.{with_run_at, visit_steps}

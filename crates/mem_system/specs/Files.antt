@@ -1,6 +1,5 @@
 -- The files of the groups: how they are found, what a read returns, and what a write does.
-use Rattle.std.specs.Prelude.{◌≡◌, ◌≢◌, ◌⊎◌, ℕ, ◌+◌, ◌<◌, ◌≤◌, Bool, false, Option, Some, None, Result, Ok, Err, List}
-use Rattle.std.specs.Prelude.{◌++◌}
+use Rattle.std.specs.Prelude.{◌≡◌, ◌≢◌, ◌⊎◌, ℕ, ◌+◌, ◌<◌, ◌≤◌, Bool, false, Option, Some, None, Result, Ok, Err, List, ◌++◌}
 use Rattle.group_tree.specs.declared.group.Group.{Group}
 use Rattle.group_tree.specs.Groups.{number_at}
 use Rattle.group_tree.specs.declared.fault.Fault.{Fault}
@@ -8,20 +7,13 @@ use Rattle.group_tree.specs.declared.fault.Fault.TheVariants.{NoGroup, NoFile, R
 use Rattle.group_charge.specs.Charges.{Ledger, current_of, with_group_limit, with_oom_flag, with_settings}
 use Rattle.control_files.specs.declared.file.File.{File}
 use Rattle.control_files.specs.declared.file.File.TheVariants.{Max, High, OomGroup, Reclaim}
-use Rattle.control_files.specs.Files.{name_of_file, file_text, is_writable}
-use Rattle.control_files.specs.Flag.{IsFlagText, IsNoFlagText}
-use Rattle.control_files.specs.Limit.{ReadsAmount, ReadsAs, IsTooGreat, IsNoAmountText, IsNoLimitText}
+use Rattle.control_files.specs.{name_of_file, file_text, is_writable, IsFlagText, IsNoFlagText, ReadsAmount, ReadsAs, IsTooGreat, IsNoAmountText}
+use Rattle.control_files.specs.{IsNoLimitText}
 use Rattle.step_rules.specs.After.{Run}
-use Rattle.mem_machine.specs.Machines.{KnownMachine, with_run}
-use Rattle.mem_machine.specs.Local.{Makes}
-use Rattle.mem_machine.specs.Noted.{KnownRun}
-use Rattle.mem_machine.specs.Steps.{set_max_steps, set_oom_group_steps}
-use Rattle.mem_reclaim.specs.Moves.{FreesBySteps}
-use Rattle.mem_reclaim.specs.Rounds.{ReclaimsAmount}
-use Rattle.mem_reclaim.specs.Staying.{Keeps, MissedAll}
-use Rattle.mem_machine.specs.Transitions.{Transition, MachineStays, transition}
-use Rattle.mem_system.specs.declared.command.Reply.{Reply}
-use Rattle.mem_system.specs.declared.command.Reply.TheVariants.{Text, Done, Refused}
+use Rattle.mem_machine.specs.{KnownMachine, with_run, Makes, KnownRun, set_max_steps, set_oom_group_steps, Transition, MachineStays, transition}
+use Rattle.mem_reclaim.specs.{FreesBySteps, ReclaimsAmount, Keeps, MissedAll}
+use Rattle.mem_system.specs.declared.command.ReplyWithText.{ReplyWithText}
+use Rattle.mem_system.specs.declared.command.ReplyWithText.TheVariants.{Text, Done, Refused}
 use Rattle.mem_system.specs.Usage.{KeepsToLimit, LowersToHigh}
 
 -- the group has this path and isn't the root, and the name is that of its file
@@ -50,7 +42,7 @@ pub record ReadsFile (ledger : Ledger) (path name : List ℕ) (answer : Result (
   pub answer_is : answer ≡ file_text ledger group file
 
 -- Read: the text of the file, by the ledger; or there is no such file, or it can't be read
-abbrev pub Reads : Ledger → (path name : List ℕ) → Reply → Type 0
+abbrev pub Reads : Ledger → (path name : List ℕ) → ReplyWithText → Type 0
 Reads ledger path name (Text text) = ReadsFile ledger path name (Ok text)
 Reads ledger path name (Refused fault) =
     HasNoFile ledger.groups path name fault ⊎ ReadsFile ledger path name (Err fault)
@@ -148,7 +140,7 @@ pub record FallsShort (file : File) (value : List ℕ) (group : ℕ) (fault : Fa
   pub frees : WritesAmount value group (λ asked freed. freed < asked) call
 
 -- a value is written to an existing file: it is set; or it is refused, and nothing changed; or it falls short
-abbrev pub WritesTo : File → (value : List ℕ) → (group : ℕ) → Reply → Transition KnownMachine → Type 0
+abbrev pub WritesTo : File → (value : List ℕ) → (group : ℕ) → ReplyWithText → Transition KnownMachine → Type 0
 WritesTo file value group Done call = SetsFile file value group call
 WritesTo file value group (Refused fault) call =
     (RefusesValue file value fault × MachineStays call) ⊎ FallsShort file value group fault call
@@ -181,7 +173,7 @@ pub record WritesShort (path name value : List ℕ) (fault : Fault) (call : Tran
   pub falls : FallsShort file value group fault call
 
 -- Write: the value is set; or it is refused, and nothing changed; or it falls short
-abbrev pub Writes : (path name value : List ℕ) → Reply → Transition KnownMachine → Type 0
+abbrev pub Writes : (path name value : List ℕ) → ReplyWithText → Transition KnownMachine → Type 0
 Writes path name value Done call = WritesFile path name value call
 Writes path name value (Refused fault) call =
     (RefusesWrite call.before.ledger.groups path name value fault × MachineStays call)

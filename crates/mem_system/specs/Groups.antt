@@ -4,11 +4,9 @@ use Rattle.group_tree.specs.Groups.{make_fault}
 use Rattle.group_tree.specs.declared.fault.Fault.TheVariants.{Busy}
 use Rattle.group_charge.specs.Charges.{current_of, with_group_removed}
 use Rattle.step_rules.specs.After.{Run}
-use Rattle.mem_machine.specs.Machines.{KnownMachine, AddsGroup}
-use Rattle.mem_machine.specs.Steps.{make_steps, remove_steps}
-use Rattle.mem_machine.specs.Transitions.{Transition, MachineStays, transition}
-use Rattle.mem_system.specs.declared.command.Reply.{Reply}
-use Rattle.mem_system.specs.declared.command.Reply.TheVariants.{Group, Done, Refused}
+use Rattle.mem_machine.specs.{KnownMachine, AddsGroup, make_steps, remove_steps, Transition, MachineStays, transition}
+use Rattle.mem_system.specs.declared.command.ReplyWithText.{ReplyWithText}
+use Rattle.mem_system.specs.declared.command.ReplyWithText.TheVariants.{Group, Done, Refused}
 use Rattle.mem_system.specs.Leaves.{IsLeafAt, HasNoLeaf}
 use Rattle.mem_system.specs.Usage.{LowersUsage}
 
@@ -19,7 +17,7 @@ pub record MakesNewGroup (path : List ℕ) (number : ℕ) (call : Transition Kno
   pub steps_are : call.steps ≡ make_steps path number
 
 -- Mkdir: the group is made; or it is refused for the first cause that holds, and nothing changed
-abbrev pub MakesGroup : (path : List ℕ) → Reply → Transition KnownMachine → Type 0
+abbrev pub MakesGroup : (path : List ℕ) → ReplyWithText → Transition KnownMachine → Type 0
 MakesGroup path (Group number) call = MakesNewGroup path number call
 MakesGroup path (Refused fault) call = (make_fault call.before.ledger.groups path ≡ Some fault) × MachineStays call
 MakesGroup path other call = ⊥
@@ -45,7 +43,7 @@ pub record StaysBusy (path : List ℕ) (call : Transition KnownMachine) : Type 0
 
 -- Rmdir: the group is removed; or pages stay charged to it after draining and reclaim; or there is no such group, and
 -- nothing changed
-abbrev pub Removes : (path : List ℕ) → Reply → Transition KnownMachine → Type 0
+abbrev pub Removes : (path : List ℕ) → ReplyWithText → Transition KnownMachine → Type 0
 Removes path Done call = RemovesGroup path call
 Removes path (Refused Busy) call = StaysBusy path call
 Removes path (Refused fault) call = HasNoLeaf call.before.ledger.groups path fault × MachineStays call

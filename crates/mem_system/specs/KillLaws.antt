@@ -10,11 +10,10 @@ use Rattle.step_rules.specs.declared.step.Answer.{Answer}
 use Rattle.step_rules.specs.declared.step.Step.{Step}
 use Rattle.step_rules.specs.After.{Run}
 use Rattle.mem_machine.specs.Machines.{KnownMachine}
-use Rattle.mem_alloc.specs.KillLaws.{DiesWithItsSet}
-use Rattle.mem_alloc.specs.Laws.{ComesLast}
-use Rattle.mem_system.specs.declared.command.Cmd.{Cmd}
-use Rattle.mem_system.specs.declared.command.Cmd.TheVariants.{Alloc, Write}
-use Rattle.mem_system.specs.declared.command.Reply.{Reply}
+use Rattle.mem_alloc.specs.{DiesWithItsSet, ComesLast}
+use Rattle.mem_system.specs.declared.command.LockedCommand.{LockedCommand}
+use Rattle.mem_system.specs.declared.command.LockedCommand.TheVariants.{Alloc, Write}
+use Rattle.mem_system.specs.declared.command.ReplyWithText.{ReplyWithText}
 use Rattle.mem_system.specs.Asks.{MayAskFor}
 use Rattle.mem_system.specs.Files.{IsLimitFor}
 use Rattle.mem_system.specs.Visits.{Transition, LockedState, Serves}
@@ -23,7 +22,8 @@ use Rattle.mem_system.specs.Visits.{Transition, LockedState, Serves}
 -- killed, before any other group.
 abbrev pub CommandsKillWholeSets : Type 0
 CommandsKillWholeSets =
-    (cmd : Cmd) (reply : Reply) (call : Transition LockedState) (served : Serves cmd reply call) (before rest : Run)
+    (cmd : LockedCommand) (reply : ReplyWithText) (call : Transition LockedState)
+    (served : Serves cmd reply call) (before rest : Run)
     (made : Step × Answer) (group : ℕ) → served.inner ≡ before ++ made ∷ rest → made.0.action ≡ Kill group
     → DiesWithItsSet (MayAskFor cmd served.settled.machine.ledger.groups) call.table served.settled.machine before made
     rest
@@ -48,13 +48,13 @@ pub record IsOverOnPath (path : List ℕ) (order : ℕ) (groups : List Group) (l
   pub few : 2 ^ order ≤ 8
 
 -- why a command that found these groups may kill for the limit of the group `limited`, by the charges as they are now
-abbrev pub KillsFor : Cmd → (groups : List Group) → Ledger → (limited : ℕ) → Type 0
+abbrev pub KillsFor : LockedCommand → (groups : List Group) → Ledger → (limited : ℕ) → Type 0
 KillsFor (Write path file value) groups now limited = IsAboveWritten path.now file.now value.now groups now limited
 KillsFor (Alloc path order) groups now limited = IsOverOnPath path.now order groups now limited
 KillsFor other groups now limited = ⊥
 
 -- the kill comes last, and when everything else was tried there was this reason for it
-pub record IsKilledFor (cmd : Cmd) (table : KnownTable) (start : KnownMachine) (before : Run) (group : ℕ)
+pub record IsKilledFor (cmd : LockedCommand) (table : KnownTable) (start : KnownMachine) (before : Run) (group : ℕ)
     : Type 0 where
   pub comes_last : ComesLast (MayAskFor cmd start.ledger.groups) table start before group
   pub reason : KillsFor cmd start.ledger.groups comes_last.last.now.ledger comes_last.last.limited
@@ -63,6 +63,7 @@ pub record IsKilledFor (cmd : Cmd) (table : KnownTable) (start : KnownMachine) (
 -- have no room under a limit on its group's path. No other command kills.
 abbrev pub CommandsKillOverLimits : Type 0
 CommandsKillOverLimits =
-    (cmd : Cmd) (reply : Reply) (call : Transition LockedState) (served : Serves cmd reply call) (before rest : Run)
+    (cmd : LockedCommand) (reply : ReplyWithText) (call : Transition LockedState)
+    (served : Serves cmd reply call) (before rest : Run)
     (made : Step × Answer) (group : ℕ) → served.inner ≡ before ++ made ∷ rest → made.0.action ≡ Kill group
     → IsKilledFor cmd call.table served.settled.machine before group

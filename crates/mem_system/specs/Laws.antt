@@ -5,8 +5,8 @@ use Rattle.step_rules.specs.declared.step.Answer.{Answer}
 use Rattle.step_rules.specs.declared.step.Step.{Step}
 use Rattle.step_rules.specs.After.{Run}
 use Rattle.mem_alloc.specs.Laws.{ComesLast}
-use Rattle.mem_system.specs.declared.command.Cmd.{Cmd}
-use Rattle.mem_system.specs.declared.command.Reply.{Reply}
+use Rattle.mem_system.specs.declared.command.LockedCommand.{LockedCommand}
+use Rattle.mem_system.specs.declared.command.ReplyWithText.{ReplyWithText}
 use Rattle.mem_system.specs.Asks.{MayAskFor}
 use Rattle.mem_system.specs.Visits.{Transition, LockedState, Serves}
 
@@ -14,6 +14,7 @@ use Rattle.mem_system.specs.Visits.{Transition, LockedState, Serves}
 -- may ask for, before the first kill of the set that dies with the victim.
 abbrev pub CommandsKillLast : Type 0
 CommandsKillLast =
-    (cmd : Cmd) (reply : Reply) (call : Transition LockedState) (served : Serves cmd reply call) (before rest : Run)
+    (cmd : LockedCommand) (reply : ReplyWithText) (call : Transition LockedState)
+    (served : Serves cmd reply call) (before rest : Run)
     (made : Step × Answer) (group : ℕ) → served.inner ≡ before ++ made ∷ rest → made.0.action ≡ Kill group
     → ComesLast (MayAskFor cmd served.settled.machine.ledger.groups) call.table served.settled.machine before group

@@ -25,3 +25,30 @@ pub mod Visits
 pub mod KillLaws
 pub mod CommandLaws
 pub mod DirtyAllocs
+-- what other crates and the proofs import by one name, `Rattle.mem_system.specs`
+pub use Rattle.mem_system.specs.Allocations.{Allocates, AllocatesAs, AllocatesFor, FreshOf, outcome_of}
+pub use Rattle.mem_system.specs.Asks.{MayAskFor}
+pub use Rattle.mem_system.specs.Boots.{IsSizedAs, KnownBoot, KnownSystem, first_cpus, first_pasts}
+pub use Rattle.mem_system.specs.Commands.{Executes, IsOfZone, ListAndFreshStayWithin, ListStaysWithin, NamesFrameBelow}
+pub use Rattle.mem_system.specs.Counted.{VisitsFindCounts}
+pub use Rattle.mem_system.specs.Cpus.{CpuInRun, KnowsItself, VisitsInRun, between_locks, cpu_in_run, parts_of, pasts_of, seat_of}
+pub use Rattle.mem_system.specs.Ending.{EndsCpu, HasEnded, PutsAndEnds}
+pub use Rattle.mem_system.specs.Ends.{AreLastWords, Closes, Empties, ForEachCpu, HasNoPage, IsAuditOf, IsClosed, IsEmptied, IsSettledUnpinned}
+pub use Rattle.mem_system.specs.Ends.{KnownEmptiedBoot, LendsAndFillsNone, MachineAndCpu, MakesLastVisits, SettlesInVisit, VisitsUnderLock, drops_of}
+pub use Rattle.mem_system.specs.Ends.{machine_and_cpu, pins_of_all, steps_of_visits}
+pub use Rattle.mem_system.specs.Files.{HasNoFile, IsFileOf, IsLimitFor, Reads, RefusesValue, SetsFile, SetsLimit, Writes, WritesTo, with_high_of}
+pub use Rattle.mem_system.specs.Files.{with_limit_of}
+pub use Rattle.mem_system.specs.Groups.{MakesGroup, Removes}
+pub use Rattle.mem_system.specs.Leaves.{HasNoLeaf, IsLeafAt}
+pub use Rattle.mem_system.specs.Left.{NothingIsLeft}
+pub use Rattle.mem_system.specs.Locked.{AllShut, CountsItsRun, IsEmptyWithRoom, IsQuiet, IsSound, KnownLocked, SeenBehindLock, counts_in}
+pub use Rattle.mem_system.specs.Outcomes.{HasItsGroups, reply_of, text_reply}
+pub use Rattle.mem_system.specs.Puts.{EachPuts, MadePut, PutsPins, frames_put, unpin_steps}
+pub use Rattle.mem_system.specs.Releases.{CutsList, ListsFrame, ReleasesFrame, ReturnsFrames}
+pub use Rattle.mem_system.specs.Shown.{ReadsAfterSettling, SettlesCaller, UnitsAt}
+pub use Rattle.mem_system.specs.Units.{NotesDirt}
+pub use Rattle.mem_system.specs.Usage.{KeepsToLimit, LowersAbove, LowersByKills, LowersToHigh, LowersUsage, with_high_told}
+pub use Rattle.mem_system.specs.Visits.{IsServed, IsVisited, LockedState, ServesFrameOutcome, ServesOutcome, begun, locked_state, visit_state_of}
+pub use Rattle.mem_system.specs.Visits.{visit_steps, with_run_at}
+pub use Rattle.mem_system.specs.CommandLaws.{EndsLeaveEmptyWords, OnlyCommandsKill, OnlyReclaimFallsShort, ReleasesCutLists}
+pub use Rattle.mem_system.specs.DirtyAllocs.{ServesDirtyAlloc}

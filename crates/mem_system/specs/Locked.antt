@@ -1,23 +1,15 @@
 -- What lies behind the zone's lock, and what always holds of it.
 use Rattle.std.specs.Prelude.{◌≡◌, ℕ, ◌≤◌, false}
-use Rattle.boot_words.specs.Growth.{SeesMore}
-use Rattle.boot_words.specs.Pasts.{own_past}
-use Rattle.boot_words.specs.Seats.{zone_of_boot}
+use Rattle.boot_words.specs.{SeesMore, own_past, zone_of_boot}
 use Rattle.frame_word.specs.Seats.{KnownTable}
 use Rattle.zone_blocks.specs.declared.config.Config.{Config}
 use Rattle.zone_blocks.specs.Config.{IsValidConfig}
 use Rattle.group_charge.specs.Charges.{AreCharges}
-use Rattle.mem_machine.specs.Agreeing.{AgreesWithRun}
-use Rattle.mem_machine.specs.Counting.{counts_along}
-use Rattle.mem_machine.specs.Counts.{no_counts}
-use Rattle.mem_machine.specs.Interleaving.{zone_of}
-use Rattle.mem_machine.specs.Machines.{IsConsistent, KnownMachine}
-use Rattle.mem_machine.specs.Resting.{Rests}
+use Rattle.mem_machine.specs.{AgreesWithRun, counts_along, no_counts, zone_of, IsConsistent, KnownMachine, Rests}
 use Rattle.mem_machine.specs.declared.counts.Counts.{Counts}
 use Rattle.mem_system.specs.Boots.{IsSizedAs}
 use Rattle.mem_system.specs.Cpus.{CpuInRun}
-use Rattle.step_rules.specs.After.{Run, state_of}
-use Rattle.step_rules.specs.State.{at_boot, visits}
+use Rattle.step_rules.specs.{Run, state_of, at_boot, visits}
 
 -- what lies behind the lock: the machine, and the sizes of the boot
 pub record KnownLocked : Type 0 where

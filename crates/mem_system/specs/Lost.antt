@@ -1,19 +1,13 @@
 -- That no unit is lost: each charged unit is on a list of its group, fresh or back at a CPU, or has references.
 use Rattle.std.specs.Prelude.{◌≡◌, ◌⊎◌, ℕ, ◌≤◌, Some, List, slice_get}
 use Rattle.frame_word.specs.Seats.{KnownTable}
-use Rattle.step_rules.specs.State.{times}
-use Rattle.step_rules.specs.After.{Run, IsLegalRun, state_of}
-use Rattle.boot_words.specs.Seats.{zone_of_boot}
-use Rattle.boot_words.specs.Pasts.{own_past}
-use Rattle.boot_words.specs.Rule.{BeginsRun}
-use Rattle.cpu_part.specs.Cpus.{KnownCpu}
-use Rattle.cpu_part.specs.Known.{HasOwn}
+use Rattle.step_rules.specs.{times, Run, IsLegalRun, state_of}
+use Rattle.boot_words.specs.{zone_of_boot, own_past, BeginsRun}
+use Rattle.cpu_part.specs.{KnownCpu, HasOwn}
 use Rattle.step_rules.specs.declared.phase.ChargedUnit.{ChargedUnit}
 use Rattle.lru_lists.specs.declared.record.Home.{Home}
 use Rattle.mem_machine.specs.declared.frame_state.FrameState.TheVariants.{Lent, Head, Tail}
-use Rattle.mem_machine.specs.FrameStates.{IsTailOf, frame_state_at}
-use Rattle.mem_machine.specs.Machines.{KnownMachine, IsConsistent, home_of}
-use Rattle.mem_machine.specs.Resting.{Rests}
+use Rattle.mem_machine.specs.{IsTailOf, frame_state_at, KnownMachine, IsConsistent, home_of, Rests}
 
 -- the unit is kept: its head is on a list of the group, which has a reference of the zone
 abbrev pub IsKeptFor : KnownMachine → (group head : ℕ) → Type 0

@@ -5,14 +5,13 @@ use Rattle.group_tree.specs.declared.fault.Fault.{Fault}
 use Rattle.group_charge.specs.Charges.{Ledger}
 use Rattle.control_files.specs.Files.{file_text}
 use Rattle.frame_word.specs.Seats.{KnownTable}
-use Rattle.mem_machine.specs.Machines.{KnownMachine}
-use Rattle.mem_machine.specs.Local.{VisitState, Makes, VisitMakes}
-use Rattle.mem_machine.specs.Transitions.{Transition, BySteps}
+use Rattle.cpu_part.specs.Cpus.{KnownCpu}
+use Rattle.mem_machine.specs.{KnownMachine, Makes, VisitDoes, VisitState, Transition, BySteps}
 use Rattle.mem_system.specs.declared.outcome.Outcome.{Outcome}
 use Rattle.mem_system.specs.declared.outcome.Outcome.TheVariants as outcome
-use Rattle.mem_system.specs.declared.command.Reply.{Reply}
-use Rattle.mem_system.specs.declared.command.Reply.TheVariants.{Group, Frame, Done, Text, Free, Lent, Charged}
-use Rattle.mem_system.specs.declared.command.Reply.TheVariants.{Marked, Active, Left, Returned, OverLimit, Refused}
+use Rattle.mem_system.specs.declared.command.ReplyWithText.{ReplyWithText}
+use Rattle.mem_system.specs.declared.command.ReplyWithText.TheVariants.{Group, Frame, Done, Text, Free, Lent, Charged, Marked, Active, Left, Returned}
+use Rattle.mem_system.specs.declared.command.ReplyWithText.TheVariants.{OverLimit, Refused}
 
 -- the path, or an empty one if there is none
 abbrev pub path_or_empty : Option (List ℕ) → List ℕ
@@ -20,12 +19,12 @@ path_or_empty (Some path) = path
 path_or_empty None = []
 
 -- the reply of a file that is read: its text, or why it can't be read
-abbrev pub text_reply : Result (List ℕ) Fault → Reply
+abbrev pub text_reply : Result (List ℕ) Fault → ReplyWithText
 text_reply (Ok text) = Text text
 text_reply (Err fault) = Refused fault
 
 -- the reply of an outcome: groups with their paths, and a file with its text
-abbrev pub reply_of : Ledger → Outcome → Reply
+abbrev pub reply_of : Ledger → Outcome → ReplyWithText
 reply_of ledger (outcome.Group group) = Group group
 reply_of ledger (outcome.Frame frame) = Frame frame
 reply_of ledger outcome.Done = Done
@@ -49,13 +48,13 @@ HasItsGroups ledger other = Unit {0}
 
 -- A call had this outcome: local steps lead from one visit state to another and do this, with the reply that the ledger
 -- after them makes of the outcome.
-abbrev pub ComesTo : KnownTable → Outcome → (Reply → Transition VisitState → Type 0) → (before after : VisitState)
-    → Type 0
-ComesTo table outcome Does before after =
-    BySteps VisitMakes table (Does (reply_of after.machine.ledger outcome)) before after
+abbrev pub ComesTo : KnownTable → Outcome → (ReplyWithText → Transition VisitState → Type 0)
+    → KnownMachine → KnownCpu → KnownMachine → KnownCpu → Type 0
+ComesTo table outcome Does machine cpu machine_after cpu_after =
+    VisitDoes table (Does (reply_of machine_after.ledger outcome)) machine cpu machine_after cpu_after
 
 -- the same for a call on the machine alone
-abbrev pub ComesToAlone : KnownTable → Outcome → (Reply → Transition KnownMachine → Type 0)
+abbrev pub ComesToAlone : KnownTable → Outcome → (ReplyWithText → Transition KnownMachine → Type 0)
     → (before after : KnownMachine) → Type 0
 ComesToAlone table outcome Does before after =
     BySteps Makes table (Does (reply_of after.ledger outcome)) before after

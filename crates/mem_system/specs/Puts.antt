@@ -2,8 +2,7 @@
 use Rattle.std.specs.Prelude.{◌≡◌, ℕ, List, [], ◌∷◌, ◌++◌, map, IsPermutation}
 use Rattle.frame_word.specs.declared.answers.Put.{Put}
 use Rattle.step_rules.specs.After.{Run}
-use Rattle.boot_words.specs.Growth.{GrewByAll}
-use Rattle.boot_words.specs.Pasts.{own_past}
+use Rattle.boot_words.specs.{GrewByAll, own_past}
 use Rattle.cpu_part.specs.Told.{steps_of_put}
 use Rattle.mem_system.specs.Cpus.{CpuInRun}
 

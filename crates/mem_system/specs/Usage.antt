@@ -3,16 +3,10 @@ use Rattle.std.specs.Prelude.{◌≡◌, ℕ, ◌<◌, ◌≤◌, Option, Some, 
 use Rattle.group_charge.specs.Charges.{current_of}
 use Rattle.group_charge.specs.declared.note.Note.TheVariants.{High}
 use Rattle.step_rules.specs.After.{Run}
-use Rattle.mem_machine.specs.Machines.{KnownMachine, with_note}
-use Rattle.mem_machine.specs.Local.{Makes}
-use Rattle.mem_machine.specs.Steps.{Drain, drain_stocks_steps}
-use Rattle.mem_machine.specs.Stocks.{DrainsAllBelow, AreDrained}
-use Rattle.mem_reclaim.specs.Moves.{FreesBySteps}
-use Rattle.mem_reclaim.specs.Rounds.{ReclaimsRounds, max_rounds, pages_missing}
-use Rattle.mem_reclaim.specs.Staying.{Keeps, MissedAll}
-use Rattle.mem_alloc.specs.Room.{with_limit_noted}
-use Rattle.mem_alloc.specs.Kills.{KillsForRoom}
-use Rattle.mem_machine.specs.Transitions.{Transition, transition, MachineStays}
+use Rattle.mem_machine.specs.{KnownMachine, with_note, Makes, Drain, drain_stocks_steps, DrainsAllBelow, AreDrained, Transition, transition}
+use Rattle.mem_machine.specs.{MachineStays}
+use Rattle.mem_reclaim.specs.{FreesBySteps, ReclaimsRounds, max_rounds, pages_missing, Keeps, MissedAll}
+use Rattle.mem_alloc.specs.{with_limit_noted, KillsForRoom}
 
 -- The stocks of the group's subtree are drained. Then its units are reclaimed, in at most 16 rounds, while its usage is
 -- above the limit. If the usage is above the limit even after that, each clean unit that the subtree still keeps was

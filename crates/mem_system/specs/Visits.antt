@@ -6,20 +6,16 @@ use Rattle.zone_blocks.specs.declared.config.Config.{Config}
 use Rattle.boot_words.specs.Pasts.{Locks, Unlocks}
 use Rattle.group_tree.specs.Groups.{number_at}
 use Rattle.step_rules.specs.After.{Run}
-use Rattle.mem_machine.specs.Machines.{KnownMachine, with_run, without_notes}
-use Rattle.mem_machine.specs.Local.{VisitState, visit_state, Holds, IsShut, Makes}
-use Rattle.mem_machine.specs.Noted.{KnownRun}
-use Rattle.mem_machine.specs.Settling.{Settles, settle_steps}
-use Rattle.mem_machine.specs.Showing.{stock_left}
-use Rattle.mem_machine.specs.Steps.{open_steps, shut_steps}
+use Rattle.mem_machine.specs.{KnownMachine, with_run, without_notes, VisitState, visit_state, Holds, IsShut, Makes, KnownRun, Settles, settle_steps}
+use Rattle.mem_machine.specs.{stock_left, open_steps, shut_steps}
 use Rattle.mem_reclaim.specs.Moves.{has_kill}
 -- a call, described by the state before it, its steps and the state after it
 pub use Rattle.mem_machine.specs.Transitions.{Transition, transition}
 use Rattle.mem_reclaim.specs.Moves.{CountsMisses}
 use Rattle.mem_alloc.specs.NoRash.{NoRashKill}
-use Rattle.mem_system.specs.declared.command.Cmd.{Cmd}
-use Rattle.mem_system.specs.declared.command.Cmd.TheVariants.{Alloc}
-use Rattle.mem_system.specs.declared.command.Reply.{Reply}
+use Rattle.mem_system.specs.declared.command.LockedCommand.{LockedCommand}
+use Rattle.mem_system.specs.declared.command.LockedCommand.TheVariants.{Alloc}
+use Rattle.mem_system.specs.declared.command.ReplyWithText.{ReplyWithText}
 use Rattle.mem_system.specs.declared.outcome.Outcome.{Outcome}
 use Rattle.mem_system.specs.Outcomes.{reply_of}
 use Rattle.mem_system.specs.Locked.{KnownLocked, IsSound}
@@ -56,7 +52,7 @@ visit_steps table before inner =
 -- A command under the lock. Earlier notes are forgotten, the caller's visit is opened, the caller is settled, the
 -- command is executed, and the visit is shut. The command kills a group only after it tried everything else, and only
 -- its own steps kill. The misses that are noted are those among its steps.
-pub record Serves (cmd : Cmd) (reply : Reply) (call : Transition LockedState) : Type 0 where
+pub record Serves (cmd : LockedCommand) (reply : ReplyWithText) (call : Transition LockedState) : Type 0 where
   pub settled : VisitState
   pub seen : KnownRun
   pub settles : Settles call.table (with_run_at (begun (visit_state_of call.before)) seen) settled
@@ -75,12 +71,12 @@ pub record Serves (cmd : Cmd) (reply : Reply) (call : Transition LockedState) : 
 pub record TakesLock (table : KnownTable) (before : LockedState) (found : KnownRun) : Type 0 where
   pub locks : Locks table before.locked.machine.run.past before.cpu.past found.past
   pub watch : found.watch ≡ before.locked.machine.run.watch
-  pub holds : Holds table (visit_state (with_run before.locked.machine found) before.cpu.part)
+  pub holds : Holds table (with_run before.locked.machine found) before.cpu.part
   pub shut : IsShut table (with_run before.locked.machine found) before.cpu.part.number
 
 -- The CPU holds the lock with this run, its visit is shut, and it releases the lock, which the watch doesn't see.
 pub record ReleasesLock (table : KnownTable) (left : KnownRun) (after : LockedState) : Type 0 where
-  pub holds : Holds table (visit_state (with_run after.locked.machine left) after.cpu.part)
+  pub holds : Holds table (with_run after.locked.machine left) after.cpu.part
   pub shut : IsShut table (with_run after.locked.machine left) after.cpu.part.number
   pub watch : after.locked.machine.run.watch ≡ left.watch
   pub unlocks : Unlocks table left.past after.locked.machine.run.past after.cpu.past
@@ -88,7 +84,8 @@ pub record ReleasesLock (table : KnownTable) (left : KnownRun) (after : LockedSt
 -- A command was served under the lock with this reply. The CPU took the lock, and found this run. It opened its visit by
 -- the first of these steps. They lead from the machine with that run to the machine with the run that the CPU left, and the
 -- machine's counts follow them. Then the CPU released the lock.
-pub record IsServed (table : KnownTable) (cmd : Cmd) (reply : Reply) (before after : LockedState) : Type 0 where
+pub record IsServed (table : KnownTable) (cmd : LockedCommand) (reply : ReplyWithText)
+    (before after : LockedState) : Type 0 where
   pub steps : Run
   pub serves : Serves cmd reply (transition table before steps after)
   pub found : KnownRun
@@ -103,7 +100,7 @@ pub record IsServed (table : KnownTable) (cmd : Cmd) (reply : Reply) (before aft
 
 -- a command was carried out under the lock with this outcome; its reply is what the charges after it make of the
 -- outcome
-abbrev pub ServesOutcome : KnownTable → Cmd → Outcome → (before after : LockedState) → Type 0
+abbrev pub ServesOutcome : KnownTable → LockedCommand → Outcome → (before after : LockedState) → Type 0
 ServesOutcome table cmd outcome before after =
     IsServed table cmd (reply_of after.locked.machine.ledger outcome) before after
 

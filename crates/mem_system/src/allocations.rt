@@ -2,14 +2,14 @@
 
 ghost use Rattle.std.specs.Prelude.{◌≡◌, ℕ, IsTrue, Err};
 ghost use Rattle.group_tree.specs.Groups.{has_group};
-ghost use Rattle.mem_machine.specs.Local.{KeepsVisit, VisitMakes, visit_state};
+ghost use Rattle.mem_machine.specs.Local.{KeepsVisit, VisitDoes};
 ghost use Rattle.mem_alloc.specs.declared.faults.AllocFault.TheVariants as cause_is;
 ghost use Rattle.mem_system.specs.Allocations.{Allocates, AllocatesAs, FreshOf, outcome_of};
 ghost use Rattle.mem_system.specs.Outcomes.{ComesTo, HasItsGroups, reply_of};
-ghost use Rattle.mem_system.specs.Commands.{BySteps, ListAndFreshStayWithin, MayExecute};
+ghost use Rattle.mem_system.specs.Commands.{ListAndFreshStayWithin, MayExecute};
 
 use crate::outcome::Outcome;
-use cpu_part::{BootName, Cpu as CpuPart, Tables};
+use cpu_part::{BootName, CpuLists, Tables};
 use frame_word::Frame;
 use group_tree::fault::Fault;
 use group_tree::group::GroupId;
@@ -36,16 +36,16 @@ pub(crate) fn outcome_of(answer: &Result<Frame, AllocFault>) -> Outcome
 fn allocate_as<N: BootName>(
     machine: &mut Machine<N>,
     tables: &Tables<N>,
-    cpu: &mut CpuPart<N>,
+    cpu: &mut CpuLists<N>,
     sizes: Config,
     group: GroupId,
     order: Order,
 ) -> Result<Frame, AllocFault>
-    requires visit { MayExecute N.frames sizes (visit_state machine.old cpu.old) }
+    requires visit { MayExecute N.frames sizes machine.old cpu.old }
     requires there { IsTrue (has_group machine.old.ledger.groups group) }
-    ensures allocates { BySteps VisitMakes N.frames (AllocatesAs sizes group order result)
-        (visit_state machine.old cpu.old) (visit_state machine.new cpu.new) }
-    ensures stays { KeepsVisit N.frames (visit_state machine.old cpu.old) (visit_state machine.new cpu.new) }
+    ensures allocates { VisitDoes N.frames (AllocatesAs sizes group order result)
+        machine.old cpu.old machine.new cpu.new }
+    ensures stays { KeepsVisit N.frames cpu.old machine.new cpu.new }
     ensures fresh { FreshOf (reply_of machine.new.ledger (outcome_of result)) order cpu.new.fresh }
     ensures at_most_high { ListAndFreshStayWithin sizes cpu.old cpu.new }
     ensures there { (g : ℕ) → result ≡ Err (cause_is.Over g) → IsTrue (has_group machine.new.ledger.groups g) }
@@ -61,16 +61,16 @@ fn allocate_as<N: BootName>(
 pub(crate) fn allocate<N: BootName>(
     machine: &mut Machine<N>,
     tables: &Tables<N>,
-    cpu: &mut CpuPart<N>,
+    cpu: &mut CpuLists<N>,
     sizes: Config,
     path: &[u8],
     order: u32,
 ) -> Outcome
-    requires visit { MayExecute N.frames sizes (visit_state machine.old cpu.old) }
+    requires visit { MayExecute N.frames sizes machine.old cpu.old }
     ensures allocates { ComesTo N.frames result (Allocates sizes path.now order)
-        (visit_state machine.old cpu.old) (visit_state machine.new cpu.new) }
+        machine.old cpu.old machine.new cpu.new }
     ensures groups { HasItsGroups machine.new.ledger result }
-    ensures stays { KeepsVisit N.frames (visit_state machine.old cpu.old) (visit_state machine.new cpu.new) }
+    ensures stays { KeepsVisit N.frames cpu.old machine.new cpu.new }
     ensures fresh { FreshOf (reply_of machine.new.ledger result) order cpu.new.fresh }
     ensures at_most_high { ListAndFreshStayWithin sizes cpu.old cpu.new }
 {

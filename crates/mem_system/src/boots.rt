@@ -1,11 +1,7 @@
 //! A boot: the table of its words with all its seats, and the machine, tables and CPUs' parts that it becomes.
 
 ghost use Rattle.std.specs.Prelude.{◌≡◌, [], length, All, IfOk};
-ghost use Rattle.boot_words.specs.Growth.{IsRunSoFar};
-ghost use Rattle.boot_words.specs.Cpus.{IsAwayCpu};
-ghost use Rattle.boot_words.specs.Opening.{cpus_at_first, seat_at_first};
-ghost use Rattle.boot_words.specs.Rule.{AllOf};
-ghost use Rattle.boot_words.specs.Pasts.{own_past};
+ghost use Rattle.boot_words.specs.{IsRunSoFar, IsAwayCpu, cpus_at_first, seat_at_first, AllOf, own_past};
 ghost use Rattle.mem_machine.specs.Machines.{IsFirst};
 ghost use Rattle.cpu_part.specs.Cpus.{IsIdle};
 ghost use Rattle.zone_blocks.specs.Config.{IsValidConfig};

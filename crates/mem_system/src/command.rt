@@ -1,6 +1,6 @@
 //! The commands that a CPU gives under the lock, how they are executed, and their replies.
 
-ghost use Rattle.mem_machine.specs.Local.{KeepsVisit, visit_state};
+ghost use Rattle.mem_machine.specs.Local.{KeepsVisit};
 ghost use Rattle.mem_system.specs.Outcomes.{ComesTo, HasItsGroups, reply_of};
 ghost use Rattle.mem_system.specs.Commands.{FreshAfter, IsOfZone, ListAndFreshStayWithin, MayExecute, Executes};
 
@@ -12,16 +12,16 @@ use crate::owners::report_place;
 use crate::releases::release_frame;
 use crate::units::{note_dirt, touch_frame};
 use control_files::text::ArrayText;
-use cpu_part::{BootName, Cpu as CpuPart, Tables};
+use cpu_part::{BootName, CpuLists, Tables};
 use group_tree::fault::Fault;
 use group_tree::group::GroupId;
 use group_tree::path::PathText;
 use mem_machine::Machine;
 use zone_blocks::config::Config;
 
-/// A command of a CPU. Paths and file names may be any bytes.
+/// A command of a CPU that is served under the lock. Paths and file names may be any bytes.
 #[derive(Clone, Copy, PartialEq, Eq)]
-pub enum Cmd<'a> {
+pub enum LockedCommand<'a> {
     /// Makes the group of this path.
     Mkdir {
         path: &'a [u8],
@@ -73,9 +73,9 @@ pub enum Cmd<'a> {
     },
 }
 
-/// The reply to a CPU's command.
+/// The reply to a CPU's command, with the text of a file or the path of a group. An `Outcome` is the same without them.
 #[derive(Clone, Copy, Debug, PartialEq, Eq)]
-pub enum Reply {
+pub enum ReplyWithText {
     /// The group that was made.
     Group(GroupId),
     /// The first frame of what was allocated.
@@ -109,30 +109,31 @@ pub enum Reply {
 pub(crate) fn execute<N: BootName>(
     machine: &mut Machine<N>,
     tables: &Tables<N>,
-    cpu: &mut CpuPart<N>,
+    cpu: &mut CpuLists<N>,
     sizes: Config,
-    cmd: &Cmd<'_>,
+    cmd: &LockedCommand<'_>,
 ) -> Outcome
     requires zone { IsOfZone N.frames cmd.now }
-    requires visit { MayExecute N.frames sizes (visit_state machine.old cpu.old) }
-    ensures executed { ComesTo N.frames result (Executes sizes cmd.now)
-        (visit_state machine.old cpu.old) (visit_state machine.new cpu.new) }
+    requires visit { MayExecute N.frames sizes machine.old cpu.old }
+    ensures executed { ComesTo N.frames result (Executes sizes cmd.now) machine.old cpu.old machine.new cpu.new }
     ensures groups { HasItsGroups machine.new.ledger result }
-    ensures stays { KeepsVisit N.frames (visit_state machine.old cpu.old) (visit_state machine.new cpu.new) }
+    ensures stays { KeepsVisit N.frames cpu.old machine.new cpu.new }
     ensures fresh { FreshAfter cmd.now (reply_of machine.new.ledger result) cpu.new.fresh }
     ensures at_most_high { ListAndFreshStayWithin sizes cpu.old cpu.new }
 {
     match cmd {
-        Cmd::Mkdir { path } => make_group(machine, tables, path),
-        Cmd::Rmdir { path } => remove_group(machine, tables, path),
-        Cmd::Write { path, file, value } => write_file(machine, tables, path, file, value),
-        Cmd::Read { path, file } => read_file(machine.charges(), path, file),
-        Cmd::Settle => Outcome::Done,
-        Cmd::Owner { frame } => report_place(machine, tables, *frame),
-        Cmd::Touch { frame } => touch_frame(machine, tables, *frame),
-        Cmd::Dirty { frame } => note_dirt(machine, tables, *frame, true),
-        Cmd::Clean { frame } => note_dirt(machine, tables, *frame, false),
-        Cmd::Release { frame } => release_frame(machine, tables, cpu, sizes, *frame),
-        Cmd::Alloc { path, order } => allocate(machine, tables, cpu, sizes, path, *order),
+        LockedCommand::Mkdir { path } => make_group(machine, tables, path),
+        LockedCommand::Rmdir { path } => remove_group(machine, tables, path),
+        LockedCommand::Write { path, file, value } => write_file(
+            machine, tables, path, file, value,
+        ),
+        LockedCommand::Read { path, file } => read_file(machine.charges(), path, file),
+        LockedCommand::Settle => Outcome::Done,
+        LockedCommand::Owner { frame } => report_place(machine, tables, *frame),
+        LockedCommand::Touch { frame } => touch_frame(machine, tables, *frame),
+        LockedCommand::Dirty { frame } => note_dirt(machine, tables, *frame, true),
+        LockedCommand::Clean { frame } => note_dirt(machine, tables, *frame, false),
+        LockedCommand::Release { frame } => release_frame(machine, tables, cpu, sizes, *frame),
+        LockedCommand::Alloc { path, order } => allocate(machine, tables, cpu, sizes, path, *order),
     }
 }

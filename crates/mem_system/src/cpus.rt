@@ -3,12 +3,7 @@
 ghost use Rattle.std.specs.Prelude.{◌≡◌, ◌≢◌, ◌+◌, ◌<◌, ◌≤◌, ◌↔◌, [], length, Ok, IfOk, IfSome, IsTrue, MatchOption};
 ghost use Rattle.std.specs.Prelude.{MatchResult};
 ghost use Rattle.frame_word.specs.declared.answers.Get.TheVariants.{Zero};
-ghost use Rattle.boot_words.specs.Growth.{GrewByAll};
-ghost use Rattle.boot_words.specs.Calls.{RacesAt};
-ghost use Rattle.boot_words.specs.Cpus.{IsAwayCpu};
-ghost use Rattle.boot_words.specs.Opening.{cpu_at_first};
-ghost use Rattle.boot_words.specs.Pasts.{own_past};
-ghost use Rattle.boot_words.specs.Seats.{zone_of_boot};
+ghost use Rattle.boot_words.specs.{GrewByAll, RacesAt, IsAwayCpu, cpu_at_first, own_past, zone_of_boot};
 ghost use Rattle.stock_word.specs.declared.view.Stock.TheVariants.{NoGroup};
 ghost use Rattle.stock_word.specs.Stock.{HasWord};
 ghost use Rattle.group_tree.specs.declared.fault.Fault.TheVariants.{PinsFull};
@@ -19,7 +14,7 @@ ghost use Rattle.cpu_part.specs.Told.{steps_of_drop, steps_of_fast, steps_of_get
 ghost use Rattle.mem_system.specs.Cpus.{KnowsItself, cpu_in_run, seat_of};
 
 use boot_words::CpuSeat;
-use cpu_part::{BootName, Cpu as CpuPart, Dropped, Fast, Tables};
+use cpu_part::{BootName, CpuLists, Dropped, Fast, Tables};
 use frame_word::{Frame, Get, Put};
 use group_tree::fault::Fault;
 use std::alloc::{AllocError, Global};
@@ -29,7 +24,7 @@ use stock_word::Stock;
 /// What a CPU has for itself: its part of the memory controller, and its seat with its own past of the run. By the past it
 /// knows its own lists and pins, whatever others did since its last step. `into_seat` consumes it.
 pub struct Cpu<N: BootName> {
-    pub(crate) part: CpuPart<N>,
+    pub(crate) part: CpuLists<N>,
     // Empty while the CPU holds the lock: the machine has it then.
     pub(crate) past: CpuSeat,
 }
@@ -53,7 +48,7 @@ impl<N: BootName> Cpu<N> {
         requires away { IsAwayCpu N.frames seat }
         ensures { IfOk result (λ c. c ≡ cpu_in_run (first_cpu seat.number) seat) }
     {
-        let part = CpuPart::<N>::new(alloc, seat.number())?;
+        let part = CpuLists::<N>::new(alloc, seat.number())?;
         Ok(Cpu { part, past: seat })
     }
 

@@ -4,7 +4,7 @@ ghost use Rattle.mem_system.specs.Commands.{IsSettled};
 ghost use Rattle.mem_system.specs.DirtyAllocs.{ServesDirtyAlloc};
 ghost use Rattle.mem_system.specs.Visits.{EndsVisit, IsVisited, locked_state};
 
-use crate::command::Cmd;
+use crate::command::LockedCommand;
 use crate::cpus::Cpu;
 use crate::lock::Locked;
 use crate::outcome::Outcome;
@@ -28,12 +28,12 @@ pub fn serve_dirty_alloc<N: BootName>(
     ensures settled { IsSettled cpu.new.part }
     ensures ends { EndsVisit N.frames (locked_state locked.old cpu.old) (locked_state locked.new cpu.new) }
 {
-    let outcome = serve_outcome(locked, tables, cpu, &Cmd::Alloc { path, order });
+    let outcome = serve_outcome(locked, tables, cpu, &LockedCommand::Alloc { path, order });
     let Outcome::Frame(frame) = outcome else {
         return outcome;
     };
     locked.prove_quiet();
-    let _done = serve_outcome(locked, tables, cpu, &Cmd::Dirty { frame });
+    let _done = serve_outcome(locked, tables, cpu, &LockedCommand::Dirty { frame });
     outcome
 }
 

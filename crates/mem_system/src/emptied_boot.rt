@@ -2,8 +2,7 @@
 
 ghost use Rattle.std.specs.Prelude.{◌≡◌, length, map, All};
 ghost use Rattle.std.specs.Vec.{vec_capacity};
-ghost use Rattle.boot_words.specs.Rule.{AllOf};
-ghost use Rattle.boot_words.specs.Closed.{HasCpuPast};
+ghost use Rattle.boot_words.specs.{AllOf, HasCpuPast};
 ghost use Rattle.cpu_part.specs.Cpus.{IsIdle};
 ghost use Rattle.mem_machine.specs.Resting.{Rests};
 ghost use Rattle.mem_system.specs.Locked.{IsEmptyWithRoom};

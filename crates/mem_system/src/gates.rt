@@ -6,7 +6,7 @@ pub trait Gate {
     /// CPU line by line does, right before each.
     fn before(&self, cpu: u32, line: usize);
 
-    /// Inside a visit of the CPU, while the lock is held and before the command is served. `System::visit_with` calls
+    /// Inside a visit of the CPU, while the lock is held and before the command is served. `System::visit_into` calls
     /// it.
     fn inside(&self, cpu: u32);
 

@@ -2,27 +2,24 @@
 //! visit is made under the lock.
 
 ghost use Rattle.std.specs.Prelude.{◌≡◌, [], All};
-ghost use Rattle.mem_machine.specs.Resting.{Rests};
-ghost use Rattle.mem_system.specs.Commands.{BySteps};
+ghost use Rattle.mem_machine.specs.{Rests, Holds, IsShut, VisitDoes};
 ghost use Rattle.mem_system.specs.Ends.{Empties, ForEachCpu, SettlesInVisit, VisitsUnderLock};
-ghost use Rattle.mem_system.specs.Cpus.{parts_of};
 ghost use Rattle.mem_system.specs.Ends.{IsEmptied, IsSettledUnpinned, LendsAndFillsNone, machine_and_cpu, pins_of_all};
-ghost use Rattle.mem_machine.specs.Local.{Holds, IsShut, visit_state, VisitMakes};
+ghost use Rattle.mem_system.specs.Cpus.{parts_of};
 
 use crate::cpus::Cpu;
-use cpu_part::{BootName, Cpu as CpuPart, Tables};
+use cpu_part::{BootName, CpuLists, Tables};
 use mem_machine::Machine;
 use step_rules::step::{Action, Answer};
 
 // Settles the CPU in a visit.
-fn settle_cpu<N: BootName>(machine: &mut Machine<N>, tables: &Tables<N>, cpu: &mut CpuPart<N>)
+fn settle_cpu<N: BootName>(machine: &mut Machine<N>, tables: &Tables<N>, cpu: &mut CpuLists<N>)
     requires shut { IsShut N.frames machine.old cpu.old.number }
-    requires holds { Holds N.frames (visit_state machine.old cpu.old) }
+    requires holds { Holds N.frames machine.old cpu.old }
     requires no_pin { cpu.old.pins ≡ [] }
-    ensures settles { BySteps VisitMakes N.frames SettlesInVisit (visit_state machine.old cpu.old)
-        (visit_state machine.new cpu.new) }
+    ensures settles { VisitDoes N.frames SettlesInVisit machine.old cpu.old machine.new cpu.new }
     ensures shut { IsShut N.frames machine.new cpu.new.number }
-    ensures holds { Holds N.frames (visit_state machine.new cpu.new) }
+    ensures holds { Holds N.frames machine.new cpu.new }
     ensures settled { IsSettledUnpinned cpu.new }
 {
     machine.open(tables, cpu);
@@ -31,14 +28,13 @@ fn settle_cpu<N: BootName>(machine: &mut Machine<N>, tables: &Tables<N>, cpu: &m
 }
 
 // Returns the list of the settled CPU to the zone and drains its stock, in a visit.
-fn empty_cpu<N: BootName>(machine: &mut Machine<N>, tables: &Tables<N>, cpu: &mut CpuPart<N>)
+fn empty_cpu<N: BootName>(machine: &mut Machine<N>, tables: &Tables<N>, cpu: &mut CpuLists<N>)
     requires shut { IsShut N.frames machine.old cpu.old.number }
-    requires holds { Holds N.frames (visit_state machine.old cpu.old) }
+    requires holds { Holds N.frames machine.old cpu.old }
     requires settled { IsSettledUnpinned cpu.old }
-    ensures empties { BySteps VisitMakes N.frames Empties (visit_state machine.old cpu.old)
-        (visit_state machine.new cpu.new) }
+    ensures empties { VisitDoes N.frames Empties machine.old cpu.old machine.new cpu.new }
     ensures shut { IsShut N.frames machine.new cpu.new.number }
-    ensures holds { Holds N.frames (visit_state machine.new cpu.new) }
+    ensures holds { Holds N.frames machine.new cpu.new }
     ensures emptied { IsEmptied N.frames machine.new cpu.new }
     ensures others { LendsAndFillsNone N.frames machine.old machine.new }
 {
@@ -93,8 +89,7 @@ pub(crate) fn settle_all<N: BootName>(
 )
     requires rests { Rests N.frames machine.old }
     requires no_pin { pins_of_all (parts_of cpus.old) ≡ 0 }
-    ensures settles { ForEachCpu (VisitsUnderLock N.frames SettlesInVisit)
-        machine.old cpus.old machine.new cpus.new }
+    ensures settles { ForEachCpu (VisitsUnderLock N.frames SettlesInVisit) machine.old cpus.old machine.new cpus.new }
     ensures rests { Rests N.frames machine.new }
     ensures settled { All IsSettledUnpinned (parts_of cpus.new) }
 {

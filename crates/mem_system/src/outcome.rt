@@ -3,14 +3,14 @@
 ghost use Rattle.std.specs.Prelude.{◌≡◌};
 ghost use Rattle.mem_system.specs.Outcomes.{HasItsGroups, reply_of};
 
-use crate::command::Reply;
+use crate::command::ReplyWithText;
 use control_files::file::{File, file_text};
 use group_charge::charges::Charges;
 use group_tree::fault::Fault;
 use group_tree::group::GroupId;
 
-/// The outcome of a command: a `Reply` without texts, which the charges give while the lock is held. It is small, so a
-/// caller that writes the reply at once needs no room for a path.
+/// The outcome of a command: a `ReplyWithText` without its texts, which the charges give while the lock is held. It is
+/// small, so a caller that writes the reply at once needs no room for a path.
 #[derive(Clone, Copy, PartialEq, Eq)]
 pub enum Outcome {
     /// The group that was made.
@@ -44,32 +44,32 @@ pub enum Outcome {
 // Turns the outcome into its reply. It is inlined, because a reply has room for a path: returning one by value clears
 // and copies that room.
 #[inline(always)]
-pub(crate) fn set_reply(charges: &Charges, outcome: Outcome, reply: &mut Reply)
+pub(crate) fn set_reply(charges: &Charges, outcome: Outcome, reply: &mut ReplyWithText)
     requires { HasItsGroups charges.now outcome }
     ensures { reply.new ≡ reply_of charges.now outcome }
 {
     match outcome {
-        Outcome::Group(group) => *reply = Reply::Group(group),
-        Outcome::Frame(frame) => *reply = Reply::Frame(frame),
-        Outcome::Done => *reply = Reply::Done,
+        Outcome::Group(group) => *reply = ReplyWithText::Group(group),
+        Outcome::Frame(frame) => *reply = ReplyWithText::Frame(frame),
+        Outcome::Done => *reply = ReplyWithText::Done,
         Outcome::Text(group, file) => match file_text(charges, group, file) {
-            Ok(text) => *reply = Reply::Text(text),
-            Err(fault) => *reply = Reply::Refused(fault),
+            Ok(text) => *reply = ReplyWithText::Text(text),
+            Err(fault) => *reply = ReplyWithText::Refused(fault),
         },
-        Outcome::Free => *reply = Reply::Free,
-        Outcome::Lent(cpu) => *reply = Reply::Lent(cpu),
+        Outcome::Free => *reply = ReplyWithText::Free,
+        Outcome::Lent(cpu) => *reply = ReplyWithText::Lent(cpu),
         Outcome::Charged(group) => {
             let path = *charges.tree().path_of(group);
-            *reply = Reply::Charged { group, path };
+            *reply = ReplyWithText::Charged { group, path };
         }
-        Outcome::Marked => *reply = Reply::Marked,
-        Outcome::Active => *reply = Reply::Active,
-        Outcome::Left(left) => *reply = Reply::Left(left),
-        Outcome::Returned => *reply = Reply::Returned,
+        Outcome::Marked => *reply = ReplyWithText::Marked,
+        Outcome::Active => *reply = ReplyWithText::Active,
+        Outcome::Left(left) => *reply = ReplyWithText::Left(left),
+        Outcome::Returned => *reply = ReplyWithText::Returned,
         Outcome::OverLimit(group) => {
             let path = *charges.tree().path_of(group);
-            *reply = Reply::OverLimit { group, path };
+            *reply = ReplyWithText::OverLimit { group, path };
         }
-        Outcome::Refused(fault) => *reply = Reply::Refused(fault),
+        Outcome::Refused(fault) => *reply = ReplyWithText::Refused(fault),
     }
 }

@@ -4,15 +4,14 @@ ghost use Rattle.std.specs.Prelude.{◌≡◌, ◌↔◌, ◌<◌, ◌≤◌, Is
 ghost use Rattle.zone_blocks.specs.Config.{IsValidConfig};
 ghost use Rattle.step_rules.specs.declared.phase.ChargedUnit.{ChargedUnit};
 ghost use Rattle.mem_machine.specs.declared.frame_state.FrameState.TheVariants.{Free, Head};
-ghost use Rattle.mem_machine.specs.FrameStates.{frame_state_at};
-ghost use Rattle.mem_machine.specs.Local.{KeepsVisit, VisitMakes, Visits, visit_state};
+ghost use Rattle.mem_machine.specs.{frame_state_at, KeepsVisit, VisitDoes, Visits};
 ghost use Rattle.mem_system.specs.Outcomes.{ComesTo, HasItsGroups};
 ghost use Rattle.mem_system.specs.Releases.{CutsList, ListsFrame, ReleasesFrame};
-ghost use Rattle.mem_system.specs.Commands.{BySteps, ListStaysWithin};
+ghost use Rattle.mem_system.specs.Commands.{ListStaysWithin};
 
 use crate::outcome::Outcome;
 use crate::units::find_unit;
-use cpu_part::{BootName, Cpu as CpuPart, Tables};
+use cpu_part::{BootName, CpuLists, Tables};
 use frame_word::Frame;
 use group_tree::fault::Fault;
 use mem_machine::{Machine, Released};
@@ -34,14 +33,13 @@ fn is_single<N: BootName>(machine: &Machine<N>, frame: Frame) -> bool
 fn cut_list<N: BootName>(
     machine: &mut Machine<N>,
     tables: &Tables<N>,
-    cpu: &mut CpuPart<N>,
+    cpu: &mut CpuLists<N>,
     sizes: Config,
 )
-    requires visit { Visits N.frames (visit_state machine.old cpu.old) }
+    requires visit { Visits N.frames machine.old cpu.old }
     requires sizes { IsValidConfig sizes }
-    ensures cuts { BySteps VisitMakes N.frames (CutsList sizes) (visit_state machine.old cpu.old)
-        (visit_state machine.new cpu.new) }
-    ensures visit { Visits N.frames (visit_state machine.new cpu.new) }
+    ensures cuts { VisitDoes N.frames (CutsList sizes) machine.old cpu.old machine.new cpu.new }
+    ensures visit { Visits N.frames machine.new cpu.new }
     ensures room { length cpu.new.list < 256 }
     ensures below_high { length cpu.old.list ≤ sizes.high → length cpu.new.list < sizes.high }
 {
@@ -54,18 +52,17 @@ fn cut_list<N: BootName>(
 fn list_frame<N: BootName>(
     machine: &mut Machine<N>,
     tables: &Tables<N>,
-    cpu: &mut CpuPart<N>,
+    cpu: &mut CpuLists<N>,
     sizes: Config,
     frame: Frame,
 )
-    requires visit { Visits N.frames (visit_state machine.old cpu.old) }
+    requires visit { Visits N.frames machine.old cpu.old }
     requires sizes { IsValidConfig sizes }
     requires frame { frame < N.frames.frames }
     requires free { frame_state_at machine.old.frame_states frame ≡ Free }
     requires none_fresh { cpu.old.fresh ≡ [] }
-    ensures lists { BySteps VisitMakes N.frames (ListsFrame sizes frame) (visit_state machine.old cpu.old)
-        (visit_state machine.new cpu.new) }
-    ensures stays { KeepsVisit N.frames (visit_state machine.old cpu.old) (visit_state machine.new cpu.new) }
+    ensures lists { VisitDoes N.frames (ListsFrame sizes frame) machine.old cpu.old machine.new cpu.new }
+    ensures stays { KeepsVisit N.frames cpu.old machine.new cpu.new }
     ensures fresh { cpu.new.fresh ≡ cpu.old.fresh }
     ensures at_most_high { ListStaysWithin sizes cpu.old cpu.new }
 {
@@ -77,18 +74,17 @@ fn list_frame<N: BootName>(
 pub(crate) fn release_frame<N: BootName>(
     machine: &mut Machine<N>,
     tables: &Tables<N>,
-    cpu: &mut CpuPart<N>,
+    cpu: &mut CpuLists<N>,
     sizes: Config,
     frame: u32,
 ) -> Outcome
-    requires visit { Visits N.frames (visit_state machine.old cpu.old) }
+    requires visit { Visits N.frames machine.old cpu.old }
     requires sizes { IsValidConfig sizes }
     requires frame { frame < N.frames.frames }
     requires none_fresh { cpu.old.fresh ≡ [] }
-    ensures released { ComesTo N.frames result (ReleasesFrame sizes frame)
-        (visit_state machine.old cpu.old) (visit_state machine.new cpu.new) }
+    ensures released { ComesTo N.frames result (ReleasesFrame sizes frame) machine.old cpu.old machine.new cpu.new }
     ensures groups { HasItsGroups machine.new.ledger result }
-    ensures stays { KeepsVisit N.frames (visit_state machine.old cpu.old) (visit_state machine.new cpu.new) }
+    ensures stays { KeepsVisit N.frames cpu.old machine.new cpu.new }
     ensures fresh { cpu.new.fresh ≡ cpu.old.fresh }
     ensures at_most_high { ListStaysWithin sizes cpu.old cpu.new }
 {

@@ -11,7 +11,7 @@ ghost use Rattle.mem_system.specs.Shown.{ReadsAfterSettling, UnitsAt};
 use crate::cpus::Cpu;
 use crate::lock::Locked;
 use crate::system::System;
-use crate::visits::settle;
+use crate::visits::serve_settle;
 use cpu_part::{BootName, Tables};
 use machine_texts::{write_stock, write_units};
 use std::alloc::AllocError;
@@ -73,7 +73,7 @@ impl<N: BootName> System<N> {
         let mut guard = self.lock(rt);
         let locked = &mut *guard;
         locked.prove_quiet();
-        settle(locked, &self.tables, cpu);
+        serve_settle(locked, &self.tables, cpu);
         locked.prove_quiet();
         let told = write_own_stock(locked, cpu, text);
         locked.prove_quiet();
@@ -100,7 +100,7 @@ impl<N: BootName> System<N> {
         let mut guard = self.lock(rt);
         let locked = &mut *guard;
         locked.prove_quiet();
-        settle(locked, &self.tables, cpu);
+        serve_settle(locked, &self.tables, cpu);
         locked.prove_quiet();
         let told = write_units_at(locked, &self.tables, path, text);
         locked.prove_quiet();

@@ -9,7 +9,7 @@ ghost use Rattle.mem_system.specs.Locked.{IsQuiet, SeenBehindLock};
 ghost use Rattle.mem_system.specs.Commands.{IsOfZone, IsSettledAfter};
 ghost use Rattle.mem_system.specs.Visits.{IsServed, IsVisited};
 
-use crate::command::{Cmd, Reply};
+use crate::command::{LockedCommand, ReplyWithText};
 use crate::cpus::Cpu;
 use crate::gates::{Gate, NoGate};
 use crate::lock::Locked;
@@ -100,9 +100,9 @@ impl<N: BootName> System<N> {
         &self.tables
     }
 
-    /// Takes the lock. Until the guard is dropped, the calls that take a `Locked` by reference, such as `serve_outcome`,
-    /// `settle` and `show_text`, are the caller's, and no other call of this system returns. No clause can name what lies
-    /// behind the lock. But it has the sizes of the system, and `Locked::prove_quiet` shows what else always holds of it.
+    /// Takes the lock. Until the guard is dropped, the calls that take a `Locked` by reference, such as `serve_outcome`
+    /// and `show_text`, are the caller's, and no other call of this system returns. No clause can name what lies behind
+    /// the lock. But it has the sizes of the system, and `Locked::prove_quiet` shows what else always holds of it.
     #[inline(always)]
     pub fn lock<R: Wait>(&self, rt: &R) -> MutexGuard<'_, Locked<N>>
         ensures { (mutex_guard_value result).sizes ≡ self.now.sizes }
@@ -143,48 +143,30 @@ impl<N: BootName> System<N> {
 
     /// Serves one command of the CPU: takes the lock, serves the command, and releases the lock. A frame that the
     /// command names is a frame of the zone. No clause can name what lies behind the lock. So the contract says that
-    /// some sound value was there, with the system's sizes, that `serve` did its work on it, and that a sound value was
-    /// left. The code calls the form of `serve` that writes the reply in place, because returning a reply by value copies
-    /// its room for a path.
+    /// some sound value was there, with the system's sizes, that `serve_into` did its work on it, and that a sound
+    /// value was left.
     #[inline(always)]
-    pub fn visit<R: Wait>(&self, rt: &R, cpu: &mut Cpu<N>, cmd: &Cmd<'_>) -> Reply
+    pub fn visit<R: Wait>(&self, rt: &R, cpu: &mut Cpu<N>, cmd: &LockedCommand<'_>) -> ReplyWithText
         requires { IsOfZone N.frames cmd.now }
         ensures served { IsVisited N.frames self.now.sizes (IsServed N.frames cmd.now result) cpu.old cpu.new }
         ensures settled { IsSettledAfter cmd.now result cpu.new.part }
     {
-        self.visit_with(rt, cpu, cmd, &NoGate)
-    }
-
-    /// Serves one command of the CPU as `visit` does. It calls the gate's `inside` once, while it holds the lock and
-    /// before the command is served.
-    #[inline(always)]
-    pub fn visit_with<R: Wait, G: Gate>(
-        &self,
-        rt: &R,
-        cpu: &mut Cpu<N>,
-        cmd: &Cmd<'_>,
-        gate: &G,
-    ) -> Reply
-        requires { IsOfZone N.frames cmd.now }
-        ensures served { IsVisited N.frames self.now.sizes (IsServed N.frames cmd.now result) cpu.old cpu.new }
-        ensures settled { IsSettledAfter cmd.now result cpu.new.part }
-    {
-        let mut reply = Reply::Done;
-        self.visit_into(rt, cpu, cmd, gate, &mut reply);
+        let mut reply = ReplyWithText::Done;
+        self.visit_into(rt, cpu, cmd, &NoGate, &mut reply);
         reply
     }
 
-    /// Serves one command of the CPU as `visit_with` does, and overwrites this reply. A reply has room for a path, so
-    /// returning one by value clears and copies that room each time. A caller that makes many visits keeps one reply
-    /// for all.
+    /// Serves one command of the CPU as `visit` does, and overwrites this reply. It calls the gate's `inside` once,
+    /// while it holds the lock and before the command is served. A reply has room for a path, so returning one by value
+    /// clears and copies that room each time. A caller that makes many visits keeps one reply for all.
     #[inline(always)]
     pub fn visit_into<R: Wait, G: Gate>(
         &self,
         rt: &R,
         cpu: &mut Cpu<N>,
-        cmd: &Cmd<'_>,
+        cmd: &LockedCommand<'_>,
         gate: &G,
-        reply: &mut Reply,
+        reply: &mut ReplyWithText,
     )
         requires { IsOfZone N.frames cmd.now }
         ensures served { IsVisited N.frames self.now.sizes (IsServed N.frames cmd.now reply.new) cpu.old cpu.new }

@@ -1,8 +1,7 @@
 //! The texts of the machine that a settled CPU gets.
 
 ghost use Rattle.std.specs.Prelude.{◌≡◌, IfOk};
-ghost use Rattle.machine_texts.specs.Blocks.{blocks_text};
-ghost use Rattle.machine_texts.specs.Show.{show_text};
+ghost use Rattle.machine_texts.specs.{blocks_text, show_text};
 ghost use Rattle.mem_system.specs.Shown.{ReadsUnderLock, SettlesCaller};
 ghost use Rattle.mem_system.specs.Commands.{IsSettled};
 ghost use Rattle.mem_system.specs.Visits.{EndsVisit, locked_state};
@@ -10,7 +9,7 @@ ghost use Rattle.mem_system.specs.Visits.{EndsVisit, locked_state};
 use crate::cpus::Cpu;
 use crate::lock::Locked;
 use crate::system::System;
-use crate::visits::settle;
+use crate::visits::serve_settle;
 use cpu_part::{BootName, Tables};
 use machine_texts::{write_blocks, write_show};
 use std::alloc::{AllocError, Global};
@@ -30,7 +29,7 @@ pub fn show_text<N: BootName>(
     ensures settled { IsSettled cpu.new.part }
     ensures ends { EndsVisit N.frames (locked_state locked.old cpu.old) (locked_state locked.new cpu.new) }
 {
-    settle(locked, tables, cpu);
+    serve_settle(locked, tables, cpu);
     let mut text = String::new(alloc);
     write_show(&locked.machine, &mut text)?;
     Ok(text.into_bytes())
@@ -49,7 +48,7 @@ pub fn blocks_text<N: BootName>(
     ensures settled { IsSettled cpu.new.part }
     ensures ends { EndsVisit N.frames (locked_state locked.old cpu.old) (locked_state locked.new cpu.new) }
 {
-    settle(locked, tables, cpu);
+    serve_settle(locked, tables, cpu);
     let mut text = String::new(alloc);
     write_blocks(&locked.machine, &mut text)?;
     Ok(text.into_bytes())

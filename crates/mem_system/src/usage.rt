@@ -3,8 +3,7 @@
 ghost use Rattle.std.specs.Prelude.{IsTrue};
 ghost use Rattle.group_tree.specs.Groups.{has_group};
 ghost use Rattle.boot_words.specs.Pasts.{IsHeld};
-ghost use Rattle.mem_machine.specs.Local.{Makes, StaysVisited};
-ghost use Rattle.mem_machine.specs.Transitions.{BySteps};
+ghost use Rattle.mem_machine.specs.{Makes, StaysVisited, BySteps};
 ghost use Rattle.mem_system.specs.Usage.{LowersAbove, LowersToHigh, LowersUsage};
 
 use control_files::limit::Limit;

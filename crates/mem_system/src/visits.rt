@@ -10,7 +10,7 @@ ghost use Rattle.mem_system.specs.Shown.{SettlesCaller};
 ghost use Rattle.mem_system.specs.Visits.{EndsVisit, ServesOutcome, ServesFrameOutcome, IsServed, locked_state};
 
 use crate::allocations::outcome_of;
-use crate::command::{Cmd, Reply, execute};
+use crate::command::{LockedCommand, ReplyWithText, execute};
 use crate::cpus::Cpu;
 use crate::lock::Locked;
 use crate::outcome::{Outcome, set_reply};
@@ -22,14 +22,14 @@ use mem_alloc::alloc_frame;
 /// forgotten, the CPU's visit is opened, its fresh and back frames are settled, the command is executed, the visit is
 /// shut, and the lock is released. The notes are now of the limits
 /// without room that the command met, of what was tried there, and of who was killed. A frame that the command names is
-/// a frame of the zone. The result is an outcome without texts; `reply_of` makes it the reply of `serve`, by the
-/// charges as they are then.
+/// a frame of the zone. The result is an outcome without texts; `reply_of` makes it the reply of `serve_into`, by
+/// the charges as they are then.
 #[inline(always)]
 pub fn serve_outcome<N: BootName>(
     locked: &mut Locked<N>,
     tables: &Tables<N>,
     cpu: &mut Cpu<N>,
-    cmd: &Cmd<'_>,
+    cmd: &LockedCommand<'_>,
 ) -> Outcome
     requires { IsOfZone N.frames cmd.now }
     ensures served { ServesOutcome N.frames cmd.now result (locked_state locked.old cpu.old)
@@ -56,14 +56,15 @@ pub fn serve_outcome<N: BootName>(
     outcome
 }
 
-// Serves one command of the CPU as `serve` does, and overwrites this reply.
+/// Serves one command of the CPU as `serve_outcome` does, and overwrites this reply, which has the texts. A frame that
+/// the command names is a frame of the zone.
 #[inline(always)]
-pub(crate) fn serve_into<N: BootName>(
+pub fn serve_into<N: BootName>(
     locked: &mut Locked<N>,
     tables: &Tables<N>,
     cpu: &mut Cpu<N>,
-    cmd: &Cmd<'_>,
-    reply: &mut Reply,
+    cmd: &LockedCommand<'_>,
+    reply: &mut ReplyWithText,
 )
     requires { IsOfZone N.frames cmd.now }
     ensures served { IsServed N.frames cmd.now reply.new (locked_state locked.old cpu.old)
@@ -73,26 +74,6 @@ pub(crate) fn serve_into<N: BootName>(
 {
     let outcome = serve_outcome(locked, tables, cpu, cmd);
     set_reply(locked.charges(), outcome, reply);
-}
-
-/// Serves one command of the CPU, which holds the lock, as `serve_outcome` does, and returns its reply with texts. A
-/// frame that the command names is a frame of the zone.
-#[inline(always)]
-pub fn serve<N: BootName>(
-    locked: &mut Locked<N>,
-    tables: &Tables<N>,
-    cpu: &mut Cpu<N>,
-    cmd: &Cmd<'_>,
-) -> Reply
-    requires { IsOfZone N.frames cmd.now }
-    ensures served { IsServed N.frames cmd.now result (locked_state locked.old cpu.old)
-        (locked_state locked.new cpu.new) }
-    ensures settled { IsSettledAfter cmd.now result cpu.new.part }
-    ensures ends { EndsVisit N.frames (locked_state locked.old cpu.old) (locked_state locked.new cpu.new) }
-{
-    let mut reply = Reply::Done;
-    serve_into(locked, tables, cpu, cmd, &mut reply);
-    reply
 }
 
 /// Serves an Alloc of order 0 for an existing group, as `serve_outcome` does for each path of that group, but looks up
@@ -127,10 +108,10 @@ pub fn serve_frame_outcome<N: BootName>(
 }
 
 /// Serves `Settle`: settles the CPU, and does nothing else.
-pub fn settle<N: BootName>(locked: &mut Locked<N>, tables: &Tables<N>, cpu: &mut Cpu<N>)
+pub fn serve_settle<N: BootName>(locked: &mut Locked<N>, tables: &Tables<N>, cpu: &mut Cpu<N>)
     ensures served { SettlesCaller N.frames (locked_state locked.old cpu.old) (locked_state locked.new cpu.new) }
     ensures settled { IsSettled cpu.new.part }
     ensures ends { EndsVisit N.frames (locked_state locked.old cpu.old) (locked_state locked.new cpu.new) }
 {
-    let _done = serve_outcome(locked, tables, cpu, &Cmd::Settle);
+    let _done = serve_outcome(locked, tables, cpu, &LockedCommand::Settle);
 }

@@ -5,9 +5,9 @@ use Rattle.group_tree.specs.declared.fault.Fault.{Fault}
 use Rattle.group_tree.specs.declared.fault.Fault.TheVariants as fault
 use Rattle.group_tree.specs.Faults.{name_of, number_of}
 use Rattle.machine_texts.specs.Characters.{characters}
-use Rattle.mem_system.specs.declared.command.Reply.{Reply}
-use Rattle.mem_system.specs.declared.command.Reply.TheVariants.{Group, Frame, Done, Text, Free, Lent, Charged}
-use Rattle.mem_system.specs.declared.command.Reply.TheVariants.{Marked, Active, Left, Returned, OverLimit, Refused}
+use Rattle.mem_system.specs.declared.command.ReplyWithText.{ReplyWithText}
+use Rattle.mem_system.specs.declared.command.ReplyWithText.TheVariants.{Group, Frame, Done, Text, Free, Lent, Charged, Marked, Active, Left, Returned}
+use Rattle.mem_system.specs.declared.command.ReplyWithText.TheVariants.{OverLimit, Refused}
 
 -- the words of a refusal: its number and its name
 abbrev pub refusal_words : Fault → List ℕ
@@ -26,7 +26,7 @@ abbrev pub path_text : List ℕ → List ℕ
 path_text path = characters path ++ codes "\n"
 
 -- what is written for a reply
-abbrev pub reply_text : Reply → List ℕ
+abbrev pub reply_text : ReplyWithText → List ℕ
 reply_text (Group group) = codes "group " ++ decimal group ++ codes "\n"
 reply_text (Frame frame) = codes "frame " ++ decimal frame ++ codes "\n"
 reply_text Done = codes "ok\n"

@@ -13,27 +13,27 @@ use group_charge::charges::Charges;
 use group_tree::group::GroupId;
 use group_tree::path::PathText;
 use machine_texts::push_characters;
-use mem_system::{Outcome, Reply};
+use mem_system::{Outcome, ReplyWithText};
 use std::alloc::AllocError;
 
 /// Adds what is written for a reply, with the line feed of each of its lines. It fails only if memory runs out.
-pub fn write_reply(reply: &Reply, text: &mut String) -> Result<(), AllocError>
+pub fn write_reply(reply: &ReplyWithText, text: &mut String) -> Result<(), AllocError>
     ensures { IfOk result (λ _. string_bytes text.new ≡ string_bytes text.old ++ reply_text reply.now) }
 {
     match reply {
-        Reply::Group(group) => write_number("group ", u64::from(group.number()), text),
-        Reply::Frame(number) => write_number("frame ", u64::from(*number), text),
-        Reply::Done => text.push_str("ok\n"),
-        Reply::Text(file) => push_characters(file.as_bytes(), text),
-        Reply::Free => text.push_str("free\n"),
-        Reply::Lent(cpu) => write_number("cpu ", u64::from(*cpu), text),
-        Reply::Charged { group: _, path } => write_path(path, text),
-        Reply::Marked => text.push_str("marked\n"),
-        Reply::Active => text.push_str("active\n"),
-        Reply::Left(references) => write_number("left ", *references, text),
-        Reply::Returned => text.push_str("returned\n"),
-        Reply::OverLimit { group, path } => write_over_limit(*group, path, text),
-        Reply::Refused(fault) => {
+        ReplyWithText::Group(group) => write_number("group ", u64::from(group.number()), text),
+        ReplyWithText::Frame(number) => write_number("frame ", u64::from(*number), text),
+        ReplyWithText::Done => text.push_str("ok\n"),
+        ReplyWithText::Text(file) => push_characters(file.as_bytes(), text),
+        ReplyWithText::Free => text.push_str("free\n"),
+        ReplyWithText::Lent(cpu) => write_number("cpu ", u64::from(*cpu), text),
+        ReplyWithText::Charged { group: _, path } => write_path(path, text),
+        ReplyWithText::Marked => text.push_str("marked\n"),
+        ReplyWithText::Active => text.push_str("active\n"),
+        ReplyWithText::Left(references) => write_number("left ", *references, text),
+        ReplyWithText::Returned => text.push_str("returned\n"),
+        ReplyWithText::OverLimit { group, path } => write_over_limit(*group, path, text),
+        ReplyWithText::Refused(fault) => {
             let fault = *fault;
             write_refusal(&fault, text)
         }

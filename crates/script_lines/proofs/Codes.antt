@@ -106,7 +106,7 @@ same_code xs ys a b e = elim (in_order (length xs) (length ys)) [
   ]
 ]
 
--- behind a first digit, a shift leaves the number of the first of eight bytes
+-- after a first digit, a shift leaves the number of the first of eight bytes
 shifted : (end n a b c d e f g h : ℕ) → a < 256 → b < 256 → c < 256 → d < 256 → e < 256 → f < 256 → g < 256 → h < 256
     → n ≡ ((((((a * 256 + b) * 256 + c) * 256 + d) * 256 + e) * 256 + f) * 256 + g) * 256 + h → end ≤ 7
     → (n / 2 ^ 8 + 124 * 2 ^ 56) / 2 ^ (56 - 8 * end) ≡ code_of (take end (a ∷ b ∷ c ∷ d ∷ e ∷ f ∷ g ∷ h ∷ []))

@@ -5,8 +5,7 @@ use Rattle.std.proofs.lemmas.Bool.{cases_lt}
 use Rattle.std.proofs.lemmas.List.{get_or-take, get_or_append_left, length-take-le, take-append-drop, take_rest}
 use Rattle.std.proofs.lemmas.Str.Parse.{digit_from_value}
 use Rattle.std.specs.Str.Parse.{AllDigits}
-use Rattle.script_lines.specs.Places.{IsPathEnd}
-use Rattle.script_lines.specs.Script.{IsCut, IsCutAt, IsPathText}
+use Rattle.script_lines.specs.{IsPathEnd, IsCut, IsCutAt, IsPathText}
 
 -- the text has no space
 abbrev pub NoSpace : List ℕ → Type 0
@@ -46,7 +45,7 @@ is_cut text end more none here =
     = rw (← next) (ap (λ t. take end text ++ t) (sym space) ∙ take-append-drop end text) in
     (more, record { parts = sym parts; no_space = none })
 
--- and the slice behind that place is the rest
+-- and the slice after that place is the rest
 pub cut_slice : (text : List ℕ) (end : ℕ) → IsCutAt text end
     → IsCut text (take end text) (take (length text - (end + 1)) (drop (end + 1) text))
 cut_slice text end is = rw (take_rest text (end + 1)) is.1

@@ -3,8 +3,7 @@ use Rattle.std.proofs.Common.{◌≡◌, ℕ, ◌+◌, ◌-◌, ◌<◌, ◌≤�
 use Rattle.std.proofs.lemmas.Bool.{cases_lt}
 use Rattle.std.proofs.lemmas.List.{drop-take, get_or-take, length-drop, take-take, take_all, take_rest}
 use Rattle.std.specs.List.{onto_first, slice_split}
-use Rattle.script_lines.specs.Places.{IsFrontOf}
-use Rattle.script_lines.specs.Script.{texts_of}
+use Rattle.script_lines.specs.{IsFrontOf, texts_of}
 
 -- a text begins with itself
 pub front_whole : (text : List ℕ) → IsFrontOf text text
@@ -27,7 +26,7 @@ front_byte text wide k is h = ap (λ t. get_or t k 0) is ∙ get_or-take (length
 pub front_take : (text wide : List ℕ) (end : ℕ) → IsFrontOf text wide → end ≤ length text → take end text ≡ take end wide
 front_take text wide end is h = ap (take end) is ∙ take-take end (length text) wide h
 
--- behind a place too
+-- after a place too
 pub front_rest : (text wide : List ℕ) (p : ℕ) → IsFrontOf text wide → p ≤ length text
     → IsFrontOf (take (length text - p) (drop p text)) (take (length wide - p) (drop p wide))
 front_rest text wide p is h =

@@ -52,7 +52,7 @@ in_order (suc m) (suc n) = elim (in_order m n) [
   | inr h ↦ inr (omega arith)
 ]
 
--- digits with no space behind them are not yet the whole word
+-- digits with no space after them are not yet the whole word
 pub goes_on : (text word rest : List ℕ) (end : ℕ) → IsCut text word rest → end < length text → get_or text end 0 ≢ 32
     → AllDigits 10 (take end text) → end < length word
 goes_on text word rest end cut inside other digits =

@@ -84,7 +84,7 @@ mask_more p (x ∷ xs) y e =
     let double : 2 ^ suc (length xs) ≡ 2 * 2 ^ length xs = omega arith in
     omega (arith, more, double)
 
--- the lowest mark of the first eight, with one more behind them
+-- the lowest mark of the first eight, with one more after them
 pub near_marked : (wanted : ℕ) (text : List ℕ) (marks : ℕ) → 8 ≤ length text → marks ≡ mask_l (map (λ x. eqb x wanted) (chunk 0 8 text))
     → (count_trailing_zeros 64 (marks + 256) ≤ 8) × All (λ b. b ≢ wanted) (take (count_trailing_zeros 64 (marks + 256)) text)
     × (count_trailing_zeros 64 (marks + 256) < 8 → get_or text (count_trailing_zeros 64 (marks + 256)) 0 ≡ wanted)

@@ -11,9 +11,8 @@ use Rattle.std.proofs.lemmas.List.Elements.{filter-append}
 use Rattle.std.proofs.lemmas.List.Splits.{length-slice_split}
 use Rattle.std.proofs.Math.Seq.{drop-cons}
 use Rattle.std.proofs.lemmas.Option.{get_or_from_slice_get, slice_get-get_or}
-use Rattle.script_lines.specs.Places.{IsLineEnd}
-use Rattle.script_lines.specs.Script.{AreLines, IsFirstBadLine, IsGoodLine, IsLimit, IsLineText, IsScript, asking_texts, ended_lines}
-use Rattle.script_lines.specs.Script.{has_go, is_go, is_skipped, texts_left, texts_of}
+use Rattle.script_lines.specs.{IsLineEnd, AreLines, IsFirstBadLine, IsGoodLine, IsLimit, IsLineText, IsScript, asking_texts, ended_lines, has_go}
+use Rattle.script_lines.specs.{is_go, is_skipped, texts_left, texts_of}
 use Rattle.zone_blocks.specs.declared.config.Config.{Config}
 use Rattle.script_lines.specs.declared.line.Line.{Line}
 use Rattle.script_lines.proofs.Texts.{line_first}

@@ -4,8 +4,7 @@ use Rattle.std.proofs.Math.Seq.{drop-cons}
 use Rattle.std.proofs.lemmas.Bool.{cases_lt, ne_eqb}
 use Rattle.std.proofs.lemmas.List.{length-drop, take-append-drop, take_all}
 use Rattle.std.proofs.lemmas.List.Splits.{slice_split_at, slice_split_none}
-use Rattle.script_lines.specs.Places.{IsFirstPlace, IsLineEnd}
-use Rattle.script_lines.specs.Script.{texts_of}
+use Rattle.script_lines.specs.{IsFirstPlace, IsLineEnd, texts_of}
 
 -- a script without a line feed is one text
 pub one_text : (script : List ℕ) → All (λ b. b ≢ 10) script → texts_of script ≡ script ∷ []

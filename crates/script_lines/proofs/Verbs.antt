@@ -2,8 +2,7 @@
 use Rattle.std.proofs.Common.{◌≡◌, ◌≢◌, ℕ, zero, suc, ◌<◌, Bool, true, false, cond, not, ◌&&◌, nat_lt, List, [], ◌∷◌, ◌⊎◌, inl, inr, All, Option, Some, refl, sym, ap}
 use Rattle.std.proofs.Common.{◌∙◌, eqb, get_or, length, map, arith, nat_eq}
 use Rattle.std.proofs.lemmas.Bool.{eqb-true, eqb-false, ltb-true}
-use Rattle.script_lines.specs.Names.{code_of, is_word}
-use Rattle.script_lines.specs.Verb.{all_verbs, by_name, name_of_verb, verb_coded}
+use Rattle.script_lines.specs.{code_of, is_word, all_verbs, by_name, name_of_verb, verb_coded}
 use Rattle.std.specs.Map.{lookup}
 use Rattle.script_lines.specs.declared.verb.Name.{Name}
 use Rattle.script_lines.specs.declared.verb.Verb.{Verb}

@@ -3,10 +3,7 @@ use Rattle.std.proofs.Common.{◌≡◌, ◌≢◌, ℕ, ◌+◌, ◌-◌, ◌<�
 use Rattle.std.proofs.Math.Seq.{get_or-append_seam}
 use Rattle.std.proofs.lemmas.List.{get_or-take, get_or_default, length-take-le, take_all}
 use Rattle.std.proofs.lemmas.Bool.Decides.{eqb_tells}
-use Rattle.script_lines.specs.Names.{IsWordEnd, is_word}
-use Rattle.script_lines.specs.Places.{IsFrontOf}
-use Rattle.script_lines.specs.Script.{BeginsWithName, IsCut}
-use Rattle.script_lines.specs.Verb.{name_of_verb}
+use Rattle.script_lines.specs.{IsWordEnd, is_word, IsFrontOf, BeginsWithName, IsCut, name_of_verb}
 use Rattle.script_lines.specs.declared.verb.Verb.{Verb}
 use Rattle.script_lines.proofs.Codes.{AreBytes}
 use Rattle.script_lines.proofs.Cuts.{NoSpace, cut_at, cut_once, no_cut}
@@ -19,7 +16,7 @@ word_no_space text end is k d h = (is.bytes k d h).0
 pub word_bytes : (text : List ℕ) (end : ℕ) → IsWordEnd text end → AreBytes (take end text)
 word_bytes text end is k d h = (is.bytes k d h).1
 
--- a text is cut behind its first word
+-- a text is cut after its first word
 pub word_cut : (text : List ℕ) (end : ℕ) → IsWordEnd text end → end < length text
     → IsCut text (take end text) (take (length text - (end + 1)) (drop (end + 1) text))
 word_cut text end is more = cut_at text end more (word_no_space text end is) (is.stop more)

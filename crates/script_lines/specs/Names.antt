@@ -1,6 +1,5 @@
 -- The names of commands as numbers.
-use Rattle.std.specs.Prelude.{◌≡◌, ◌≢◌, ℕ, Bool, true, not, ◌&&◌, ◌==◌, ◌+◌, ◌*◌, ◌<◌, ◌≤◌, List, [], ◌∷◌, All, length}
-use Rattle.std.specs.Prelude.{nat_lt, slice_index, take}
+use Rattle.std.specs.Prelude.{◌≡◌, ◌≢◌, ℕ, Bool, true, not, ◌&&◌, ◌==◌, ◌+◌, ◌*◌, ◌<◌, ◌≤◌, List, [], ◌∷◌, All, length, nat_lt, slice_index, take}
 
 -- the number that begins with these digits and goes on with these bytes, to the base 256
 abbrev pub code_from : ℕ → List ℕ → ℕ

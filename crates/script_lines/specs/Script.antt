@@ -42,11 +42,11 @@ pub record IsCut (text word rest : List ℕ) : Type 0 where
 abbrev pub IsCutAt : List ℕ → ℕ → Type 0
 IsCutAt text end = (end < length text) × IsCut text (take end text) (drop (end + 1) text)
 
--- the text is the name of this command, or goes on with a space behind it
+-- the text is the name of this command, or goes on with a space after it
 abbrev pub BeginsWithName : Verb → List ℕ → Type 0
 BeginsWithName verb text = (text ≡ name_of_verb verb) ⊎ (rest : List ℕ) × (text ≡ name_of_verb verb ++ 32 ∷ rest)
 
--- the text is the name of this command, and this is what follows a space behind it; None if nothing does
+-- the text is the name of this command, and this is what follows a space after it; None if nothing does
 abbrev pub IsNamed : Verb → Option (Bor (List ℕ)) → List ℕ → Type 0
 IsNamed verb None text = text ≡ name_of_verb verb
 IsNamed verb (Some rest) text = IsCut text (name_of_verb verb) rest.now

@@ -6,7 +6,7 @@ ghost use Rattle.script_lines.specs.Places.{IsFirstPlace, IsFrontOf, IsPathEnd};
 
 use std::simd::prelude::*;
 
-/// The mark behind those of eight bytes.
+/// The mark after those of eight bytes.
 const BEHIND_EIGHT: u64 = 256;
 
 /// The place of the first byte that is `wanted`, if it is one of the first 32 bytes, which are compared at once: most

@@ -252,7 +252,7 @@ fn first_name(text: &[u8], wide: &[u8]) -> Option<(Name, usize)>
     Some((Name::of_first(wide, end), end))
 }
 
-/// The command that the text begins with the name of, and what follows the space behind that. The latter is None if
+/// The command that the text begins with the name of, and what follows the space after that. The latter is None if
 /// nothing follows the name. A wider text begins with this one: eight bytes of that are read at once, which a short text
 /// lacks. It is inlined, because each line of a script calls it once, and its result is large.
 #[inline(always)]

@@ -25,8 +25,7 @@ use Rattle.script_lines.proofs.Cuts.{cut_once, digits_no_space, no_cut}
 use Rattle.script_lines.proofs.Forms.{form_of, its_form, made}
 use Rattle.script_lines.proofs.Readings.{begins, command_parts, is_command, request_no_go}
 use Rattle.script_lines.proofs.Verbs.{in_all, name_no_space}
-use Rattle.script_lint.specs.Ends.{IsNamedBy, ends, example_text}
-use Rattle.script_lint.specs.Lines.{GoesOn, HasValidCounts, IsGoodText, IsRequest}
+use Rattle.script_lint.specs.{IsNamedBy, ends, example_text, GoesOn, HasValidCounts, IsGoodText, IsRequest}
 
 -- the text of a `go`
 pub go_text : (text : List ℕ) → is_go text ≡ true → text ≡ codes "go"
@@ -52,7 +51,7 @@ no_line sizes had_go text asks none good = elim (good.says asks) [
 
 -- ---- a beginning of a word, a space and a rest
 
--- the first text ends in the word, or behind the space
+-- the first text ends in the word, or after the space
 abbrev IsFrontOf : (front rest word t : List ℕ) → Type 0
 IsFrontOf front rest word t =
     ((x : List ℕ) × (word ≡ front ++ x) × (rest ≡ x ++ 32 ∷ t)) ⊎ ((y : List ℕ) × (front ≡ word ++ 32 ∷ y) × (t ≡ y ++ rest))
@@ -85,7 +84,7 @@ graphic_left front rest is k d h =
     let long = length-append front rest in
     subst (λ (b : ℕ). (32 < b) × (b < 127)) (get_or_append_left front rest d k h) (is.graphic k d (omega arith))
 
--- a beginning of a path is one with a slash behind it
+-- a beginning of a path is one with a slash after it
 path_more : (front rest : List ℕ) → IsPathText (front ++ rest) → IsPathText (front ++ 47 ∷ [])
 path_more front rest is = record {
   some = let long = length-append front (47 ∷ []) in omega arith;
@@ -103,7 +102,7 @@ value_left front rest =
     let same = ap (digits_value 10) (take-append_seam front rest) in
     omega arith
 
--- a beginning of a number is one itself, or with a 0 behind it
+-- a beginning of a number is one itself, or with a 0 after it
 number_more : (front rest : List ℕ) (n : ℕ) → WritesNumber (front ++ rest) n
     → (m : ℕ) × (m ≤ n) × (WritesNumber (front ++ []) m ⊎ WritesNumber (front ++ 48 ∷ []) m)
 number_more [] rest n is = (0, omega arith, inr nought)

@@ -8,9 +8,8 @@ use Rattle.std.specs.List.{list_any}
 use Rattle.std.specs.Cmp.Lexicographic.{pointwise}
 use Rattle.std.specs.Str.{bytes_eq}
 use Rattle.script_lines.specs.Script.{has_go, is_go}
-use Rattle.script_lint.specs.Causes.{word_behind}
+use Rattle.script_lint.specs.{word_behind, KnowsPast, has_path, is_made, makes}
 use Rattle.script_lint.specs.declared.past.Past.{Past}
-use Rattle.script_lint.specs.Pasts.{KnowsPast, has_path, is_made, makes}
 
 -- a test of some list of texts, and of one more
 any_more : (test : List ℕ → Bool) (texts : List (List ℕ)) (text : List ℕ) (before : Bool) → before ≡ list_any test texts

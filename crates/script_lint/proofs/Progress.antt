@@ -14,10 +14,7 @@ use Rattle.script_lines.specs.Script.{IsGoodLine, IsLineText, has_go, is_go, is_
 use Rattle.script_lines.specs.declared.line.Line.{Line}
 use Rattle.script_lines.specs.declared.line.Line.TheVariants.{Go, At}
 use Rattle.script_lines.proofs.Progress.{IsNext, IsOver, is_good, not_far}
-use Rattle.script_lint.specs.Findings.{AreFindings, IsFinding, IsLinted, IsWithin, Names}
-use Rattle.script_lint.specs.Lines.{IsGoodHere, IsSpot}
-use Rattle.script_lint.specs.Script.{AddsFinding, AddsSpot}
-use Rattle.script_lint.specs.Lines.{IsGoodText, IsRequest}
+use Rattle.script_lint.specs.{AreFindings, IsFinding, IsLinted, IsWithin, Names, IsGoodHere, IsSpot, AddsFinding, AddsSpot, IsGoodText, IsRequest}
 use Rattle.script_lint.specs.declared.finding.Cause.{Cause}
 use Rattle.script_lint.specs.declared.finding.Cause.TheVariants.{InputTooLong, LineTooLong}
 use Rattle.script_lint.specs.declared.finding.Finding.{Finding}

@@ -7,9 +7,7 @@ use Rattle.std.proofs.lemmas.Option.{get_or_from_slice_get}
 use Rattle.zone_blocks.specs.declared.config.Config.{Config}
 use Rattle.script_lines.specs.Script.{texts_of}
 use Rattle.script_lines.proofs.Progress.{IsNext, IsOver}
-use Rattle.script_lint.specs.Findings.{IsWithin}
-use Rattle.script_lint.specs.Refusals.{IsJudgedText}
-use Rattle.script_lint.specs.Refused.{AreJudged, AreRefused, numbered}
+use Rattle.script_lint.specs.{IsWithin, IsJudgedText, AreJudged, AreRefused, numbered}
 use Rattle.script_lint.specs.declared.refusal.Refusal.{Refusal}
 use Rattle.script_lint.specs.declared.refused.RefusedLine.{RefusedLine}
 use Rattle.script_lint.proofs.Progress.{IsBefore}

@@ -4,11 +4,10 @@ use Rattle.std.specs.Prelude.{if◌then◌else◌, ⊤}
 use Rattle.std.proofs.lemmas.Bool.{ltb-false, ltb-true}
 use Rattle.std.proofs.lemmas.List.{append_assoc, length-take-le, take-append-drop, take-take}
 use Rattle.zone_blocks.specs.declared.config.Config.{Config}
-use Rattle.script_lint.specs.Causes.{byte_at, cause_at, is_between_words, is_double_space, is_printable}
-use Rattle.script_lint.specs.Causes.{is_number_out_of_range, is_unknown_command}
-use Rattle.script_lint.specs.Causes.{is_no_cpu, later_cause_at, is_frame_out_of_zone, is_group_out_of_range}
-use Rattle.script_lint.specs.Causes.{is_cpu_out_of_range, is_late_comment, is_byte_order_mark, is_gzip, is_wide_text}
-use Rattle.script_lint.specs.Lines.{GoesOn, IsCause, IsGoodHere, IsGoodText, IsSpot, IsStuck, spot_past_limit, stuck_spot, whole_spot}
+use Rattle.script_lint.specs.{byte_at, cause_at, is_between_words, is_double_space, is_printable, is_number_out_of_range, is_unknown_command}
+use Rattle.script_lint.specs.{is_no_cpu, later_cause_at, is_frame_out_of_zone, is_group_out_of_range, is_cpu_out_of_range, is_late_comment}
+use Rattle.script_lint.specs.{is_byte_order_mark, is_gzip, is_wide_text, GoesOn, IsCause, IsGoodHere, IsGoodText, IsSpot, IsStuck, spot_past_limit}
+use Rattle.script_lint.specs.{stuck_spot, whole_spot}
 use Rattle.script_lint.specs.declared.finding.Cause.{Cause}
 use Rattle.script_lint.specs.declared.finding.Cause.TheVariants.{ByteOrderMark, WideText, Gzip, LateComment, NoCpu, CpuOutOfRange, UnknownCommand, TooFewWords}
 use Rattle.script_lint.specs.declared.finding.Cause.TheVariants.{TooManyWords, TwoSpaces, SpaceAtEnd, Tab, CarriageReturn}
@@ -16,7 +15,7 @@ use Rattle.script_lint.specs.declared.finding.Cause.TheVariants.{NumberOutOfRang
 use Rattle.script_lint.specs.declared.finding.Cause.TheVariants.{InputTooLong, LineTooLong, SecondGo}
 use Rattle.script_lint.specs.declared.finding.Spot.{Spot}
 
--- what goes on behind more of a text goes on behind less of it
+-- what goes on after more of a text goes on after less of it
 goes_on_sooner : (Form : List ℕ → Type 0) (text : List ℕ) (m n : ℕ) → m ≤ n → GoesOn Form (take n text) → GoesOn Form (take m text)
 goes_on_sooner Form text m n le on =
     let front : take m (take n text) ≡ take m text = take-take m n text le in

@@ -3,17 +3,14 @@ use Rattle.std.specs.Prelude.{ℕ, zero, suc, ◌+◌, ◌-◌, Bool, true, fals
 use Rattle.std.specs.Prelude.{if◌then◌else◌, drop, is_some, nat_lt, slice_get, take, Option, None, Some}
 use Rattle.std.specs.List.{find}
 use Rattle.std.specs.Str.{bytes_eq}
-use Rattle.script_lines.specs.Script.{is_go}
-use Rattle.script_lines.specs.Verb.{all_verbs, form_of_verb, name_of_verb}
+use Rattle.script_lines.specs.{is_go, all_verbs, form_of_verb, name_of_verb}
 use Rattle.script_lines.specs.declared.verb.Form.{Form}
 use Rattle.script_lines.specs.declared.verb.Form.TheVariants.{Group, PathOrder}
 use Rattle.script_lines.specs.declared.verb.Verb.{Verb}
 use Rattle.script_lint.specs.declared.finding.Cause.{Cause}
-use Rattle.script_lint.specs.declared.finding.Cause.TheVariants.{ByteOrderMark, WideText, Gzip}
-use Rattle.script_lint.specs.declared.finding.Cause.TheVariants.{LateComment, NoCpu, CpuOutOfRange, UnknownCommand}
-use Rattle.script_lint.specs.declared.finding.Cause.TheVariants.{TooFewWords, TooManyWords, TwoSpaces, SpaceAtEnd, Tab}
-use Rattle.script_lint.specs.declared.finding.Cause.TheVariants.{CarriageReturn, NumberOutOfRange, FrameOutOfZone}
-use Rattle.script_lint.specs.declared.finding.Cause.TheVariants.{GroupOutOfRange, UnprintableByte, SecondGo}
+use Rattle.script_lint.specs.declared.finding.Cause.TheVariants.{ByteOrderMark, WideText, Gzip, LateComment, NoCpu, CpuOutOfRange, UnknownCommand}
+use Rattle.script_lint.specs.declared.finding.Cause.TheVariants.{TooFewWords, TooManyWords, TwoSpaces, SpaceAtEnd, Tab, CarriageReturn}
+use Rattle.script_lint.specs.declared.finding.Cause.TheVariants.{NumberOutOfRange, FrameOutOfZone, GroupOutOfRange, UnprintableByte, SecondGo}
 
 -- ---- the text and the place
 
@@ -44,7 +41,7 @@ abbrev pub until_space : List ℕ → List ℕ
 until_space [] = []
 until_space (b ∷ bs) = if b == 32 then [] else b ∷ until_space bs
 
--- the word behind so many spaces
+-- the word after so many spaces
 abbrev pub word_behind : ℕ → List ℕ → List ℕ
 word_behind zero text = until_space text
 word_behind (suc n) text = word_behind n (after_space text)
@@ -121,7 +118,7 @@ is_unknown_command text place =
     && (not (is_gap (byte_at text place))
     || ((byte_at text place == 32 || byte_at text place == 10) && not (is_known (after_space (take place text)))))
 
--- a space, and a word before and behind it
+-- a space, and a word before and after it
 abbrev pub is_between_words : List ℕ → ℕ → Bool
 is_between_words text place =
     (byte_at text place == 32) && not (is_gap (byte_before text place)) && not (is_gap (byte_at text (place + 1)))

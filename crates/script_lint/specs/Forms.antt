@@ -2,11 +2,10 @@
 use Rattle.std.specs.Prelude.{ℕ, Option, None, Some, List, ◌++◌, codes}
 use Rattle.script_lines.specs.Verb.{form_of_verb, name_of_verb}
 use Rattle.script_lines.specs.declared.verb.Form.{Form}
-use Rattle.script_lines.specs.declared.verb.Form.TheVariants.{Alone, Path, PathFile, PathFileValue, PathOrder, Group}
-use Rattle.script_lines.specs.declared.verb.Form.TheVariants.{Frame}
+use Rattle.script_lines.specs.declared.verb.Form.TheVariants.{Alone, Path, PathFile, PathFileValue, PathOrder, Group, Frame}
 use Rattle.script_lines.specs.declared.verb.Verb.{Verb}
 
--- the words behind the name of a command of this form
+-- the words after the name of a command of this form
 abbrev pub words_text : Form → List ℕ
 words_text Alone = codes ""
 words_text Path = codes " PATH"
@@ -16,7 +15,7 @@ words_text PathOrder = codes " PATH ORDER"
 words_text Group = codes " GROUP"
 words_text Frame = codes " FRAME"
 
--- the form of this command behind the CPU's number; of a line, if there is no command
+-- the form of this command after the CPU's number; of a line, if there is no command
 abbrev pub form_text_of : Option Verb → List ℕ
 form_text_of None = codes "a line is P COMMAND or go"
 form_text_of (Some verb) = name_of_verb verb ++ words_text (form_of_verb verb)

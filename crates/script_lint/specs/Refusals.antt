@@ -1,25 +1,20 @@
 -- Why a command is refused, whatever groups there are and whatever they use.
-use Rattle.std.specs.Prelude.{◌≡◌, ◌≢◌, ◌⊎◌, ℕ, ◌<◌, ◌≤◌, Bool, true, false, Option, None, Some, List, ◌||◌, codes, length}
-use Rattle.std.specs.Prelude.{nat_eq}
+use Rattle.std.specs.Prelude.{◌≡◌, ◌≢◌, ◌⊎◌, ℕ, ◌<◌, ◌≤◌, Bool, true, false, Option, None, Some, List, ◌||◌, codes, length, nat_eq}
 use Rattle.std.specs.List.{starts_with}
 use Rattle.std.specs.Str.{bytes_eq}
 use Rattle.zone_blocks.specs.declared.config.Config.{Config}
-use Rattle.control_files.specs.Files.{is_readable, is_writable, name_of_file}
-use Rattle.control_files.specs.Flag.{IsNoFlagText}
-use Rattle.control_files.specs.Limit.{IsNoAmountText, IsNoLimitText, IsTooGreat}
+use Rattle.control_files.specs.{is_readable, is_writable, name_of_file, IsNoFlagText, IsNoAmountText, IsNoLimitText, IsTooGreat}
 use Rattle.control_files.specs.declared.file.File.{File}
 use Rattle.control_files.specs.declared.file.File.TheVariants.{Max, High, OomGroup, Reclaim}
-use Rattle.group_tree.specs.Bounds.{most_names}
-use Rattle.group_tree.specs.Path.{depth_of, is_root, is_well_formed}
+use Rattle.group_tree.specs.{most_names, depth_of, is_root, is_well_formed}
 use Rattle.script_lines.specs.Script.{IsRequestText, longest_line}
 use Rattle.script_lines.specs.declared.line.Command.{Command}
 use Rattle.script_lines.specs.declared.line.Command.TheVariants.{Mkdir, Rmdir, Read, Write, Alloc, Units}
 use Rattle.script_lint.specs.Doubts.{IsDoubtful}
 use Rattle.script_lint.specs.Pasts.{IsMissing}
 use Rattle.script_lint.specs.declared.refusal.Refusal.{Refusal}
-use Rattle.script_lint.specs.declared.refusal.Refusal.TheVariants.{OrderTooGreat, NotModelled, NoFile, FileOfRoot, WriteOnly}
-use Rattle.script_lint.specs.declared.refusal.Refusal.TheVariants.{BadPath, PathTooDeep, RootToChange}
-use Rattle.script_lint.specs.declared.refusal.Refusal.TheVariants.{ReadOnly, NoLimit, NoAmount, NoFlag, TooGreat}
+use Rattle.script_lint.specs.declared.refusal.Refusal.TheVariants.{OrderTooGreat, NotModelled, NoFile, FileOfRoot, WriteOnly, BadPath, PathTooDeep}
+use Rattle.script_lint.specs.declared.refusal.Refusal.TheVariants.{RootToChange, ReadOnly, NoLimit, NoAmount, NoFlag, TooGreat}
 
 -- what protects memory from reclaim
 abbrev pub is_protection : List ℕ → Bool

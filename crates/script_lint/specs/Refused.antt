@@ -6,9 +6,8 @@ use Rattle.script_lines.specs.Script.{texts_of}
 use Rattle.script_lint.specs.Findings.{IsWithin}
 use Rattle.script_lint.specs.Refusals.{IsJudgedText}
 use Rattle.script_lint.specs.declared.refusal.Refusal.{Refusal}
-use Rattle.script_lint.specs.declared.refusal.Refusal.TheVariants.{OrderTooGreat, NotModelled, NoFile, FileOfRoot, WriteOnly}
-use Rattle.script_lint.specs.declared.refusal.Refusal.TheVariants.{BadPath, PathTooDeep, RootToChange, NeverMade}
-use Rattle.script_lint.specs.declared.refusal.Refusal.TheVariants.{ReadOnly, NoLimit, NoAmount, NoFlag, TooGreat}
+use Rattle.script_lint.specs.declared.refusal.Refusal.TheVariants.{OrderTooGreat, NotModelled, NoFile, FileOfRoot, WriteOnly, BadPath, PathTooDeep}
+use Rattle.script_lint.specs.declared.refusal.Refusal.TheVariants.{RootToChange, NeverMade, ReadOnly, NoLimit, NoAmount, NoFlag, TooGreat}
 use Rattle.script_lint.specs.declared.refusal.Refusal.TheVariants.{LessThanPage}
 use Rattle.script_lint.specs.declared.refused.RefusedLine.{RefusedLine}
 

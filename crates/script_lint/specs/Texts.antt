@@ -1,6 +1,5 @@
 -- What is written for what is found.
-use Rattle.std.specs.Prelude.{ℕ, ◌+◌, ◌-◌, ◌≤◌, Bool, List, [], ◌++◌, ◌==◌, Option, None, Some, codes, if◌then◌else◌}
-use Rattle.std.specs.Prelude.{length, nat_lt}
+use Rattle.std.specs.Prelude.{ℕ, ◌+◌, ◌-◌, ◌≤◌, Bool, List, [], ◌++◌, ◌==◌, Option, None, Some, codes, if◌then◌else◌, length, nat_lt}
 use Rattle.std.specs.Char.{encode_utf8}
 use Rattle.std.specs.Fmt.{decimal}
 use Rattle.std.specs.List.{flat_map}
@@ -10,11 +9,9 @@ use Rattle.script_lines.specs.declared.verb.Verb.{Verb}
 use Rattle.script_lint.specs.Causes.{byte_at, is_printable, verb_of, word_at}
 use Rattle.script_lint.specs.Forms.{form_text_of}
 use Rattle.script_lint.specs.declared.finding.Cause.{Cause}
-use Rattle.script_lint.specs.declared.finding.Cause.TheVariants.{ByteOrderMark, WideText, Gzip}
-use Rattle.script_lint.specs.declared.finding.Cause.TheVariants.{LateComment, NoCpu, CpuOutOfRange, UnknownCommand}
-use Rattle.script_lint.specs.declared.finding.Cause.TheVariants.{TooFewWords, TooManyWords, TwoSpaces, SpaceAtEnd, Tab}
-use Rattle.script_lint.specs.declared.finding.Cause.TheVariants.{CarriageReturn, NumberOutOfRange, FrameOutOfZone}
-use Rattle.script_lint.specs.declared.finding.Cause.TheVariants.{GroupOutOfRange, UnprintableByte, LineTooLong}
+use Rattle.script_lint.specs.declared.finding.Cause.TheVariants.{ByteOrderMark, WideText, Gzip, LateComment, NoCpu, CpuOutOfRange, UnknownCommand}
+use Rattle.script_lint.specs.declared.finding.Cause.TheVariants.{TooFewWords, TooManyWords, TwoSpaces, SpaceAtEnd, Tab, CarriageReturn}
+use Rattle.script_lint.specs.declared.finding.Cause.TheVariants.{NumberOutOfRange, FrameOutOfZone, GroupOutOfRange, UnprintableByte, LineTooLong}
 use Rattle.script_lint.specs.declared.finding.Cause.TheVariants.{InputTooLong, SecondGo}
 use Rattle.script_lint.specs.declared.finding.Finding.{Finding}
 

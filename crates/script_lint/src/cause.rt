@@ -118,7 +118,7 @@ fn until_space(text: &[u8]) -> &[u8]
     }
 }
 
-// The word behind so many spaces.
+// The word after so many spaces.
 pub(crate) fn word_behind(spaces: usize, text: &[u8]) -> &[u8]
     ensures { result.now ≡ word_behind spaces text.now }
 {
@@ -254,7 +254,7 @@ fn is_known(name: &[u8]) -> bool
     name.is_empty() || verb_named(name).is_some()
 }
 
-// Whether there is a space, and a word before and behind it.
+// Whether there is a space, and a word before and after it.
 fn is_between_words(text: &[u8], place: usize) -> bool
     requires { place ≤ length text.now }
     ensures { result ≡ is_between_words text.now place }

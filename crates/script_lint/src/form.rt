@@ -22,7 +22,7 @@ pub(crate) fn write_form(line: &[u8], text: &mut String) -> Result<(), AllocErro
     }
 }
 
-// The words behind the name of a command of this form.
+// The words after the name of a command of this form.
 fn words_text(form: Form) -> &'static str
     ensures { result.now ≡ words_text form }
 {

@@ -6,7 +6,7 @@ use std::str;
 use strsim::osa_distance;
 
 // The command whose name the word is but for the case of letters, or within one letter of (left out, added, changed
-// behind the first one, or swapped with its neighbour), if there is exactly one. It fails only if memory runs out. What
+// after the first one, or swapped with its neighbour), if there is exactly one. It fails only if memory runs out. What
 // is near is up to `strsim`: no clause speaks of it.
 pub(crate) fn near_verb(alloc: Global, word: &[u8]) -> Result<Option<Verb>, AllocError> {
     let mut near = None;

@@ -16,7 +16,7 @@ use std::alloc::{AllocError, Global};
 use zone_blocks::config::Config;
 
 /// Every bad line of the script, in order: from which byte on no good line goes on, and why. If the script is too long,
-/// the lines behind the one with the byte after the first 1,048,576 aren't read. It fails only if memory runs out.
+/// the lines after the one with the byte after the first 1,048,576 aren't read. It fails only if memory runs out.
 pub fn lint_script<'a>(
     alloc: Global,
     input: &'a [u8],

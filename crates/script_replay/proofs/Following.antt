@@ -10,8 +10,7 @@ use Rattle.group_charge.specs.Charges.{Ledger}
 use Rattle.group_tree.specs.declared.fault.Fault.TheVariants.{NoGroup, PinsFull, NotPinned}
 use Rattle.cpu_part.specs.declared.answers.Fast.{Fast as FastAnswer}
 use Rattle.cpu_part.specs.declared.answers.Fast.TheVariants.{FreshFull, ListEmpty, OtherGroup, Drained, NoStock, Got}
-use Rattle.cpu_part.specs.Cpus.{KnownCpu}
-use Rattle.cpu_part.specs.Calls.{FastAnswers}
+use Rattle.cpu_part.specs.{KnownCpu, FastAnswers}
 use Rattle.step_rules.specs.declared.phase.Hold.{Hold}
 use Rattle.step_rules.specs.declared.phase.Hold.TheVariants.{HeldBy, Unheld}
 use Rattle.step_rules.specs.declared.step.Action.{Action}
@@ -21,24 +20,18 @@ use Rattle.step_rules.specs.declared.step.Answer.TheVariants as step_answer
 use Rattle.step_rules.specs.State.{State}
 use Rattle.step_rules.specs.After.{Run, state_of, IsLegalRun}
 use Rattle.step_watch.specs.Watched.{KnownWatch}
-use Rattle.boot_words.specs.Pasts.{own_past}
-use Rattle.boot_words.specs.Runs.{IsFast}
-use Rattle.mem_machine.specs.Local.{VisitState, visit_state}
-use Rattle.mem_machine.specs.Machines.{KnownMachine, left_by, with_run, with_watch}
-use Rattle.mem_machine.specs.Interleaving.{zone_of}
+use Rattle.boot_words.specs.{own_past, IsFast}
+use Rattle.mem_machine.specs.{VisitState, visit_state, KnownMachine, left_by, with_run, with_watch, zone_of, AgreesWithRun}
 use Rattle.mem_machine.specs.Steps.{cpu_makes}
-use Rattle.mem_machine.specs.Agreeing.{AgreesWithRun}
 use Rattle.mem_machine.proofs.Locks.{unlocked_found}
-use Rattle.mem_history.specs.Whole.{GoesOnTo, HasTakenLock, IsOwnStep, LeaveTheSame, ShowsAll, under_lock}
-use Rattle.mem_history.specs.Leading.{IsPart, put_answer}
+use Rattle.mem_history.specs.{GoesOnTo, HasTakenLock, IsOwnStep, LeaveTheSame, ShowsAll, under_lock, IsPart, put_answer}
 use Rattle.mem_history.proofs.Wholes.{lines_follow, parts_after, the_same_is_shown}
 use Rattle.mem_history.proofs.Fast.{fast_lines_follow}
 use Rattle.mem_history.proofs.Leading.{fast_calls_lead}
-use Rattle.mem_system.specs.declared.command.Cmd.{Cmd}
-use Rattle.mem_system.specs.declared.command.Reply.{Reply}
-use Rattle.mem_system.specs.Cpus.{CpuInRun, seat_of}
-use Rattle.mem_system.specs.Locked.{KnownLocked}
-use Rattle.mem_system.specs.Visits.{transition, LockedState, locked_state, IsServed}
+use Rattle.mem_system.specs.declared.command.LockedCommand.{LockedCommand}
+use Rattle.mem_system.specs.declared.command.ReplyWithText.{ReplyWithText}
+use Rattle.mem_system.specs.{CpuInRun, seat_of, KnownLocked, LockedState, locked_state, IsServed}
+use Rattle.mem_system.specs.Visits.{transition}
 use Rattle.reply_texts.specs.LineAnswer.{LineAnswer}
 use Rattle.reply_texts.specs.LineAnswer as answer
 use Rattle.reply_texts.specs.declared.steps.UnlockedAnswer.{UnlockedAnswer}
@@ -132,7 +125,7 @@ module _ (t : KnownTable) (run : Run) (locked : KnownLocked) (cpus : List KnownC
 
   -- served under the lock, by a CPU with this part, which found behind the lock what the run shows
   served_follows : (seen : CpuInRun) → seen.part ≡ c.part → (found : KnownLocked) → left_by t found.machine.run.past ≡ left_by t m.run.past
-      → found.machine.ledger ≡ m.ledger → (cmd : Cmd) (reply : Reply) (after : LockedState) → (is : IsServed t cmd reply (locked_state found seen) after)
+      → found.machine.ledger ≡ m.ledger → (cmd : LockedCommand) (reply : ReplyWithText) (after : LockedState) → (is : IsServed t cmd reply (locked_state found seen) after)
       → IsLegalOn (under_lock seen.part.number is.steps) → Follows (under_lock seen.part.number is.steps) after
   served_follows seen same found left ledger cmd reply after is legal =
       let n = after.locked.machine in

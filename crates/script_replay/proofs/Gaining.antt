@@ -7,9 +7,7 @@ use Rattle.std.specs.List.{slice_get}
 use Rattle.std.proofs.lemmas.List.{map-set}
 use Rattle.std.proofs.lemmas.Option.{slice_get-map}
 use Rattle.boot_words.specs.declared.past.Past.{Past}
-use Rattle.boot_words.specs.Rule.{AllOf}
-use Rattle.boot_words.specs.Pasts.{KnownPasts, Meets, own_past}
-use Rattle.boot_words.specs.Growth.{GrewByAll, IsRunSoFar, changes_nothing}
+use Rattle.boot_words.specs.{AllOf, KnownPasts, Meets, own_past, GrewByAll, IsRunSoFar, changes_nothing}
 use Rattle.boot_words.proofs.Gaining.{gains_go_on, meet_gains, none_gains}
 use Rattle.frame_word.specs.declared.answers.Put.{Put}
 use Rattle.frame_word.specs.declared.answers.Put.TheVariants as put
@@ -29,9 +27,7 @@ use Rattle.step_rules.specs.After.{Run}
 use Rattle.step_watch.specs.Watched.{Watches}
 use Rattle.step_watch.proofs.Watching.{watches_both, watches_none}
 use Rattle.mem_machine.specs.Machines.{left_by, with_past}
-use Rattle.mem_system.specs.Cpus.{CpuInRun, pasts_of}
-use Rattle.mem_system.specs.Locked.{KnownLocked}
-use Rattle.mem_system.specs.Visits.{LockedState, locked_state}
+use Rattle.mem_system.specs.{CpuInRun, pasts_of, KnownLocked, LockedState, locked_state}
 use Rattle.reply_texts.specs.declared.steps.UnlockedAnswer.{UnlockedAnswer}
 use Rattle.reply_texts.specs.declared.steps.UnlockedAnswer.TheVariants as unlocked
 use Rattle.script_lines.specs.declared.line.Command.TheVariants as command

@@ -8,20 +8,15 @@ use Rattle.std.proofs.lemmas.List.{get_or_default}
 use Rattle.std.proofs.lemmas.Option.{slice_get_read}
 use Rattle.frame_word.specs.Seats.{KnownTable}
 use Rattle.step_watch.specs.Watched.{has_legal_steps}
-use Rattle.mem_system.specs.Cpus.{CpuInRun}
-use Rattle.mem_system.specs.Locked.{KnownLocked, IsSound}
-use Rattle.mem_system.specs.Visits.{locked_state}
+use Rattle.mem_system.specs.{CpuInRun, KnownLocked, IsSound, locked_state}
 use Rattle.script_lines.specs.declared.line.Command.{Command}
 use Rattle.script_lines.specs.declared.line.Line.{Line}
 use Rattle.script_lines.specs.declared.line.Line.TheVariants.{Go, At}
-use Rattle.script_replay.specs.Answers.{AddsText, ServesCommand}
-use Rattle.script_replay.specs.Lines.{SystemState, system_state, ServesLine, ServesAll, StopsAt, number_in_script}
-use Rattle.script_replay.specs.History.{StopsFor}
-use Rattle.script_replay.specs.declared.owned_replay.Stopped.TheVariants.{NotLegal}
-use Rattle.script_replay.specs.Ranges.{LineInRange}
+use Rattle.script_replay.specs.{AddsText, ServesCommand, SystemState, system_state, ServesLine, ServesAll, StopsAt, number_in_script, StopsFor}
+use Rattle.script_replay.specs.{LineInRange, numbered_text, text_with_number, form_terms, numbered_terms, terms}
+use Rattle.script_replay.specs.declared.replays.Stopped.TheVariants.{NotLegal}
 use Rattle.script_replay.specs.declared.form.Form.{Form}
-use Rattle.script_replay.specs.Numbers.{numbered_text, text_with_number}
-use Rattle.script_replay.specs.Terms.{Terms, form_terms, numbered_terms, terms}
+use Rattle.script_replay.specs.Terms.{Terms}
 use Rattle.script_replay.proofs.InOrder.{in_order_line}
 use Rattle.script_replay.proofs.Gaining.{goes_on_none, part_goes_on}
 use Rattle.script_replay.proofs.Telling.{at_ok}

@@ -1,14 +1,11 @@
--- How pasts grow by steps and by what others did. Serves `visit_answers`, `own_lines`, and the looks at all pasts.
+-- How pasts grow by steps and by what others did. Serves `visits`, `cpu_lines`, and the looks at all pasts.
 use Rattle.std.proofs.Common.{◌≡◌, ◌∙◌, ℕ, true, [], ◌∷◌, ◌++◌, append_assoc, append-nil, ap, refl, subst, sym}
 use Rattle.boot_words.specs.declared.past.Past.{Past}
-use Rattle.boot_words.specs.Growth.{GrewByAll, SeesMore, changes_nothing}
-use Rattle.boot_words.specs.Pasts.{KnownPasts, own_past}
-use Rattle.boot_words.specs.Runs.{GrewBy, HasNoStepOf}
+use Rattle.boot_words.specs.{GrewByAll, SeesMore, changes_nothing, KnownPasts, own_past, GrewBy, HasNoStepOf}
 use Rattle.boot_words.proofs.Grown.{all_grew_both}
 use Rattle.boot_words.proofs.Ordered.{without_both, without_none}
 use Rattle.step_rules.specs.After.{Run}
-use Rattle.script_replay.specs.Answers.{MakesAlone}
-use Rattle.script_replay.specs.Visits.{GrewByChanges}
+use Rattle.script_replay.specs.{MakesAlone, GrewByChanges}
 
 -- ---- steps of others
 

@@ -4,7 +4,7 @@ use Rattle.std.specs.Prelude.{IfSome}
 use Rattle.std.specs.List.{AllZip}
 use Rattle.zone_blocks.specs.declared.config.Config.{Config}
 use Rattle.mem_system.specs.Commands.{NamesFrameBelow}
-use Rattle.mem_system.specs.declared.command.Cmd.{Cmd}
+use Rattle.mem_system.specs.declared.command.LockedCommand.{LockedCommand}
 use Rattle.script_lines.specs.declared.line.Command.{Command}
 use Rattle.script_lines.specs.declared.line.Command.TheVariants.{OnFrame}
 use Rattle.script_lines.specs.declared.line.FrameAct.TheVariants.{Owner}
@@ -12,8 +12,7 @@ use Rattle.script_lines.specs.declared.line.Line.{Line}
 use Rattle.script_lines.specs.declared.line.Line.TheVariants.{Go, At}
 use Rattle.script_lines.specs.Script.{IsCommandText, IsLineText, IsScript, asking_texts, texts_of}
 use Rattle.script_lines.specs.Verb.{Arguments, Frame, Group, IsNameWith, its_verb, name_of_verb, words_of_command}
-use Rattle.script_replay.specs.Commands.{cmd_of, head_named}
-use Rattle.script_replay.specs.Ranges.{ArgumentsInRange, CommandInRange, LineInRange}
+use Rattle.script_replay.specs.{locked_command_of, head_named, ArgumentsInRange, CommandInRange, LineInRange}
 
 -- what the command's text names is in range
 said_in_range : (sizes : Config) (name : List ℕ) (arguments : Arguments) (text : List ℕ) → IsNameWith sizes name arguments text
@@ -25,13 +24,13 @@ said_in_range sizes name arguments text is = tt
 named_in_range : (sizes : Config) (command : Command) (text : List ℕ) → IsCommandText sizes command text → CommandInRange sizes.frames command
 named_in_range sizes command text is = said_in_range sizes (name_of_verb (its_verb command)) (words_of_command command).1 text is
 
-named_below : (frames : ℕ) (command : Command) → CommandInRange frames command → IfSome (cmd_of command) (NamesFrameBelow frames)
+named_below : (frames : ℕ) (command : Command) → CommandInRange frames command → IfSome (locked_command_of command) (NamesFrameBelow frames)
 named_below frames (OnFrame Owner frame) named = named
 named_below frames command named = search rules
 
 -- and what the machine's command names is in the zone
-pub cmd_in_zone : (frames : ℕ) (command : Command) (cmd : Cmd) → cmd_of command ≡ Some cmd → CommandInRange frames command → NamesFrameBelow frames cmd
-cmd_in_zone frames command cmd is named = subst (λ (found : Option Cmd). IfSome found (NamesFrameBelow frames)) is (named_below frames command named)
+pub locked_command_in_zone : (frames : ℕ) (command : Command) (cmd : LockedCommand) → locked_command_of command ≡ Some cmd → CommandInRange frames command → NamesFrameBelow frames cmd
+locked_command_in_zone frames command cmd is named = subst (λ (found : Option LockedCommand). IfSome found (NamesFrameBelow frames)) is (named_below frames command named)
 
 -- a frame that has to be the head of a kept unit is one of the zone
 pub head_in_zone : (frames : ℕ) (command : Command) → CommandInRange frames command → IfSome (head_named command) (λ frame. frame < frames)

@@ -8,8 +8,7 @@ use Rattle.std.proofs.lemmas.List.{map-set}
 use Rattle.std.proofs.lemmas.Option.{slice_get-map}
 use Rattle.frame_word.specs.Seats.{KnownTable}
 use Rattle.step_rules.specs.After.{Run, IsLegalRun}
-use Rattle.mem_machine.specs.Agreeing.{AgreesWithRun}
-use Rattle.mem_machine.specs.Interleaving.{zone_of}
+use Rattle.mem_machine.specs.{AgreesWithRun, zone_of}
 use Rattle.mem_history.specs.Whole.{GoesOnTo, ShowsAll}
 use Rattle.mem_history.proofs.Along.{legal_front}
 use Rattle.mem_history.proofs.Promised.{the_whole_is_promised}
@@ -17,9 +16,8 @@ use Rattle.mem_system.specs.Cpus.{CpuInRun, parts_of}
 use Rattle.mem_system.specs.Visits.{transition, locked_state}
 use Rattle.script_lines.specs.declared.line.Line.{Line}
 use Rattle.script_lines.specs.declared.line.Line.TheVariants.{Go, At}
-use Rattle.script_replay.specs.Answers.{WritesCommand}
-use Rattle.script_replay.specs.History.{KeepsHistory, KeepsPromise, LegalLinesAreShown, LegalLinesKeepIt, past}
-use Rattle.script_replay.specs.Lines.{AtPart, ServesAll, ServesLine, SystemState, steps_of_served}
+use Rattle.script_replay.specs.{WritesCommand, KeepsHistory, KeepsPromise, LegalLinesAreShown, LegalLinesKeepIt, past, AtPart, ServesAll, ServesLine}
+use Rattle.script_replay.specs.{SystemState, steps_of_served}
 use Rattle.script_replay.specs.Terms.{Terms}
 use Rattle.script_replay.proofs.Following.{answer_follows}
 

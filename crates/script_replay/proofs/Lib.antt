@@ -15,5 +15,5 @@ pub mod UnderLock
 pub mod Visiting
 pub mod UnitTexts
 pub mod Owning
-pub mod Threads
+pub mod Workers
 pub mod Running

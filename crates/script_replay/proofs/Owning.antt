@@ -2,15 +2,13 @@
 -- `run_each`.
 use Rattle.std.proofs.Common.{Bool, false, ◌==◌, ◌≡◌, ℕ, ◌+◌, ◌<◌, ◌≤◌, List, [], ◌++◌, All, length, take, get_or, append-nil, refl, subst, sym}
 use Rattle.std.specs.Prelude.{MatchBool}
-use Rattle.mem_system.specs.Boots.{KnownSystem}
-use Rattle.mem_system.specs.Cpus.{CpuInRun}
+use Rattle.mem_system.specs.{KnownSystem, CpuInRun}
 use Rattle.step_rules.specs.After.{Run}
 use Rattle.script_lines.specs.declared.line.Command.{Command}
 use Rattle.script_lines.specs.declared.line.Line.{Line}
 use Rattle.script_lines.specs.declared.line.Line.TheVariants.{Go, At}
-use Rattle.script_replay.specs.Numbers.{SaysNumbered}
-use Rattle.script_replay.specs.Ranges.{LineInRange}
-use Rattle.script_replay.specs.Own.{LineCommandInRange, ServesOwn, ServesOwnBySteps, ServesOwnLine, TellsCommand, ToldCpu, told_cpu, worker}
+use Rattle.script_replay.specs.{SaysNumbered, LineInRange, LineCommandInRange, ServesOwn, ServesOwnBySteps, ServesOwnLine, TellsCommand, ToldCpu}
+use Rattle.script_replay.specs.{told_cpu, worker}
 use Rattle.script_replay.proofs.InOrder.{in_order_end, in_order_line}
 use Rattle.script_replay.proofs.Growing.{all_grew, grew_both}
 

@@ -1,24 +1,20 @@
--- What a command says as a value. Serves `value_calls`.
+-- What a command says as a value. Serves `calls`.
 use Rattle.std.proofs.Common.{◌≡◌, ◌-◌, ℕ, false, Some, List, [], append-nil, arith, get_or, refl, sym}
 use Rattle.std.specs.Prelude.{length, slice_set}
 use Rattle.std.specs.List.{slice_get}
 use Rattle.std.proofs.lemmas.Option.{slice_get_read}
 use Rattle.frame_word.specs.Seats.{KnownTable}
-use Rattle.mem_system.specs.Cpus.{CpuInRun}
-use Rattle.mem_system.specs.Locked.{IsSound, KnownLocked}
-use Rattle.mem_system.specs.Visits.{LockedState, Transition, locked_state, transition}
+use Rattle.mem_system.specs.{CpuInRun, IsSound, KnownLocked, LockedState, locked_state}
+use Rattle.mem_system.specs.Visits.{Transition, transition}
 use Rattle.reply_texts.specs.LineAnswer.{LineAnswer}
 use Rattle.reply_texts.specs.LineAnswer as answer
 use Rattle.reply_texts.specs.Answers.{answer_text}
 use Rattle.script_lines.specs.declared.line.Command.{Command}
 use Rattle.script_lines.specs.declared.line.Command.TheVariants.{Settle, Blocks, Show, Stock, Units}
 use Rattle.script_lines.specs.declared.line.Line.TheVariants.{At}
-use Rattle.script_replay.specs.Answers.{AnswersCommand, IsAnswerText, IsSettledText, ServesAnswer, WritesCommand}
-use Rattle.script_replay.specs.Commands.{HasValueAnswer, OnlySettles}
-use Rattle.script_replay.specs.Lines.{ServesLine, SystemState, system_state}
-use Rattle.script_replay.specs.Ranges.{CpuCommandInRange}
-use Rattle.script_replay.specs.Terms.{Terms, terms}
-use Rattle.script_replay.specs.ValueAnswers.{SaysCommand}
+use Rattle.script_replay.specs.{AnswersCommand, IsAnswerText, IsSettledText, ServesAnswer, WritesCommand, HasValueAnswer, OnlySettles, ServesLine}
+use Rattle.script_replay.specs.{SystemState, system_state, CpuCommandInRange, terms, SaysCommand}
+use Rattle.script_replay.specs.Terms.{Terms}
 use Rattle.script_replay.proofs.Gaining.{part_goes_on}
 
 -- ---- the text of what is said

@@ -20,10 +20,9 @@ use Rattle.script_lines.specs.declared.line.Command.{Command}
 use Rattle.script_lines.specs.declared.line.Command.TheVariants as command
 use Rattle.script_lines.specs.declared.line.Line.{Line}
 use Rattle.script_lines.specs.declared.line.Line.TheVariants.{Go, At}
-use Rattle.script_replay.specs.Answers.{AnswersCommand, AnswersUnlocked, IsServedUnderLock, OnlySaw, WritesCommand}
+use Rattle.script_replay.specs.{AnswersCommand, AnswersUnlocked, IsServedUnderLock, OnlySaw, WritesCommand, ReplaysLegally, SystemState, ServesAll}
+use Rattle.script_replay.specs.{WritesLine, steps_of_served}
 use Rattle.script_replay.proofs.Gaining.{saw_none}
-use Rattle.script_replay.specs.History.{ReplaysLegally}
-use Rattle.script_replay.specs.Lines.{SystemState, ServesAll, WritesLine, steps_of_served}
 use Rattle.script_replay.specs.Terms.{Terms}
 use Rattle.script_replay.proofs.Keeping.{legal_lines_keep_it}
 

@@ -11,9 +11,8 @@ use Rattle.cpu_part.specs.declared.answers.Fast.TheVariants.{FreshFull, ListEmpt
 use Rattle.mem_machine.specs.Machines.{KnownMachine}
 use Rattle.boot_words.specs.Pasts.{own_past}
 use Rattle.boot_words.proofs.Gaining.{gains_both}
-use Rattle.mem_system.specs.Cpus.{CpuInRun}
-use Rattle.mem_system.specs.Locked.{KnownLocked}
-use Rattle.mem_system.specs.Visits.{LockedState, Transition, locked_state, transition}
+use Rattle.mem_system.specs.{CpuInRun, KnownLocked, LockedState, locked_state}
+use Rattle.mem_system.specs.Visits.{Transition, transition}
 use Rattle.reply_texts.specs.LineAnswer.{LineAnswer}
 use Rattle.reply_texts.specs.LineAnswer as answer
 use Rattle.reply_texts.specs.Answers.{answer_text}
@@ -24,12 +23,11 @@ use Rattle.script_lines.specs.declared.line.Command.TheVariants.{Alloc, Fast, Ge
 use Rattle.step_rules.specs.After.{Run}
 use Rattle.script_replay.specs.declared.answer_value.AnswerValue.{AnswerValue}
 use Rattle.script_replay.specs.declared.answer_value.AnswerValue.TheVariants as value
-use Rattle.script_replay.specs.Answers.{AddsText, AnswersAlone, AnswersLocked, Gains, OnlySaw, AnswersCommand, AnswersUnlocked, IsAnswerText, IsSettledText, IsTriedInVain, NeedsLock}
-use Rattle.script_replay.specs.Answers.{OnlyWatched, ServesAnswer, ServesUnderLock, TakesNoLock, explanation_if, is_noted, steps_alone}
-use Rattle.script_replay.specs.Commands.{OnlySettles, cmd_of, frame_path, head_named, is_tried, path_removed}
-use Rattle.script_replay.specs.Reasons.{borrower_of, fault_in, refusal_reason_text, reasoned_text}
+use Rattle.script_replay.specs.{AddsText, AnswersAlone, AnswersLocked, Gains, OnlySaw, AnswersCommand, AnswersUnlocked, IsAnswerText, IsSettledText}
+use Rattle.script_replay.specs.{IsTriedInVain, NeedsLock, OnlyWatched, ServesAnswer, ServesUnderLock, TakesNoLock, explanation_if, is_noted}
+use Rattle.script_replay.specs.{steps_alone, OnlySettles, locked_command_of, frame_path, head_named, is_tried, path_removed, borrower_of, fault_in}
+use Rattle.script_replay.specs.{refusal_reason_text, reasoned_text, answer_of}
 use Rattle.script_replay.specs.Terms.{Terms}
-use Rattle.script_replay.specs.ValueAnswers.{answer_of}
 use Rattle.script_replay.proofs.Gaining.{saw_both, watched_gains, watched_saw}
 
 -- ---- served
@@ -83,7 +81,7 @@ none_got n g NoStock before after none gains = gains
 none_got n g (Got f) before after none gains = absurd (none f refl)
 
 -- a command that isn't one under the lock, and needs the lock, only settles its CPU
-pub only_settles : (command : Command) (c d : CpuInRun) → cmd_of command ≡ None → NeedsLock command c d → OnlySettles command
+pub only_settles : (command : Command) (c d : CpuInRun) → locked_command_of command ≡ None → NeedsLock command c d → OnlySettles command
 only_settles (Fast group) c d none is = absurd is
 only_settles (Get frame) c d none is = absurd is
 only_settles (Put frame) c d none is = absurd is

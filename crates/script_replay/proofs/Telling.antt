@@ -2,8 +2,7 @@
 use Rattle.std.proofs.Common.{◌≡◌, ◌++◌, true, List, [], ℕ, Result, Ok, Err, IfOk, IfErr, append-nil, refl, subst, sym}
 use Rattle.std.specs.declared.string.String.{String}
 use Rattle.std.specs.String.{string_bytes}
-use Rattle.script_replay.specs.Answers.{AddsText}
-use Rattle.script_replay.specs.Numbers.{SaysNumbered, numbered_text}
+use Rattle.script_replay.specs.{AddsText, SaysNumbered, numbered_text}
 
 -- what holds, holds if there is an error
 pub at_error : {T E : Type 0} (r : Result T E) (P : Type 0) → P → IfErr r (λ _. P)

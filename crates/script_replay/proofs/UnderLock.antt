@@ -1,31 +1,25 @@
 -- A command between the Lock and the Unlock that the watch takes. Serves `serve_under_lock`, `serve_frame_under_lock`.
 use Rattle.std.proofs.Common.{◌≡◌, ◌≢◌, ℕ, ◌++◌, Bool, [], ◌∷◌, ap, inr, refl, subst, sym}
 use Rattle.std.specs.Prelude.{◌⊎◌}
-use Rattle.boot_words.specs.Rule.{AllOf}
-use Rattle.boot_words.specs.Pasts.{own_past}
-use Rattle.boot_words.specs.Growth.{GrewByAll, changes_of}
+use Rattle.boot_words.specs.{AllOf, own_past, GrewByAll, changes_of}
 use Rattle.boot_words.proofs.Gaining.{of_two_seats, visit_gains}
 use Rattle.frame_word.specs.Seats.{KnownTable}
 use Rattle.group_charge.specs.Charges.{Ledger}
 use Rattle.step_rules.specs.declared.step.Step.{Step}
 use Rattle.step_rules.specs.declared.step.Answer.{Answer}
 use Rattle.step_rules.specs.State.{State}
-use Rattle.step_rules.specs.After.{Run, after}
-use Rattle.step_rules.specs.Reaches.{IsLocalRun}
+use Rattle.step_rules.specs.{Run, after, IsLocalRun}
 use Rattle.step_rules.specs.declared.step.Action.TheVariants.{Lock, Unlock}
 use Rattle.step_rules.specs.declared.step.Answer.TheVariants as step_answer
 use Rattle.mem_machine.specs.Steps.{cpu_makes}
 use Rattle.mem_history.specs.Whole.{under_lock}
-use Rattle.mem_system.specs.declared.command.Cmd.{Cmd}
-use Rattle.mem_system.specs.declared.command.Reply.{Reply}
-use Rattle.mem_system.specs.Cpus.{CpuInRun}
-use Rattle.mem_system.specs.Locked.{KnownLocked}
-use Rattle.mem_system.specs.Visits.{IsServed, locked_state}
+use Rattle.mem_system.specs.declared.command.LockedCommand.{LockedCommand}
+use Rattle.mem_system.specs.declared.command.ReplyWithText.{ReplyWithText}
+use Rattle.mem_system.specs.{CpuInRun, KnownLocked, IsServed, locked_state}
 use Rattle.reply_texts.specs.LineAnswer.{LineAnswer}
 use Rattle.script_lines.specs.declared.line.Command.{Command}
 use Rattle.script_replay.specs.declared.answer_value.AnswerValue.{AnswerValue}
-use Rattle.script_replay.specs.Answers.{AnswersLocked, Gains, OnlyWatched, ServesUnderLock, locked_with_unit_notes}
-use Rattle.script_replay.specs.ValueAnswers.{NamesItsGroups, answer_of}
+use Rattle.script_replay.specs.{AnswersLocked, Gains, OnlyWatched, ServesUnderLock, locked_with_unit_notes, NamesItsGroups, answer_of}
 
 -- ---- the seats of the steps under the lock
 
@@ -50,7 +44,7 @@ module _ (t : KnownTable) (is_explained : Bool) (command : Command) (before foun
     (in_run : (own_past c.past).number ≡ c.part.number) (zone : (own_past before.machine.run.past).number ≡ 0)
     (lock : OnlyWatched (cpu_makes number Lock step_answer.Done ∷ []) (locked_with_unit_notes before is_explained) found) (unlock : OnlyWatched (cpu_makes number Unlock step_answer.Done ∷ []) left after) where
   -- the zone's past and the CPU's gained the steps, which the watch took
-  visit_made : (asked : Cmd) (reply : Reply) → (served : IsServed t asked reply (locked_state found c) (locked_state left d))
+  visit_made : (asked : LockedCommand) (reply : ReplyWithText) → (served : IsServed t asked reply (locked_state found c) (locked_state left d))
       → Gains (under_lock c.part.number served.steps) (locked_state before c) (locked_state after d)
   visit_made asked reply served =
       let p = c.part.number in

@@ -4,10 +4,8 @@ use Rattle.std.specs.declared.string.String.{String}
 use Rattle.std.specs.String.{string_bytes}
 use Rattle.frame_word.specs.Seats.{KnownTable}
 use Rattle.machine_texts.specs.Units.{ReadsUnits, units_text}
-use Rattle.mem_machine.specs.Machines.{KnownMachine}
-use Rattle.mem_machine.specs.Showing.{units_in}
-use Rattle.mem_system.specs.Locked.{KnownLocked}
-use Rattle.mem_system.specs.Shown.{UnitsAt}
+use Rattle.mem_machine.specs.{KnownMachine, units_in}
+use Rattle.mem_system.specs.{KnownLocked, UnitsAt}
 use Rattle.script_replay.specs.Answers.{AddsText}
 use Rattle.script_replay.proofs.Telling.{at_ok}
 

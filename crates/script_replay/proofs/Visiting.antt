@@ -1,16 +1,13 @@
--- What lines were answered by visits. Serves `visit_answers`, `visit_replay`.
+-- What lines were answered by visits. Serves `visits`.
 use Rattle.std.proofs.Common.{Result, ◌≡◌, ℕ, zero, ◌+◌, ◌-◌, ◌<◌, false, Option, Some, None, List, [], ◌++◌, length, take, get_or, inl, inr, refl, sym, subst, arith}
 use Rattle.std.specs.Prelude.{IfNone, IfSome, slice_set}
 use Rattle.std.specs.declared.string.String.{String}
 use Rattle.std.proofs.lemmas.Option.{none-some, slice_get_read}
 use Rattle.frame_word.specs.Seats.{KnownTable}
 use Rattle.step_rules.specs.After.{Run}
-use Rattle.mem_system.specs.Cpus.{CpuInRun, between_locks}
-use Rattle.mem_system.specs.declared.command.Cmd.{Cmd}
-use Rattle.mem_system.specs.declared.command.Reply.{Reply}
-use Rattle.mem_system.specs.Boots.{KnownSystem}
-use Rattle.mem_system.specs.Locked.{IsSound, KnownLocked}
-use Rattle.mem_system.specs.Visits.{IsServed, locked_state}
+use Rattle.mem_system.specs.{CpuInRun, between_locks, KnownSystem, IsSound, KnownLocked, IsServed, locked_state}
+use Rattle.mem_system.specs.declared.command.LockedCommand.{LockedCommand}
+use Rattle.mem_system.specs.declared.command.ReplyWithText.{ReplyWithText}
 use Rattle.reply_texts.specs.Answers.{unlocked_text}
 use Rattle.reply_texts.specs.LineAnswer.{LineAnswer}
 use Rattle.reply_texts.specs.declared.steps.UnlockedAnswer.{UnlockedAnswer}
@@ -18,20 +15,17 @@ use Rattle.script_lines.specs.declared.line.Command.{Command}
 use Rattle.script_lines.specs.declared.line.Command.TheVariants.{Alloc}
 use Rattle.script_lines.specs.declared.line.Line.{Line}
 use Rattle.script_lines.specs.declared.line.Line.TheVariants.{At}
-use Rattle.script_replay.specs.Answers.{AddsText, AnswersAlone, AnswersLocked, IsAnswerText, MakesAlone, NeedsLock, steps_alone, steps_tried}
-use Rattle.script_replay.specs.Commands.{OnlySettles, cmd_of, frame_path, is_tried}
-use Rattle.script_replay.specs.Visits.{AnswersAloneBySteps, AnswersWithoutVisit, GrewByChanges, NeedsVisit, ServesByVisits, TriesInVain, WritesByVisit}
-use Rattle.script_replay.specs.Visits.{VisitsLine, VisitsAll}
-use Rattle.script_replay.specs.Lines.{StopsAt}
+use Rattle.script_replay.specs.{AddsText, AnswersAlone, AnswersLocked, IsAnswerText, MakesAlone, NeedsLock, steps_alone, steps_tried, OnlySettles}
+use Rattle.script_replay.specs.{locked_command_of, frame_path, is_tried, AnswersAloneBySteps, AnswersWithoutVisit, GrewByChanges, NeedsVisit}
+use Rattle.script_replay.specs.{ServesByVisits, TriesInVain, WritesByVisit, VisitsLine, VisitsAll, StopsAt, LineInRange}
 use Rattle.script_replay.proofs.Growing.{all_grew, alone_grew, grew_both}
 use Rattle.script_replay.proofs.InOrder.{in_order_line}
 use Rattle.script_replay.proofs.Serving.{only_settles, untried}
-use Rattle.script_replay.specs.Ranges.{LineInRange}
 
 -- ---- the steps
 
 -- a visit in which a command was served
-pub served_grew : (t : KnownTable) (cmd : Cmd) (reply : Reply) (l m : KnownLocked) (c d : CpuInRun)
+pub served_grew : (t : KnownTable) (cmd : LockedCommand) (reply : ReplyWithText) (l m : KnownLocked) (c d : CpuInRun)
     → (is : IsServed t cmd reply (locked_state l c) (locked_state m d)) → GrewByChanges c.past (between_locks c.part.number is.steps) d.past
 served_grew t cmd reply l m c d is = all_grew c.past (between_locks c.part.number is.steps) d.past is.run.cpu_grew
 
@@ -100,8 +94,8 @@ visit_written on command l m c d answer text sized before answers left told = (
   },
 )
 
--- a command without a `Cmd` that needs a visit only settles its CPU
-pub visit_settles : (on : KnownSystem) (command : Command) (c seen : CpuInRun) → TriesInVain on command c seen → cmd_of command ≡ None
+-- a command without a `LockedCommand` that needs a visit only settles its CPU
+pub visit_settles : (on : KnownSystem) (command : Command) (c seen : CpuInRun) → TriesInVain on command c seen → locked_command_of command ≡ None
     → OnlySettles command
 visit_settles on (Alloc path order) c seen tried none = absurd (none-some _ (sym none))
 visit_settles on command c seen tried none = only_settles command c seen none tried.0

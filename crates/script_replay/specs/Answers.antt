@@ -7,46 +7,35 @@ use Rattle.std.specs.declared.string.String.{String}
 use Rattle.std.specs.String.{string_bytes}
 use Rattle.frame_word.specs.declared.answers.Get.TheVariants.{Held}
 use Rattle.frame_word.specs.Seats.{KnownTable}
-use Rattle.boot_words.specs.Rule.{AllOf}
-use Rattle.boot_words.specs.Pasts.{KnownPasts, own_past}
-use Rattle.boot_words.specs.Growth.{AreChangesOf, GainsSteps, GrewByAll}
+use Rattle.boot_words.specs.{AllOf, KnownPasts, own_past, AreChangesOf, GainsSteps, GrewByAll}
 use Rattle.group_tree.specs.Groups.{number_at}
 use Rattle.group_tree.specs.declared.fault.Fault.TheVariants.{NoGroup, PinsFull, NotPinned}
 use Rattle.step_rules.specs.State.{times}
 use Rattle.cpu_part.specs.declared.answers.Fast.{Fast as FastAnswer}
 use Rattle.cpu_part.specs.declared.answers.Fast.TheVariants.{Got}
 use Rattle.cpu_part.specs.declared.answers.Dropped.TheVariants as dropped
-use Rattle.cpu_part.specs.Cpus.{most_pins}
-use Rattle.cpu_part.specs.Calls.{FastAnswers, DropAnswers, PinAnswers, StaysSo, UnpinAnswers}
+use Rattle.cpu_part.specs.{most_pins, FastAnswers, DropAnswers, PinAnswers, StaysSo, UnpinAnswers}
 use Rattle.step_rules.specs.declared.step.Action.TheVariants as step
 use Rattle.step_rules.specs.declared.step.Answer.TheVariants as step_answer
 use Rattle.step_rules.specs.After.{Run}
 use Rattle.step_watch.specs.Watched.{KnownWatch, Watches}
-use Rattle.machine_texts.specs.Explanation.{explanation_text}
-use Rattle.machine_texts.specs.Blocks.{blocks_text}
-use Rattle.machine_texts.specs.Show.{show_text}
-use Rattle.machine_texts.specs.Stock.{stock_line_text}
-use Rattle.mem_machine.specs.Machines.{KnownMachine, left_by, with_run, with_unit_notes, with_watch}
-use Rattle.mem_machine.specs.Noted.{KnownRun}
+use Rattle.machine_texts.specs.{explanation_text, blocks_text, show_text, stock_line_text}
+use Rattle.mem_machine.specs.{KnownMachine, left_by, with_run, with_unit_notes, with_watch, KnownRun}
 use Rattle.mem_machine.specs.Steps.{cpu_makes}
-use Rattle.mem_history.specs.Whole.{under_lock}
-use Rattle.mem_history.specs.Leading.{put_answer}
-use Rattle.mem_system.specs.declared.command.Cmd.{Cmd}
-use Rattle.mem_system.specs.declared.command.Cmd.TheVariants as cmd
-use Rattle.mem_system.specs.declared.command.Reply.{Reply}
-use Rattle.mem_system.specs.Cpus.{CpuInRun}
-use Rattle.mem_system.specs.Locked.{KnownLocked}
-use Rattle.mem_system.specs.Shown.{UnitsAt}
-use Rattle.mem_system.specs.Visits.{Transition, transition, LockedState, locked_state, IsServed}
+use Rattle.mem_history.specs.{under_lock, put_answer}
+use Rattle.mem_system.specs.declared.command.LockedCommand.{LockedCommand}
+use Rattle.mem_system.specs.declared.command.LockedCommand.TheVariants as cmd
+use Rattle.mem_system.specs.declared.command.ReplyWithText.{ReplyWithText}
+use Rattle.mem_system.specs.{CpuInRun, KnownLocked, UnitsAt, LockedState, locked_state, IsServed}
+use Rattle.mem_system.specs.Visits.{Transition, transition}
 use Rattle.reply_texts.specs.LineAnswer.{LineAnswer}
 use Rattle.reply_texts.specs.LineAnswer as answer
 use Rattle.reply_texts.specs.Answers.{answer_text}
 use Rattle.reply_texts.specs.declared.steps.UnlockedAnswer.{UnlockedAnswer}
 use Rattle.reply_texts.specs.declared.steps.UnlockedAnswer.TheVariants as unlocked
 use Rattle.script_lines.specs.declared.line.Command.{Command}
-use Rattle.script_lines.specs.declared.line.Command.TheVariants.{Alloc, Fast, Release, Get, Put, Settle}
-use Rattle.script_lines.specs.declared.line.Command.TheVariants.{Blocks, Show, Stock, Units}
-use Rattle.script_replay.specs.Commands.{OnlySettles, cmd_of, head_named, path_removed}
+use Rattle.script_lines.specs.declared.line.Command.TheVariants.{Alloc, Fast, Release, Get, Put, Settle, Blocks, Show, Stock, Units}
+use Rattle.script_replay.specs.Commands.{OnlySettles, locked_command_of, head_named, path_removed}
 use Rattle.script_replay.specs.Reasons.{borrower_of, reasoned_text}
 use Rattle.script_replay.specs.Terms.{Terms}
 
@@ -207,17 +196,18 @@ AnswersUnlocked command call answer =
 
 -- ---- under the lock
 
--- what a command is answered that is served under the lock: the reply to its `Cmd`, or that its CPU was only settled
-abbrev pub IsAnswerOf : Command → (asked : Cmd) (reply : Reply) → LineAnswer → Type 0
-IsAnswerOf command asked reply (answer.Served said) = (cmd_of command ≡ Some asked) × (said ≡ reply)
+-- what a command is answered that is served under the lock: the reply to its `LockedCommand`, or that its CPU was only
+-- settled
+abbrev pub IsAnswerOf : Command → (asked : LockedCommand) (reply : ReplyWithText) → LineAnswer → Type 0
+IsAnswerOf command asked reply (answer.Served said) = (locked_command_of command ≡ Some asked) × (said ≡ reply)
 IsAnswerOf command asked reply answer.Settled = OnlySettles command × (asked ≡ cmd.Settle)
 IsAnswerOf command asked reply (answer.Unlocked said) = ⊥
 
 -- the command was served under the lock with this answer
 pub record AnswersLocked (table : KnownTable) (command : Command) (answer : LineAnswer) (before after : LockedState)
     : Type 0 where
-  pub asked : Cmd
-  pub reply : Reply
+  pub asked : LockedCommand
+  pub reply : ReplyWithText
   pub is_answer : IsAnswerOf command asked reply answer
   pub served : IsServed table asked reply before after
 
@@ -252,8 +242,8 @@ IsTriedInVain (Alloc path zero) before seen = GetsNoneFast path.now before seen
 IsTriedInVain command before seen = NeedsLock command before.cpu seen
 
 -- the command was tried in vain without the lock, which left `seen`, and then served under it
-pub record RepliesServed (is_explained : Bool) (command : Command) (reply : Reply) (call : Transition LockedState)
-    : Type 0 where
+pub record RepliesServed (is_explained : Bool) (command : Command) (reply : ReplyWithText)
+    (call : Transition LockedState) : Type 0 where
   pub seen : LockedState
   pub tried : IsTriedInVain command call.before seen.cpu
   pub only_saw : OnlySaw call.table [] call.before.locked seen.locked

@@ -1,8 +1,8 @@
 -- What a command of a script is under the lock, and what it names.
 use Rattle.std.specs.Prelude.{ℕ, zero, Bool, true, false, List, [], Option, Some, None}
 use Rattle.std.specs.Borrow.{Bor}
-use Rattle.mem_system.specs.declared.command.Cmd.{Cmd}
-use Rattle.mem_system.specs.declared.command.Cmd.TheVariants as cmd
+use Rattle.mem_system.specs.declared.command.LockedCommand.{LockedCommand}
+use Rattle.mem_system.specs.declared.command.LockedCommand.TheVariants as cmd
 use Rattle.script_lines.specs.declared.line.Command.{Command}
 use Rattle.script_lines.specs.declared.line.Command.TheVariants.{Mkdir, Rmdir, Write, Read, Alloc, Fast, Release, Get, Put}
 use Rattle.script_lines.specs.declared.line.Command.TheVariants.{OnFrame, Settle, Blocks, Show, Stock, Units}
@@ -10,7 +10,7 @@ use Rattle.script_lines.specs.declared.line.FrameAct.{FrameAct}
 use Rattle.script_lines.specs.declared.line.FrameAct.TheVariants.{Touch, Dirty, Clean, Owner}
 
 -- the command that is this act on this frame
-abbrev pub act_on : FrameAct → ℕ → Cmd
+abbrev pub act_on : FrameAct → ℕ → LockedCommand
 act_on Touch frame = cmd.Touch frame
 act_on Dirty frame = cmd.Dirty frame
 act_on Clean frame = cmd.Clean frame
@@ -18,15 +18,15 @@ act_on Owner frame = cmd.Owner frame
 
 -- The command of the machine that is served under the lock, and whose reply is the answer. An Alloc of a single frame
 -- and a Release are tried without the lock before. All others need no lock, or only settle their CPU.
-abbrev pub cmd_of : Command → Option Cmd
-cmd_of (Mkdir path) = Some (cmd.Mkdir path)
-cmd_of (Rmdir path) = Some (cmd.Rmdir path)
-cmd_of (Write path file value) = Some (cmd.Write path file value)
-cmd_of (Read path file) = Some (cmd.Read path file)
-cmd_of (Alloc path order) = Some (cmd.Alloc path order)
-cmd_of (Release frame) = Some (cmd.Release frame)
-cmd_of (OnFrame act frame) = Some (act_on act frame)
-cmd_of other = None
+abbrev pub locked_command_of : Command → Option LockedCommand
+locked_command_of (Mkdir path) = Some (cmd.Mkdir path)
+locked_command_of (Rmdir path) = Some (cmd.Rmdir path)
+locked_command_of (Write path file value) = Some (cmd.Write path file value)
+locked_command_of (Read path file) = Some (cmd.Read path file)
+locked_command_of (Alloc path order) = Some (cmd.Alloc path order)
+locked_command_of (Release frame) = Some (cmd.Release frame)
+locked_command_of (OnFrame act frame) = Some (act_on act frame)
+locked_command_of other = None
 
 -- the command is tried without the lock, whatever lies behind the lock
 abbrev pub is_tried : Command → Bool

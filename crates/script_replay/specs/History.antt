@@ -1,22 +1,18 @@
 -- The history of lines: what their steps are, and what holds after each line.
-use Rattle.std.specs.Prelude.{◌≡◌, ℕ, ◌-◌, true, false, List, [], ◌∷◌, ◌++◌, Result, Vec, IfErr, IfOk, OnErr}
-use Rattle.std.specs.Prelude.{get_or, take, ⊤}
+use Rattle.std.specs.Prelude.{◌≡◌, ℕ, ◌-◌, true, false, List, [], ◌∷◌, ◌++◌, Result, Vec, IfErr, IfOk, OnErr, get_or, take, ⊤}
 use Rattle.frame_word.specs.Seats.{KnownTable}
 use Rattle.step_rules.specs.After.{Run, IsLegalRun}
 use Rattle.step_rules.specs.Promise.{Promise}
 use Rattle.step_watch.specs.Watched.{IsNewWatch, SawRun, has_legal_steps}
-use Rattle.mem_machine.specs.Interleaving.{zone_of}
-use Rattle.mem_machine.specs.Agreeing.{AgreesWithRun}
-use Rattle.mem_history.specs.Whole.{GoesOnTo, ShowsAll}
-use Rattle.mem_history.specs.Kept.{shown_of}
+use Rattle.mem_machine.specs.{zone_of, AgreesWithRun}
+use Rattle.mem_history.specs.{GoesOnTo, ShowsAll, shown_of}
 use Rattle.mem_system.specs.Cpus.{parts_of}
 use Rattle.mem_system.specs.Visits.{transition}
 use Rattle.script_lines.specs.declared.line.Line.{Line}
 use Rattle.script_lines.specs.declared.line.Line.TheVariants.{Go}
-use Rattle.script_replay.specs.declared.owned_replay.Stopped.{Stopped}
-use Rattle.script_replay.specs.declared.owned_replay.Stopped.TheVariants.{NoMemory, NotLegal}
-use Rattle.script_replay.specs.Lines.{SystemState, RunGoesOn, ServesAll, ServesLine, StopsAt, WritesLineOnTerms}
-use Rattle.script_replay.specs.Lines.{number_in_script, steps_of_served}
+use Rattle.script_replay.specs.declared.replays.Stopped.{Stopped}
+use Rattle.script_replay.specs.declared.replays.Stopped.TheVariants.{NoMemory, NotLegal}
+use Rattle.script_replay.specs.Lines.{SystemState, RunGoesOn, ServesAll, ServesLine, StopsAt, WritesLineOnTerms, number_in_script, steps_of_served}
 use Rattle.script_replay.specs.Terms.{Terms}
 
 -- ---- the history

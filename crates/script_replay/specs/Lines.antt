@@ -1,12 +1,10 @@
 -- What lines do, one after the other. As with commands, `Writes..` relates a transition to a text, and `Serves..` does
 -- so by some steps.
 use Rattle.std.specs.Prelude.{◌≡◌, ℕ, Bool, ◌-◌, ◌≤◌, List, [], ◌∷◌, ◌++◌, Some, length, slice_get, slice_set, take}
-use Rattle.boot_words.specs.Pasts.{own_past}
-use Rattle.boot_words.specs.Growth.{IsRunSoFar}
+use Rattle.boot_words.specs.{own_past, IsRunSoFar}
 use Rattle.step_rules.specs.After.{Run}
-use Rattle.mem_system.specs.Cpus.{CpuInRun, pasts_of}
-use Rattle.mem_system.specs.Locked.{IsSound, KnownLocked}
-use Rattle.mem_system.specs.Visits.{Transition, transition, locked_state}
+use Rattle.mem_system.specs.{CpuInRun, pasts_of, IsSound, KnownLocked, locked_state}
+use Rattle.mem_system.specs.Visits.{Transition, transition}
 use Rattle.script_lines.specs.declared.line.Line.{Line}
 use Rattle.script_lines.specs.declared.line.Line.TheVariants.{Go, At}
 use Rattle.script_replay.specs.Terms.{Terms}

@@ -3,7 +3,7 @@ use Rattle.std.specs.Prelude.{◌≡◌, ℕ, Bool, false, true, List, ◌++◌,
 use Rattle.std.specs.List.{flat_map}
 use Rattle.std.specs.Str.Lines.{lines}
 
--- a line behind the number
+-- a line after the number
 abbrev pub numbered_line : ℕ → List ℕ → List ℕ
 numbered_line number line = decimal number ++ (codes ": " ++ (line ++ codes "\n"))
 

@@ -3,11 +3,10 @@ use Rattle.std.specs.Prelude.{ℕ, Bool, true, false, List, [], ◌++◌, Option
 use Rattle.group_tree.specs.declared.fault.Fault.{Fault}
 use Rattle.group_tree.specs.declared.fault.Fault.TheVariants as fault
 use Rattle.machine_texts.specs.Refused.{refused_text}
-use Rattle.mem_machine.specs.FrameStates.{frame_state_at, place_of}
-use Rattle.mem_machine.specs.Machines.{KnownMachine}
+use Rattle.mem_machine.specs.{frame_state_at, place_of, KnownMachine}
 use Rattle.mem_machine.specs.declared.frame_state.Place.{Place}
 use Rattle.mem_machine.specs.declared.frame_state.Place.TheVariants as place
-use Rattle.mem_system.specs.declared.command.Reply.TheVariants.{OverLimit, Refused}
+use Rattle.mem_system.specs.declared.command.ReplyWithText.TheVariants.{OverLimit, Refused}
 use Rattle.reply_texts.specs.LineAnswer.{LineAnswer}
 use Rattle.reply_texts.specs.LineAnswer as answer
 use Rattle.reply_texts.specs.Answers.{answer_text}

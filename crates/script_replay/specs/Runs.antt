@@ -1,12 +1,11 @@
 -- The lines before `go`, and those from it on.
 use Rattle.std.specs.Prelude.{◌≡◌, ℕ, ◌+◌, false, List, [], ◌∷◌, ◌++◌, take, drop}
-use Rattle.mem_system.specs.Cpus.{CpuInRun}
+use Rattle.mem_system.specs.{CpuInRun, KnownSystem}
 use Rattle.step_rules.specs.After.{Run}
 use Rattle.script_lines.specs.declared.line.Line.{Line}
 use Rattle.script_lines.specs.declared.line.Line.TheVariants.{Go, At}
-use Rattle.mem_system.specs.Boots.{KnownSystem}
 use Rattle.script_replay.specs.Visits.{VisitsAll}
-use Rattle.script_replay.specs.Each.{AreAllAnswers, workers_from}
+use Rattle.script_replay.specs.Threads.{AreAllAnswers, workers_from}
 
 -- the place of the first `go`, if the lines begin at `place`; `last` if there is no `go`
 abbrev pub go_or : ℕ → ℕ → List Line → ℕ

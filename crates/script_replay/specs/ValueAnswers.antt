@@ -2,8 +2,7 @@
 use Rattle.std.specs.Prelude.{ℕ, false, [], ◌∷◌}
 use Rattle.group_charge.specs.Charges.{Ledger}
 use Rattle.frame_word.specs.Seats.{KnownTable}
-use Rattle.mem_system.specs.Outcomes.{HasItsGroups, reply_of}
-use Rattle.mem_system.specs.Visits.{locked_state}
+use Rattle.mem_system.specs.{HasItsGroups, reply_of, locked_state}
 use Rattle.reply_texts.specs.LineAnswer.{LineAnswer}
 use Rattle.reply_texts.specs.LineAnswer as answer
 use Rattle.reply_texts.specs.Answers.{answer_text}

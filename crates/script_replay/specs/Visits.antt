@@ -3,16 +3,12 @@
 -- and what is written of it are what they are by value (`AnswersLocked`, `IsAnswerText`). Each relation says by which
 -- steps: the CPU's past shows where they are in the run.
 use Rattle.std.specs.Prelude.{◌≡◌, ◌⊎◌, ℕ, zero, false, List, [], None}
-use Rattle.boot_words.specs.Pasts.{KnownPasts, own_past}
-use Rattle.boot_words.specs.Growth.{AreChangesOf, GrewByAll, SeesMore}
+use Rattle.boot_words.specs.{KnownPasts, own_past, AreChangesOf, GrewByAll, SeesMore}
 use Rattle.boot_words.specs.declared.past.Past.{Past}
 use Rattle.cpu_part.specs.declared.answers.Fast.TheVariants.{Got}
-use Rattle.mem_system.specs.Cpus.{CpuInRun, between_locks}
+use Rattle.mem_system.specs.{CpuInRun, between_locks, KnownSystem, SeenBehindLock, LockedState, locked_state, IsVisited}
 use Rattle.group_tree.specs.Groups.{number_at}
 use Rattle.group_tree.specs.declared.fault.Fault.TheVariants.{NoGroup}
-use Rattle.mem_system.specs.Boots.{KnownSystem}
-use Rattle.mem_system.specs.Locked.{SeenBehindLock}
-use Rattle.mem_system.specs.Visits.{LockedState, locked_state, IsVisited}
 use Rattle.reply_texts.specs.LineAnswer.{LineAnswer}
 use Rattle.reply_texts.specs.LineAnswer as answer
 use Rattle.reply_texts.specs.Answers.{answer_text}
@@ -23,8 +19,7 @@ use Rattle.script_lines.specs.declared.line.Command.TheVariants.{Alloc, Fast}
 use Rattle.step_rules.specs.After.{Run}
 use Rattle.script_lines.specs.declared.line.Line.{Line}
 use Rattle.script_lines.specs.declared.line.Line.TheVariants.{Go, At}
-use Rattle.script_replay.specs.Answers.{AnswersAlone, AnswersLocked, GetsFast, GetsNoneFast, MakesAlone}
-use Rattle.script_replay.specs.Answers.{IsAnswerText, NeedsLock, steps_alone}
+use Rattle.script_replay.specs.Answers.{AnswersAlone, AnswersLocked, GetsFast, GetsNoneFast, MakesAlone, IsAnswerText, NeedsLock, steps_alone}
 use Rattle.script_replay.specs.Commands.{OnlySettles}
 use Rattle.script_replay.specs.Lines.{AtPart, InOrder}
 

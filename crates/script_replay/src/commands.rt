@@ -1,24 +1,25 @@
 //! What a command of a script is under the lock, and what it names.
 
 ghost use Rattle.std.specs.Prelude.{◌≡◌};
-ghost use Rattle.script_replay.specs.Commands.{act_on, cmd_of, frame_path, head_named, is_tried, path_removed};
+ghost use Rattle.script_replay.specs.Commands.{act_on, frame_path, head_named, is_tried, locked_command_of};
+ghost use Rattle.script_replay.specs.Commands.{path_removed};
 
-use mem_system::Cmd;
+use mem_system::LockedCommand;
 use script_lines::line::{Command, FrameAct};
 
 // The command of the machine that is served under the lock. None if the command needs no lock, or only settles its CPU.
 // It is inlined, so that a caller that names the command builds nothing for it.
 #[inline(always)]
-pub(crate) fn cmd_of<'a>(command: &Command<'a>) -> Option<Cmd<'a>>
-    ensures { result ≡ cmd_of command.now }
+pub(crate) fn locked_command_of<'a>(command: &Command<'a>) -> Option<LockedCommand<'a>>
+    ensures { result ≡ locked_command_of command.now }
 {
     match *command {
-        Command::Mkdir { path } => Some(Cmd::Mkdir { path }),
-        Command::Rmdir { path } => Some(Cmd::Rmdir { path }),
-        Command::Write { path, file, value } => Some(Cmd::Write { path, file, value }),
-        Command::Read { path, file } => Some(Cmd::Read { path, file }),
-        Command::Alloc { path, order } => Some(Cmd::Alloc { path, order }),
-        Command::Release { frame } => Some(Cmd::Release { frame }),
+        Command::Mkdir { path } => Some(LockedCommand::Mkdir { path }),
+        Command::Rmdir { path } => Some(LockedCommand::Rmdir { path }),
+        Command::Write { path, file, value } => Some(LockedCommand::Write { path, file, value }),
+        Command::Read { path, file } => Some(LockedCommand::Read { path, file }),
+        Command::Alloc { path, order } => Some(LockedCommand::Alloc { path, order }),
+        Command::Release { frame } => Some(LockedCommand::Release { frame }),
         Command::OnFrame(act, frame) => Some(act_on(act, frame)),
         _ => None,
     }
@@ -26,14 +27,14 @@ pub(crate) fn cmd_of<'a>(command: &Command<'a>) -> Option<Cmd<'a>>
 
 // The command that is this act on this frame.
 #[inline(always)]
-fn act_on<'a>(act: FrameAct, frame: u32) -> Cmd<'a>
+fn act_on<'a>(act: FrameAct, frame: u32) -> LockedCommand<'a>
     ensures { result ≡ act_on act frame }
 {
     match act {
-        FrameAct::Touch => Cmd::Touch { frame },
-        FrameAct::Dirty => Cmd::Dirty { frame },
-        FrameAct::Clean => Cmd::Clean { frame },
-        FrameAct::Owner => Cmd::Owner { frame },
+        FrameAct::Touch => LockedCommand::Touch { frame },
+        FrameAct::Dirty => LockedCommand::Dirty { frame },
+        FrameAct::Clean => LockedCommand::Clean { frame },
+        FrameAct::Owner => LockedCommand::Owner { frame },
     }
 }
 

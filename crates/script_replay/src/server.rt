@@ -15,8 +15,8 @@ ghost use Rattle.script_replay.specs.ValueAnswers.{NamesItsGroups, answer_of};
 
 use crate::answer_value::AnswerValue;
 use crate::commands::frame_path;
-use crate::locked_calls::{serve_frame_under_lock, serve_under_lock};
-use crate::unlocked_calls::{alloc_in_order, try_in_order, watch_paid, watch_unlocked};
+use crate::locked_commands::{serve_frame_under_lock, serve_under_lock};
+use crate::unlocked_commands::{alloc_in_order, try_in_order, watch_paid, watch_unlocked};
 use cpu_part::{BootName, Fast, Tables};
 use group_tree::fault::Fault;
 use group_tree::group::GroupId;

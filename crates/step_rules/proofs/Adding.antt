@@ -5,17 +5,10 @@ use Rattle.group_tree.specs.Groups.{in_subtree}
 use Rattle.step_rules.specs.declared.phase.Phase.{Phase}
 use Rattle.step_rules.specs.declared.phase.Phase.TheVariants.{InZone, Lent, Head, Tail}
 use Rattle.step_rules.specs.declared.step.FramePlace.TheVariants.{Charged}
-use Rattle.step_rules.specs.Phases.{keeper_of}
-use Rattle.step_rules.specs.State.{Zone, State, one_if, sum_to}
-use Rattle.step_rules.specs.Usage.{is_in_subtree, frames_kept, stock_in_subtree, pages_prepaid, pages_pending}
-use Rattle.step_rules.specs.After.{state_of}
-use Rattle.step_rules.specs.Places.{places_of, is_same_frame_place, place_in}
-use Rattle.step_rules.specs.Returns.{counted_with_state}
-use Rattle.step_rules.specs.Counts.{stock_gained, stock_lost, counted}
-use Rattle.step_rules.specs.Grants.{pending_in, pending_out}
-use Rattle.step_rules.specs.Folds.{last_fill}
-use Rattle.step_rules.specs.Current.{AllCurrentFollowsRun}
-use Rattle.step_rules.specs.Invariant.{there_or_none, IsHomed}
+use Rattle.step_rules.specs.{keeper_of, Zone, one_if, sum_to, is_in_subtree, frames_kept, stock_in_subtree, pages_prepaid, pages_pending, state_of}
+use Rattle.step_rules.specs.{places_of, is_same_frame_place, place_in, counted_with_state, stock_gained, stock_lost, counted, pending_in, pending_out}
+use Rattle.step_rules.specs.{last_fill, AllCurrentFollowsRun, there_or_none, IsHomed}
+use Rattle.step_rules.specs.State.{State}
 use Rattle.step_rules.proofs.Sums.{sum_same, sum_none, sum_both, sum_only}
 use Rattle.step_rules.proofs.Counting.{stocks_are_counted}
 use Rattle.step_rules.proofs.Granting.{pending_is_counted}

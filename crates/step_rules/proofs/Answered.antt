@@ -7,25 +7,18 @@ use Rattle.zone_blocks.specs.declared.block.Block.{Block}
 use Rattle.zone_blocks.specs.Areas.{IsFreeBlock}
 use Rattle.zone_blocks.proofs.Unique.{decide_free_block}
 use Rattle.group_tree.specs.declared.group.Group.{Group}
-use Rattle.group_tree.specs.Groups.{has_group, parent_of, AreGroups, IsLeastFreeNumber}
-use Rattle.group_tree.specs.Ancestors.{depth_at}
-use Rattle.group_tree.specs.Room.{has_room, PathHasRoom, IsLowestOver}
+use Rattle.group_tree.specs.{has_group, parent_of, AreGroups, IsLeastFreeNumber, depth_at, has_room, PathHasRoom, IsLowestOver}
 use Rattle.group_tree.proofs.AncestorLemmas.{parent_of-none_root}
 use Rattle.group_tree.proofs.CallerLemmas.{in_subtree-above, in_subtree-refl}
 use Rattle.group_tree.proofs.Walks.{WalkedTo, walked_up, walked_all, walked_lowest, parent_depth}
 use Rattle.step_rules.specs.declared.step.Action.{Action}
-use Rattle.step_rules.specs.declared.step.Action.TheVariants.{Get, Put, Freeze}
-use Rattle.step_rules.specs.declared.step.Action.TheVariants.{Consume, Credit, Absorb, DrainStock, Grant, PlaceBlock}
-use Rattle.step_rules.specs.declared.step.Action.TheVariants.{Make}
+use Rattle.step_rules.specs.declared.step.Action.TheVariants.{Get, Put, Freeze, Consume, Credit, Absorb, DrainStock, Grant, PlaceBlock, Make}
 use Rattle.step_rules.specs.declared.step.Answer.{Answer}
 use Rattle.step_rules.specs.declared.step.Answer.TheVariants.{Illegal, Done, Held, Zero, Full, Left, Last, Missed, Took, Empty, OtherGroup, Drained, Stocked}
 use Rattle.step_rules.specs.declared.step.Answer.TheVariants.{Pages, Granted, Over, Placed, NoFreeBlock, Number}
-use Rattle.step_rules.specs.State.{State, live_references, free_in}
-use Rattle.step_rules.specs.Usage.{usage_of}
-use Rattle.step_rules.specs.Legal.{is_legal, get_answer, IsAnswer, IsCounted}
-use Rattle.step_rules.specs.After.{state_of}
-use Rattle.step_rules.specs.Answers.{EveryStepIsAnswered}
-use Rattle.step_rules.specs.Invariant.{KeepsInvariant}
+use Rattle.step_rules.specs.State.{State}
+use Rattle.step_rules.specs.{live_references, free_in, usage_of, is_legal, get_answer, IsAnswer, IsCounted, state_of, EveryStepIsAnswered}
+use Rattle.step_rules.specs.{KeepsInvariant}
 use Rattle.step_rules.proofs.LegalTests.{grant_tests, put_tests}
 use Rattle.step_rules.proofs.Sums.{sum_part}
 use Rattle.step_rules.proofs.PhaseLemmas.{none_some}

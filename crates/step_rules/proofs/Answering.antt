@@ -2,21 +2,17 @@
 use Rattle.std.proofs.Common.{◌≡◌, ℕ, ◌+◌, ◌≤◌, ◌==◌, true, false, Option, Some, None, List, refl, sym, ◌∙◌, ap, subst, arith, inl, inr, if◌then◌else◌, eq-eqb}
 use Rattle.std.specs.Prelude.{◌⊎◌, ◌||◌}
 use Rattle.std.proofs.lemmas.Bool.{cases_order, or_left, or_right, ne_eqb, false≢true, true≢false}
-use Rattle.group_tree.specs.Groups.{AreGroups, IsLeastFreeNumber}
-use Rattle.group_tree.specs.Room.{PathHasRoom, IsLowestOver}
+use Rattle.group_tree.specs.{AreGroups, IsLeastFreeNumber, PathHasRoom, IsLowestOver}
 use Rattle.group_tree.proofs.CallerLemmas.{in_subtree-antisym}
 use Rattle.step_rules.specs.declared.step.Action.{Action}
-use Rattle.step_rules.specs.declared.step.Action.TheVariants.{Lock, Unlock, Get, Put, Freeze, TakeIn, PassBack}
-use Rattle.step_rules.specs.declared.step.Action.TheVariants.{Consume, Credit, Report, Absorb, DrainStock, Grant, PlaceBlock}
-use Rattle.step_rules.specs.declared.step.Action.TheVariants.{Make}
+use Rattle.step_rules.specs.declared.step.Action.TheVariants.{Lock, Unlock, Get, Put, Freeze, TakeIn, PassBack, Consume, Credit, Report, Absorb}
+use Rattle.step_rules.specs.declared.step.Action.TheVariants.{DrainStock, Grant, PlaceBlock, Make}
 use Rattle.step_rules.specs.declared.step.Answer.{Answer}
 use Rattle.step_rules.specs.declared.step.Answer.TheVariants.{Illegal, Done, Left, Last, Missed, Took, Empty, OtherGroup, Drained, Stocked}
 use Rattle.step_rules.specs.declared.step.Answer.TheVariants.{Pages, Granted, Over, Placed, NoFreeBlock, Number}
-use Rattle.step_rules.specs.State.{Zone, State, Part, live_references, is_cpu, may_zone_act}
-use Rattle.step_rules.specs.Usage.{usage_of}
-use Rattle.step_rules.specs.Legal.{is_legal, is_of_group, IsAnswer, IsCounted, IsMade, Allows}
-use Rattle.step_rules.specs.After.{state_of}
-use Rattle.step_rules.specs.Answers.{IsPlacing, AnswersAreDetermined, OnlySeatsAct}
+use Rattle.step_rules.specs.{Zone, Part, live_references, is_cpu, may_zone_act, usage_of, is_legal, is_of_group, IsAnswer, IsCounted, IsMade, Allows}
+use Rattle.step_rules.specs.{state_of, IsPlacing, AnswersAreDetermined, OnlySeatsAct}
+use Rattle.step_rules.specs.State.{State}
 use Rattle.step_rules.proofs.LegalTests.{consume_tests, credit_tests, get_tests, lock_tests, pass_back_tests, put_tests}
 use Rattle.step_rules.proofs.LegalTests.{report_tests, take_in_tests, unlock_tests}
 use Rattle.step_rules.proofs.Runs.{allowed}

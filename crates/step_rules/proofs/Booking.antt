@@ -9,11 +9,10 @@ use Rattle.step_rules.specs.declared.step.Answer.{Answer}
 use Rattle.step_rules.specs.declared.step.Answer.TheVariants.{Illegal, Done, Last, Took, Stocked, Pages}
 use Rattle.step_rules.specs.Phases.{ListFrame, FreshFrame, has_as}
 use Rattle.step_rules.specs.Phases as kinds
-use Rattle.step_rules.specs.State.{Zone, Part, State, one_if, front_of}
-use Rattle.step_rules.specs.Legal.{Allows, IsMade, is_passable}
-use Rattle.step_rules.specs.After.{Run, after, state_of, IsLegalRun, without_frame, with_report, absorbed, paid, credited, filled, drained}
-use Rattle.step_rules.specs.Units.{units_after_run, fresh_group}
-use Rattle.step_rules.specs.Booked.{unreported_in, reported_in, absorbed_in, AllPartsAreBooked}
+use Rattle.step_rules.specs.{Zone, Part, one_if, front_of, Allows, IsMade, is_passable, Run, after, state_of, IsLegalRun, without_frame, with_report}
+use Rattle.step_rules.specs.{absorbed, paid, credited, filled, drained, units_after_run, fresh_group, unreported_in, reported_in, absorbed_in}
+use Rattle.step_rules.specs.{AllPartsAreBooked}
+use Rattle.step_rules.specs.State.{State}
 use Rattle.step_rules.proofs.LegalTests.{pass_back_tests, report_tests}
 use Rattle.step_rules.proofs.PhaseLemmas.{listed_is, fresh_is, back_is}
 use Rattle.step_rules.proofs.Runs.{after_illegal, allowed, sound_run}

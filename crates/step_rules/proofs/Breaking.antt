@@ -6,12 +6,10 @@ use Rattle.group_tree.specs.Groups.{has_group, group_at, path_of, in_subtree, wi
 use Rattle.group_tree.specs.declared.group.Group.{Group}
 use Rattle.step_rules.specs.declared.step.FramePlace.{FramePlace}
 use Rattle.step_rules.specs.declared.step.FramePlace.TheVariants.{Charged}
-use Rattle.step_rules.specs.Promise.{HasOnce}
-use Rattle.step_rules.specs.Examples.{small_zone}
-use Rattle.step_rules.specs.Breaches.{BreaksPromise, past_a_limit, granted_when_killed}
-use Rattle.step_rules.specs.Breaches.{returned_unused, returned_in_use, returned_in_no_unit, returned_again, credited_again, credited_in_use}
-use Rattle.step_rules.specs.Breaches.{consumed_nothing, consumed_in_a_unit, placed_on_a_tail, placed_smaller, placed_in_use, placed_ended, placed_for_nobody}
-use Rattle.step_rules.specs.Breaches.{given_after_the_last, put_after_the_last, frozen_after_the_last, unfrozen_in_no_unit, unfrozen_in_use}
+use Rattle.step_rules.specs.{HasOnce, small_zone, BreaksPromise, past_a_limit, granted_when_killed, returned_unused, returned_in_use}
+use Rattle.step_rules.specs.{returned_in_no_unit, returned_again, credited_again, credited_in_use, consumed_nothing, consumed_in_a_unit}
+use Rattle.step_rules.specs.{placed_on_a_tail, placed_smaller, placed_in_use, placed_ended, placed_for_nobody, given_after_the_last}
+use Rattle.step_rules.specs.{put_after_the_last, frozen_after_the_last, unfrozen_in_no_unit, unfrozen_in_use}
 
 -- ---- limits
 pub past_a_limit_breaks : BreaksPromise past_a_limit

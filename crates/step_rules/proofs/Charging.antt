@@ -18,16 +18,15 @@ use Rattle.step_rules.specs.declared.step.Action.TheVariants.{Credit, Report, Ab
 use Rattle.step_rules.specs.declared.step.Action.TheVariants.{SetMax, SetFlag, Make, Remove}
 use Rattle.step_rules.specs.declared.step.Answer.{Answer}
 use Rattle.step_rules.specs.declared.step.Answer.TheVariants.{Illegal, Done, Last, Took, Stocked, Pages, Granted, Placed, Number}
-use Rattle.step_rules.specs.Phases.{FreshFrame, keeper_of, unit_of, has_as, is_free, passes_out, at_stage, passed_back, collected, stage_after_last}
-use Rattle.step_rules.specs.Phases.{is_returnable}
-use Rattle.step_rules.specs.State.{Zone, Part, State, at_boot, with_at, sum_to, one_if, is_cpu, is_frame, visits, front_of, with_last}
-use Rattle.step_rules.specs.Usage.{is_in_subtree, frames_kept, stock_in_subtree, pages_prepaid, pages_pending, usage_of}
-use Rattle.step_rules.specs.Legal.{is_legal, IsAnswer, IsCounted, IsMade, Allows, takes_fill}
-use Rattle.step_rules.specs.After.{Run, IsLegalRun, after, state_of, is_within, unit_size, placed_phase, with_block, without_unit, with_more, with_back, without_frame}
-use Rattle.step_rules.specs.After.{with_report, absorbed, paid, credited, consumed, filled, drained}
-use Rattle.step_rules.specs.Units.{units_after_run}
-use Rattle.step_rules.specs.Charges.{groups_after, groups_of, charged_in, unit_pages, charged_out, charged_in_subtree}
-use Rattle.step_rules.specs.Invariant.{PhasePaid, groups_in, KeepsInvariant, some_there, IsHomed}
+use Rattle.step_rules.specs.Phases.{FreshFrame}
+use Rattle.step_rules.specs.{keeper_of, unit_of, has_as, is_free, passes_out, at_stage, passed_back, collected, stage_after_last, is_returnable, Zone}
+use Rattle.step_rules.specs.{Part, at_boot, with_at, one_if, is_cpu, is_frame, visits, front_of, with_last, is_in_subtree, frames_kept}
+use Rattle.step_rules.specs.{stock_in_subtree, pages_prepaid, pages_pending, usage_of, is_legal, IsAnswer, IsCounted, IsMade, Allows, takes_fill, Run}
+use Rattle.step_rules.specs.{IsLegalRun, after, state_of, is_within, unit_size, placed_phase, with_block, without_unit, with_more, with_back}
+use Rattle.step_rules.specs.{without_frame, with_report, absorbed, paid, credited, consumed, filled, drained, units_after_run, groups_after}
+use Rattle.step_rules.specs.{groups_of, charged_in, unit_pages, charged_out, charged_in_subtree, PhasePaid, groups_in, KeepsInvariant, some_there}
+use Rattle.step_rules.specs.{IsHomed}
+use Rattle.step_rules.specs.State.{State, sum_to}
 use Rattle.step_rules.proofs.LegalTests.{consume_tests, credit_tests, drain_stock_tests, fill_tests, grant_tests, pass_out_tests}
 use Rattle.step_rules.proofs.LegalTests.{place_block_tests, return_tests, take_in_tests, ungrant_tests}
 use Rattle.step_rules.proofs.Basics.{at_itself}

@@ -9,12 +9,10 @@ use Rattle.step_rules.specs.declared.step.Action.TheVariants.{Lock, Get, Put, Fr
 use Rattle.step_rules.specs.declared.step.Action.TheVariants.{Absorb, Fill, DrainStock}
 use Rattle.step_rules.specs.declared.step.Answer.{Answer}
 use Rattle.step_rules.specs.declared.step.Answer.TheVariants.{Illegal, Done, Held, Left, Last, Took, Stocked, Pages}
-use Rattle.step_rules.specs.State.{Zone, Part, State, at_boot, with_at}
-use Rattle.step_rules.specs.Legal.{is_legal, IsAnswer, IsCounted, Allows, takes_fill, is_of_group}
-use Rattle.step_rules.specs.After.{Run, after, state_of, IsLegalRun, with_back, paid, credited, filled, drained}
-use Rattle.step_rules.specs.Counts.{count_at, references_gained, references_lost, stock_gained, stock_lost, book_gained, book_lost, counted}
-use Rattle.step_rules.specs.Counts.{ReferencesAreCounted, StocksAreCounted, BooksAreCounted}
-use Rattle.step_rules.specs.Invariant.{KeepsInvariant}
+use Rattle.step_rules.specs.{Zone, Part, at_boot, with_at, is_legal, IsAnswer, IsCounted, Allows, takes_fill, is_of_group, Run, after, state_of}
+use Rattle.step_rules.specs.{IsLegalRun, with_back, paid, credited, filled, drained, count_at, references_gained, references_lost, stock_gained}
+use Rattle.step_rules.specs.{stock_lost, book_gained, book_lost, counted, ReferencesAreCounted, StocksAreCounted, BooksAreCounted, KeepsInvariant}
+use Rattle.step_rules.specs.State.{State}
 use Rattle.step_rules.proofs.LegalTests.{fill_tests, freeze_tests, put_tests}
 use Rattle.step_rules.proofs.Basics.{at_same, at_other}
 use Rattle.step_rules.proofs.PhaseLemmas.{equal_test}

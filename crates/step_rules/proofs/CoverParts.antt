@@ -2,8 +2,7 @@
 use Rattle.std.proofs.Common.{◌≡◌, ℕ, ◌||◌, ◌==◌, Bool, true, false, refl, sym, ◌∙◌, ap, inl, inr, cond, if◌then◌else◌, eq-eqb}
 use Rattle.std.specs.Prelude.{◌⊎◌}
 use Rattle.std.proofs.lemmas.Bool.{cases_eq, ne_eqb, cond-true, cond-false, or_left, or_right, or_from}
-use Rattle.step_rules.specs.State.{Part, with_at}
-use Rattle.step_rules.specs.Views.{other_part_seen, parts_seen_by, references_seen_by}
+use Rattle.step_rules.specs.{Part, with_at, other_part_seen, parts_seen_by, references_seen_by}
 use Rattle.step_rules.proofs.Basics.{at_same, at_other}
 use Rattle.step_rules.proofs.Referring.{Referring, changed}
 

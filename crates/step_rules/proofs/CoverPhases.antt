@@ -5,15 +5,12 @@ use Rattle.std.proofs.lemmas.Bool.{ne_eqb}
 use Rattle.zone_blocks.specs.declared.block.Block.{Block}
 use Rattle.step_rules.specs.declared.phase.ChargedUnit.{ChargedUnit}
 use Rattle.step_rules.specs.declared.phase.Way.TheVariants.{OnList, PassingBack}
-use Rattle.step_rules.specs.declared.phase.Stage.TheVariants.{FreshAt, FreshPassing, Collected, Bare, Live, BackAt}
-use Rattle.step_rules.specs.declared.phase.Stage.TheVariants.{BackPassing, AwaitsReturn}
+use Rattle.step_rules.specs.declared.phase.Stage.TheVariants.{FreshAt, FreshPassing, Collected, Bare, Live, BackAt, BackPassing, AwaitsReturn}
 use Rattle.step_rules.specs.declared.phase.Phase.{Phase}
 use Rattle.step_rules.specs.declared.phase.Phase.TheVariants.{InZone, Lent, Head, Tail}
-use Rattle.step_rules.specs.Phases.{Kind, ListFrame, FreshFrame, BackFrame, is_free, has_as, passes_out, passes_back, is_head_in_hand, is_returnable}
-use Rattle.step_rules.specs.Phases.{unit_of, at_stage, passed_back, collected}
-use Rattle.step_rules.specs.State.{Zone, with_at, free_in}
-use Rattle.step_rules.specs.After.{with_block, placed_phase, is_within, without_unit, unit_size}
-use Rattle.step_rules.specs.Views.{phase_seen_by}
+use Rattle.step_rules.specs.{Kind, is_free, has_as, passes_out, passes_back, is_head_in_hand, is_returnable, unit_of, at_stage, passed_back}
+use Rattle.step_rules.specs.{collected, Zone, with_at, free_in, with_block, placed_phase, is_within, without_unit, unit_size, phase_seen_by}
+use Rattle.step_rules.specs.Phases.{ListFrame, FreshFrame, BackFrame}
 use Rattle.step_rules.proofs.Basics.{at_through, cond-ap}
 use Rattle.step_rules.proofs.PhaseLemmas.{by_kind, InHand, WasCollected, WasBare, WasEnded, CameBack, FromList, FromFresh, FromBack}
 use Rattle.step_rules.proofs.PhaseLemmas.{Returns, AsEnded, AsKilled, listed_is, fresh_is, back_is}

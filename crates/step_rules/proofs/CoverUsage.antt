@@ -7,11 +7,10 @@ use Rattle.step_rules.specs.declared.phase.Stage.TheVariants.{FreshAt, BackAt, L
 use Rattle.step_rules.specs.declared.phase.Phase.{Phase}
 use Rattle.step_rules.specs.declared.phase.Phase.TheVariants.{Lent, Head}
 use Rattle.step_rules.specs.declared.phase.Way.TheVariants.{OnList}
-use Rattle.step_rules.specs.Phases.{FreshFrame, has_as, keeper_of}
-use Rattle.step_rules.specs.State.{State, Part, one_if, sum_to, times}
-use Rattle.step_rules.specs.Usage.{is_in_subtree, frames_kept, stock_in_subtree, pages_prepaid, usage_of}
-use Rattle.step_rules.specs.Views.{phase_seen_by, other_part_seen, parts_seen_by, seen_by}
-use Rattle.step_rules.specs.Invariant.{IsPaid, PhasePaid, groups_in, KeepsInvariant}
+use Rattle.step_rules.specs.Phases.{FreshFrame}
+use Rattle.step_rules.specs.{has_as, keeper_of, Part, one_if, sum_to, times, is_in_subtree, frames_kept, stock_in_subtree, pages_prepaid, usage_of}
+use Rattle.step_rules.specs.{phase_seen_by, other_part_seen, parts_seen_by, seen_by, IsPaid, PhasePaid, groups_in, KeepsInvariant}
+use Rattle.step_rules.specs.State.{State}
 use Rattle.step_rules.proofs.Sums.{sum_same, sum_none, sum_both, sum_swap, sum_only}
 use Rattle.step_rules.proofs.Lists.{count_length}
 use Rattle.step_rules.proofs.PhaseLemmas.{free_is}

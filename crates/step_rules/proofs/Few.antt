@@ -7,10 +7,9 @@ use Rattle.step_rules.specs.declared.step.Action.TheVariants.{Lock, Get, Put, Fr
 use Rattle.step_rules.specs.declared.step.Action.TheVariants.{DrainStock}
 use Rattle.step_rules.specs.declared.step.Answer.{Answer}
 use Rattle.step_rules.specs.declared.step.Answer.TheVariants.{Illegal, Done, Held, Left, Last, Took, Stocked, Pages}
-use Rattle.step_rules.specs.State.{Zone, Part, State, at_boot, with_at, sum_to, front_of, is_cpu, is_frame, pins_of}
-use Rattle.step_rules.specs.Legal.{IsMade}
-use Rattle.step_rules.specs.After.{Run, IsLegalRun, after, state_of, with_listed, with_report, absorbed, paid, credited, filled, drained, without_frame, with_back}
-use Rattle.step_rules.specs.Invariant.{KeepsInvariant}
+use Rattle.step_rules.specs.{Zone, Part, at_boot, with_at, sum_to, front_of, is_cpu, is_frame, pins_of, IsMade, Run, IsLegalRun, after, state_of}
+use Rattle.step_rules.specs.{with_listed, with_report, absorbed, paid, credited, filled, drained, without_frame, with_back, KeepsInvariant}
+use Rattle.step_rules.specs.State.{State}
 use Rattle.step_rules.proofs.LegalTests.{consume_tests, get_tests, put_tests}
 use Rattle.step_rules.proofs.Basics.{at_same, at_other, at_each}
 use Rattle.step_rules.proofs.Sums.{sum_change, sum_none}

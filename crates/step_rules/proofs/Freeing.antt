@@ -7,11 +7,8 @@ use Rattle.zone_blocks.proofs.Unique.{unique_blocks}
 use Rattle.step_rules.specs.declared.phase.Phase.{Phase}
 use Rattle.step_rules.specs.declared.phase.Phase.TheVariants.{InZone, Lent, Head, Tail}
 use Rattle.step_rules.specs.declared.step.FramePlace.TheVariants.{Free}
-use Rattle.step_rules.specs.Phases.{is_free}
-use Rattle.step_rules.specs.State.{Zone, State, at_boot, free_in}
-use Rattle.step_rules.specs.After.{Run, state_of}
-use Rattle.step_rules.specs.Places.{places_of, is_same_frame_place, place_in}
-use Rattle.step_rules.specs.FreeAreas.{free_frames, AllAreasFollowRun}
+use Rattle.step_rules.specs.{is_free, Zone, at_boot, free_in, Run, state_of, places_of, is_same_frame_place, place_in, free_frames, AllAreasFollowRun}
+use Rattle.step_rules.specs.State.{State}
 use Rattle.step_rules.proofs.Placed.{every_frame_has_one_place, zone_kept}
 use Rattle.step_rules.proofs.Runs.{next}
 

@@ -3,18 +3,14 @@ use Rattle.std.proofs.Common.{◌≡◌, ℕ, ◌+◌, ◌-◌, ◌^◌, ◌≤�
 use Rattle.std.proofs.Common.{inl, inr, cond, if◌then◌else◌, eq-eqb, zero, suc}
 use Rattle.std.specs.Prelude.{nat_le}
 use Rattle.std.proofs.lemmas.Bool.{cases_eq, ne_eqb, leb-true, le-leb}
-use Rattle.group_tree.specs.Groups.{in_subtree, limit_of}
+use Rattle.group_tree.specs.{in_subtree, limit_of, fits_limit}
 use Rattle.step_rules.specs.declared.step.Action.{Action}
 use Rattle.step_rules.specs.declared.step.Action.TheVariants.{Lock, Fill, DrainStock, Grant, Ungrant, PlaceBlock}
 use Rattle.step_rules.specs.declared.step.Answer.{Answer}
 use Rattle.step_rules.specs.declared.step.Answer.TheVariants.{Illegal, Done, Pages, Granted, Placed}
-use Rattle.step_rules.specs.State.{State, with_at, sum_to}
-use Rattle.group_tree.specs.Room.{fits_limit}
-use Rattle.step_rules.specs.Usage.{pages_pending, usage_of}
-use Rattle.step_rules.specs.Legal.{is_legal, Allows, is_of_group}
-use Rattle.step_rules.specs.After.{after, state_of, with_more}
-use Rattle.step_rules.specs.Grants.{NoGrantPassesALimit, pending_in, pending_out, PendingIsCounted}
-use Rattle.step_rules.specs.Invariant.{KeepsInvariant}
+use Rattle.step_rules.specs.State.{State, sum_to}
+use Rattle.step_rules.specs.{with_at, pages_pending, usage_of, is_legal, Allows, is_of_group, after, state_of, with_more, NoGrantPassesALimit}
+use Rattle.step_rules.specs.{pending_in, pending_out, PendingIsCounted, KeepsInvariant}
 use Rattle.step_rules.proofs.LegalTests.{fill_tests, place_block_tests, ungrant_tests}
 use Rattle.step_rules.proofs.Basics.{at_same, at_other}
 use Rattle.step_rules.proofs.Runs.{allowed}

@@ -12,12 +12,9 @@ use Rattle.group_tree.specs.Path.{names_of, parent_path, is_name, is_well_formed
 use Rattle.group_tree.specs.Groups.{the_root, new_row, has_group, group_at, path_of, in_subtree, limit_of, initial_groups, number_at, has_child, make_fault}
 use Rattle.group_tree.specs.Groups.{with_limit, with_oom_group, without_group, IsLeastFreeNumber}
 use Rattle.group_tree.specs.Room.{PathHasRoom, IsLowestOver, has_room, fits_limit}
-use Rattle.step_rules.specs.State.{at_boot, sum_to, all_to}
-use Rattle.step_rules.specs.Legal.{is_of_group}
-use Rattle.step_rules.specs.After.{IsLegalRun}
-use Rattle.step_rules.specs.Examples.{small_zone, group_comes_and_goes, killed_group_ends, group_killed_whole, group_dies_whole, stock_without_a_page}
-use Rattle.step_rules.specs.Events.{events_in, events_local_in}
-use Rattle.step_rules.specs.Folds.{flag_given}
+use Rattle.step_rules.specs.{at_boot, is_of_group, IsLegalRun, small_zone, group_comes_and_goes, killed_group_ends, group_killed_whole}
+use Rattle.step_rules.specs.{group_dies_whole, stock_without_a_page, events_in, events_local_in, flag_given}
+use Rattle.step_rules.specs.State.{sum_to, all_to}
 use Rattle.step_rules.proofs.SmallRuns.{legal_each, root_has_room, front_block}
 
 -- the root, a group with a limit, and one below it

@@ -21,13 +21,12 @@ use Rattle.step_rules.specs.declared.step.Action.TheVariants.{PassBack, Collect,
 use Rattle.step_rules.specs.declared.step.Action.TheVariants.{Ungrant, PlaceBlock, Return, SetMax, SetFlag, Make, Remove}
 use Rattle.step_rules.specs.declared.step.Answer.{Answer}
 use Rattle.step_rules.specs.declared.step.Answer.TheVariants.{Illegal, Done, Last, Took, Stocked, Pages, Granted, Placed, Number}
-use Rattle.step_rules.specs.Phases.{FreshFrame, keeper_of, has_as, at_stage, passed_back, collected, stage_after_last, unit_of}
-use Rattle.step_rules.specs.State.{Zone, Part, State, with_at, one_if, is_cpu, is_unheld, is_held_by, visits, front_of}
-use Rattle.step_rules.specs.Usage.{is_in_subtree, frames_kept, stock_in_subtree, pages_prepaid, pages_pending, usage_of}
-use Rattle.step_rules.specs.Legal.{is_legal, IsAnswer, IsCounted, is_removable}
-use Rattle.step_rules.specs.After.{after, is_within, unit_size, with_more, with_back}
-use Rattle.step_rules.specs.Views.{holds_lock}
-use Rattle.step_rules.specs.Invariant.{PhasePaid, groups_in, KeepsInvariant, there_or_none, some_there, told_pages, Homes, IsHomed}
+use Rattle.step_rules.specs.Phases.{FreshFrame}
+use Rattle.step_rules.specs.{keeper_of, has_as, at_stage, passed_back, collected, stage_after_last, unit_of, Zone, Part, with_at, one_if, is_cpu}
+use Rattle.step_rules.specs.{is_unheld, is_held_by, visits, front_of, is_in_subtree, frames_kept, stock_in_subtree, pages_prepaid, pages_pending}
+use Rattle.step_rules.specs.{usage_of, is_legal, IsAnswer, IsCounted, is_removable, after, is_within, unit_size, with_more, with_back, holds_lock}
+use Rattle.step_rules.specs.{PhasePaid, groups_in, KeepsInvariant, there_or_none, some_there, told_pages, Homes, IsHomed}
+use Rattle.step_rules.specs.State.{State}
 use Rattle.step_rules.proofs.LegalTests.{absorb_tests, credit_tests, fill_tests, grant_tests, lock_tests, make_tests}
 use Rattle.step_rules.proofs.LegalTests.{open_visit_tests, pass_back_tests, place_block_tests, removable_tests, remove_tests, report_tests}
 use Rattle.step_rules.proofs.LegalTests.{set_flag_tests, shut_visit_tests, ungrant_tests, unlock_tests}

@@ -5,9 +5,8 @@ use Rattle.std.specs.List.{slice_get}
 use Rattle.std.proofs.lemmas.Bool.{cases_Bool, true≢false, or_left, or_right}
 use Rattle.std.proofs.lemmas.List.{append_assoc, append-nil}
 use Rattle.step_rules.specs.State.{State}
-use Rattle.step_rules.specs.After.{Run, after, state_of}
-use Rattle.step_rules.specs.Laws.{ShowsLocal, pushed}
-use Rattle.step_rules.specs.Reaches.{IsLocalRun, is_own, own_steps, MayFollow, IsInterleaved, LocalRunsInterleave, LocalRunsCompose}
+use Rattle.step_rules.specs.{Run, after, state_of, ShowsLocal, pushed, IsLocalRun, is_own, own_steps, MayFollow, IsInterleaved, LocalRunsInterleave}
+use Rattle.step_rules.specs.{LocalRunsCompose}
 use Rattle.step_rules.proofs.LocalLaws.{own_step_is_legal, other_step_is_hidden}
 
 pub local_runs_compose : LocalRunsCompose

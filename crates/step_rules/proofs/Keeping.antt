@@ -10,12 +10,10 @@ use Rattle.step_rules.specs.declared.phase.Phase.TheVariants.{Head}
 use Rattle.step_rules.specs.declared.step.Step.{Step}
 use Rattle.step_rules.specs.declared.step.Action.{Action}
 use Rattle.step_rules.specs.declared.step.Answer.{Answer}
-use Rattle.step_rules.specs.Phases.{FreshFrame, keeper_of, has_as}
-use Rattle.step_rules.specs.State.{Zone, State, at_boot, front_of}
-use Rattle.step_rules.specs.Legal.{Allows, no_page_pends}
-use Rattle.step_rules.specs.After.{Run, after, state_of, IsLegalRun}
-use Rattle.step_rules.specs.Keepers.{StockIsKept, AllKeepersAreThere}
-use Rattle.step_rules.specs.Invariant.{PhasePaid, groups_in, KeepsInvariant, there_or_none, some_there, IsHomed}
+use Rattle.step_rules.specs.Phases.{FreshFrame}
+use Rattle.step_rules.specs.{keeper_of, has_as, Zone, at_boot, front_of, Allows, no_page_pends, Run, after, state_of, IsLegalRun, StockIsKept}
+use Rattle.step_rules.specs.{AllKeepersAreThere, PhasePaid, groups_in, KeepsInvariant, there_or_none, some_there, IsHomed}
+use Rattle.step_rules.specs.State.{State}
 use Rattle.step_rules.proofs.Lists.{front_stands, one_if_true}
 use Rattle.step_rules.proofs.PhaseLemmas.{fresh_is, equal_test}
 use Rattle.step_rules.proofs.Sums.{all_at}

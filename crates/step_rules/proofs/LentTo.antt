@@ -12,12 +12,10 @@ use Rattle.step_rules.specs.declared.step.Action.{Action}
 use Rattle.step_rules.specs.declared.step.Action.TheVariants.{Lock, Put, Freeze, Unfreeze, PassOut, TakeIn, PassBack, Collect, Consume, Credit, PlaceBlock, Return}
 use Rattle.step_rules.specs.declared.step.Answer.{Answer}
 use Rattle.step_rules.specs.declared.step.Answer.TheVariants.{Illegal, Done, Last, Took, Stocked, Placed}
-use Rattle.step_rules.specs.Phases.{at_stage, stage_after_last, passed_back, collected, unit_of, passes_out, passes_back}
-use Rattle.step_rules.specs.State.{Zone, State, at_boot, with_at, is_cpu, is_held_by, visits}
-use Rattle.step_rules.specs.Legal.{Allows, IsMade}
-use Rattle.step_rules.specs.After.{after, state_of, placed_phase, with_block, unit_size, without_unit}
-use Rattle.step_rules.specs.Lent.{lent_to, FramesAreLentToCpus, FramesPassInVisits, BeginningsAreLegal}
-use Rattle.step_rules.specs.Invariant.{KeepsInvariant, IsHomed}
+use Rattle.step_rules.specs.{at_stage, stage_after_last, passed_back, collected, unit_of, passes_out, passes_back, Zone, at_boot, with_at, is_cpu}
+use Rattle.step_rules.specs.{is_held_by, visits, Allows, IsMade, after, state_of, placed_phase, with_block, unit_size, without_unit, lent_to}
+use Rattle.step_rules.specs.{FramesAreLentToCpus, FramesPassInVisits, BeginningsAreLegal, KeepsInvariant, IsHomed}
+use Rattle.step_rules.specs.State.{State}
 use Rattle.step_rules.proofs.LegalTests.{credit_tests, pass_out_tests, take_in_tests}
 use Rattle.step_rules.proofs.Basics.{at_each}
 use Rattle.step_rules.proofs.PhaseLemmas.{none_some}

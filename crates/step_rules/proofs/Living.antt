@@ -3,8 +3,7 @@ use Rattle.std.proofs.Common.{◌≡◌, ℕ, ◌+◌, ◌-◌, ◌^◌, ◌≤�
 use Rattle.std.specs.Prelude.{nat_le}
 use Rattle.std.proofs.lemmas.Bool.{cases_eq, false≢true, true≢false, and_parts, leb-true}
 use Rattle.zone_blocks.specs.declared.block.Block.{Block}
-use Rattle.step_rules.specs.declared.phase.Stage.TheVariants.{FreshAt, FreshPassing, Bare, Live, BackAt, BackPassing}
-use Rattle.step_rules.specs.declared.phase.Stage.TheVariants.{AwaitsReturn}
+use Rattle.step_rules.specs.declared.phase.Stage.TheVariants.{FreshAt, FreshPassing, Bare, Live, BackAt, BackPassing, AwaitsReturn}
 use Rattle.step_rules.specs.declared.phase.Phase.{Phase}
 use Rattle.step_rules.specs.declared.phase.Phase.TheVariants.{InZone, Lent, Head, Tail}
 use Rattle.step_rules.specs.declared.step.Step.{Step}
@@ -13,12 +12,10 @@ use Rattle.step_rules.specs.declared.step.Action.TheVariants.{Lock, Get, Put, Fr
 use Rattle.step_rules.specs.declared.step.Action.TheVariants.{PlaceBlock, Return}
 use Rattle.step_rules.specs.declared.step.Answer.{Answer}
 use Rattle.step_rules.specs.declared.step.Answer.TheVariants.{Illegal, Done, Held, Left, Last, Took, Stocked, Placed}
-use Rattle.step_rules.specs.Phases.{is_live_phase, at_stage, stage_after_last, passed_back, collected, unit_of}
-use Rattle.step_rules.specs.State.{State, at_boot, with_at, sum_to, is_cpu, live_references}
-use Rattle.step_rules.specs.Legal.{Allows, IsMade, get_answer}
-use Rattle.step_rules.specs.After.{after, placed_phase, with_block, unit_size, without_unit}
-use Rattle.step_rules.specs.Live.{AllLiveAreReferenced}
-use Rattle.step_rules.specs.Invariant.{KeepsInvariant}
+use Rattle.step_rules.specs.{is_live_phase, at_stage, stage_after_last, passed_back, collected, unit_of, at_boot, with_at, sum_to, is_cpu}
+use Rattle.step_rules.specs.{live_references, Allows, IsMade, get_answer, after, placed_phase, with_block, unit_size, without_unit}
+use Rattle.step_rules.specs.{AllLiveAreReferenced, KeepsInvariant}
+use Rattle.step_rules.specs.State.{State}
 use Rattle.step_rules.proofs.LegalTests.{get_tests, put_tests, unfreeze_tests}
 use Rattle.step_rules.proofs.Basics.{at_same, at_other, at_each}
 use Rattle.step_rules.proofs.Sums.{sum_same, sum_none, sum_change}

@@ -8,11 +8,9 @@ use Rattle.step_rules.specs.declared.step.Action.{Action}
 use Rattle.step_rules.specs.declared.step.Action.TheVariants.{Lock, Unlock, OpenVisit, ShutVisit}
 use Rattle.step_rules.specs.declared.step.Answer.{Answer}
 use Rattle.step_rules.specs.declared.step.Answer.TheVariants.{Illegal, Done}
-use Rattle.step_rules.specs.State.{State, is_held_by, visits}
-use Rattle.step_rules.specs.Legal.{is_legal, IsAnswer, IsMade, Allows}
-use Rattle.step_rules.specs.After.{after, state_of}
-use Rattle.step_rules.specs.Views.{holds_lock, seen_by}
-use Rattle.step_rules.specs.Laws.{is_of_lock, OwnStepIsLegal, OtherStepIsHidden}
+use Rattle.step_rules.specs.State.{State}
+use Rattle.step_rules.specs.{is_held_by, visits, is_legal, IsAnswer, IsMade, Allows, after, state_of, holds_lock, seen_by, is_of_lock, OwnStepIsLegal}
+use Rattle.step_rules.specs.{OtherStepIsHidden}
 use Rattle.step_rules.proofs.LegalTests.{open_visit_tests, shut_visit_tests}
 use Rattle.step_rules.proofs.PhaseLemmas.{equal_test}
 use Rattle.step_rules.proofs.Runs.{after_illegal, allowed, sound_run, state_more, legal_more}

@@ -2,13 +2,9 @@
 use Rattle.std.proofs.Common.{◌≡◌, ◌++◌, true, false, refl, inl, inr, zero, suc}
 use Rattle.std.proofs.lemmas.Bool.{true≢false, false≢true}
 use Rattle.step_rules.specs.declared.step.Action.TheVariants.{Get, Consume}
-use Rattle.step_rules.specs.State.{State, at_boot, sum_to, all_to}
-use Rattle.step_rules.specs.Legal.{is_legal}
-use Rattle.step_rules.specs.After.{state_of, IsLegalRun}
-use Rattle.step_rules.specs.Views.{seen_by}
-use Rattle.step_rules.specs.Laws.{ShowsLocal}
-use Rattle.step_rules.specs.Reaches.{IsLocalRun, own_steps, IsInterleaved}
-use Rattle.step_rules.specs.Examples.{small_zone, lock_taken, vain_visit, with_pins, with_back_frames, with_fresh_frames}
+use Rattle.step_rules.specs.State.{State, sum_to, all_to}
+use Rattle.step_rules.specs.{at_boot, is_legal, state_of, IsLegalRun, seen_by, ShowsLocal, IsLocalRun, own_steps, IsInterleaved, small_zone}
+use Rattle.step_rules.specs.{lock_taken, vain_visit, with_pins, with_back_frames, with_fresh_frames}
 use Rattle.step_rules.proofs.SmallRuns.{legal_each}
 use Rattle.step_rules.proofs.Interleaving.{local_runs_interleave}
 

@@ -6,10 +6,8 @@ use Rattle.step_rules.specs.declared.step.Action.TheVariants.{Get, Put, Freeze}
 use Rattle.step_rules.specs.declared.step.Answer.{Answer}
 use Rattle.step_rules.specs.declared.step.Answer.TheVariants.{Done, Held, Zero, Full, Left, Last}
 use Rattle.step_rules.specs.State.{sum_to}
-use Rattle.step_rules.specs.After.{Run, IsLegalRun}
-use Rattle.step_rules.specs.Promise.{KeepsLimits, ReturnsNoFrameTwice}
-use Rattle.step_rules.specs.Examples.{small_zone, made, life_of_a_frame, at_the_borders}
-use Rattle.step_rules.specs.Breaches.{BreaksPromise, MiscountsReferences, kept_run, referred_twice, referred_by_one, never_referred, referred_fully, given_in_no_unit}
+use Rattle.step_rules.specs.{Run, IsLegalRun, KeepsLimits, ReturnsNoFrameTwice, small_zone, made, life_of_a_frame, at_the_borders, BreaksPromise}
+use Rattle.step_rules.specs.{MiscountsReferences, kept_run, referred_twice, referred_by_one, never_referred, referred_fully, given_in_no_unit}
 use Rattle.step_rules.proofs.LentTo.{beginnings_are_legal}
 use Rattle.step_rules.proofs.SmallRuns.{life_is_legal, borders_are_kept}
 use Rattle.step_rules.proofs.ShownStates.{kept_run_is_legal}

@@ -13,8 +13,11 @@ use Rattle.step_rules.specs.declared.phase.Hold.{Hold}
 use Rattle.step_rules.specs.declared.phase.Stage.TheVariants.{FreshAt, Bare, Live, AwaitsReturn}
 use Rattle.step_rules.specs.declared.phase.Phase.{Phase}
 use Rattle.step_rules.specs.declared.phase.Phase.TheVariants.{InZone, Lent, Head, Tail}
-use Rattle.step_rules.specs.After.{is_within, unit_size, with_block, without_unit, with_more, with_back, without_frame, paid, credited}
-use Rattle.step_rules.specs.After.{consumed, filled, drained}
+use Rattle.step_rules.specs.{is_within, unit_size, with_block, without_unit, with_more, with_back, without_frame, paid, credited, consumed, filled}
+use Rattle.step_rules.specs.{drained, keeper_of, unit_of, has_as, is_free, passes_out, at_stage, passed_back, collected, stage_after_last, is_legal}
+use Rattle.step_rules.specs.{IsAnswer, IsCounted, UsageMoves, Zone, Part, with_at, one_if, is_cpu, is_frame, visits, front_of, with_last}
+use Rattle.step_rules.specs.{is_in_subtree, frames_kept, stock_in_subtree, pages_prepaid, pages_pending, usage_of, PhasePaid, groups_in}
+use Rattle.step_rules.specs.{KeepsInvariant, there_or_none, some_there, Homes, IsHomed}
 use Rattle.step_rules.specs.declared.phase.Way.TheVariants.{PassingOut, OnList}
 use Rattle.step_rules.specs.declared.step.Action.{Action}
 use Rattle.step_rules.specs.declared.step.Action.TheVariants.{Lock, Put, Freeze, Unfreeze, PassOut, TakeIn, PassBack, Collect, Consume}
@@ -22,17 +25,13 @@ use Rattle.step_rules.specs.declared.step.Action.TheVariants.{Credit, Report, Ab
 use Rattle.step_rules.specs.declared.step.Action.TheVariants.{SetMax, SetFlag, Make, Remove}
 use Rattle.step_rules.specs.declared.step.Answer.{Answer}
 use Rattle.step_rules.specs.declared.step.Answer.TheVariants.{Illegal, Done, Last, Took, Stocked, Pages, Granted, Placed, Number}
-use Rattle.step_rules.specs.Phases.{FreshFrame, keeper_of, unit_of, has_as, is_free, passes_out, at_stage, passed_back, collected, stage_after_last}
-use Rattle.step_rules.specs.Legal.{is_legal, IsAnswer, IsCounted}
-use Rattle.step_rules.specs.Peaks.{UsageMoves}
+use Rattle.step_rules.specs.Phases.{FreshFrame}
 use Rattle.step_rules.proofs.LegalTests.{consume_tests, credit_tests, drain_stock_tests, fill_tests, grant_tests, make_tests}
 use Rattle.step_rules.proofs.LegalTests.{pass_out_tests, place_block_tests, take_in_tests, ungrant_tests}
 use Rattle.step_rules.proofs.PhaseLemmas.{fresh_is, free_is, out_is, listed_is}
 use Rattle.step_rules.proofs.Passing.{front_listed, in_zone}
 use Rattle.step_rules.proofs.SoundSteps.{below_frames}
-use Rattle.step_rules.specs.State.{Zone, Part, State, with_at, sum_to, one_if, is_cpu, is_frame, visits, front_of, with_last}
-use Rattle.step_rules.specs.Usage.{is_in_subtree, frames_kept, stock_in_subtree, pages_prepaid, pages_pending, usage_of}
-use Rattle.step_rules.specs.Invariant.{PhasePaid, groups_in, KeepsInvariant, there_or_none, some_there, Homes, IsHomed}
+use Rattle.step_rules.specs.State.{State, sum_to}
 use Rattle.step_rules.proofs.Basics.{at_each, at_same, at_other}
 use Rattle.step_rules.proofs.Sums.{sum_same, sum_none, sum_both, sum_change}
 use Rattle.step_rules.proofs.Placing.{within_cases}

@@ -9,10 +9,9 @@ use Rattle.group_tree.specs.Room.{max_count}
 use Rattle.step_rules.specs.declared.step.Step.{Step}
 use Rattle.step_rules.specs.declared.step.Action.{Action}
 use Rattle.step_rules.specs.declared.step.Answer.{Answer}
-use Rattle.step_rules.specs.State.{Zone, State, at_boot, one_if}
-use Rattle.step_rules.specs.After.{Run, state_of}
-use Rattle.step_rules.specs.Laws.{pushed}
-use Rattle.step_rules.specs.Events.{is_noted_in_subtree, is_noted_at, makes_group, with_passed, passed_since_made, count_after, EventsAreCounted}
+use Rattle.step_rules.specs.{Zone, at_boot, one_if, Run, state_of, pushed, is_noted_in_subtree, is_noted_at, makes_group, with_passed}
+use Rattle.step_rules.specs.{passed_since_made, count_after, EventsAreCounted}
+use Rattle.step_rules.specs.State.{State}
 use Rattle.step_rules.proofs.Runs.{next}
 
 abbrev Test : Type 0

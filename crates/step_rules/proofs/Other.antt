@@ -14,17 +14,15 @@ use Rattle.step_rules.specs.declared.step.Action.TheVariants.{TakeIn, PassBack, 
 use Rattle.step_rules.specs.declared.step.Action.TheVariants.{Grant, Ungrant, PlaceBlock, Return, SetMax, SetFlag, Make, Remove, Kill}
 use Rattle.step_rules.specs.declared.step.Answer.{Answer}
 use Rattle.step_rules.specs.declared.step.Answer.TheVariants.{Done, Held, Left, Last, Took, Stocked, Pages, Granted, Placed, Number}
-use Rattle.step_rules.specs.Phases.{FreshFrame, has_as, passes_out, at_stage, stage_after_last}
-use Rattle.step_rules.specs.State.{State, with_at, one_if, is_unheld, is_held_by, visits, may_zone_act, front_of, without, times}
-use Rattle.step_rules.specs.Legal.{is_legal, IsAnswer}
-use Rattle.step_rules.specs.After.{after, after_last, paid, credited, with_back, consumed}
-use Rattle.step_rules.specs.Views.{seen_by, phase_seen_by, other_part_seen, parts_seen_by, holds_lock}
-use Rattle.step_rules.specs.Invariant.{KeepsInvariant}
-use Rattle.step_rules.proofs.LegalTests.{absorb_tests, collect_tests, consume_tests, credit_tests, drain_stock_tests, fill_tests}
-use Rattle.step_rules.proofs.LegalTests.{freeze_tests, grant_tests, kill_tests, lock_tests, make_tests, open_visit_tests}
-use Rattle.step_rules.proofs.LegalTests.{pass_back_tests, pass_out_tests, place_block_tests, put_tests, remove_tests, report_tests}
-use Rattle.step_rules.proofs.LegalTests.{return_tests, set_flag_tests, set_max_tests, shut_visit_tests, take_in_tests, unfreeze_tests, ungrant_tests}
-use Rattle.step_rules.proofs.LegalTests.{unlock_tests}
+use Rattle.step_rules.specs.Phases.{FreshFrame}
+use Rattle.step_rules.specs.{has_as, passes_out, at_stage, stage_after_last, with_at, one_if, is_unheld, is_held_by, visits, may_zone_act, front_of}
+use Rattle.step_rules.specs.{without, times, is_legal, IsAnswer, after, after_last, paid, credited, with_back, consumed, seen_by, phase_seen_by}
+use Rattle.step_rules.specs.{other_part_seen, parts_seen_by, holds_lock, KeepsInvariant}
+use Rattle.step_rules.specs.State.{State}
+use Rattle.step_rules.proofs.LegalTests.{absorb_tests, collect_tests, consume_tests, credit_tests, drain_stock_tests, fill_tests, freeze_tests}
+use Rattle.step_rules.proofs.LegalTests.{grant_tests, kill_tests, lock_tests, make_tests, open_visit_tests, pass_back_tests, pass_out_tests}
+use Rattle.step_rules.proofs.LegalTests.{place_block_tests, put_tests, remove_tests, report_tests, return_tests, set_flag_tests, set_max_tests}
+use Rattle.step_rules.proofs.LegalTests.{shut_visit_tests, take_in_tests, unfreeze_tests, ungrant_tests, unlock_tests}
 use Rattle.step_rules.proofs.Basics.{at_each, same_state}
 use Rattle.step_rules.proofs.Lists.{length_last, length_without}
 use Rattle.step_rules.proofs.PhaseLemmas.{live_is, listed_is, fresh_is, equal_test}

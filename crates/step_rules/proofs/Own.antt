@@ -13,9 +13,8 @@ use Rattle.step_rules.specs.declared.phase.Stage.TheVariants.{Live, BackAt, Awai
 use Rattle.step_rules.specs.declared.phase.Phase.{Phase}
 use Rattle.step_rules.specs.declared.phase.Phase.TheVariants.{Lent}
 use Rattle.step_rules.specs.declared.step.Action.{Action}
-use Rattle.step_rules.specs.declared.step.Action.TheVariants.{Lock, Unlock, ShutVisit, Get, Put, Freeze, Unfreeze, PassOut}
-use Rattle.step_rules.specs.declared.step.Action.TheVariants.{TakeIn, PassBack, Collect, Consume, Credit, Report, Absorb, Fill, DrainStock}
-use Rattle.step_rules.specs.declared.step.Action.TheVariants.{Grant, PlaceBlock, Publish, Return}
+use Rattle.step_rules.specs.declared.step.Action.TheVariants.{Lock, Unlock, ShutVisit, Get, Put, Freeze, Unfreeze, PassOut, TakeIn, PassBack, Collect}
+use Rattle.step_rules.specs.declared.step.Action.TheVariants.{Consume, Credit, Report, Absorb, Fill, DrainStock, Grant, PlaceBlock, Publish, Return}
 use Rattle.step_rules.specs.declared.step.Action.TheVariants.{Remove}
 use Rattle.step_rules.specs.declared.step.Answer.{Answer}
 use Rattle.step_rules.specs.declared.step.Answer.TheVariants.{Illegal, Done, Held, Left, Last, Took, Empty, Drained, OtherGroup, Stocked, Pages}
@@ -23,15 +22,12 @@ use Rattle.step_rules.specs.declared.step.Answer.TheVariants.{Granted, Over, Pla
 use Rattle.step_rules.specs.Phases.{Kind, ListFrame, FreshFrame, has_as, passes_back, is_head, is_head_in_hand}
 use Rattle.step_rules.specs.Phases.{is_returnable, passed_back, collected, at_stage, stage_after_last}
 use Rattle.step_rules.specs.Phases as kinds
-use Rattle.step_rules.specs.State.{Zone, Part, State, with_at, sum_to, is_cpu, is_frame, visits, may_zone_act, front_of, pins_of, with_last}
+use Rattle.step_rules.specs.{Zone, Part, with_at, sum_to, is_cpu, is_frame, visits, may_zone_act, front_of, pins_of, with_last, usage_of, is_legal}
+use Rattle.step_rules.specs.{IsAnswer, IsCounted, nothing_passes, rests, is_passable, takes_fill, after, after_last, with_phase, with_part, with_more}
+use Rattle.step_rules.specs.{without_frame, paid, credited, filled, drained, with_back, consumed, seen_by, phase_seen_by, other_part_seen}
+use Rattle.step_rules.specs.{parts_seen_by, references_seen_by, holds_lock, is_of_lock, KeepsInvariant}
+use Rattle.step_rules.specs.State.{State}
 use Rattle.group_tree.specs.Room.{PathHasRoom, IsLowestOver}
-use Rattle.step_rules.specs.Usage.{usage_of}
-use Rattle.step_rules.specs.Legal.{is_legal, IsAnswer, IsCounted, nothing_passes, rests, is_passable, takes_fill}
-use Rattle.step_rules.specs.After.{after, after_last, with_phase, with_part, with_more, without_frame, paid, credited, filled, drained, with_back, consumed}
-use Rattle.step_rules.specs.Views.{seen_by, phase_seen_by, other_part_seen, parts_seen_by, references_seen_by}
-use Rattle.step_rules.specs.Views.{holds_lock}
-use Rattle.step_rules.specs.Laws.{is_of_lock}
-use Rattle.step_rules.specs.Invariant.{KeepsInvariant}
 use Rattle.step_rules.proofs.LegalTests.{collect_tests, consume_tests, credit_tests, fill_tests, freeze_tests, pass_back_tests}
 use Rattle.step_rules.proofs.LegalTests.{put_tests, report_tests, return_tests, take_in_tests, unfreeze_tests}
 use Rattle.step_rules.proofs.Basics.{at_through, same_state}
@@ -41,8 +37,7 @@ use Rattle.step_rules.proofs.Referring.{changed, live_from_one}
 use Rattle.step_rules.proofs.SoundSteps.{cpu_range}
 use Rattle.step_rules.proofs.Runs.{after_illegal}
 use Rattle.step_rules.proofs.CoverPhases.{out_seen, back_seen, free_seen, hand_seen, return_seen, frees_seen, own_seen, gone_on, woken_goes}
-use Rattle.step_rules.proofs.CoverPhases.{ended_goes, backed_goes, collected_goes, listed_goes, fresh_goes, back_goes, block_seen}
-use Rattle.step_rules.proofs.CoverPhases.{unit_seen, GoesOn}
+use Rattle.step_rules.proofs.CoverPhases.{ended_goes, backed_goes, collected_goes, listed_goes, fresh_goes, back_goes, block_seen, unit_seen, GoesOn}
 use Rattle.step_rules.proofs.CoverParts.{own_part, part_seen, own_changed, any_changed, own_reference, own_referred}
 use Rattle.step_rules.proofs.CoverUsage.{usage_seen}
 

@@ -5,8 +5,7 @@ use Rattle.step_rules.specs.declared.phase.Hold.{Hold}
 use Rattle.step_rules.specs.declared.phase.Hold.TheVariants.{Visiting}
 use Rattle.step_rules.specs.declared.phase.ChargedUnit.{ChargedUnit}
 use Rattle.step_rules.specs.declared.phase.Way.TheVariants.{PassingOut, OnList, PassingBack}
-use Rattle.step_rules.specs.declared.phase.Stage.TheVariants.{FreshAt, FreshPassing, Collected, BackAt, BackPassing}
-use Rattle.step_rules.specs.declared.phase.Stage.TheVariants.{AwaitsReturn}
+use Rattle.step_rules.specs.declared.phase.Stage.TheVariants.{FreshAt, FreshPassing, Collected, BackAt, BackPassing, AwaitsReturn}
 use Rattle.step_rules.specs.declared.phase.Phase.{Phase}
 use Rattle.step_rules.specs.declared.phase.Phase.TheVariants.{InZone, Lent, Head, Tail}
 use Rattle.step_rules.specs.Phases.{Kind, ListFrame, FreshFrame, BackFrame, is_live_phase, is_free, has_as, unit_of, passed_back, collected, passes_out, passes_back}
@@ -15,10 +14,9 @@ use Rattle.step_rules.specs.After.{with_phase, with_part, without_frame, paid, c
 use Rattle.step_rules.specs.Invariant.{PhasePaid, FrameFits, groups_in, IsBooked, StateInvariant, KeepsInvariant}
 use Rattle.step_rules.proofs.Lists.{length_without, length_last, front_stands, one_if_true}
 use Rattle.step_rules.proofs.Sound.{ListMoves, Stays, Joins, Leaves, sound_one, sound_phase}
-use Rattle.step_rules.proofs.PhaseLemmas.{by_kind, free_is, out_is, listed_is, fresh_is, back_is, came_back, CameBack, FromList, FromFresh}
-use Rattle.step_rules.proofs.PhaseLemmas.{FromBack, nobody_has, nobody_has_stage, nobody_has_out, nobody_has_returning}
-use Rattle.step_rules.proofs.PhaseLemmas.{nobody_has_fresh_passing, nobody_has_back_passing, only_listed, only_fresh, only_back, none_some}
-use Rattle.step_rules.proofs.PhaseLemmas.{equal_test}
+use Rattle.step_rules.proofs.PhaseLemmas.{by_kind, free_is, out_is, listed_is, fresh_is, back_is, came_back, CameBack, FromList, FromFresh, FromBack}
+use Rattle.step_rules.proofs.PhaseLemmas.{nobody_has, nobody_has_stage, nobody_has_out, nobody_has_returning, nobody_has_fresh_passing}
+use Rattle.step_rules.proofs.PhaseLemmas.{nobody_has_back_passing, only_listed, only_fresh, only_back, none_some, equal_test}
 
 -- what holds of a frame that was not live and is not live now
 dead_fits : (zone : Zone) (hold : Hold) (groups : ℕ → Option ℕ) (references : ℕ → ℕ) (f : ℕ) (x y : Phase) →

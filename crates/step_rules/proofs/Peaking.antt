@@ -12,13 +12,10 @@ use Rattle.step_rules.specs.declared.step.Action.{Action}
 use Rattle.step_rules.specs.declared.step.Action.TheVariants.{Lock, Grant, SetMax, SetFlag, Make, Remove}
 use Rattle.step_rules.specs.declared.step.Answer.{Answer}
 use Rattle.step_rules.specs.declared.step.Answer.TheVariants.{Illegal, Done, Granted, Number}
-use Rattle.step_rules.specs.State.{Zone, State, at_boot, no_part}
-use Rattle.step_rules.specs.Usage.{stock_in_subtree, usage_of}
+use Rattle.step_rules.specs.{Zone, at_boot, no_part, stock_in_subtree, usage_of, IsAnswer, Allows, Run, after, state_of, pushed, UsageMoves}
+use Rattle.step_rules.specs.{OnlyGrantsRaiseUsage, IsThereSince, IsPeak, peak_follows, PeaksAreKept}
+use Rattle.step_rules.specs.State.{State}
 use Rattle.step_rules.proofs.Sums.{sum_none}
-use Rattle.step_rules.specs.Legal.{IsAnswer, Allows}
-use Rattle.step_rules.specs.After.{Run, after, state_of}
-use Rattle.step_rules.specs.Laws.{pushed}
-use Rattle.step_rules.specs.Peaks.{UsageMoves, OnlyGrantsRaiseUsage, IsThereSince, IsPeak, peak_follows, PeaksAreKept}
 use Rattle.step_rules.proofs.Runs.{allowed, state_more}
 use Rattle.step_rules.proofs.Keeping.{homed_run}
 use Rattle.step_rules.proofs.Moving.{same_least, usage_step, usage_absent, moves_illegal, gone_itself}

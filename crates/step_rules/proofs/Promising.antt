@@ -9,7 +9,7 @@ use Rattle.std.proofs.lemmas.List.FromFn.{get_or-map-range_with_len, length-map-
 use Rattle.zone_blocks.specs.Areas.{IsFree}
 use Rattle.zone_blocks.proofs.Unique.{in_one_block, in_a_block_is_free}
 use Rattle.group_tree.specs.declared.group.Group.{Group}
-use Rattle.group_tree.specs.Groups.{has_group, in_subtree, limit_of}
+use Rattle.group_tree.specs.{has_group, in_subtree, limit_of, fits_limit}
 use Rattle.group_tree.proofs.CallerLemmas.{in_subtree-above}
 use Rattle.step_rules.specs.declared.phase.ChargedUnit.{ChargedUnit}
 use Rattle.step_rules.specs.declared.phase.Way.TheVariants.{OnList}
@@ -22,22 +22,14 @@ use Rattle.step_rules.specs.declared.step.Action.{Action}
 use Rattle.step_rules.specs.declared.step.Action.TheVariants.{Get, Put, Freeze, Unfreeze, Consume, Credit, Grant, PlaceBlock, Return}
 use Rattle.step_rules.specs.declared.step.Answer.{Answer}
 use Rattle.step_rules.specs.declared.step.Answer.TheVariants.{Done, Held, Last, Took, Stocked, Granted, Placed}
-use Rattle.step_rules.specs.Phases.{FreshFrame, is_free, is_live_phase, has_as, unit_of, keeper_of, is_head_in_hand, is_returnable}
-use Rattle.step_rules.specs.State.{Zone, Stock, State, one_if, sum_to, front_of, is_cpu, free_in, live_references, times}
-use Rattle.group_tree.specs.Room.{fits_limit}
-use Rattle.step_rules.specs.Usage.{is_in_subtree, usage_of, frames_kept, stock_in_subtree, pages_prepaid}
-use Rattle.step_rules.specs.Legal.{is_legal, Allows}
-use Rattle.step_rules.specs.After.{Run, state_of, IsLegalRun}
-use Rattle.step_rules.specs.Folds.{limit_given, was_killed, InHand}
-use Rattle.step_rules.specs.Units.{units_after_run}
-use Rattle.step_rules.specs.Places.{is_same_frame_place, place_in}
-use Rattle.step_rules.specs.Returns.{phase_awaits_return, is_killed_return_phase, IsAllPlaced, ReturnsOnce}
-use Rattle.step_rules.specs.Charges.{charged_in_subtree}
-use Rattle.step_rules.specs.Keepers.{StockIsKept}
-use Rattle.step_rules.specs.Lent.{lent_to}
-use Rattle.step_rules.specs.Promise.{Shown, IsShown, Has, HasOnce, IsInUnit, IsInOnePlace, IsPrepaid, kept_in_subtree, prepaid_in_subtree, KeepsLimits}
-use Rattle.step_rules.specs.Promise.{HasNoReference, IsUnused, ReturnsNoFrameTwice, ThePromiseIsKept, EachStepIsPromised}
-use Rattle.step_rules.specs.References.{CountsReferences}
+use Rattle.step_rules.specs.Phases.{FreshFrame}
+use Rattle.step_rules.specs.{is_free, is_live_phase, has_as, unit_of, keeper_of, is_head_in_hand, is_returnable, Zone, Stock, one_if, front_of}
+use Rattle.step_rules.specs.{is_cpu, free_in, live_references, times, is_in_subtree, usage_of, frames_kept, stock_in_subtree, pages_prepaid, is_legal}
+use Rattle.step_rules.specs.{Allows, Run, state_of, IsLegalRun, limit_given, was_killed, InHand, units_after_run, is_same_frame_place, place_in}
+use Rattle.step_rules.specs.{phase_awaits_return, is_killed_return_phase, IsAllPlaced, ReturnsOnce, charged_in_subtree, StockIsKept, lent_to, Shown}
+use Rattle.step_rules.specs.{IsShown, Has, HasOnce, IsInUnit, IsInOnePlace, IsPrepaid, kept_in_subtree, prepaid_in_subtree, KeepsLimits}
+use Rattle.step_rules.specs.{HasNoReference, IsUnused, ReturnsNoFrameTwice, ThePromiseIsKept, EachStepIsPromised, CountsReferences}
+use Rattle.step_rules.specs.State.{State, sum_to}
 use Rattle.step_rules.proofs.LegalTests.{consume_tests, credit_tests, grant_tests, return_tests, unfreeze_tests}
 use Rattle.step_rules.proofs.Lists.{one_if_true}
 use Rattle.step_rules.proofs.PhaseLemmas.{free_is, live_is, listed_is, fresh_is, held_live, none_some, returning_is, Returns, AsEnded, AsKilled}

@@ -3,8 +3,7 @@ use Rattle.std.proofs.Common.{◌≡◌, ℕ, ◌==◌, ◌||◌, Bool, true, fa
 use Rattle.std.specs.Prelude.{nat_le}
 use Rattle.std.proofs.lemmas.Bool.{cases_eq, ne_eqb, false≢true, true≢false, leb-true, or_left}
 use Rattle.step_rules.specs.declared.phase.ChargedUnit.{ChargedUnit}
-use Rattle.step_rules.specs.declared.phase.Stage.TheVariants.{FreshAt, FreshPassing, Live, BackAt, BackPassing}
-use Rattle.step_rules.specs.declared.phase.Stage.TheVariants.{AwaitsReturn}
+use Rattle.step_rules.specs.declared.phase.Stage.TheVariants.{FreshAt, FreshPassing, Live, BackAt, BackPassing, AwaitsReturn}
 use Rattle.step_rules.specs.declared.phase.Phase.{Phase}
 use Rattle.step_rules.specs.declared.phase.Phase.TheVariants.{InZone, Lent, Head, Tail}
 use Rattle.step_rules.specs.declared.step.Action.{Action}
@@ -12,14 +11,11 @@ use Rattle.step_rules.specs.declared.step.Action.TheVariants.{Lock, Put, Freeze,
 use Rattle.step_rules.specs.declared.step.Action.TheVariants.{Credit, PlaceBlock, Publish, Return}
 use Rattle.step_rules.specs.declared.step.Answer.{Answer}
 use Rattle.step_rules.specs.declared.step.Answer.TheVariants.{Illegal, Done, Last, Took, Stocked, Placed}
-use Rattle.step_rules.specs.Phases.{FreshFrame, has_as, passes_out, is_free, is_head, is_live_phase, is_returnable, at_stage, stage_after_last}
-use Rattle.step_rules.specs.Phases.{passed_back, collected, unit_of}
-use Rattle.step_rules.specs.State.{State, with_at, front_of}
-use Rattle.step_rules.specs.Legal.{IsMade}
-use Rattle.step_rules.specs.After.{after, state_of, unit_size, without_unit}
-use Rattle.step_rules.specs.Returns.{phase_awaits_return}
-use Rattle.step_rules.specs.Kept.{published_after, AllPublishedIsKept}
-use Rattle.step_rules.specs.Invariant.{KeepsInvariant}
+use Rattle.step_rules.specs.Phases.{FreshFrame}
+use Rattle.step_rules.specs.{has_as, passes_out, is_free, is_head, is_live_phase, is_returnable, at_stage, stage_after_last, passed_back, collected}
+use Rattle.step_rules.specs.{unit_of, with_at, front_of, IsMade, after, state_of, unit_size, without_unit, phase_awaits_return, published_after}
+use Rattle.step_rules.specs.{AllPublishedIsKept, KeepsInvariant}
+use Rattle.step_rules.specs.State.{State}
 use Rattle.step_rules.proofs.LegalTests.{consume_tests, credit_tests, pass_out_tests, publish_tests, return_tests, take_in_tests}
 use Rattle.step_rules.proofs.Basics.{at_each}
 use Rattle.step_rules.proofs.PhaseLemmas.{Returns, AsEnded, AsKilled, free_is, out_is, listed_is, fresh_is, returning_is}

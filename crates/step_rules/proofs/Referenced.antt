@@ -6,11 +6,9 @@ use Rattle.step_rules.specs.declared.step.Action.{Action}
 use Rattle.step_rules.specs.declared.step.Action.TheVariants.{Get, Put, Freeze}
 use Rattle.step_rules.specs.declared.step.Answer.{Answer}
 use Rattle.step_rules.specs.declared.step.Answer.TheVariants.{Done, Held, Zero, Full, Left, Last}
-use Rattle.step_rules.specs.Phases.{is_live_phase, unit_of}
-use Rattle.step_rules.specs.State.{Zone, State, sum_to, is_cpu, live_references}
-use Rattle.step_rules.specs.Legal.{Allows, get_answer}
-use Rattle.step_rules.specs.After.{Run, after, state_of, IsLegalRun}
-use Rattle.step_rules.specs.References.{references_had, references_on, CountsReferences}
+use Rattle.step_rules.specs.{is_live_phase, unit_of, Zone, sum_to, is_cpu, live_references, Allows, get_answer, Run, after, state_of, IsLegalRun}
+use Rattle.step_rules.specs.{references_had, references_on, CountsReferences}
+use Rattle.step_rules.specs.State.{State}
 use Rattle.step_rules.proofs.LegalTests.{get_tests, put_tests, freeze_tests}
 use Rattle.step_rules.proofs.Sums.{sum_none, sum_part}
 use Rattle.step_rules.proofs.PhaseLemmas.{equal_test, live_is}

@@ -6,10 +6,9 @@ use Rattle.step_rules.specs.declared.phase.ChargedUnit.{ChargedUnit}
 use Rattle.step_rules.specs.declared.phase.Stage.TheVariants.{Live, BackAt, AwaitsReturn}
 use Rattle.step_rules.specs.declared.phase.Phase.{Phase}
 use Rattle.step_rules.specs.declared.phase.Phase.TheVariants.{Head, Tail}
-use Rattle.step_rules.specs.Phases.{Kind, is_live_phase, has_as, unit_of, at_stage, is_head_in_hand}
-use Rattle.step_rules.specs.State.{Zone, State, with_at, live_references, frames_of}
-use Rattle.step_rules.specs.After.{with_references, with_phase, with_back, after_last}
-use Rattle.step_rules.specs.Invariant.{FrameFits, groups_in, StateInvariant, KeepsInvariant}
+use Rattle.step_rules.specs.{Kind, is_live_phase, has_as, unit_of, at_stage, is_head_in_hand, Zone, with_at, live_references, frames_of}
+use Rattle.step_rules.specs.{with_references, with_phase, with_back, after_last, FrameFits, groups_in, StateInvariant, KeepsInvariant}
+use Rattle.step_rules.specs.State.{State}
 use Rattle.step_rules.proofs.Basics.{at_same, at_other, at_each}
 use Rattle.step_rules.proofs.Sums.{sum_none, sum_part, sum_alone}
 use Rattle.step_rules.proofs.Sound.{ListMoves, Stays, Joins, sound_one, sound_phase, sound_references}

@@ -9,8 +9,7 @@ use Rattle.zone_blocks.specs.declared.block.Block.{Block}
 use Rattle.step_rules.specs.declared.phase.ChargedUnit.{ChargedUnit}
 use Rattle.step_rules.specs.declared.phase.Way.TheVariants.{PassingOut, OnList}
 use Rattle.step_rules.specs.declared.phase.Stage.{Stage}
-use Rattle.step_rules.specs.declared.phase.Stage.TheVariants.{FreshAt, Collected, Bare, Live, BackAt}
-use Rattle.step_rules.specs.declared.phase.Stage.TheVariants.{AwaitsReturn}
+use Rattle.step_rules.specs.declared.phase.Stage.TheVariants.{FreshAt, Collected, Bare, Live, BackAt, AwaitsReturn}
 use Rattle.step_rules.specs.declared.phase.Phase.{Phase}
 use Rattle.step_rules.specs.declared.phase.Phase.TheVariants.{InZone, Lent, Head, Tail}
 use Rattle.step_rules.specs.declared.step.Step.{Step}
@@ -19,18 +18,14 @@ use Rattle.step_rules.specs.declared.step.Action.TheVariants.{Lock, Put, Freeze,
 use Rattle.step_rules.specs.declared.step.Action.TheVariants.{Credit, PlaceBlock, Return}
 use Rattle.step_rules.specs.declared.step.Answer.{Answer}
 use Rattle.step_rules.specs.declared.step.Answer.TheVariants.{Illegal, Done, Last, Took, Stocked, Placed}
-use Rattle.step_rules.specs.Phases.{FreshFrame, has_as, is_free, passes_out, passes_back, unit_of, at_stage, stage_after_last, passed_back}
-use Rattle.step_rules.specs.Phases.{collected, is_head_in_hand, is_returnable}
-use Rattle.step_rules.specs.State.{Zone, State, at_boot, with_at, one_if, front_of}
-use Rattle.step_rules.specs.Legal.{is_legal, IsAnswer, IsMade, Allows}
-use Rattle.step_rules.specs.After.{Run, after, state_of, IsLegalRun, is_within, placed_phase, with_block, unit_size, without_unit, consumed}
-use Rattle.step_rules.specs.Folds.{was_killed}
-use Rattle.step_rules.specs.Units.{units_after_run, fresh_group}
-use Rattle.step_rules.specs.Returns.{phase_awaits_return, is_killed_return_stage, is_killed_return_phase}
-use Rattle.step_rules.specs.Returns.{is_killed_return, is_killed_group, awaits_return_after, awaits_return, uses_ended}
-use Rattle.step_rules.specs.Returns.{uses_closed, counted_with_state}
-use Rattle.step_rules.specs.Returns.{counted_with_run, EveryFrameReturnsOnce}
-use Rattle.step_rules.specs.Invariant.{KeepsInvariant}
+use Rattle.step_rules.specs.Phases.{FreshFrame}
+use Rattle.step_rules.specs.{has_as, is_free, passes_out, passes_back, unit_of, at_stage, stage_after_last, passed_back, collected, is_head_in_hand}
+use Rattle.step_rules.specs.{is_returnable, Zone, at_boot, with_at, one_if, front_of, is_legal, IsAnswer, IsMade, Allows, Run, after, state_of}
+use Rattle.step_rules.specs.{IsLegalRun, is_within, placed_phase, with_block, unit_size, without_unit, consumed, was_killed, units_after_run}
+use Rattle.step_rules.specs.{fresh_group, phase_awaits_return, is_killed_return_stage, is_killed_return_phase, is_killed_return, is_killed_group}
+use Rattle.step_rules.specs.{awaits_return_after, awaits_return, uses_ended, uses_closed, counted_with_state, counted_with_run, EveryFrameReturnsOnce}
+use Rattle.step_rules.specs.{KeepsInvariant}
+use Rattle.step_rules.specs.State.{State}
 use Rattle.step_rules.proofs.LegalTests.{collect_tests, consume_tests, credit_tests, freeze_tests, pass_out_tests, put_tests}
 use Rattle.step_rules.proofs.LegalTests.{return_tests, take_in_tests, unfreeze_tests}
 use Rattle.step_rules.proofs.Basics.{at_same, at_other}

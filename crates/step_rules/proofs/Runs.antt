@@ -11,10 +11,8 @@ use Rattle.step_rules.specs.declared.step.Action.{Action}
 use Rattle.step_rules.specs.declared.step.Action.TheVariants.{Lock}
 use Rattle.step_rules.specs.declared.step.Answer.{Answer}
 use Rattle.step_rules.specs.declared.step.Answer.TheVariants.{Illegal}
-use Rattle.step_rules.specs.State.{Zone, State, at_boot, frames_of, no_part, times}
-use Rattle.step_rules.specs.Legal.{Allows, IsMade}
-use Rattle.step_rules.specs.After.{Run, after, state_of, IsLegalRun}
-use Rattle.step_rules.specs.Invariant.{KeepsInvariant}
+use Rattle.step_rules.specs.{Zone, at_boot, frames_of, no_part, times, Allows, IsMade, Run, after, state_of, IsLegalRun, KeepsInvariant}
+use Rattle.step_rules.specs.State.{State}
 use Rattle.step_rules.proofs.PhaseLemmas.{by_kind, none_some}
 use Rattle.step_rules.proofs.SoundSteps.{sound_step}
 

@@ -6,13 +6,10 @@ use Rattle.step_rules.specs.declared.phase.Phase.{Phase}
 use Rattle.step_rules.specs.declared.step.Action.{Action}
 use Rattle.step_rules.specs.declared.step.Action.TheVariants.{Lock, Unlock}
 use Rattle.step_rules.specs.declared.step.Answer.TheVariants.{Done}
-use Rattle.step_rules.specs.Phases.{is_passing}
-use Rattle.step_rules.specs.State.{Part, State, is_unheld, is_cpu, is_held_by, visits}
-use Rattle.step_rules.specs.Legal.{is_legal, no_page_pends, no_frame_passes}
-use Rattle.step_rules.specs.After.{state_of}
-use Rattle.step_rules.specs.Views.{seen_by, phase_seen_by, other_part_seen, parts_seen_by, holds_lock}
-use Rattle.step_rules.specs.Seen.{AllLegalityIsSeen, LockIsPassedOn, SeesAll, AllIsSeen}
-use Rattle.step_rules.specs.Invariant.{KeepsInvariant, IsHomed}
+use Rattle.step_rules.specs.{is_passing, Part, is_unheld, is_cpu, is_held_by, visits, is_legal, no_page_pends, no_frame_passes, state_of, seen_by}
+use Rattle.step_rules.specs.{phase_seen_by, other_part_seen, parts_seen_by, holds_lock, AllLegalityIsSeen, LockIsPassedOn, SeesAll, AllIsSeen}
+use Rattle.step_rules.specs.{KeepsInvariant, IsHomed}
+use Rattle.step_rules.specs.State.{State}
 use Rattle.step_rules.proofs.Sums.{all_same}
 use Rattle.step_rules.proofs.CoverPhases.{seen_through, frees_seen}
 use Rattle.step_rules.proofs.CoverParts.{own_part, part_seen}

@@ -14,14 +14,11 @@ use Rattle.step_rules.specs.declared.step.Action.{Action}
 use Rattle.step_rules.specs.declared.step.Action.TheVariants.{Lock, Unlock, OpenVisit, ShutVisit, Fill, DrainStock, Grant, Ungrant, PlaceBlock}
 use Rattle.step_rules.specs.declared.step.Answer.{Answer}
 use Rattle.step_rules.specs.declared.step.Answer.TheVariants.{Illegal, Done, Pages, Granted, Placed}
-use Rattle.step_rules.specs.Phases.{ListFrame, has_as, passes_out, passes_back, is_passing}
-use Rattle.step_rules.specs.State.{Zone, State, at_boot, all_to, one_if, is_unheld, may_zone_act}
-use Rattle.step_rules.specs.Usage.{pages_pending}
-use Rattle.step_rules.specs.Legal.{is_legal, Allows, no_page_pends}
-use Rattle.step_rules.specs.Places.{is_same_frame_place, place_in}
-use Rattle.step_rules.specs.After.{after, state_of}
-use Rattle.step_rules.specs.Returns.{IsAllPlaced, NothingPendsWhileTheLockIsFree}
-use Rattle.step_rules.specs.Invariant.{KeepsInvariant, IsHomed}
+use Rattle.step_rules.specs.Phases.{ListFrame}
+use Rattle.step_rules.specs.{has_as, passes_out, passes_back, is_passing, Zone, at_boot, one_if, is_unheld, may_zone_act, pages_pending, is_legal}
+use Rattle.step_rules.specs.{Allows, no_page_pends, is_same_frame_place, place_in, after, state_of, IsAllPlaced, NothingPendsWhileTheLockIsFree}
+use Rattle.step_rules.specs.{KeepsInvariant, IsHomed}
+use Rattle.step_rules.specs.State.{State, all_to}
 use Rattle.step_rules.proofs.LegalTests.{drain_stock_tests, fill_tests, grant_tests, place_block_tests, ungrant_tests}
 use Rattle.step_rules.proofs.Sums.{sum_none, all_each}
 use Rattle.step_rules.proofs.PhaseLemmas.{unheld_visit}

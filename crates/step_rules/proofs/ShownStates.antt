@@ -5,25 +5,20 @@ use Rattle.std.proofs.lemmas.Bool.{cases_eq, ne_eqb, true≢false, false≢true}
 use Rattle.std.proofs.lemmas.Nat.{pow_pos}
 use native.Mathlib.Numerals.{unary_clauses}
 use Rattle.zone_blocks.specs.declared.block.Block.{Block}
-use Rattle.zone_blocks.specs.Block.{Covers}
-use Rattle.zone_blocks.specs.Areas.{IsFree, AreMaximalBlocks, IsMaximalBlock}
-use Rattle.zone_blocks.specs.Laws.{IsInOneBlock}
+use Rattle.zone_blocks.specs.{Covers, IsFree, AreMaximalBlocks, IsMaximalBlock, IsInOneBlock}
 use Rattle.group_tree.specs.declared.group.Group.{Group}
 use Rattle.group_tree.specs.Path.{names_of}
 use Rattle.group_tree.specs.Groups.{has_group, group_at, path_of, in_subtree, initial_groups}
 use Rattle.step_rules.specs.declared.phase.ChargedUnit.{ChargedUnit}
 use Rattle.step_rules.specs.declared.step.FramePlace.{FramePlace}
 use Rattle.step_rules.specs.declared.step.FramePlace.TheVariants.{Free, LentTo, Charged}
-use Rattle.step_rules.specs.Phases.{keeper_of}
-use Rattle.step_rules.specs.State.{State, sum_to, is_cpu, free_in, times}
-use Rattle.step_rules.specs.Usage.{usage_of}
-use Rattle.step_rules.specs.After.{state_of, IsLegalRun}
-use Rattle.step_rules.specs.Promise.{IsShown, HasOnce, Promise}
-use Rattle.step_rules.specs.Examples.{small_zone, life_of_a_frame}
-use Rattle.step_rules.specs.Breaches.{kept_run, shown_rightly, at_list, IsShownWrongly, seen_nowhere, seen_twice, listed_twice, listed_by_nobody}
-use Rattle.step_rules.specs.Breaches.{kept_in_no_unit, seen_beyond, prepaid_for_nobody, prepaid_left_out, no_group_seen, group_too_many, limit_never_set}
-use Rattle.step_rules.specs.Breaches.{IsWrongAfter, shown_free, parted_areas, prepaid_by_nobody, prepaid_for_no_group, granted_and_lost, lost_in_number}
-use Rattle.step_rules.specs.Units.{units_after_run}
+use Rattle.step_rules.specs.{keeper_of, is_cpu, free_in, times, usage_of, state_of, IsLegalRun, IsShown, HasOnce, small_zone, life_of_a_frame}
+use Rattle.step_rules.specs.{kept_run, shown_rightly, at_list, IsShownWrongly, seen_nowhere, seen_twice, listed_twice, listed_by_nobody}
+use Rattle.step_rules.specs.{kept_in_no_unit, seen_beyond, prepaid_for_nobody, prepaid_left_out, no_group_seen, group_too_many, limit_never_set}
+use Rattle.step_rules.specs.{IsWrongAfter, shown_free, parted_areas, prepaid_by_nobody, prepaid_for_no_group, granted_and_lost, lost_in_number}
+use Rattle.step_rules.specs.{units_after_run}
+use Rattle.step_rules.specs.State.{State, sum_to}
+use Rattle.step_rules.specs.Promise.{Promise}
 use Rattle.step_rules.proofs.SmallRuns.{life_is_legal}
 use Rattle.step_rules.proofs.LentTo.{beginnings_are_legal}
 use Rattle.step_rules.proofs.Promising.{the_promise_is_kept}

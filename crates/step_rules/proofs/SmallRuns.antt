@@ -5,13 +5,11 @@ use Rattle.std.proofs.lemmas.Bool.{cases_eq, ne_eqb, true≢false}
 use Rattle.zone_blocks.specs.Areas.{IsFreeBlock}
 use Rattle.group_tree.specs.Path.{names_of}
 use Rattle.group_tree.specs.Groups.{has_group, group_at, path_of, in_subtree, limit_of, initial_groups}
-use Rattle.step_rules.specs.State.{State, at_boot, sum_to, all_to}
+use Rattle.step_rules.specs.State.{State, sum_to, all_to}
+use Rattle.step_rules.specs.{at_boot, Allows, Run, IsLegalRun, small_zone, life_of_a_frame, credited_twice, returned_twice, unlocked_too_soon}
+use Rattle.step_rules.specs.{returned_when_killed, at_the_borders, in_line, noted_events, events_in, events_local_in}
 use Rattle.group_tree.specs.Room.{PathHasRoom, has_room}
-use Rattle.step_rules.specs.Legal.{Allows}
-use Rattle.step_rules.specs.After.{Run, IsLegalRun}
-use Rattle.step_rules.specs.Examples.{small_zone, life_of_a_frame, credited_twice, returned_twice, unlocked_too_soon, returned_when_killed, at_the_borders, in_line, noted_events}
 use Rattle.group_tree.specs.declared.event.EventKey.TheVariants.{Low, High, Max, Oom, OomKill}
-use Rattle.step_rules.specs.Events.{events_in, events_local_in}
 use Rattle.step_rules.proofs.Runs.{next, IsLegalFrom}
 
 -- each step is allowed after those before it

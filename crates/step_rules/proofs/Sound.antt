@@ -5,9 +5,8 @@ use Rattle.step_rules.specs.declared.phase.Hold.{Hold}
 use Rattle.step_rules.specs.declared.phase.ChargedUnit.{ChargedUnit}
 use Rattle.step_rules.specs.declared.phase.Phase.{Phase}
 use Rattle.step_rules.specs.declared.phase.Phase.TheVariants.{Tail}
-use Rattle.step_rules.specs.Phases.{Kind, has_as, unit_of}
-use Rattle.step_rules.specs.State.{Zone, Part, with_at, one_if, without, with_last, frames_of, times}
-use Rattle.step_rules.specs.Invariant.{PhasePaid, FrameFits, groups_in, IsBooked, StateInvariant}
+use Rattle.step_rules.specs.{Kind, has_as, unit_of, Zone, Part, with_at, one_if, without, with_last, frames_of, times, PhasePaid, FrameFits}
+use Rattle.step_rules.specs.{groups_in, IsBooked, StateInvariant}
 use Rattle.step_rules.proofs.Basics.{at_other, at_each, at_itself}
 use Rattle.step_rules.proofs.Lists.{times_same, times_other, times_last, times_without, times_without_other}
 

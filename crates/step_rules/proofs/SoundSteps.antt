@@ -11,10 +11,9 @@ use Rattle.step_rules.specs.declared.step.Answer.{Answer}
 use Rattle.step_rules.specs.declared.step.Answer.TheVariants.{Done, Held, Left, Last, Took, Stocked, Pages, Granted, Placed, Number}
 use Rattle.step_rules.specs.Phases.{ListFrame, FreshFrame, has_as, passes_out, passes_back, is_free, is_head_in_hand, is_returnable}
 use Rattle.step_rules.specs.Phases as kinds
-use Rattle.step_rules.specs.State.{Zone, State, is_cpu, is_frame, is_unheld, is_held_by, visits, front_of}
-use Rattle.step_rules.specs.Legal.{is_legal, IsAnswer, IsCounted, nothing_passes, is_passable, takes_fill}
-use Rattle.step_rules.specs.After.{after, without_unit}
-use Rattle.step_rules.specs.Invariant.{StateInvariant, KeepsInvariant}
+use Rattle.step_rules.specs.{Zone, is_cpu, is_frame, is_unheld, is_held_by, visits, front_of, is_legal, IsAnswer, IsCounted, nothing_passes}
+use Rattle.step_rules.specs.{is_passable, takes_fill, after, without_unit, StateInvariant, KeepsInvariant}
+use Rattle.step_rules.specs.State.{State}
 use Rattle.step_rules.proofs.LegalTests.{collect_tests, consume_tests, credit_tests, fill_tests, freeze_tests, get_tests}
 use Rattle.step_rules.proofs.LegalTests.{lock_tests, open_visit_tests, pass_back_tests, pass_out_tests, put_tests, report_tests}
 use Rattle.step_rules.proofs.LegalTests.{return_tests, shut_visit_tests, take_in_tests, unfreeze_tests, unlock_tests}

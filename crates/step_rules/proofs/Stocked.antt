@@ -6,9 +6,8 @@ use Rattle.step_rules.specs.declared.step.Action.{Action}
 use Rattle.step_rules.specs.declared.step.Action.TheVariants.{Lock, Put, TakeIn, PassBack, Consume, Credit, Report, Absorb, Fill, DrainStock}
 use Rattle.step_rules.specs.declared.step.Answer.{Answer}
 use Rattle.step_rules.specs.declared.step.Answer.TheVariants.{Illegal, Done, Last, Took, Stocked, Pages}
-use Rattle.step_rules.specs.State.{Zone, Part, State, with_at}
-use Rattle.step_rules.specs.Legal.{IsMade}
-use Rattle.step_rules.specs.After.{Run, after, state_of, IsLegalRun, with_back, without_frame, paid, credited, filled, drained}
+use Rattle.step_rules.specs.{Zone, Part, with_at, IsMade, Run, after, state_of, IsLegalRun, with_back, without_frame, paid, credited, filled, drained}
+use Rattle.step_rules.specs.State.{State}
 use Rattle.step_rules.proofs.PhaseLemmas.{none_some}
 use Rattle.step_rules.proofs.LocalLaws.{no_illegal}
 use Rattle.step_rules.proofs.Telling.{told_run}

@@ -9,8 +9,7 @@ use Rattle.group_tree.specs.declared.group.Group.{Group}
 use Rattle.group_tree.specs.Groups.{has_group, limit_of, is_oom_group, with_group, with_limit, with_oom_group, without_group}
 use Rattle.group_tree.specs.Groups.{group_at, initial_groups, the_root}
 use Rattle.group_tree.proofs.CallerLemmas.{has_group-with, has_group-limited, has_group-flagged, has_group-without, limit_of-with, limit_of-with_new}
-use Rattle.group_tree.proofs.CallerLemmas.{limit_of-without, limit_of-limited, limit_of-limited_other, limit_of-flagged}
-use Rattle.group_tree.proofs.CallerLemmas.{is_oom_group-with_new}
+use Rattle.group_tree.proofs.CallerLemmas.{limit_of-without, limit_of-limited, limit_of-limited_other, limit_of-flagged, is_oom_group-with_new}
 use Rattle.group_tree.proofs.GroupLemmas.{is_oom_group-with, is_oom_group-without, is_oom_group-limited, is_oom_group-flagged}
 use Rattle.group_tree.proofs.GroupLemmas.{is_oom_group-flagged_other}
 use Rattle.step_rules.specs.declared.step.Step.{Step}
@@ -19,12 +18,11 @@ use Rattle.step_rules.specs.declared.step.Action.TheVariants.{Lock, Unlock, Open
 use Rattle.step_rules.specs.declared.step.Action.TheVariants.{Report, Absorb, Fill, DrainStock, SetMax, SetFlag, Make, Remove, Kill}
 use Rattle.step_rules.specs.declared.step.Answer.{Answer}
 use Rattle.step_rules.specs.declared.step.Answer.TheVariants.{Illegal, Done, Last, Took, Stocked, Pages, Number}
-use Rattle.step_rules.specs.State.{Zone, Part, State, at_boot, with_at, without, with_last, front_of, is_unheld, is_held_by, visits}
-use Rattle.step_rules.specs.Legal.{IsMade, Allows}
-use Rattle.step_rules.specs.After.{Run, after, state_of, with_back, without_frame, paid, credited, filled, drained, IsLegalRun}
-use Rattle.step_rules.specs.Folds.{limit_after, flag_after, killed_after, AllGroupsFollowRun, holder_after, open_after, hold_of, TheLockFollowsRun, InHand}
-use Rattle.step_rules.specs.Folds.{hand_after, LastFill, fill_after, last_fill, AllPartsFollowRun}
-use Rattle.step_rules.specs.Invariant.{KeepsInvariant}
+use Rattle.step_rules.specs.{Zone, Part, at_boot, with_at, without, with_last, front_of, is_unheld, is_held_by, visits, IsMade, Allows, Run, after}
+use Rattle.step_rules.specs.{state_of, with_back, without_frame, paid, credited, filled, drained, IsLegalRun, limit_after, flag_after, killed_after}
+use Rattle.step_rules.specs.{AllGroupsFollowRun, holder_after, open_after, hold_of, TheLockFollowsRun, InHand, hand_after, LastFill, fill_after}
+use Rattle.step_rules.specs.{last_fill, AllPartsFollowRun, KeepsInvariant}
+use Rattle.step_rules.specs.State.{State}
 use Rattle.step_rules.proofs.LegalTests.{lock_tests, open_visit_tests, shut_visit_tests, unlock_tests}
 use Rattle.step_rules.proofs.PhaseLemmas.{equal_test, none_some}
 use Rattle.step_rules.proofs.SoundSteps.{cpu_range}

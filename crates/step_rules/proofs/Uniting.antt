@@ -16,14 +16,12 @@ use Rattle.step_rules.specs.declared.step.Action.{Action}
 use Rattle.step_rules.specs.declared.step.Action.TheVariants.{Lock, Put, Freeze, Unfreeze, PassOut, TakeIn, PassBack, Collect, Consume, Credit, PlaceBlock, Return}
 use Rattle.step_rules.specs.declared.step.Answer.{Answer}
 use Rattle.step_rules.specs.declared.step.Answer.TheVariants.{Illegal, Done, Last, Took, Stocked, Placed}
-use Rattle.step_rules.specs.Phases.{is_free, passes_out, passes_back, unit_of, at_stage, stage_after_last, passed_back, collected}
-use Rattle.step_rules.specs.Phases.{is_head_in_hand, is_returnable}
-use Rattle.step_rules.specs.State.{Zone, State, at_boot, with_at, front_of, is_cpu}
-use Rattle.step_rules.specs.Legal.{IsMade}
-use Rattle.step_rules.specs.After.{Run, IsLegalRun, after, state_of, placed_phase, with_block, unit_size, without_unit, consumed}
-use Rattle.step_rules.specs.Folds.{InHand, hand_after}
-use Rattle.step_rules.specs.Units.{Units, unit_after, fresh_after, units_after, no_units, units_after_run, fresh_group, AllUnitsFollowRun}
-use Rattle.step_rules.specs.Invariant.{KeepsInvariant}
+use Rattle.step_rules.specs.{is_free, passes_out, passes_back, unit_of, at_stage, stage_after_last, passed_back, collected, is_head_in_hand}
+use Rattle.step_rules.specs.{is_returnable, Zone, at_boot, with_at, front_of, is_cpu, IsMade, Run, IsLegalRun, after, state_of, placed_phase}
+use Rattle.step_rules.specs.{with_block, unit_size, without_unit, consumed, InHand, hand_after, unit_after, fresh_after, units_after, no_units}
+use Rattle.step_rules.specs.{units_after_run, fresh_group, AllUnitsFollowRun, KeepsInvariant}
+use Rattle.step_rules.specs.State.{State}
+use Rattle.step_rules.specs.Units.{Units}
 use Rattle.step_rules.proofs.LegalTests.{collect_tests, consume_tests, freeze_tests, pass_out_tests, put_tests, return_tests}
 use Rattle.step_rules.proofs.LegalTests.{take_in_tests, unfreeze_tests}
 use Rattle.step_rules.proofs.Basics.{at_same, at_other, at_each}

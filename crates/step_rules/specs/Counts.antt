@@ -1,8 +1,7 @@
 -- What a run says of references, stocks and books, counted over its pairs alone.
 use Rattle.std.specs.Prelude.{◌≡◌, ℕ, ◌+◌, ◌==◌, ◌&&◌, sum_by, if◌then◌else◌}
 use Rattle.step_rules.specs.declared.step.Action.{Action}
-use Rattle.step_rules.specs.declared.step.Action.TheVariants.{Get, Put, Freeze, Unfreeze, Consume, Credit, Absorb, Fill}
-use Rattle.step_rules.specs.declared.step.Action.TheVariants.{DrainStock}
+use Rattle.step_rules.specs.declared.step.Action.TheVariants.{Get, Put, Freeze, Unfreeze, Consume, Credit, Absorb, Fill, DrainStock}
 use Rattle.step_rules.specs.declared.step.Answer.{Answer}
 use Rattle.step_rules.specs.declared.step.Answer.TheVariants.{Done, Held, Left, Last, Took, Stocked, Pages}
 use Rattle.step_rules.specs.State.{Zone}

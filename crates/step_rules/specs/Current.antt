@@ -1,8 +1,7 @@
 -- Usage (memory.current of cgroup-v2.rst), counted over a run: frames by their places, stocks and pending pages by what
 -- was put in and removed.
 use Rattle.std.specs.Prelude.{◌≡◌, ℕ, ◌+◌, ◌&&◌, if◌then◌else◌}
-use Rattle.group_tree.specs.Bounds.{most_groups}
-use Rattle.group_tree.specs.Groups.{in_subtree}
+use Rattle.group_tree.specs.{most_groups, in_subtree}
 use Rattle.step_rules.specs.declared.step.FramePlace.TheVariants.{Charged}
 use Rattle.step_rules.specs.State.{Zone, one_if, sum_to}
 use Rattle.step_rules.specs.Usage.{is_in_subtree, frames_kept, pages_prepaid, pages_pending, usage_of}

@@ -3,8 +3,7 @@ use Rattle.std.specs.Prelude.{◌≡◌, ℕ, ◌+◌, ◌==◌, min, Bool, fals
 use Rattle.group_tree.specs.declared.event.EventKey.{EventKey}
 use Rattle.group_tree.specs.declared.event.EventKey.TheVariants.{Low, High, Max, Oom, OomKill, OomGroupKill}
 use Rattle.group_tree.specs.declared.group.Group.{Group}
-use Rattle.group_tree.specs.Events.{is_same_key}
-use Rattle.group_tree.specs.Room.{max_count, one_more}
+use Rattle.group_tree.specs.{is_same_key, max_count, one_more}
 use Rattle.step_rules.specs.declared.step.Step.{Step}
 use Rattle.step_rules.specs.declared.step.NoteKey.{NoteKey}
 use Rattle.step_rules.specs.declared.step.NoteKey.TheVariants as kind

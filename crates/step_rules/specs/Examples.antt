@@ -5,15 +5,12 @@ use Rattle.std.specs.Prelude.{ℕ, ◌==◌, true, Some, [], ◌∷◌, ◌++◌
 use Rattle.step_rules.specs.declared.step.Step.{Step}
 use Rattle.step_rules.specs.declared.step.NoteKey.TheVariants.{Low, High, Max, Oom}
 use Rattle.step_rules.specs.declared.step.Action.{Action}
-use Rattle.step_rules.specs.declared.step.Action.TheVariants.{Lock, Unlock, OpenVisit, ShutVisit, Get, Put, Freeze}
-use Rattle.step_rules.specs.declared.step.Action.TheVariants.{Unfreeze, PassOut, TakeIn, PassBack, Collect, Consume}
-use Rattle.step_rules.specs.declared.step.Action.TheVariants.{Credit, Report, Absorb, Fill, DrainStock, Grant, Ungrant}
-use Rattle.step_rules.specs.declared.step.Action.TheVariants.{PlaceBlock, Publish, Return, Note}
-use Rattle.step_rules.specs.declared.step.Action.TheVariants.{NoteGroupKill, SetMax, SetFlag, Make, Remove, Kill}
+use Rattle.step_rules.specs.declared.step.Action.TheVariants.{Lock, Unlock, OpenVisit, ShutVisit, Get, Put, Freeze, Unfreeze, PassOut, TakeIn}
+use Rattle.step_rules.specs.declared.step.Action.TheVariants.{PassBack, Collect, Consume, Credit, Report, Absorb, Fill, DrainStock, Grant, Ungrant}
+use Rattle.step_rules.specs.declared.step.Action.TheVariants.{PlaceBlock, Publish, Return, Note, NoteGroupKill, SetMax, SetFlag, Make, Remove, Kill}
 use Rattle.step_rules.specs.declared.step.Answer.{Answer}
-use Rattle.step_rules.specs.declared.step.Answer.TheVariants.{Illegal, Done, Held, Zero, Full, Left, Last, Missed, Took}
-use Rattle.step_rules.specs.declared.step.Answer.TheVariants.{Empty, OtherGroup, Drained, Stocked, Pages, Granted, Over}
-use Rattle.step_rules.specs.declared.step.Answer.TheVariants.{Placed, NoFreeBlock, Number}
+use Rattle.step_rules.specs.declared.step.Answer.TheVariants.{Illegal, Done, Held, Zero, Full, Left, Last, Missed, Took, Empty, OtherGroup, Drained}
+use Rattle.step_rules.specs.declared.step.Answer.TheVariants.{Stocked, Pages, Granted, Over, Placed, NoFreeBlock, Number}
 use Rattle.step_rules.specs.State.{Zone, State, at_boot, no_part}
 use Rattle.step_rules.specs.After.{Run}
 

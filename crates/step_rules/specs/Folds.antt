@@ -1,14 +1,12 @@
 -- What a run says of limits, flags, killed groups, the lock, lists and stocks, each folded over its pairs without the
 -- state.
-use Rattle.std.specs.Prelude.{◌≡◌, ℕ, ◌==◌, Bool, true, false, Option, Some, None, is_some, List, [], fold}
-use Rattle.std.specs.Prelude.{if◌then◌else◌}
+use Rattle.std.specs.Prelude.{◌≡◌, ℕ, ◌==◌, Bool, true, false, Option, Some, None, is_some, List, [], fold, if◌then◌else◌}
 use Rattle.group_tree.specs.Groups.{has_group, limit_of, is_oom_group}
 use Rattle.step_rules.specs.declared.phase.Hold.{Hold}
 use Rattle.step_rules.specs.declared.phase.Hold.TheVariants.{Unheld, HeldBy, Visiting}
 use Rattle.step_rules.specs.declared.step.Action.{Action}
-use Rattle.step_rules.specs.declared.step.Action.TheVariants.{Lock, Unlock, OpenVisit, ShutVisit, Put, TakeIn, PassBack}
-use Rattle.step_rules.specs.declared.step.Action.TheVariants.{Consume, Credit, Fill, DrainStock, SetMax, SetFlag, Make}
-use Rattle.step_rules.specs.declared.step.Action.TheVariants.{Kill}
+use Rattle.step_rules.specs.declared.step.Action.TheVariants.{Lock, Unlock, OpenVisit, ShutVisit, Put, TakeIn, PassBack, Consume, Credit, Fill}
+use Rattle.step_rules.specs.declared.step.Action.TheVariants.{DrainStock, SetMax, SetFlag, Make, Kill}
 use Rattle.step_rules.specs.declared.step.Answer.{Answer}
 use Rattle.step_rules.specs.declared.step.Answer.TheVariants.{Done, Last, Took, Stocked, Pages, Number}
 use Rattle.step_rules.specs.State.{Zone, without, with_last, front_of, is_cpu}

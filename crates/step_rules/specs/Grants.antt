@@ -1,12 +1,11 @@
 -- Grants and the limits (memory.max of cgroup-v2.rst), and the pages that are pending, counted over a run.
 use Rattle.std.specs.Prelude.{◌≡◌, ℕ, ◌+◌, ◌^◌, ◌==◌, true, if◌then◌else◌}
-use Rattle.group_tree.specs.Groups.{in_subtree, limit_of}
+use Rattle.group_tree.specs.{in_subtree, limit_of, fits_limit}
 use Rattle.step_rules.specs.declared.step.Action.{Action}
 use Rattle.step_rules.specs.declared.step.Action.TheVariants.{Fill, DrainStock, Grant, Ungrant, PlaceBlock}
 use Rattle.step_rules.specs.declared.step.Answer.{Answer}
 use Rattle.step_rules.specs.declared.step.Answer.TheVariants.{Done, Pages, Granted, Placed}
 use Rattle.step_rules.specs.State.{Zone, State}
-use Rattle.group_tree.specs.Room.{fits_limit}
 use Rattle.step_rules.specs.Usage.{usage_of}
 use Rattle.step_rules.specs.Legal.{is_of_group, IsMade}
 use Rattle.step_rules.specs.After.{Run, after, state_of, IsLegalRun}

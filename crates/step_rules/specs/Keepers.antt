@@ -1,7 +1,6 @@
 -- Each group that keeps a frame or a page exists.
 use Rattle.std.specs.Prelude.{◌≡◌, ℕ, ◌+◌, ◌<◌, ◌≤◌, true, false, Some, None}
-use Rattle.group_tree.specs.Bounds.{most_groups}
-use Rattle.group_tree.specs.Groups.{has_group, parent_of, AreGroups}
+use Rattle.group_tree.specs.{most_groups, has_group, parent_of, AreGroups}
 use Rattle.step_rules.specs.Phases.{keeper_of}
 use Rattle.step_rules.specs.State.{Zone, State, is_cpu, visits}
 use Rattle.step_rules.specs.Legal.{no_page_pends}

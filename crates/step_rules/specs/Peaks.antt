@@ -1,7 +1,6 @@
 -- How a step moves usage, and the greatest usage since a group was made (memory.peak of cgroup-v2.rst).
 use Rattle.std.specs.Prelude.{◌≡◌, ℕ, ◌+◌, ◌≤◌, ◌==◌, true, [], take, length, if◌then◌else◌}
-use Rattle.group_tree.specs.Groups.{has_group}
-use Rattle.group_tree.specs.Room.{on_path, peak_after}
+use Rattle.group_tree.specs.{has_group, on_path, peak_after}
 use Rattle.step_rules.specs.declared.step.Step.{Step}
 use Rattle.step_rules.specs.declared.step.Action.{Action}
 use Rattle.step_rules.specs.declared.step.Action.TheVariants.{Grant, Make}

@@ -1,6 +1,5 @@
 -- How each use of a frame ends and is closed, and that nothing is pending while the lock is free.
-use Rattle.std.specs.Prelude.{◌≡◌, ℕ, ◌+◌, ◌==◌, ◌++◌, Bool, true, false, Option, Some, None, [], ◌∷◌, fold}
-use Rattle.std.specs.Prelude.{if◌then◌else◌}
+use Rattle.std.specs.Prelude.{◌≡◌, ℕ, ◌+◌, ◌==◌, ◌++◌, Bool, true, false, Option, Some, None, [], ◌∷◌, fold, if◌then◌else◌}
 use Rattle.step_rules.specs.declared.phase.Stage.{Stage}
 use Rattle.step_rules.specs.declared.phase.Stage.TheVariants.{Collected, BackAt, BackPassing, AwaitsReturn}
 use Rattle.step_rules.specs.declared.phase.Phase.{Phase}

@@ -1,8 +1,7 @@
 -- Usage (memory.current of cgroup-v2.rst).
 use Rattle.std.specs.Prelude.{ℕ, ◌+◌, Bool, false, Option, Some, None, List, if◌then◌else◌}
 use Rattle.group_tree.specs.declared.group.Group.{Group}
-use Rattle.group_tree.specs.Bounds.{most_groups}
-use Rattle.group_tree.specs.Groups.{in_subtree}
+use Rattle.group_tree.specs.{most_groups, in_subtree}
 use Rattle.step_rules.specs.declared.phase.Phase.{Phase}
 use Rattle.step_rules.specs.Phases.{keeper_of}
 use Rattle.step_rules.specs.State.{State, Part, one_if, sum_to}

@@ -14,12 +14,11 @@ ghost use Rattle.step_rules.specs.Breaches.{placed_smaller, placed_in_use, place
 ghost use Rattle.step_rules.specs.Breaches.{given_after_the_last, put_after_the_last, frozen_after_the_last};
 ghost use Rattle.step_rules.specs.Breaches.{unfrozen_in_no_unit, unfrozen_in_use, kept_run, shown_rightly};
 ghost use Rattle.step_rules.specs.Breaches.{MiscountsReferences, referred_twice, referred_by_one, never_referred};
-ghost use Rattle.step_rules.specs.Breaches.{referred_fully, given_in_no_unit};
-ghost use Rattle.step_rules.specs.Breaches.{IsShownWrongly, seen_nowhere, seen_twice, listed_twice, listed_by_nobody};
-ghost use Rattle.step_rules.specs.Breaches.{kept_in_no_unit, seen_beyond, prepaid_for_nobody, prepaid_left_out};
-ghost use Rattle.step_rules.specs.Breaches.{no_group_seen, group_too_many, limit_never_set, IsWrongAfter};
-ghost use Rattle.step_rules.specs.Breaches.{shown_free, parted_areas, prepaid_by_nobody, prepaid_for_no_group};
-ghost use Rattle.step_rules.specs.Breaches.{granted_and_lost, lost_in_number};
+ghost use Rattle.step_rules.specs.Breaches.{referred_fully, given_in_no_unit, IsShownWrongly, seen_nowhere, seen_twice};
+ghost use Rattle.step_rules.specs.Breaches.{listed_twice, listed_by_nobody, kept_in_no_unit, seen_beyond};
+ghost use Rattle.step_rules.specs.Breaches.{prepaid_for_nobody, prepaid_left_out, no_group_seen, group_too_many};
+ghost use Rattle.step_rules.specs.Breaches.{limit_never_set, IsWrongAfter, shown_free, parted_areas, prepaid_by_nobody};
+ghost use Rattle.step_rules.specs.Breaches.{prepaid_for_no_group, granted_and_lost, lost_in_number};
 
 /// A grant that passes the limit of an ancestor breaks the promise. A grant to a killed group breaks it too.
 pub fn a_grant_past_a_limit_breaks_the_promise()

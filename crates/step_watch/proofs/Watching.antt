@@ -10,8 +10,7 @@ use Rattle.step_rules.specs.After.{Run, after, state_of, IsLegalRun}
 use Rattle.step_rules.proofs.Runs.{one_more, state_more, legal_more}
 use Rattle.mem_core.proofs.Keeping.{always_keeps}
 use Rattle.log_lines.specs.Line.{entry_text}
-use Rattle.step_watch.specs.Watched.{KnownWatch, AreAllowedFrom, IsNewWatch, SawRun, Watches}
-use Rattle.step_watch.specs.Watched.{has_legal_steps, log_text, state_seen, steps_text}
+use Rattle.step_watch.specs.{KnownWatch, AreAllowedFrom, IsNewWatch, SawRun, Watches, has_legal_steps, log_text, state_seen, steps_text}
 
 -- a watch that takes no steps says nothing
 pub watches_off : (before : KnownWatch) (steps : Run) (later : KnownWatch) → later.is_on ≡ false → Watches before steps later

@@ -4,12 +4,9 @@ use Rattle.std.specs.Prelude.{List, Vec, [], ◌∷◌, flat_map, length, option
 use Rattle.step_rules.specs.declared.step.Action.{Action}
 use Rattle.step_rules.specs.declared.step.Answer.{Answer}
 use Rattle.step_rules.specs.declared.step.Step.{Step}
-use Rattle.step_rules.specs.State.{Zone, State, at_boot}
-use Rattle.step_rules.specs.Legal.{Allows}
-use Rattle.step_rules.specs.After.{Run, after, state_of, IsLegalRun}
-use Rattle.mem_core.specs.Shown.{CoreState, state_shown}
-use Rattle.mem_core.specs.Checked.{Leads}
-use Rattle.mem_core.specs.Promise.{AlwaysKeepsPromise}
+use Rattle.step_rules.specs.{Zone, at_boot, Allows, Run, after, state_of, IsLegalRun}
+use Rattle.step_rules.specs.State.{State}
+use Rattle.mem_core.specs.{CoreState, state_shown, Leads, AlwaysKeepsPromise}
 use Rattle.log_lines.specs.Line.{entry_text}
 
 -- What a watch is: the state of its checker, or None if it checks no step; the log that it wrote, or None if it writes

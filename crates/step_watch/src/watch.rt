@@ -2,8 +2,7 @@
 
 ghost use Rattle.std.specs.Prelude.{◌≡◌, ◌∷◌, [], ◌+◌, ◌++◌, IfOk, IsTrue};
 ghost use Rattle.log_lines.specs.Line.{entry_text};
-ghost use Rattle.mem_core.specs.Shown.{state_shown, zone_of_config};
-ghost use Rattle.mem_core.specs.Checked.{Leads};
+ghost use Rattle.mem_core.specs.{state_shown, zone_of_config, Leads};
 ghost use Rattle.step_rules.specs.declared.step.Action.{Action};
 ghost use Rattle.step_rules.specs.declared.step.Answer.{Answer};
 ghost use Rattle.step_watch.specs.Watched.{Accepts, Adds, Builds, IsNewLog, IsNewWatch, Watches, cpu_makes};

@@ -3,12 +3,11 @@
 #![tactic(auto)]
 
 ghost use Rattle.std.specs.Prelude.{◌≡◌, IfOk};
-ghost use Rattle.mem_system.specs.Commands.{IsOfZone};
-ghost use Rattle.mem_system.specs.Ending.{HasEnded};
+ghost use Rattle.mem_system.specs.{IsOfZone, HasEnded};
 
 use anyhow::{Context, Result, anyhow};
 use cpu_part::BootName;
-use mem_system::{Boot, Cmd, Cpu, Outcome, Reply, System, SystemEnd, boot};
+use mem_system::{Boot, Cpu, LockedCommand, Outcome, ReplyWithText, System, SystemEnd, boot};
 use reply_texts::{write_fast, write_get, write_put, write_reply};
 use std::alloc::Global;
 use std::marker::Brand;
@@ -63,25 +62,43 @@ fn run_demo<N: BootName, R: Wait>(
     let second = others.first_mut().context("no second cpu")?;
     let tables = system.tables();
     let (path, file, value): (&[u8], &[u8], &[u8]) = (b"/web", b"memory.max", b"32K");
-    let Reply::Group(group) = system.visit(rt, first, &Cmd::Mkdir { path }) else {
+    let ReplyWithText::Group(group) = system.visit(rt, first, &LockedCommand::Mkdir { path }) else {
         return Err(anyhow!("no group"));
     };
-    ask(rt, system, first, &Cmd::Write { path, file, value }, text)?;
+    ask(
+        rt,
+        system,
+        first,
+        &LockedCommand::Write { path, file, value },
+        text,
+    )?;
     let Outcome::Frame(number) = system.alloc_dirty(rt, first, path, 0) else {
         return Err(anyhow!("no frame"));
     };
     let shared = tables.words.frame(number).context("no such frame")?;
     write_fast(&first.alloc_fast(tables, group.number()), text)?;
-    ask(rt, system, first, &Cmd::Settle, text)?;
+    ask(rt, system, first, &LockedCommand::Settle, text)?;
     write_get(&second.get(tables, shared)?, text)?;
     let frame = shared.number();
-    ask(rt, system, first, &Cmd::Release { frame }, text)?;
+    ask(rt, system, first, &LockedCommand::Release { frame }, text)?;
     if second.has_pin(shared) {
         write_put(&second.put(tables, shared), text)?;
     }
-    ask(rt, system, second, &Cmd::Alloc { path, order: 4 }, text)?;
+    ask(
+        rt,
+        system,
+        second,
+        &LockedCommand::Alloc { path, order: 4 },
+        text,
+    )?;
     let file: &[u8] = b"memory.current";
-    ask(rt, system, second, &Cmd::Read { path, file }, text)
+    ask(
+        rt,
+        system,
+        second,
+        &LockedCommand::Read { path, file },
+        text,
+    )
 }
 
 // Makes a visit, which takes the zone's lock, and adds the text of the reply.
@@ -89,7 +106,7 @@ fn ask<N: BootName, R: Wait>(
     rt: &R,
     system: &System<N>,
     cpu: &mut Cpu<N>,
-    cmd: &Cmd<'_>,
+    cmd: &LockedCommand<'_>,
     text: &mut String,
 ) -> Result<()>
     requires { IsOfZone N.frames cmd.now }

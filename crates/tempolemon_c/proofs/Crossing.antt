@@ -4,11 +4,7 @@ use Rattle.std.proofs.lemmas.Bool.{false≢true}
 use Rattle.std.specs.Prelude.{IsSome, IsSomeAnd, Option}
 use Rattle.frame_word.specs.Seats.{KnownTable}
 use Rattle.control_files.specs.declared.file.File.{File}
-use Rattle.tempolemon_c.specs.HandleCalls.{GroupHasFiles}
-use Rattle.tempolemon_c.specs.Known.{KnownLive}
-use Rattle.tempolemon_c.specs.Serving.{OnRaw}
-use Rattle.tempolemon_c.specs.Calls.{HasFileBehind}
-use Rattle.tempolemon_c.specs.Handles.{OnBoot, boot_of}
+use Rattle.tempolemon_c.specs.{GroupHasFiles, KnownLive, OnRaw, HasFileBehind, OnBoot, boot_of}
 
 -- what was done to the boot that the pointer leads to was done to the boot behind the handle
 pub crossed : (does : KnownTable → (from to : KnownLive) → Type 0) (f : KnownTable) (o : Option KnownLive) (g : KnownTable) (p : Option KnownLive)

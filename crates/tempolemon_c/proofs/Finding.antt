@@ -9,9 +9,7 @@ use Rattle.group_charge.specs.Charges.{AreCharges, Ledger}
 use Rattle.script_lines.specs.declared.line.Command.TheVariants as cmd
 use Rattle.script_replay.specs.declared.answer_value.AnswerValue.{AnswerValue}
 use Rattle.script_replay.specs.ValueAnswers.{NamesItsGroups, SaysCommand, answer_of}
-use Rattle.tempolemon_c.specs.HandleCalls.{CallsLive, IsCpu}
-use Rattle.tempolemon_c.specs.Commands.{SameButState}
-use Rattle.tempolemon_c.specs.Known.{KnownLive}
+use Rattle.tempolemon_c.specs.{CallsLive, IsCpu, SameButState, KnownLive}
 use Rattle.tempolemon_c.specs.declared.calls.Call.TheVariants as call
 use Rattle.tempolemon_c.specs.declared.calls.CallAnswer.TheVariants as returned
 

@@ -5,8 +5,7 @@ use Rattle.std.proofs.lemmas.Bool.{cases_lt}
 use Rattle.frame_word.specs.Seats.{KnownTable}
 use Rattle.zone_blocks.specs.declared.config.Config.{Config}
 use Rattle.step_rules.specs.After.{Run}
-use Rattle.boot_words.specs.Seats.{zone_of_boot}
-use Rattle.boot_words.specs.Words.{IsRunOf}
+use Rattle.boot_words.specs.{zone_of_boot, IsRunOf}
 use Rattle.mem_core.specs.Promise.{AlwaysKeepsPromise}
 use Rattle.reply_texts.specs.Answers.{answer_text}
 use Rattle.script_lines.specs.declared.line.Line.TheVariants.{At}
@@ -15,13 +14,9 @@ use Rattle.script_replay.specs.Terms.{Terms, terms}
 use Rattle.script_replay.proofs.Gaining.{all_lines_go_on, goes_on_none}
 use Rattle.load_run.specs.Ending.{last_words}
 use Rattle.load_run.proofs.Whole.{whole_run}
-use Rattle.tempolemon_c.specs.Commands.{StopsText}
-use Rattle.tempolemon_c.specs.Handles.{LiveBoot, OnBoot, ended_of, live_boot}
-use Rattle.tempolemon_c.specs.Known.{KnownLive}
-use Rattle.tempolemon_c.specs.Lives.{AreCalls, CallOnHandle, LivesAreLegalRuns, TypedCallsAreCalls}
+use Rattle.tempolemon_c.specs.{StopsText, LiveBoot, OnBoot, ended_of, live_boot, KnownLive, AreCalls, CallOnHandle, LivesAreLegalRuns}
+use Rattle.tempolemon_c.specs.{TypedCallsAreCalls, steps_before_stop, steps_of_call, steps_of_calls, steps_of_life, most_refusal}
 use Rattle.tempolemon_c.specs.Lives.{Answered, Fetched, Nothing, RanOut, Refused, Stored, Typed}
-use Rattle.tempolemon_c.specs.Lives.{steps_before_stop, steps_of_call, steps_of_calls, steps_of_life}
-use Rattle.tempolemon_c.specs.Statuses.{most_refusal}
 
 stop_goes_on : (on : Terms) (sizes : Config) (text : List ℕ) (s e : SystemState) (stop : (e ≡ s) ⊎ StopsText on sizes text s e)
     → RunGoesOn (steps_before_stop on sizes text s e stop) s e

@@ -3,12 +3,8 @@ use Rattle.std.proofs.Common.{◌≡◌, ◌∙◌, ℕ, Some, None, List, ap, a
 use Rattle.std.specs.Prelude.{Option}
 use Rattle.std.proofs.lemmas.Option.{none-some}
 use Rattle.tempolemon_c.specs.declared.calls.Call.{Call}
-use Rattle.tempolemon_c.specs.HandleCalls.{IsCpu, NamesMissingFrame}
-use Rattle.tempolemon_c.specs.Known.{KnownLive}
-use Rattle.tempolemon_c.specs.Calls.{CallsInto, RefusesBehind}
-use Rattle.tempolemon_c.specs.Handles.{LiveBoot, live_boot}
-use Rattle.host_memory.specs.Statuses.{bad_cpu, bad_frame, not_live}
-use Rattle.host_memory.specs.Kinds.{no_result}
+use Rattle.tempolemon_c.specs.{IsCpu, NamesMissingFrame, KnownLive, CallsInto, RefusesBehind, LiveBoot, live_boot}
+use Rattle.host_memory.specs.{bad_cpu, bad_frame, not_live, no_result}
 
 module _ (cpu : ℕ) (asked : Call) (buffer : List ℕ) where
   -- there is no boot

@@ -3,7 +3,7 @@ use Rattle.std.proofs.Common.{◌≡◌, ◌∙◌, ℕ, ◌≤◌, Some, None, 
 use Rattle.std.specs.Prelude.{IfSome, IsSomeAnd, Option}
 use Rattle.std.proofs.lemmas.Option.{none-some}
 use Rattle.control_files.specs.declared.file.File.{File}
-use Rattle.mem_system.specs.declared.command.Reply.{Reply}
+use Rattle.mem_system.specs.declared.command.ReplyWithText.{ReplyWithText}
 use Rattle.mem_system.specs.declared.outcome.Outcome.TheVariants as outcome
 use Rattle.group_charge.specs.Charges.{Ledger}
 use Rattle.reply_texts.specs.LineAnswer.{LineAnswer}
@@ -14,13 +14,9 @@ use Rattle.script_replay.specs.declared.answer_value.AnswerValue.TheVariants.{Se
 use Rattle.tempolemon_c.specs.declared.calls.Call.{Call}
 use Rattle.tempolemon_c.specs.declared.calls.CallAnswer.TheVariants as call
 use Rattle.tempolemon_c.specs.declared.calls.FileText.{FileText}
-use Rattle.tempolemon_c.specs.HandleCalls.{CallsLive, ShowsFile, file_reply}
-use Rattle.tempolemon_c.specs.Known.{KnownLive}
+use Rattle.tempolemon_c.specs.{CallsLive, ShowsFile, file_reply, KnownLive, CallsInto, HasGroupsBehind, PutsAnswer, ReturnsAnswer, ReturnsValue}
+use Rattle.tempolemon_c.specs.{LiveBoot, OnBoot, live_boot, most_refusal, result_of, status_of}
 use Rattle.host_memory.specs.declared.typed_result.TypedResult.{TypedResult}
-use Rattle.tempolemon_c.specs.Calls.{CallsInto, HasGroupsBehind, PutsAnswer, ReturnsAnswer, ReturnsValue}
-use Rattle.tempolemon_c.specs.Handles.{LiveBoot, OnBoot, live_boot}
-use Rattle.tempolemon_c.specs.Statuses.{most_refusal}
-use Rattle.tempolemon_c.specs.Kinds.{result_of, status_of}
 use Rattle.tempolemon_c.proofs.Numbers.{status_low}
 
 -- the result of what isn't a text doesn't depend on the boot
@@ -46,7 +42,7 @@ module _ (group : ℕ) (file : File) (shown : FileText) (before after : Option L
       → IfSome before (ReturnsValue (Served (outcome.Text group file)) status out old new)
   tells status out old new out_so =
       subst (λ (b : Option LiveBoot). IfSome b (ReturnsValue (Served (outcome.Text group file)) status out old new))
-      (sym on.was) (subst (λ (r : Reply). ReturnsAnswer (answer.Served r) status out old new) on.done.reply_is out_so)
+      (sym on.was) (subst (λ (r : ReplyWithText). ReturnsAnswer (answer.Served r) status out old new) on.done.reply_is out_so)
 
 module _ (cpu : ℕ) (asked : Call) (value : AnswerValue) (before mid : Option LiveBoot)
     (on : OnBoot (λ frames from to. CallsLive frames cpu asked from to (call.Served value)) before mid) where

@@ -2,8 +2,8 @@
 use Rattle.std.specs.Prelude.{◌≡◌, ◌≢◌, ◌⊎◌, ◌↔◌, ℕ, ◌%◌, ◌^◌, ◌<◌, ◌≤◌, List, [], Option, None, length}
 use Rattle.std.specs.Borrow.{Bor}
 use Rattle.frame_word.specs.Seats.{KnownTable}
-use Rattle.mem_system.specs.declared.command.Reply.{Reply}
-use Rattle.mem_system.specs.declared.command.Reply.TheVariants as reply
+use Rattle.mem_system.specs.declared.command.ReplyWithText.{ReplyWithText}
+use Rattle.mem_system.specs.declared.command.ReplyWithText.TheVariants as reply
 use Rattle.mem_system.specs.declared.outcome.Outcome.{Outcome}
 use Rattle.mem_system.specs.declared.outcome.Outcome.TheVariants as outcome
 use Rattle.reply_texts.specs.LineAnswer.{LineAnswer}
@@ -21,9 +21,7 @@ use Rattle.script_replay.specs.ValueAnswers.{NamesItsGroups, answer_of}
 use Rattle.script_replay.specs.declared.answer_value.AnswerValue.{AnswerValue}
 use Rattle.script_replay.specs.declared.answer_value.AnswerValue.TheVariants as value
 use Rattle.tempolemon_c.specs.Handles.{LiveBoot, OnBoot}
-use Rattle.host_memory.specs.Buffers.{PutsText}
-use Rattle.host_memory.specs.Kinds.{no_result}
-use Rattle.host_memory.specs.Statuses.{bad_cpu, bad_frame, bad_group, done, not_live, small_buffer}
+use Rattle.host_memory.specs.{PutsText, no_result, bad_cpu, bad_frame, bad_group, done, not_live, small_buffer}
 use Rattle.host_memory.specs.declared.typed_result.TypedResult.{TypedResult}
 use Rattle.tempolemon_c.specs.Kinds.{result_of, status_of}
 use Rattle.tempolemon_c.specs.Statuses.{IsNotServedStatus, most_refusal}
@@ -52,7 +50,7 @@ HasNoText (value.Served outcome) = IsPlainOutcome outcome
 HasNoText other = Unit {0}
 
 -- what a buffer gets of a reply: the text of a file, and of all else nothing
-abbrev pub PutsReply : Reply → (old new : List ℕ) → Type 0
+abbrev pub PutsReply : ReplyWithText → (old new : List ℕ) → Type 0
 PutsReply (reply.Text text) old new = PutsText text old new
 PutsReply other old new = new ≡ old
 

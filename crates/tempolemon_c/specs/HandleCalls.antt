@@ -1,21 +1,18 @@
 -- What a call means, and what it does to a live boot.
 use Rattle.std.specs.Prelude.{◌≡◌, ◌⊎◌, ℕ, ◌≤◌, List, Some, false}
 use Rattle.frame_word.specs.Seats.{KnownTable}
-use Rattle.group_tree.specs.Bounds.{most_groups}
+use Rattle.group_tree.specs.{most_groups, has_group, path_of}
 use Rattle.group_tree.specs.declared.group.Group.{Group}
-use Rattle.group_tree.specs.Groups.{has_group, path_of}
 use Rattle.group_charge.specs.Charges.{Ledger}
 use Rattle.control_files.specs.declared.file.File.{File}
-use Rattle.mem_system.specs.declared.command.Reply.{Reply}
-use Rattle.mem_system.specs.declared.command.Reply.TheVariants as reply
+use Rattle.mem_system.specs.declared.command.ReplyWithText.{ReplyWithText}
+use Rattle.mem_system.specs.declared.command.ReplyWithText.TheVariants as reply
 use Rattle.mem_system.specs.declared.outcome.Outcome.TheVariants as outcome
 use Rattle.mem_system.specs.Outcomes.{HasItsGroups, reply_of}
 use Rattle.reply_texts.specs.LineAnswer.{LineAnswer}
 use Rattle.script_lines.specs.declared.line.Command.{Command}
 use Rattle.script_lines.specs.declared.line.Command.TheVariants as cmd
-use Rattle.script_replay.specs.Commands.{HasValueAnswer}
-use Rattle.script_replay.specs.Ranges.{CommandInRange, CpuCommandInRange}
-use Rattle.script_replay.specs.ValueAnswers.{NamesItsGroups, SaysCommand, answer_of}
+use Rattle.script_replay.specs.{HasValueAnswer, CommandInRange, CpuCommandInRange, NamesItsGroups, SaysCommand, answer_of}
 use Rattle.tempolemon_c.specs.Known.{KnownLive}
 use Rattle.tempolemon_c.specs.Commands.{SameButState}
 use Rattle.tempolemon_c.specs.declared.calls.Call.{Call}
@@ -107,7 +104,7 @@ abbrev pub GroupHasFiles : (group : ℕ) → File → KnownLive → Type 0
 GroupHasFiles group file live = HasItsGroups live.state.locked.machine.ledger (outcome.Text group file)
 
 -- what a file shows, as the reply to a read of it
-abbrev pub file_reply : FileText → Reply
+abbrev pub file_reply : FileText → ReplyWithText
 file_reply (file_text.Text text) = reply.Text text
 file_reply (file_text.Refused fault) = reply.Refused fault
 

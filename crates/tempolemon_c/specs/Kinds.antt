@@ -3,18 +3,17 @@ use Rattle.std.specs.Prelude.{ℕ, length}
 use Rattle.group_tree.specs.Faults.{number_of}
 use Rattle.cpu_part.specs.declared.answers.Fast as fast
 use Rattle.cpu_part.specs.declared.answers.Fast.TheVariants.{Got, FreshFull, ListEmpty, OtherGroup, Drained, NoStock}
-use Rattle.mem_system.specs.declared.command.Reply.{Reply}
-use Rattle.mem_system.specs.declared.command.Reply.TheVariants as reply
+use Rattle.mem_system.specs.declared.command.ReplyWithText.{ReplyWithText}
+use Rattle.mem_system.specs.declared.command.ReplyWithText.TheVariants as reply
 use Rattle.reply_texts.specs.LineAnswer.{LineAnswer}
 use Rattle.reply_texts.specs.LineAnswer as answer
 use Rattle.reply_texts.specs.declared.steps.UnlockedAnswer.{UnlockedAnswer}
 use Rattle.reply_texts.specs.declared.steps.UnlockedAnswer.TheVariants as unlocked
-use Rattle.host_memory.specs.Kinds.{get_result, put_result, result_with}
-use Rattle.host_memory.specs.Statuses.{done, over_limit}
+use Rattle.host_memory.specs.{get_result, put_result, result_with, done, over_limit}
 use Rattle.host_memory.specs.declared.typed_result.TypedResult.{TypedResult}
 
 -- the result of a reply
-abbrev pub reply_result : Reply → TypedResult
+abbrev pub reply_result : ReplyWithText → TypedResult
 reply_result reply.Done = result_with 1 0
 reply_result (reply.Group group) = result_with 2 group
 reply_result (reply.Frame frame) = result_with 3 frame
@@ -53,7 +52,7 @@ result_of answer.Settled = result_with 12 0
 result_of (answer.Unlocked said) = unlocked_result said
 
 -- the status of a reply: a refusal's number, or 0
-abbrev pub reply_status : Reply → ℕ
+abbrev pub reply_status : ReplyWithText → ℕ
 reply_status (reply.OverLimit group path) = over_limit
 reply_status (reply.Refused fault) = number_of fault
 reply_status other = done

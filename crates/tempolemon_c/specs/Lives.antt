@@ -3,8 +3,7 @@ use Rattle.std.specs.Prelude.{◌≡◌, ◌⊎◌, ℕ, zero, suc, Bool, false,
 use mathlib.Core.Logic.{inl, inr}
 use Rattle.zone_blocks.specs.declared.config.Config.{Config}
 use Rattle.step_rules.specs.After.{Run}
-use Rattle.boot_words.specs.Seats.{zone_of_boot}
-use Rattle.boot_words.specs.Words.{IsRunOf}
+use Rattle.boot_words.specs.{zone_of_boot, IsRunOf}
 use Rattle.mem_core.specs.Promise.{AlwaysKeepsPromise}
 use Rattle.reply_texts.specs.Answers.{answer_text}
 use Rattle.reply_texts.specs.LineAnswer.{LineAnswer}
@@ -14,8 +13,7 @@ use Rattle.script_replay.specs.Terms.{Terms, terms}
 use Rattle.load_run.specs.Ending.{last_words}
 use Rattle.tempolemon_c.specs.Calls.{AnswersBehind, CallsInto}
 use Rattle.tempolemon_c.specs.Commands.{StopsText}
-use Rattle.tempolemon_c.specs.Handles.{AnswersAndStoresUnread, AnswersLines, BootsNew, EndsBoot, LinesRunOut, LiveBoot}
-use Rattle.tempolemon_c.specs.Handles.{RefusesLines, TakesUnread}
+use Rattle.tempolemon_c.specs.Handles.{AnswersAndStoresUnread, AnswersLines, BootsNew, EndsBoot, LinesRunOut, LiveBoot, RefusesLines, TakesUnread}
 use Rattle.tempolemon_c.specs.declared.calls.Call.{Call}
 use Rattle.host_memory.specs.declared.report.Report.{Report}
 use Rattle.host_memory.specs.declared.typed_result.TypedResult.{TypedResult}

@@ -2,8 +2,7 @@
 use Rattle.std.specs.Prelude.{◌≡◌, [], Option, None, Some}
 use Rattle.frame_word.specs.Seats.{KnownTable}
 use Rattle.zone_blocks.specs.declared.config.Config.{Config}
-use Rattle.load_run.specs.Answers.{IsNewBootState}
-use Rattle.load_run.specs.Ending.{EndsHeld}
+use Rattle.load_run.specs.{IsNewBootState, EndsHeld}
 use Rattle.load_run.specs.declared.boot_end.BootEnd.{BootEnd}
 use Rattle.tempolemon_c.specs.Known.{KnownLive}
 use Rattle.tempolemon_c.specs.Commands.{AnswersScript, RefusesScript, RunsOut, TakesUnreadAnswer, with_unread_answer}

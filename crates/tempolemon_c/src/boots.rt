@@ -3,9 +3,8 @@
 ghost use Rattle.std.specs.Prelude.{◌≡◌, ◌≢◌, ◌↔◌, None};
 ghost use Rattle.zone_blocks.specs.Config.{IsValidConfig};
 ghost use Rattle.tempolemon_c.specs.Behind.{behind};
-ghost use Rattle.host_memory.specs.Buffers.{ExceedsBuffer, FillsBuffer};
-ghost use Rattle.host_memory.specs.Sizes.{config_of};
-ghost use Rattle.host_memory.specs.Statuses.{bad_config, done, is_live, no_memory, not_live, small_buffer};
+ghost use Rattle.host_memory.specs.{ExceedsBuffer, FillsBuffer, config_of, bad_config, done, is_live, no_memory};
+ghost use Rattle.host_memory.specs.{not_live, small_buffer};
 ghost use Rattle.tempolemon_c.specs.Handles.{AnswersAndStoresUnread, AnswersLines, BootsNew, EndsBoot, HasUnread};
 ghost use Rattle.tempolemon_c.specs.Handles.{LinesRunOut, RefusesLines, TakesUnread};
 ghost use Rattle.tempolemon_c.specs.Statuses.{IsAnswerStatus, IsBootStatus, IsEndStatus, IsLinesStatus, bad_line};

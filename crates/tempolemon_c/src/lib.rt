@@ -12,9 +12,7 @@
 ghost use Rattle.std.specs.Prelude.{◌≡◌, ◌≢◌, ◌↔◌};
 ghost use Rattle.zone_blocks.specs.Config.{IsValidConfig};
 ghost use Rattle.script_lines.specs.Script.{IsFirstBadLine};
-ghost use Rattle.host_memory.specs.Buffers.{FillsBuffer, ExceedsBuffer};
-ghost use Rattle.host_memory.specs.Sizes.{config_of};
-ghost use Rattle.host_memory.specs.Statuses.{bad_config, done, small_buffer};
+ghost use Rattle.host_memory.specs.{FillsBuffer, ExceedsBuffer, config_of, bad_config, done, small_buffer};
 ghost use Rattle.tempolemon_c.specs.Replays.{IsReplayAnswer};
 ghost use Rattle.tempolemon_c.specs.Statuses.{IsReplayStatus, bad_line};
 

@@ -3,14 +3,9 @@
 ghost use Rattle.std.specs.Prelude.{◌≡◌, [], IfErr, IfNone, IfOk, IfSome, IsTrue, length};
 ghost use Rattle.group_tree.specs.Groups.{has_group};
 ghost use Rattle.mem_system.specs.declared.outcome.Outcome.TheVariants.{Text};
-ghost use Rattle.mem_system.specs.Boots.{IsSizedAs};
-ghost use Rattle.mem_system.specs.Outcomes.{HasItsGroups, reply_of};
-ghost use Rattle.script_replay.specs.Lines.{system_state};
-ghost use Rattle.script_replay.specs.Ranges.{CpuCommandInRange};
-ghost use Rattle.script_replay.specs.Terms.{terms};
-ghost use Rattle.script_replay.specs.Commands.{HasValueAnswer};
-ghost use Rattle.load_run.specs.Answers.{IsNewBootState};
-ghost use Rattle.load_run.specs.Ending.{EndsHeld};
+ghost use Rattle.mem_system.specs.{IsSizedAs, HasItsGroups, reply_of};
+ghost use Rattle.script_replay.specs.{system_state, CpuCommandInRange, terms, HasValueAnswer};
+ghost use Rattle.load_run.specs.{IsNewBootState, EndsHeld};
 ghost use Rattle.tempolemon_c.specs.HandleCalls.{CallsLive, HasNoGroup, IsCpu, IsTypedCall, ReturnsCommandAnswer};
 ghost use Rattle.tempolemon_c.specs.HandleCalls.{file_reply};
 ghost use Rattle.tempolemon_c.specs.declared.calls.Call.TheVariants.{Alloc, Script};

@@ -2,11 +2,9 @@
 use Rattle.std.proofs.Common.{◌≡◌, ◌∙◌, Some, None, ap, refl, subst, sym}
 use Rattle.std.proofs.lemmas.Bool.{false≢true}
 use Rattle.std.specs.Prelude.{ℕ, Bool, IsSome, IsSomeAnd, Option}
-use Rattle.std.specs.Global.{Global}
-use Rattle.std.specs.Global.{Box}
+use Rattle.std.specs.Global.{Global, Box}
 use Rattle.host_memory.specs.Cells.{KnownLoan}
-use Rattle.mem_system.specs.Cpus.{CpuInRun}
-use Rattle.mem_system.specs.Ending.{HasEnded}
+use Rattle.mem_system.specs.{CpuInRun, HasEnded}
 use Rattle.mem_system.specs.declared.ending.SystemEnd.{SystemEnd}
 use Rattle.frame_word.specs.Seats.{KnownTable}
 use Rattle.zone_threads.specs.Homes.{EndsParked, HasCpu, HasNoCpu, IfNotEntered, KnownBehind, KnownHome}
@@ -18,8 +16,7 @@ use Rattle.tempolemon_threads.specs.Serving.{DropsHome, OnHome, OnRawHome, Serve
 use Rattle.tempolemon_threads.specs.declared.requests.Request.TheVariants.{End, Enter, Leave}
 use Rattle.tempolemon_threads.specs.declared.requests.RequestAnswer.{RequestAnswer}
 use Rattle.tempolemon_threads.specs.declared.requests.RequestAnswer.TheVariants as answer
-use Rattle.tempolemon_threads.specs.Handling.{EndsAs}
-use Rattle.tempolemon_threads.specs.Zones.{IsCpuHandle, OnPart, led, led_of}
+use Rattle.tempolemon_threads.specs.{EndsAs, IsCpuHandle, OnPart, led, led_of}
 
 -- what was done to the home that the pointer leads to was done behind the handle
 pub crossed : (does : KnownTable → (from to : KnownHome) → Type 0) (f : KnownTable) (o : Option KnownHome) (g : KnownTable) (p : Option KnownHome)

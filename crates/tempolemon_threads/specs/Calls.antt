@@ -3,10 +3,9 @@ use Rattle.std.specs.Prelude.{◌≡◌, ◌⊎◌, ℕ, zero, suc, ◌<◌, ◌
 use Rattle.group_tree.specs.Faults.{number_of}
 use Rattle.group_tree.specs.declared.fault.Fault.TheVariants.{NoGroup}
 use Rattle.control_files.specs.Text.{longest_text}
-use Rattle.mem_system.specs.declared.command.Cmd.{Cmd}
-use Rattle.mem_system.specs.declared.command.Cmd.TheVariants as cmd
-use Rattle.zone_threads.specs.Calling.{Calls, AnswersRead}
-use Rattle.zone_threads.specs.Shown.{ReadsText}
+use Rattle.mem_system.specs.declared.command.LockedCommand.{LockedCommand}
+use Rattle.mem_system.specs.declared.command.LockedCommand.TheVariants as cmd
+use Rattle.zone_threads.specs.{Calls, AnswersRead, ReadsText}
 use Rattle.zone_threads.specs.declared.calls.Call.{Call}
 use Rattle.zone_threads.specs.declared.calls.Call.TheVariants.{AllocBlock, AllocFrame, Visit}
 use Rattle.zone_threads.specs.declared.calls.CallAnswer.{CallAnswer}
@@ -17,10 +16,7 @@ use Rattle.zone_threads.specs.declared.texts.TextAnswer.{TextAnswer}
 use Rattle.zone_threads.specs.declared.texts.TextAnswer.TheVariants as text
 use Rattle.zone_threads.specs.declared.texts.TextCall.{TextCall}
 use Rattle.zone_threads.specs.declared.texts.TextCall.TheVariants.{Units}
-use Rattle.host_memory.specs.Buffers.{ExceedsBuffer, FillsBuffer}
-use Rattle.host_memory.specs.Buffers.{PutsText}
-use Rattle.host_memory.specs.Kinds.{no_result}
-use Rattle.host_memory.specs.Statuses.{done, no_memory, not_live, small_buffer}
+use Rattle.host_memory.specs.{ExceedsBuffer, FillsBuffer, PutsText, no_result, done, no_memory, not_live, small_buffer}
 use Rattle.host_memory.specs.declared.typed_result.TypedResult.{TypedResult}
 use Rattle.tempolemon_threads.specs.Kinds.{read_result, read_status, call_result_of, call_status_of}
 use Rattle.tempolemon_threads.specs.Statuses.{busy}
@@ -52,27 +48,27 @@ AllocsPart group zero before after status out = CallsPart (AllocFrame group) bef
 AllocsPart group (suc less) before after status out = CallsPart (AllocBlock group (suc less)) before after status out
 
 -- a command with these texts was given
-pub record GivesCommand (is_asked : Cmd → Type 0) (before after : Option Led) (status : ℕ) (out : TypedResult)
+pub record GivesCommand (is_asked : LockedCommand → Type 0) (before after : Option Led) (status : ℕ) (out : TypedResult)
     : Type 0 where
-  pub asked : Cmd
+  pub asked : LockedCommand
   pub is : is_asked asked
   pub calls : CallsPart (Visit asked) before after status out
 
 -- the command makes the group of this path
-abbrev pub IsMkdirCmd : (path : List ℕ) → Cmd → Type 0
-IsMkdirCmd path (cmd.Mkdir named) = named.now ≡ path
-IsMkdirCmd path other = ⊥
+abbrev pub IsMkdirCommand : (path : List ℕ) → LockedCommand → Type 0
+IsMkdirCommand path (cmd.Mkdir named) = named.now ≡ path
+IsMkdirCommand path other = ⊥
 
 -- the command removes the group of this path
-abbrev pub IsRmdirCmd : (path : List ℕ) → Cmd → Type 0
-IsRmdirCmd path (cmd.Rmdir named) = named.now ≡ path
-IsRmdirCmd path other = ⊥
+abbrev pub IsRmdirCommand : (path : List ℕ) → LockedCommand → Type 0
+IsRmdirCommand path (cmd.Rmdir named) = named.now ≡ path
+IsRmdirCommand path other = ⊥
 
 -- the command writes this value to this file of the group of this path
-abbrev pub IsWriteCmd : (path file value : List ℕ) → Cmd → Type 0
-IsWriteCmd path file value (cmd.Write named in_file text) =
+abbrev pub IsWriteCommand : (path file value : List ℕ) → LockedCommand → Type 0
+IsWriteCommand path file value (cmd.Write named in_file text) =
     (named.now ≡ path) × ((in_file.now ≡ file) × (text.now ≡ value))
-IsWriteCmd path file value other = ⊥
+IsWriteCommand path file value other = ⊥
 
 -- what a buffer gets of a read
 abbrev pub PutsRead : ReadAnswer → (old new : List ℕ) → Type 0

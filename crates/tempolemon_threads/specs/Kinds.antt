@@ -7,8 +7,7 @@ use Rattle.zone_threads.specs.declared.calls.CallAnswer.{CallAnswer}
 use Rattle.zone_threads.specs.declared.calls.CallAnswer.TheVariants as answer
 use Rattle.zone_threads.specs.declared.calls.ReadAnswer.{ReadAnswer}
 use Rattle.zone_threads.specs.declared.calls.ReadAnswer.TheVariants as read
-use Rattle.host_memory.specs.Kinds.{get_result, no_result, put_result, result_with}
-use Rattle.host_memory.specs.Statuses.{bad_frame, bad_group, done, over_limit}
+use Rattle.host_memory.specs.{get_result, no_result, put_result, result_with, bad_frame, bad_group, done, over_limit}
 use Rattle.host_memory.specs.declared.typed_result.TypedResult.{TypedResult}
 use Rattle.tempolemon_threads.specs.Statuses.{busy}
 

@@ -3,8 +3,7 @@ use Rattle.std.specs.Prelude.{◌≡◌, Option, None, Some, IsSomeAnd}
 use Rattle.frame_word.specs.Seats.{KnownTable}
 use Rattle.zone_blocks.specs.declared.config.Config.{Config}
 use Rattle.mem_system.specs.Ending.{HasEnded}
-use Rattle.zone_threads.specs.Homes.{HasCpu, HasNoCpu, IfNotEntered, KnownHome, TakesCpu}
-use Rattle.zone_threads.specs.Shown.{ReadsText}
+use Rattle.zone_threads.specs.{HasCpu, HasNoCpu, IfNotEntered, KnownHome, TakesCpu, ReadsText}
 use Rattle.zone_threads.specs.declared.home.NotLeft.TheVariants as not_left
 use Rattle.tempolemon_threads.specs.declared.requests.Request.{Request}
 use Rattle.tempolemon_threads.specs.declared.requests.Request.TheVariants.{Start, Enter, Leave, Text, End}

@@ -2,8 +2,7 @@
 use Rattle.std.specs.Prelude.{◌≡◌, ◌↔◌, ℕ, Bool, Option, None, Some, IsSome, IsTrue}
 use Rattle.frame_word.specs.Seats.{KnownTable}
 use Rattle.zone_blocks.specs.declared.config.Config.{Config}
-use Rattle.mem_system.specs.Boots.{IsSizedAs}
-use Rattle.mem_system.specs.Ending.{HasEnded}
+use Rattle.mem_system.specs.{IsSizedAs, HasEnded}
 use Rattle.zone_threads.specs.Homes.{HasCpu, HasCpuAsParked, HasNoCpu, IsCpu, KnownHome}
 use Rattle.mem_system.specs.declared.ending.SystemEnd.{SystemEnd}
 use Rattle.host_memory.specs.declared.report.Report.{Report}

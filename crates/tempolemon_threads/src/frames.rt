@@ -1,6 +1,6 @@
 //! The calls that allocate, release, pin and note frames. None of them takes memory.
 
-ghost use Rattle.mem_system.specs.declared.command.Cmd.TheVariants.{Clean, Dirty, Owner, Touch};
+ghost use Rattle.mem_system.specs.declared.command.LockedCommand.TheVariants.{Clean, Dirty, Owner, Touch};
 ghost use Rattle.zone_threads.specs.declared.calls.Call.TheVariants.{AllocDirty, Get, Put, Release, Settle, Visit};
 ghost use Rattle.tempolemon_threads.specs.Behind.{part_behind};
 ghost use Rattle.tempolemon_threads.specs.Calls.{AllocsPart, CallsPart};
@@ -8,7 +8,7 @@ ghost use Rattle.tempolemon_threads.specs.Calls.{AllocsPart, CallsPart};
 use crate::calling::serve_call;
 use crate::handles::CpuPart;
 use host_memory::typed_result::TypedResult;
-use mem_system::Cmd;
+use mem_system::LockedCommand;
 use std::alloc::Global;
 use zone_threads::calls::Call;
 
@@ -96,7 +96,8 @@ pub extern "C" fn tempolemon_try_touch(
 ) -> u8
     ensures { CallsPart (Visit (Touch frame)) (part_behind part.old) (part_behind part.new) result out.new }
 {
-    serve_call(alloc, part, &Call::Visit(Cmd::Touch { frame }), out)
+    let cmd = LockedCommand::Touch { frame };
+    serve_call(alloc, part, &Call::Visit(cmd), out)
 }
 
 /// Notes that the unit that this frame heads is dirty.
@@ -109,7 +110,8 @@ pub extern "C" fn tempolemon_try_dirty(
 ) -> u8
     ensures { CallsPart (Visit (Dirty frame)) (part_behind part.old) (part_behind part.new) result out.new }
 {
-    serve_call(alloc, part, &Call::Visit(Cmd::Dirty { frame }), out)
+    let cmd = LockedCommand::Dirty { frame };
+    serve_call(alloc, part, &Call::Visit(cmd), out)
 }
 
 /// Notes that the unit that this frame heads is clean.
@@ -122,7 +124,8 @@ pub extern "C" fn tempolemon_try_clean(
 ) -> u8
     ensures { CallsPart (Visit (Clean frame)) (part_behind part.old) (part_behind part.new) result out.new }
 {
-    serve_call(alloc, part, &Call::Visit(Cmd::Clean { frame }), out)
+    let cmd = LockedCommand::Clean { frame };
+    serve_call(alloc, part, &Call::Visit(cmd), out)
 }
 
 /// Reports the place of this frame.
@@ -135,7 +138,8 @@ pub extern "C" fn tempolemon_try_owner(
 ) -> u8
     ensures { CallsPart (Visit (Owner frame)) (part_behind part.old) (part_behind part.new) result out.new }
 {
-    serve_call(alloc, part, &Call::Visit(Cmd::Owner { frame }), out)
+    let cmd = LockedCommand::Owner { frame };
+    serve_call(alloc, part, &Call::Visit(cmd), out)
 }
 
 /// Settles the CPU.

@@ -2,7 +2,8 @@
 //! lock.
 
 ghost use Rattle.tempolemon_threads.specs.Behind.{part_behind};
-ghost use Rattle.tempolemon_threads.specs.Calls.{IsMkdirCmd, IsRmdirCmd, IsWriteCmd, ReadsInto, GivesCommand};
+ghost use Rattle.tempolemon_threads.specs.Calls.{IsMkdirCommand, IsRmdirCommand, IsWriteCommand};
+ghost use Rattle.tempolemon_threads.specs.Calls.{GivesCommand, ReadsInto};
 
 use crate::calling::serve_call;
 use crate::handles::CpuPart;
@@ -12,7 +13,7 @@ use host_memory::buffers::copy_answers;
 use host_memory::kinds::{NOTHING, REFUSED, TEXT};
 use host_memory::status::{DONE, NOT_LIVE, SMALL_BUFFER};
 use host_memory::typed_result::TypedResult;
-use mem_system::Cmd;
+use mem_system::LockedCommand;
 use std::alloc::Global;
 use zone_threads::calls::{Call, ReadAnswer, ReadCall};
 
@@ -24,9 +25,10 @@ pub extern "C" fn tempolemon_try_mkdir(
     path: &[u8],
     out: &mut TypedResult,
 ) -> u8
-    ensures { GivesCommand (IsMkdirCmd path.now) (part_behind part.old) (part_behind part.new) result out.new }
+    ensures { GivesCommand (IsMkdirCommand path.now) (part_behind part.old) (part_behind part.new) result out.new }
 {
-    serve_call(alloc, part, &Call::Visit(Cmd::Mkdir { path }), out)
+    let cmd = LockedCommand::Mkdir { path };
+    serve_call(alloc, part, &Call::Visit(cmd), out)
 }
 
 /// Removes the group of this path.
@@ -37,9 +39,10 @@ pub extern "C" fn tempolemon_try_rmdir(
     path: &[u8],
     out: &mut TypedResult,
 ) -> u8
-    ensures { GivesCommand (IsRmdirCmd path.now) (part_behind part.old) (part_behind part.new) result out.new }
+    ensures { GivesCommand (IsRmdirCommand path.now) (part_behind part.old) (part_behind part.new) result out.new }
 {
-    serve_call(alloc, part, &Call::Visit(Cmd::Rmdir { path }), out)
+    let cmd = LockedCommand::Rmdir { path };
+    serve_call(alloc, part, &Call::Visit(cmd), out)
 }
 
 /// Writes a value to a file of the group of this path.
@@ -52,10 +55,10 @@ pub extern "C" fn tempolemon_try_write(
     value: &[u8],
     out: &mut TypedResult,
 ) -> u8
-    ensures { GivesCommand (IsWriteCmd path.now file.now value.now)
+    ensures { GivesCommand (IsWriteCommand path.now file.now value.now)
         (part_behind part.old) (part_behind part.new) result out.new }
 {
-    let cmd = Cmd::Write { path, file, value };
+    let cmd = LockedCommand::Write { path, file, value };
     serve_call(alloc, part, &Call::Visit(cmd), out)
 }
 

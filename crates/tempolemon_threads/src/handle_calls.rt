@@ -2,9 +2,7 @@
 
 ghost use Rattle.std.specs.Prelude.{◌≡◌, ◌↔◌, IfNone, IfSome, IsSome, IsSomeAnd, IsTrue, MatchBool, MatchResult, None};
 ghost use Rattle.mem_system.specs.Boots.{IsSizedAs};
-ghost use Rattle.zone_threads.specs.Calling.{Calls, AnswersRead};
-ghost use Rattle.zone_threads.specs.Homes.{HasNoCpu};
-ghost use Rattle.zone_threads.specs.Shown.{ReadsText};
+ghost use Rattle.zone_threads.specs.{Calls, AnswersRead, HasNoCpu, ReadsText};
 ghost use Rattle.tempolemon_threads.specs.Behind.{part_behind, zone_behind};
 ghost use Rattle.tempolemon_threads.specs.Handling.{EndsAs, EntersNone, ForksAs};
 ghost use Rattle.tempolemon_threads.specs.Zones.{BootsZone, OnPart, ReturnsPart, TakesPart, led_of};

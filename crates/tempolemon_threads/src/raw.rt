@@ -2,8 +2,7 @@
 
 ghost use Rattle.std.specs.Prelude.{◌≡◌, IsSome, IsSomeAnd, None, Option};
 ghost use Rattle.frame_word.specs.Seats.{KnownTable};
-ghost use Rattle.zone_threads.specs.Calling.{AnswersRead, Calls};
-ghost use Rattle.zone_threads.specs.Homes.{HasCpu, KnownHome};
+ghost use Rattle.zone_threads.specs.{AnswersRead, Calls, HasCpu, KnownHome};
 ghost use Rattle.tempolemon_threads.specs.Owned.{brand, frames_coded, home_owns, home_coded};
 ghost use Rattle.tempolemon_threads.specs.Serving.{ForksRaw, IsFitForHome, OnRawHome, ServesRawHome};
 

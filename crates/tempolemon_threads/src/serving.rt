@@ -1,10 +1,8 @@
 //! Serving requests and calls under the name of a zone's table.
 
 ghost use Rattle.std.specs.Prelude.{◌≡◌, IsSome, IsSomeAnd, None};
-ghost use Rattle.zone_threads.specs.Calling.{Calls, AnswersRead};
-ghost use Rattle.zone_threads.specs.Homes.{HasCpu, HasNoCpu};
-ghost use Rattle.tempolemon_threads.specs.Serving.{Forks, IsFitForHome, OnHome, ServesHomeRequest};
-ghost use Rattle.tempolemon_threads.specs.Serving.{home_frames_after};
+ghost use Rattle.zone_threads.specs.{Calls, AnswersRead, HasCpu, HasNoCpu};
+ghost use Rattle.tempolemon_threads.specs.Serving.{Forks, IsFitForHome, OnHome, ServesHomeRequest, home_frames_after};
 ghost use Rattle.tempolemon_threads.specs.declared.requests.Request.TheVariants.{End, Enter, Leave, Start, Text};
 
 use crate::home_pointer::HomePointer;

@@ -2,8 +2,7 @@
 
 ghost use Rattle.std.specs.Prelude.{◌≡◌, ◌≢◌, ◌↔◌, IsSome, None};
 ghost use Rattle.zone_blocks.specs.Config.{IsValidConfig};
-ghost use Rattle.host_memory.specs.Sizes.{config_of};
-ghost use Rattle.host_memory.specs.Statuses.{bad_config, bad_cpu, done, is_live, not_live};
+ghost use Rattle.host_memory.specs.{config_of, bad_config, bad_cpu, done, is_live, not_live};
 ghost use Rattle.tempolemon_threads.specs.Behind.{part_behind, zone_behind};
 ghost use Rattle.tempolemon_threads.specs.Statuses.{IsZoneBootStatus, IsZoneEndStatus, IsReturnStatus, IsTakeStatus};
 ghost use Rattle.tempolemon_threads.specs.Statuses.{busy, cpu_out, cpus_out};

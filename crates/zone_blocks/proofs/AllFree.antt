@@ -6,9 +6,7 @@ use Rattle.std.proofs.lemmas.Bool.{cases_lt}
 use Rattle.std.proofs.lemmas.Nat.{div-add-mod', pow_pos, mod_below}
 use Rattle.std.proofs.Math.Nat.{mul-le-mul_right, mul-mod_left, div-mul-le_self, lt-mul-div-succ, mod-le}
 use Rattle.zone_blocks.specs.declared.block.Block.{Block}
-use Rattle.zone_blocks.specs.Block.{IsBlock, enclosing}
-use Rattle.zone_blocks.specs.Areas.{IsFreeBlock, IsMaximalBlock}
-use Rattle.zone_blocks.specs.OrderLists.{AreMaximalUpTo}
+use Rattle.zone_blocks.specs.{IsBlock, enclosing, IsFreeBlock, IsMaximalBlock, AreMaximalUpTo}
 use Rattle.zone_blocks.proofs.Lists.{numbered_is_block}
 use Rattle.zone_blocks.proofs.Maximals.{found}
 use Rattle.zone_blocks.proofs.Nested.{start_aligned}

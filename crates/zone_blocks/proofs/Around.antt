@@ -4,11 +4,9 @@ use Rattle.std.specs.List.{Contains}
 use Rattle.std.proofs.lemmas.Bool.{cases_lt}
 use Rattle.std.proofs.lemmas.Nat.{pow_pos}
 use Rattle.zone_blocks.specs.declared.block.Block.{Block}
-use Rattle.zone_blocks.specs.Block.{IsBlock, Covers}
-use Rattle.zone_blocks.specs.Areas.{FreeBlocks, Inserts}
+use Rattle.zone_blocks.specs.{IsBlock, Covers, FreeBlocks, Inserts, block_at, free_set_of, AreSoundAreas, TakesFrames}
 use Rattle.zone_blocks.proofs.Filling.{same_block}
 use Rattle.zone_blocks.proofs.Nested.{start_is}
-use Rattle.zone_blocks.specs.Zone.{block_at, free_set_of, AreSoundAreas, TakesFrames}
 use Rattle.zone_blocks.proofs.Halves.{Halving, AreHalves, halve_at}
 
 -- ---- the look for the block that has a frame

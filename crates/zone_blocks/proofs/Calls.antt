@@ -5,17 +5,14 @@ use Rattle.std.specs.List.{Contains}
 use Rattle.std.specs.Option.{MatchOption}
 use Rattle.std.proofs.lemmas.List.{get_or_default, get_or_past}
 use Rattle.std.proofs.lemmas.Bool.{cases_lt, cases_eq, false≢true}
-use Rattle.std.proofs.lemmas.Nat.{div-add-mod', pow_pos}
+use Rattle.std.proofs.lemmas.Nat.{div-add-mod', pow_pos, le-div, mod_below}
 use Rattle.std.proofs.Math.Nat.{mul-le-mul_right}
-use Rattle.std.proofs.lemmas.Nat.{le-div, mod_below}
 use Rattle.bit_levels.specs.Sets.{IsIn, IsLastIn}
 use Rattle.zone_blocks.specs.declared.block.Block.{Block}
 use Rattle.zone_blocks.specs.declared.links.Link.{Link}
-use Rattle.zone_blocks.specs.Block.{IsBlock}
-use Rattle.zone_blocks.specs.Areas.{HasNoneOf, HasNoneFrom, IsFirstOf, IsSmallestFrom, Inserts, RemovesBlock, Overlaps}
-use Rattle.zone_blocks.specs.Links.{next_of, prev_of, Joins}
-use Rattle.zone_blocks.specs.OrderLists.{MeetsRange, blocks_of, has_block_bit, with_bit, AreBlockBits, AreOrderLists, AreRings, IsStart, IsNode}
-use Rattle.zone_blocks.specs.OrderLists.{IsLastBefore, Follows, IsNodeBelow, IsNodeBefore, IsNextAfter, HasNoneAfter, head_of}
+use Rattle.zone_blocks.specs.{IsBlock, HasNoneOf, HasNoneFrom, IsFirstOf, IsSmallestFrom, Inserts, RemovesBlock, Overlaps, next_of, prev_of, Joins}
+use Rattle.zone_blocks.specs.{MeetsRange, blocks_of, has_block_bit, with_bit, AreBlockBits, AreOrderLists, AreRings, IsStart, IsNode, IsLastBefore}
+use Rattle.zone_blocks.specs.{Follows, IsNodeBelow, IsNodeBefore, IsNextAfter, HasNoneAfter, head_of}
 use Rattle.zone_blocks.proofs.Lists.{number_within, numbered_is_block}
 use Rattle.zone_blocks.proofs.OrderLists.{there, from_there, bits_put, number_of, number_back, inserts, removes, apart_inserted, apart_removed}
 use Rattle.zone_blocks.proofs.Neighbours.{AreInZone, PutsIn, TakesOut, LinksIn, links_in, rings_inserted, rings_removed, before_put_block, after_put_block}
@@ -141,7 +138,7 @@ last_before n bits b e node old h is same here found =
           }
     ]
 
--- a block before the first of its order stands behind the head
+-- a block before the first of its order comes after the head
 behind_head : (n : ℕ) (blocks : List Block) (links : List Link) (k at node : ℕ) → AreRings n blocks links → k < 11
     → node ≡ head_of n k → at < next_of links (head_of n k) → IsLastBefore n blocks k node at
 behind_head n blocks links k at node rings l is lt =
@@ -206,7 +203,7 @@ removed n bits links links' b p q h c ep eq join =
       change,
     )
 
--- ---- the first block of an order, and the one behind another
+-- ---- the first block of an order, and the one after another
 
 block_same : (b : Block) (k x : ℕ) → b.at ≡ x → b.order ≡ k → record { at = x; order = k } ≡ b
 block_same b k x e o =

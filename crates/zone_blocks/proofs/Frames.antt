@@ -4,8 +4,7 @@ use Rattle.std.specs.List.{All, between}
 use Rattle.std.proofs.lemmas.List.{get_or_default}
 use Rattle.std.proofs.lemmas.List.Edits.{length-between, get_or-between}
 use Rattle.zone_blocks.specs.declared.block.Block.{Block}
-use Rattle.zone_blocks.specs.Block.{IsBlock}
-use Rattle.zone_blocks.specs.Areas.{IsFreeBlock}
+use Rattle.zone_blocks.specs.{IsBlock, IsFreeBlock}
 
 pub free_from_range : (free : List Bool) (a n : ℕ) → a + n ≤ length free → All (λ x. x ≡ true) (between a (a + n) free)
     → (f : ℕ) → a ≤ f → f < a + n → get_or free f false ≡ true

@@ -4,11 +4,10 @@ use Rattle.std.proofs.lemmas.Bool.{cases_lt, cases_eq, ne_eqb, cond-true, cond-f
 use Rattle.std.proofs.lemmas.Nat.{pow_pos, pow-add, mod-pow-add, mod_below}
 use Rattle.std.proofs.Math.Nat.{add-mod_right, mod-le}
 use Rattle.zone_blocks.specs.declared.block.Block.{Block}
-use Rattle.zone_blocks.specs.Block.{IsBlock, Covers, enclosing, buddy}
-use Rattle.zone_blocks.specs.Areas.{IsFree, FreeBlocks, Overlaps, Inserts}
+use Rattle.zone_blocks.specs.{IsBlock, Covers, enclosing, buddy, IsFree, FreeBlocks, Overlaps, Inserts, block_at, free_set_of, AreSoundAreas}
+use Rattle.zone_blocks.specs.{TakesFrames, GivesFrames}
 use Rattle.zone_blocks.proofs.Filling.{same_block}
 use Rattle.zone_blocks.proofs.Nested.{covers_start, start_is}
-use Rattle.zone_blocks.specs.Zone.{block_at, free_set_of, AreSoundAreas, TakesFrames, GivesFrames}
 use Rattle.zone_blocks.proofs.Sets.{decide_covers}
 use Rattle.zone_blocks.proofs.BuddyFrames.{gives_frames, kept_more, apart_from_use}
 

@@ -9,9 +9,7 @@ use Rattle.std.proofs.lemmas.Bool.{cases_lt, cases_Bool}
 use Rattle.std.proofs.lemmas.Nat.{div-add-mod', le-div, pow_pos}
 use Rattle.std.proofs.Math.Nat.{mul-le-mul_right, mul-mod_left}
 use Rattle.zone_blocks.specs.declared.block.Block.{Block}
-use Rattle.zone_blocks.specs.Block.{IsBlock}
-use Rattle.zone_blocks.specs.Areas.{Precedes}
-use Rattle.zone_blocks.specs.OrderLists.{blocks_of_order, blocks_of_zone}
+use Rattle.zone_blocks.specs.{IsBlock, Precedes, blocks_of_order, blocks_of_zone}
 use Rattle.zone_blocks.proofs.Filling.{same_block}
 
 -- where an element of the joined lists stands

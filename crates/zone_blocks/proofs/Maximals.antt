@@ -5,8 +5,7 @@ use Rattle.std.proofs.lemmas.Bool.{cases_lt}
 use Rattle.std.proofs.lemmas.Nat.{div-add-mod', le-div, pow_pos}
 use Rattle.std.proofs.Math.Nat.{mul-le-mul_right}
 use Rattle.zone_blocks.specs.declared.block.Block.{Block}
-use Rattle.zone_blocks.specs.Areas.{IsMaximalBlock, AreMaximalBlocks, Inserts, Overlaps}
-use Rattle.zone_blocks.specs.OrderLists.{AreMaximalUpTo}
+use Rattle.zone_blocks.specs.{IsMaximalBlock, AreMaximalBlocks, Inserts, Overlaps, AreMaximalUpTo}
 use Rattle.zone_blocks.proofs.Filling.{same_block, multiple_below}
 use Rattle.zone_blocks.proofs.Nested.{same_maximal}
 

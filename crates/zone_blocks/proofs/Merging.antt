@@ -5,11 +5,10 @@ use Rattle.std.proofs.lemmas.Bool.{cases_lt}
 use Rattle.std.proofs.lemmas.Nat.{pow_pos}
 use Rattle.std.proofs.Math.Nat.{add-mod_right}
 use Rattle.zone_blocks.specs.declared.block.Block.{Block}
-use Rattle.zone_blocks.specs.Block.{IsBlock, Covers, enclosing, HasPairBit, buddy}
-use Rattle.zone_blocks.specs.Areas.{IsFree, IsFreeBlock, FreeBlocks, Inserts, RemovesBlock, IsOneOfPair}
+use Rattle.zone_blocks.specs.{IsBlock, Covers, enclosing, HasPairBit, buddy, IsFree, IsFreeBlock, FreeBlocks, Inserts, RemovesBlock, IsOneOfPair}
+use Rattle.zone_blocks.specs.{block_at, free_set_of, AreSoundAreas, GivesFrames, HasNoBuddy, TakesBuddy}
 use Rattle.zone_blocks.proofs.Filling.{same_block}
 use Rattle.zone_blocks.proofs.Nested.{covers_start, start_aligned, start_is}
-use Rattle.zone_blocks.specs.Zone.{block_at, free_set_of, AreSoundAreas, GivesFrames, HasNoBuddy, TakesBuddy}
 use Rattle.zone_blocks.proofs.Sets.{decide_covers, subset}
 use Rattle.zone_blocks.proofs.BuddyFrames.{length-set_of, takes_frames, gives_frames, kept_less, kept_more}
 use Rattle.zone_blocks.proofs.Halves.{double, next_aligned, Halving, HasBuddyAt, has_buddy}

@@ -1,14 +1,12 @@
--- The rings of all orders, when a block is linked in behind the node before it, or unlinked: for `insert`, `remove`, `first` and `after`.
+-- The rings of all orders, when a block is linked in after the node before it, or unlinked: for `insert`, `remove`, `first` and `after`.
 use Rattle.std.proofs.Common.{◌≡◌, ◌≢◌, ℕ, ◌<◌, ◌≤◌, ◌⊎◌, List, length, sym, ap, ◌∙◌, subst, inl, inr, arith}
 use Rattle.std.specs.List.{Contains}
 use Rattle.std.proofs.lemmas.Bool.{cases_lt, cases_eq}
 use Rattle.std.proofs.lemmas.Nat.{pow_pos}
 use Rattle.zone_blocks.specs.declared.block.Block.{Block}
 use Rattle.zone_blocks.specs.declared.links.Link.{Link}
-use Rattle.zone_blocks.specs.Block.{IsBlock}
-use Rattle.zone_blocks.specs.Areas.{Inserts, RemovesBlock, Overlaps}
-use Rattle.zone_blocks.specs.Links.{next_of, prev_of, Joins}
-use Rattle.zone_blocks.specs.OrderLists.{AreApart, IsStart, IsNode, ComesAfter, IsLastBefore, Follows, AreRings}
+use Rattle.zone_blocks.specs.{IsBlock, Inserts, RemovesBlock, Overlaps, next_of, prev_of, Joins, AreApart, IsStart, IsNode, ComesAfter, IsLastBefore}
+use Rattle.zone_blocks.specs.{Follows, AreRings}
 use Rattle.zone_blocks.proofs.Nested.{covers_start}
 
 -- what is known of the blocks: they lie in the zone, and no two share a frame
@@ -36,7 +34,7 @@ nodes_apart n blocks h k j x (inl p) (inr q) = let l = start_inside n blocks h k
 nodes_apart n blocks h k j x (inr p) (inl q) = let l = start_inside n blocks h j x q in absurd (omega arith)
 nodes_apart n blocks h k j x (inr p) (inr q) = omega arith
 
--- one node at most stands behind a
+-- one node at most comes after a
 pub one_behind : (n : ℕ) (blocks : List Block) → AreInZone n blocks → (k a b c : ℕ) → Follows n blocks k a b → Follows n blocks k a c → b ≡ c
 one_behind n blocks h k a b c p q =
     let pb = p.last.before in
@@ -109,7 +107,7 @@ ring_kept n old new k to from a b h = record {
   last = last_kept n old new k a b (to a) (λ z s l. from z s) h.last;
 }
 
--- what two joins make of the records: a, x and b stand one behind the other
+-- what two joins make of the records: a, x and b stand one after the other
 pub record LinksIn (old new : List Link) (a x b : ℕ) : Type 0 where
   pub count : length new ≡ length old
   pub next_a : next_of new a ≡ x
@@ -174,7 +172,7 @@ node_other : (n : ℕ) (old new : List Block) (b : Block) (a y k : ℕ) → Puts
 node_other n old new b a y k h (inl s) e = not_there n old new b a h k (subst (IsStart old k) e s)
 node_other n old new b a y k h (inr q) e = let l = inside_put n old new b a h in absurd (omega arith)
 
--- a b' that stands behind a before the block is put in stands behind the block afterwards
+-- a b' that comes after a before the block is put in comes after the block afterwards
 behind_block : (n : ℕ) (old new : List Block) (b : Block) (a y : ℕ) → PutsIn n old new b a → Follows n old b.order a y → Follows n new b.order b.at y
 behind_block n old new b a y h f =
     let l = inside_put n old new b a h in
@@ -227,7 +225,7 @@ between_no n old new b a h y c f out = record {
   };
 }
 
--- behind a node other than a stands one that is not beyond b
+-- after a node other than a stands one that is not beyond b
 not_beyond : (n : ℕ) (old new : List Block) (b : Block) (a : ℕ) → PutsIn n old new b a → (y c : ℕ) → y ≢ a
     → Follows n old b.order y c → ComesAfter n b.order y b.at → c ≤ b.at
 not_beyond n old new b a h y c ne f after =
@@ -255,7 +253,7 @@ not_beyond n old new b a h y c ne f after =
           ]
     ]
 
--- before a node other than the one behind a stands one between which and it b does not begin
+-- before a node other than the one after a stands one between which and it b does not begin
 not_between : (n : ℕ) (old new : List Block) (b : Block) (a after : ℕ) → PutsIn n old new b a → Follows n old b.order a after
     → (p y : ℕ) → y ≢ after → Follows n old b.order p y → ComesAfter n b.order p b.at → y ≤ b.at
 not_between n old new b a after h fa p y ne f comes =
@@ -400,7 +398,7 @@ follows_stays n old new b h k x y nx ny f = record {
   };
 }
 
--- the node before the block, and the one behind it, become neighbours
+-- the node before the block, and the one after it, become neighbours
 joined : (n : ℕ) (old new : List Block) (b : Block) → TakesOut n old new b → (p q : ℕ) → p ≢ b.at → q ≢ b.at
     → Follows n old b.order p b.at → Follows n old b.order b.at q
     → Follows n new b.order p q

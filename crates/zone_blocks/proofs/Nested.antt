@@ -2,11 +2,9 @@
 use Rattle.std.proofs.Common.{◌≡◌, ℕ, ◌+◌, ◌-◌, ◌*◌, ◌/◌, ◌^◌, ◌%◌, ◌<◌, ◌≤◌, Bool, List, length, sym, ap, ◌∙◌, inl, inr, arith}
 use Rattle.std.proofs.lemmas.Bool.{cases_lt, cases_order}
 use Rattle.std.proofs.lemmas.Nat.{div-add-mod', pow_pos, pow-add, mod-pow-add, mod_below}
-use Rattle.std.proofs.Math.Nat.{mod-le, mul-mod_left}
-use Rattle.std.proofs.Math.Nat.{div-eq_of_lt-le, mul-le-mul_right}
+use Rattle.std.proofs.Math.Nat.{mod-le, mul-mod_left, div-eq_of_lt-le, mul-le-mul_right}
 use Rattle.zone_blocks.specs.declared.block.Block.{Block}
-use Rattle.zone_blocks.specs.Block.{IsBlock, Covers, enclosing}
-use Rattle.zone_blocks.specs.Areas.{IsFreeBlock, IsMaximalBlock}
+use Rattle.zone_blocks.specs.{IsBlock, Covers, enclosing, IsFreeBlock, IsMaximalBlock}
 use Rattle.zone_blocks.proofs.Filling.{same_block}
 
 -- a multiple x of m with x ≤ f < x + m is f less its remainder

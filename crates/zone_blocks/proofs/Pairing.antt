@@ -1,7 +1,6 @@
 -- A block and its buddy, and the bits of the pairs when a block is put in or taken out: for `buddy_in`, `pair_bit`, `insert` and `remove`.
-use Rattle.std.proofs.Common.{◌≡◌, ◌≢◌, ℕ, zero, suc, ◌+◌, ◌-◌, ◌*◌, ◌/◌, ◌^◌, ◌%◌, ◌<◌, ◌≤◌, ◌⊎◌, ◌↔◌, Bool, true, false, not, List, []}
-use Rattle.std.proofs.Common.{◌∷◌, ◌++◌, replicate, Option, Some, None, length, get_or, set, eqb, eq-eqb, refl, sym, ap, ◌∙◌}
-use Rattle.std.proofs.Common.{subst, inl, inr, arith, length-set}
+use Rattle.std.proofs.Common.{◌≡◌, ◌≢◌, ℕ, zero, suc, ◌+◌, ◌-◌, ◌*◌, ◌/◌, ◌^◌, ◌%◌, ◌<◌, ◌≤◌, ◌⊎◌, ◌↔◌, Bool, true, false, not, List, [], ◌∷◌, ◌++◌}
+use Rattle.std.proofs.Common.{replicate, Option, Some, None, length, get_or, set, eqb, eq-eqb, refl, sym, ap, ◌∙◌, subst, inl, inr, arith, length-set}
 use Rattle.std.specs.List.{Contains}
 use Rattle.std.specs.Option.{MatchOption}
 use Rattle.std.proofs.lemmas.List.{get_or_default, get_or_past, get_or_push, get_or_append_left, get_or-replicate, length-replicate}
@@ -11,9 +10,8 @@ use Rattle.std.proofs.lemmas.Nat.{div-add-mod', pow_pos, pow-add, mod-pow-add, m
 use Rattle.std.proofs.Math.Nat.{mul-mod_left, add-mod_right, mul-le-mul_right}
 use Rattle.bit_levels.specs.Sets.{IsIn}
 use Rattle.zone_blocks.specs.declared.block.Block.{Block}
-use Rattle.zone_blocks.specs.Block.{IsBlock, HasPairBit, buddy}
-use Rattle.zone_blocks.specs.Areas.{Inserts, RemovesBlock, IsOneOfPair}
-use Rattle.zone_blocks.specs.PairBits.{pair_of, bit_of, toggled, AreBitLists, ArePairBits, ChangesOne}
+use Rattle.zone_blocks.specs.{IsBlock, HasPairBit, buddy, Inserts, RemovesBlock, IsOneOfPair, pair_of, bit_of, toggled, AreBitLists, ArePairBits}
+use Rattle.zone_blocks.specs.{ChangesOne}
 use Rattle.zone_blocks.proofs.Filling.{same_block}
 
 -- ---- a block and its buddy

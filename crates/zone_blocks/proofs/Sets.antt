@@ -4,11 +4,9 @@ use Rattle.std.specs.List.{Contains}
 use Rattle.std.proofs.lemmas.Bool.{cases_lt}
 use Rattle.std.proofs.lemmas.Nat.{pow_pos}
 use Rattle.zone_blocks.specs.declared.block.Block.{Block}
-use Rattle.zone_blocks.specs.Block.{IsBlock, Covers, enclosing}
-use Rattle.zone_blocks.specs.Areas.{IsFree, IsFreeBlock, IsMaximalBlock, AreMaximalBlocks, Inserts, RemovesBlock}
+use Rattle.zone_blocks.specs.{IsBlock, Covers, enclosing, IsFree, IsFreeBlock, IsMaximalBlock, AreMaximalBlocks, Inserts, RemovesBlock, TakesFrames}
 use Rattle.zone_blocks.proofs.Nested.{same_maximal, inside_maximal, enclosing_covers, covers_start}
 use Rattle.zone_blocks.proofs.Unique.{in_maximal}
-use Rattle.zone_blocks.specs.Zone.{TakesFrames}
 
 pub decide_covers : (b : Block) (f : ℕ) → Covers b f ⊎ (Covers b f → ⊥)
 decide_covers b f =

@@ -7,9 +7,8 @@ use Rattle.std.proofs.lemmas.Bool.{cases_lt, cases_eq, cases_Bool, false≢true}
 use Rattle.std.proofs.lemmas.Nat.{pow_pos, mod_below}
 use Rattle.std.proofs.Math.Nat.{mod-le, mod-one}
 use Rattle.zone_blocks.specs.declared.block.Block.{Block}
-use Rattle.zone_blocks.specs.Block.{Covers, enclosing}
-use Rattle.zone_blocks.specs.Areas.{IsFree, IsFreeBlock, IsMaximalBlock, Precedes}
-use Rattle.zone_blocks.specs.Laws.{EveryFreeFrameIsInOneBlock, EveryFrameInABlockIsFree, MaximalBlocksAreUnique}
+use Rattle.zone_blocks.specs.{Covers, enclosing, IsFree, IsFreeBlock, IsMaximalBlock, Precedes, EveryFreeFrameIsInOneBlock, EveryFrameInABlockIsFree}
+use Rattle.zone_blocks.specs.{MaximalBlocksAreUnique}
 use Rattle.zone_blocks.proofs.Filling.{same_block}
 use Rattle.zone_blocks.proofs.Nested.{start_is, start_aligned, nested_low, nested_high, same_maximal}
 

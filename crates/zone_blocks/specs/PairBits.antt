@@ -1,6 +1,5 @@
 -- How the free areas are stored: for each order below 10 one bit for each pair of buddies, as in Gorman, chapter 6.
-use Rattle.std.specs.Prelude.{◌≡◌, ◌≢◌, ℕ, ◌+◌, ◌⊎◌, ◌/◌, ◌^◌, ◌<◌, ◌↔◌, Bool, false, not, List, [], length}
-use Rattle.std.specs.Prelude.{slice_index_or, slice_set}
+use Rattle.std.specs.Prelude.{◌≡◌, ◌≢◌, ℕ, ◌+◌, ◌⊎◌, ◌/◌, ◌^◌, ◌<◌, ◌↔◌, Bool, false, not, List, [], length, slice_index_or, slice_set}
 use Rattle.std.specs.List.{Contains}
 use Rattle.bit_levels.specs.Sets.{IsIn}
 use Rattle.zone_blocks.specs.declared.block.Block.{Block}

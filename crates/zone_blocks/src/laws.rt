@@ -1,7 +1,6 @@
 //! Laws of the maximal free blocks: what each function ensures holds of every set of free frames.
 
-ghost use Rattle.zone_blocks.specs.Laws.{EveryFreeFrameIsInOneBlock, EveryFrameInABlockIsFree};
-ghost use Rattle.zone_blocks.specs.Laws.{MaximalBlocksAreUnique};
+ghost use Rattle.zone_blocks.specs.Laws.{EveryFreeFrameIsInOneBlock, EveryFrameInABlockIsFree, MaximalBlocksAreUnique};
 
 /// Every free frame is in exactly one of the maximal free blocks.
 pub fn every_free_frame_is_in_one_block()

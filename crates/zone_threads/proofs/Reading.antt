@@ -6,8 +6,7 @@ use Rattle.mem_system.specs.Cpus.{CpuInRun}
 use Rattle.zone_threads.specs.declared.calls.ReadCall.{ReadCall}
 use Rattle.zone_threads.specs.declared.calls.ReadAnswer.{ReadAnswer}
 use Rattle.zone_threads.specs.declared.calls.ReadAnswer.TheVariants as read
-use Rattle.zone_threads.specs.Homes.{KnownHome}
-use Rattle.zone_threads.specs.Calling.{AnswersRead, IsReadUnderLock}
+use Rattle.zone_threads.specs.{KnownHome, AnswersRead, IsReadUnderLock}
 
 answers_read : (t : KnownTable) (asked : ReadCall) (before after : KnownHome) (from to : CpuInRun) → before.cpu ≡ Some from → after.cpu ≡ Some to
     → after.sizes ≡ before.sizes → after.change ≡ before.change → (answer : ReadAnswer) → IsReadUnderLock t before.sizes asked from to answer → AnswersRead t asked before after answer

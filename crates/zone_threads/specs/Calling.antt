@@ -5,28 +5,20 @@ use Rattle.frame_word.specs.Seats.{KnownTable}
 use Rattle.frame_word.specs.declared.answers.Get.{Get}
 use Rattle.frame_word.specs.declared.answers.Put.{Put}
 use Rattle.zone_blocks.specs.declared.config.Config.{Config}
-use Rattle.group_tree.specs.Bounds.{most_groups}
-use Rattle.group_tree.specs.Groups.{has_group, path_of}
+use Rattle.group_tree.specs.{most_groups, has_group, path_of}
 use Rattle.group_tree.specs.declared.group.Group.{Group}
 use Rattle.group_tree.specs.declared.fault.Fault.TheVariants.{NotPinned, PinsFull}
-use Rattle.boot_words.specs.Growth.{GrewByAll}
-use Rattle.boot_words.specs.Pasts.{own_past}
+use Rattle.boot_words.specs.{GrewByAll, own_past}
 use Rattle.step_rules.specs.State.{times}
-use Rattle.cpu_part.specs.Calls.{DropAnswers, FastAnswers, PinAnswers, UnpinAnswers}
-use Rattle.cpu_part.specs.Cpus.{most_pins}
-use Rattle.cpu_part.specs.Told.{steps_of_drop, steps_of_fast, steps_of_get, steps_of_put}
+use Rattle.cpu_part.specs.{DropAnswers, FastAnswers, PinAnswers, UnpinAnswers, most_pins, steps_of_drop, steps_of_fast, steps_of_get, steps_of_put}
 use Rattle.cpu_part.specs.declared.answers.Dropped.{Dropped}
 use Rattle.cpu_part.specs.declared.answers.Dropped.TheVariants.{Listed, NeedVisit}
 use Rattle.cpu_part.specs.declared.answers.Fast.{Fast}
 use Rattle.cpu_part.specs.declared.answers.Fast.TheVariants.{Got}
-use Rattle.mem_system.specs.Commands.{IsOfZone}
-use Rattle.mem_system.specs.Cpus.{CpuInRun}
-use Rattle.mem_system.specs.DirtyAllocs.{ServesDirtyAlloc}
-use Rattle.mem_system.specs.Locked.{SeenBehindLock}
-use Rattle.mem_system.specs.Shown.{SettlesCaller}
-use Rattle.mem_system.specs.Visits.{IsServed, IsVisited, LockedState, ServesFrameOutcome, ServesOutcome}
-use Rattle.mem_system.specs.declared.command.Cmd.TheVariants as cmd
-use Rattle.mem_system.specs.declared.command.Reply.TheVariants as reply
+use Rattle.mem_system.specs.{IsOfZone, CpuInRun, ServesDirtyAlloc, SeenBehindLock, SettlesCaller, IsServed, IsVisited, LockedState}
+use Rattle.mem_system.specs.{ServesFrameOutcome, ServesOutcome}
+use Rattle.mem_system.specs.declared.command.LockedCommand.TheVariants as cmd
+use Rattle.mem_system.specs.declared.command.ReplyWithText.TheVariants as reply
 use Rattle.mem_system.specs.declared.outcome.Outcome.{Outcome}
 use Rattle.zone_threads.specs.Homes.{KnownHome, OnCpu}
 use Rattle.zone_threads.specs.declared.calls.Call.{Call}

@@ -5,9 +5,7 @@ use Rattle.std.specs.List.{HoldsAt, swap_remove}
 use Rattle.host_memory.specs.Cells.{KnownChange, KnownLoan}
 use Rattle.frame_word.specs.Seats.{KnownTable}
 use Rattle.zone_blocks.specs.declared.config.Config.{Config}
-use Rattle.mem_system.specs.Cpus.{CpuInRun}
-use Rattle.mem_system.specs.Ending.{PutsAndEnds}
-use Rattle.mem_system.specs.Locked.{KnownLocked}
+use Rattle.mem_system.specs.{CpuInRun, PutsAndEnds, KnownLocked}
 use Rattle.mem_system.specs.declared.ending.SystemEnd.{SystemEnd}
 use Rattle.zone_threads.specs.declared.home.NotEntered.{NotEntered}
 use Rattle.zone_threads.specs.declared.home.NotEntered.TheVariants as not_entered

@@ -2,12 +2,9 @@
 use Rattle.std.specs.Prelude.{◌≡◌, ℕ, List, None}
 use Rattle.frame_word.specs.Seats.{KnownTable}
 use Rattle.group_tree.specs.Groups.{number_at}
-use Rattle.machine_texts.specs.Blocks.{blocks_text}
-use Rattle.machine_texts.specs.Show.{show_text}
-use Rattle.machine_texts.specs.Stock.{stock_line_text}
+use Rattle.machine_texts.specs.{blocks_text, show_text, stock_line_text}
 use Rattle.mem_machine.specs.Machines.{KnownMachine}
-use Rattle.mem_system.specs.Shown.{ReadsAfterSettling, UnitsAt}
-use Rattle.mem_system.specs.Visits.{LockedState}
+use Rattle.mem_system.specs.{ReadsAfterSettling, UnitsAt, LockedState}
 use Rattle.zone_threads.specs.Homes.{KnownHome, OnCpu}
 use Rattle.zone_threads.specs.declared.texts.TextAnswer.{TextAnswer}
 use Rattle.zone_threads.specs.declared.texts.TextAnswer.TheVariants as answer

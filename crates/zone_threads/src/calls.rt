@@ -8,13 +8,13 @@ use control_files::text::ArrayText;
 use cpu_part::BootName;
 use frame_word::{Frame, Get, Put};
 use group_tree::fault::Fault;
-use mem_system::{Cmd, Outcome};
+use mem_system::{LockedCommand, Outcome};
 
 /// What a thread asks for its CPU.
 #[derive(Clone, Copy, PartialEq, Eq)]
 pub enum Call<'a> {
     /// Serves this command under the lock.
-    Visit(Cmd<'a>),
+    Visit(LockedCommand<'a>),
     /// Takes a frame, charged to the group of this number: of the CPU's list and stock, or else under the lock.
     AllocFrame { group: u32 },
     /// Takes a block of 2^order frames, charged to the group of this number, under the lock.

@@ -12,7 +12,7 @@ use crate::served::Missed;
 use cpu_part::{BootName, Dropped, Fast, Tables};
 use frame_word::Frame;
 use group_tree::fault::Fault;
-use mem_system::{Cmd, Cpu};
+use mem_system::{Cpu, LockedCommand};
 
 impl<N: BootName> Home<N> {
     /// Takes a frame of the CPU's list, paid from its stock; else allocates one under the lock.
@@ -54,7 +54,7 @@ impl<N: BootName> Home<N> {
         if relist(&zone.tables, cpu, frame) {
             return CallAnswer::Listed;
         }
-        match self.serve(&Cmd::Release { frame: number }) {
+        match self.serve(&LockedCommand::Release { frame: number }) {
             Some(outcome) => CallAnswer::Served(outcome),
             None => CallAnswer::Busy,
         }

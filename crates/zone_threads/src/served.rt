@@ -2,9 +2,7 @@
 
 ghost use Rattle.std.specs.Prelude.{◌≡◌, IfNone, IfSome, IsTrue};
 ghost use Rattle.group_tree.specs.Groups.{has_group};
-ghost use Rattle.mem_system.specs.Commands.{IsOfZone};
-ghost use Rattle.mem_system.specs.Shown.{SettlesCaller};
-ghost use Rattle.mem_system.specs.Visits.{IsVisited, ServesFrameOutcome, ServesOutcome};
+ghost use Rattle.mem_system.specs.{IsOfZone, SettlesCaller, IsVisited, ServesFrameOutcome, ServesOutcome};
 ghost use Rattle.zone_threads.specs.Calling.{NoGroupBehindLock, IsMissingIn, IsReadUnderLock, ServesBlock};
 ghost use Rattle.zone_threads.specs.Calling.{ServesDirtyUnit};
 
@@ -15,7 +13,8 @@ use cpu_part::{BootName, Tables};
 use group_charge::charges::Charges;
 use group_tree::group::GroupId;
 use mem_system::{
-    Cmd, Cpu, Outcome, serve_dirty_alloc, serve_frame_outcome, serve_outcome, settle,
+    Cpu, LockedCommand, Outcome, serve_dirty_alloc, serve_frame_outcome, serve_outcome,
+    serve_settle,
 };
 
 /// Why nothing was allocated under the lock.
@@ -30,7 +29,12 @@ pub enum Missed {
 impl<N: BootName> Behind<N> {
     /// Serves a command of a CPU, as `mem_system::serve_outcome` does.
     #[inline(always)]
-    pub fn serve(&mut self, tables: &Tables<N>, cpu: &mut Cpu<N>, cmd: &Cmd<'_>) -> Outcome
+    pub fn serve(
+        &mut self,
+        tables: &Tables<N>,
+        cpu: &mut Cpu<N>,
+        cmd: &LockedCommand<'_>,
+    ) -> Outcome
         requires { IsOfZone N.frames cmd.now }
         ensures { IsVisited N.frames self.old.locked.sizes (ServesOutcome N.frames cmd.now result)
             cpu.old cpu.new }
@@ -86,7 +90,12 @@ impl<N: BootName> Behind<N> {
         };
         let path = *self.locked.charges().tree().path_of(group);
         let path = path.as_bytes();
-        let outcome = serve_outcome(&mut self.locked, tables, cpu, &Cmd::Alloc { path, order });
+        let outcome = serve_outcome(
+            &mut self.locked,
+            tables,
+            cpu,
+            &LockedCommand::Alloc { path, order },
+        );
         self.locked.prove_quiet();
         Some(outcome)
     }
@@ -122,7 +131,7 @@ impl<N: BootName> Behind<N> {
         ensures { IsVisited N.frames self.old.locked.sizes (SettlesCaller N.frames) cpu.old cpu.new }
     {
         self.locked.prove_quiet();
-        settle(&mut self.locked, tables, cpu);
+        serve_settle(&mut self.locked, tables, cpu);
         self.locked.prove_quiet();
     }
 
@@ -132,7 +141,12 @@ impl<N: BootName> Behind<N> {
     {
         let ReadCall { path, file } = *asked;
         self.locked.prove_quiet();
-        let outcome = serve_outcome(&mut self.locked, tables, cpu, &Cmd::Read { path, file });
+        let outcome = serve_outcome(
+            &mut self.locked,
+            tables,
+            cpu,
+            &LockedCommand::Read { path, file },
+        );
         self.locked.prove_quiet();
         if let Outcome::Refused(fault) = outcome {
             return ReadAnswer::Refused(fault);

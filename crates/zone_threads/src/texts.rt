@@ -6,7 +6,7 @@ ghost use Rattle.zone_threads.specs.declared.texts.TextCall.TheVariants.{Blocks,
 
 use crate::behind::Behind;
 use cpu_part::{BootName, Tables};
-use mem_system::{Cpu, blocks_text, settle, show_text, write_own_stock, write_units_at};
+use mem_system::{Cpu, blocks_text, serve_settle, show_text, write_own_stock, write_units_at};
 use std::alloc::Global;
 
 /// Which text a thread asks for. Its CPU is settled first.
@@ -80,7 +80,7 @@ impl<N: BootName> Behind<N> {
         ensures { ReadsAfterSettling N.frames (SaysText N.frames Stock result) cpu.old cpu.new }
     {
         self.locked.prove_quiet();
-        settle(&mut self.locked, tables, cpu);
+        serve_settle(&mut self.locked, tables, cpu);
         self.locked.prove_quiet();
         let mut text = String::new(alloc);
         let shown = write_own_stock(&self.locked, cpu, &mut text);
@@ -100,7 +100,7 @@ impl<N: BootName> Behind<N> {
         ensures { ReadsAfterSettling N.frames (SaysUnits N.frames path.now result) cpu.old cpu.new }
     {
         self.locked.prove_quiet();
-        settle(&mut self.locked, tables, cpu);
+        serve_settle(&mut self.locked, tables, cpu);
         self.locked.prove_quiet();
         let mut text = String::new(alloc);
         let shown = write_units_at(&mut self.locked, tables, path, &mut text);

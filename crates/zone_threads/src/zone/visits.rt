@@ -1,8 +1,7 @@
 //! The calls that are served under the lock.
 
 ghost use Rattle.std.specs.Prelude.{◌≡◌, ◌↔◌, IfNone, IfSome, IsSome, IsTrue, MatchResult};
-ghost use Rattle.mem_system.specs.Commands.{IsOfZone, NamesFrameBelow};
-ghost use Rattle.mem_system.specs.Visits.{IsVisited, ServesFrameOutcome, ServesOutcome};
+ghost use Rattle.mem_system.specs.{IsOfZone, NamesFrameBelow, IsVisited, ServesFrameOutcome, ServesOutcome};
 ghost use Rattle.zone_threads.specs.Calling.{Calls, IfMissing, AnswersRead, ServesBlock, ServesDirtyUnit};
 ghost use Rattle.zone_threads.specs.Homes.{OnCpu};
 ghost use Rattle.zone_threads.specs.Shown.{ReadsText};
@@ -13,12 +12,12 @@ use crate::home::Home;
 use crate::served::Missed;
 use crate::texts::{TextAnswer, TextCall};
 use cpu_part::BootName;
-use mem_system::{Cmd, Outcome};
+use mem_system::{LockedCommand, Outcome};
 use std::alloc::Global;
 
 impl<N: BootName> Home<N> {
     /// Serves a command under the lock.
-    pub fn visit(&mut self, cmd: &Cmd<'_>) -> CallAnswer
+    pub fn visit(&mut self, cmd: &LockedCommand<'_>) -> CallAnswer
         requires some { IsSome self.old.cpu }
         ensures { Calls N.frames (Visit cmd.now) self.old self.new result }
     {
@@ -106,7 +105,7 @@ impl<N: BootName> Home<N> {
     }
 
     // Serves a command under the lock; `None` if another thread has it.
-    pub(crate) fn serve(&mut self, cmd: &Cmd<'_>) -> Option<Outcome>
+    pub(crate) fn serve(&mut self, cmd: &LockedCommand<'_>) -> Option<Outcome>
         requires some { IsSome self.old.cpu }
         requires of_zone { IsOfZone N.frames cmd.now }
         ensures served { IfSome result (λ outcome.
@@ -195,15 +194,15 @@ impl<N: BootName> Home<N> {
 }
 
 // Whether each frame that the command names is one of so many.
-fn is_of_zone(cmd: &Cmd<'_>, frames: u32) -> bool
+fn is_of_zone(cmd: &LockedCommand<'_>, frames: u32) -> bool
     ensures { IsTrue result ↔ NamesFrameBelow frames cmd.now }
 {
     match *cmd {
-        Cmd::Owner { frame } => frame < frames,
-        Cmd::Touch { frame } => frame < frames,
-        Cmd::Dirty { frame } => frame < frames,
-        Cmd::Clean { frame } => frame < frames,
-        Cmd::Release { frame } => frame < frames,
+        LockedCommand::Owner { frame } => frame < frames,
+        LockedCommand::Touch { frame } => frame < frames,
+        LockedCommand::Dirty { frame } => frame < frames,
+        LockedCommand::Clean { frame } => frame < frames,
+        LockedCommand::Release { frame } => frame < frames,
         _ => true,
     }
 }

@@ -1,6 +1,5 @@
 use Rattle.std.proofs.lemmas.Result.{err_from_is_err_and}
-use Rattle.control_files.specs.Flag.{IsFlagReading}
-use Rattle.control_files.specs.Reading.{HasOnlyWord}
+use Rattle.control_files.specs.{IsFlagReading, HasOnlyWord}
 use Rattle.control_files.proofs.FlagLemmas.{exactly_flag, exactly_no_flag, flag_read, no_flag_read, only_bad_limit}
 use Rattle.control_files.proofs.flag.read_flag.Goals as goal
 

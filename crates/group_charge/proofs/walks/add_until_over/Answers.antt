@@ -1,6 +1,5 @@
 use Rattle.std.proofs.Common.{◌≡◌, ◌+◌, ◌<◌, ℕ, Bool, length, set, sym, ap, ◌∙◌, subst, arith}
-use Rattle.group_tree.specs.Groups.{limit_of}
-use Rattle.group_tree.specs.Room.{fits_limit, has_room}
+use Rattle.group_tree.specs.{limit_of, fits_limit, has_room}
 use Rattle.group_tree.proofs.Walks.{walked_lowest}
 use Rattle.group_charge.specs.Kept.{usage_by}
 use Rattle.group_charge.proofs.WalkLemmas.{Walking, walking_all, walking_on, walking_start, walking_tested, walking_turn}

@@ -1,4 +1,4 @@
--- Serves the contract of `read_line`: the line ends among its first 1,024 bytes, or behind them.
+-- Serves the contract of `read_line`: the line ends among its first 1,024 bytes, or after them.
 use Rattle.std.proofs.Common.{◌≡◌, ◌≤◌, ℕ, [], ◌∷◌, length, rules, subst}
 use Rattle.std.specs.Io.KnownBytes.{Consumes}
 use Rattle.line_server.specs.Streams.{TakesByte}

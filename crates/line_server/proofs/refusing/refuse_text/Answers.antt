@@ -1,7 +1,6 @@
 -- Serves the contract of `refuse_text`: a text that is good by itself has a line.
 use Rattle.std.proofs.Common.{◌≡◌, rules, subst}
-use Rattle.script_lint.specs.Findings.{IsTextLinted}
-use Rattle.script_lint.specs.Texts.{cause_text}
+use Rattle.script_lint.specs.{IsTextLinted, cause_text}
 use Rattle.line_server.proofs.Answered.{refused, says_line}
 use Rattle.line_server.proofs.refusing.refuse_text.Goals as goal
 

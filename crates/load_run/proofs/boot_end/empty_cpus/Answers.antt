@@ -1,7 +1,5 @@
 use Rattle.std.proofs.Common.{◌≡◌, ◌∙◌, List, arith, ap, length, subst, sym}
-use Rattle.mem_system.specs.Cpus.{CpuInRun, parts_of}
-use Rattle.mem_system.specs.Ends.{ForEachCpu, MakesLastVisits, pins_of_all}
-use Rattle.mem_system.specs.Locked.{KnownLocked}
+use Rattle.mem_system.specs.{CpuInRun, parts_of, ForEachCpu, MakesLastVisits, pins_of_all, KnownLocked}
 use Rattle.mem_system.proofs.Closing.{turn_long, written_back}
 use Rattle.script_replay.specs.Lines.{system_state}
 use Rattle.load_run.specs.Ending.{PutsAllPins}

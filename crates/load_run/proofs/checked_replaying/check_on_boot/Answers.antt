@@ -1,14 +1,10 @@
 use Rattle.std.proofs.Common.{◌≡◌, ℕ, List, true, [], ◌++◌, ◌∙◌, ap, length, refl, subst, sym}
 use Rattle.std.proofs.lemmas.Result.{IfErr-at_err, IfOk-at_ok, err_from_is_err_and}
-use Rattle.mem_system.specs.Cpus.{CpuInRun}
+use Rattle.mem_system.specs.{CpuInRun, KnownLocked}
 use Rattle.step_watch.specs.Watched.{has_legal_steps}
 use Rattle.mem_machine.specs.Interleaving.{zone_of}
-use Rattle.mem_system.specs.Locked.{KnownLocked}
-use Rattle.script_replay.specs.History.{past}
-use Rattle.script_replay.specs.Lines.{HasRun, SystemState, system_state}
-use Rattle.script_replay.specs.Terms.{form_terms}
-use Rattle.load_run.specs.Answers.{checked_text}
-use Rattle.load_run.specs.Ending.{EndsChecked, boot_end_text}
+use Rattle.script_replay.specs.{past, HasRun, SystemState, system_state, form_terms}
+use Rattle.load_run.specs.{checked_text, EndsChecked, boot_end_text}
 use Rattle.load_run.proofs.Starting.{boot_agrees, boot_shown, given_back, lent_parts, lent_so_far, lines_there}
 use Rattle.load_run.proofs.Stopped.{new_watched, stop_told}
 use Rattle.load_run.proofs.Watched.{saw_more}

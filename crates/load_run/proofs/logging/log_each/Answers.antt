@@ -1,6 +1,5 @@
 use Rattle.std.proofs.Common.{Bor, List, ℕ, map, true}
-use Rattle.script_replay.specs.Lines.{system_state}
-use Rattle.script_replay.specs.Terms.{terms}
+use Rattle.script_replay.specs.{system_state, terms}
 use Rattle.load_run.proofs.Logged.{logs_more, logs_text}
 use Rattle.load_run.proofs.logging.log_each.Goals as goal
 

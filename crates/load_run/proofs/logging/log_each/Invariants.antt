@@ -1,6 +1,5 @@
 use Rattle.std.proofs.Common.{map, take, true}
-use Rattle.script_replay.specs.Lines.{InOrder, system_state}
-use Rattle.script_replay.specs.Terms.{terms}
+use Rattle.script_replay.specs.{InOrder, system_state, terms}
 use Rattle.load_run.specs.Logs.{GrowsBy, LogsNext}
 use Rattle.load_run.proofs.logging.log_each.Given as goal
 

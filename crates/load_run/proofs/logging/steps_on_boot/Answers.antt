@@ -1,8 +1,7 @@
 use Rattle.std.proofs.Common.{◌∙◌, ◌++◌, Bor, List, ℕ, ap, length, map, refl, subst, sym, true}
 use Rattle.mem_system.specs.Cpus.{CpuInRun}
-use Rattle.script_replay.specs.Lines.{SystemState, system_state}
+use Rattle.script_replay.specs.{SystemState, system_state, terms}
 use Rattle.script_lines.specs.Script.{texts_of}
-use Rattle.script_replay.specs.Terms.{terms}
 use Rattle.load_run.specs.Logs.{LogsAllAndEnd, LogsEnd, log_head_text, steps_of_logs}
 use Rattle.load_run.proofs.Logged.{both_logged, logs_whole}
 use Rattle.load_run.proofs.Starting.{given_back, lent_parts, lent_so_far, lines_there, new_state}

@@ -5,8 +5,7 @@ use Rattle.script_lines.specs.declared.line.Line.{Line}
 use Rattle.script_lines.specs.Script.{IsScript}
 use Rattle.script_replay.proofs.InRange.{script_there}
 use Rattle.load_options.proofs.Asking.{asked_some}
-use Rattle.load_run.specs.Answers.{AreAnswers}
-use Rattle.load_run.specs.Fault.{IsScriptFault}
+use Rattle.load_run.specs.{AreAnswers, IsScriptFault}
 use Rattle.load_run.proofs.Answering.{answered, joined}
 use Rattle.load_run.proofs.Causing.{boot_cause, script_cause}
 use Rattle.load_run.proofs.program.answers_to.Goals as goal

@@ -3,8 +3,7 @@ use Rattle.mem_system.specs.Cpus.{CpuInRun}
 use Rattle.step_rules.specs.After.{Run}
 use Rattle.mem_machine.specs.Interleaving.{zone_of}
 use Rattle.mem_history.proofs.Along.{legal_front}
-use Rattle.script_replay.specs.Lines.{HasRun, SystemState, steps_of_served, system_state}
-use Rattle.script_replay.specs.Terms.{form_terms}
+use Rattle.script_replay.specs.{HasRun, SystemState, steps_of_served, system_state, form_terms}
 use Rattle.script_replay.proofs.Gaining.{all_lines_go_on}
 use Rattle.script_replay.proofs.Keeping.{legal_lines_keep_it}
 use Rattle.load_run.specs.Ending.{EndsHeld, boot_end_text}

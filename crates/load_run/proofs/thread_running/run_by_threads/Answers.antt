@@ -3,14 +3,10 @@
 use Rattle.std.proofs.Common.{◌≡◌, ◌∙◌, ◌≤◌, ℕ, false, List, ◌++◌, refl, arith, length, ap, subst, sym, take, drop}
 use Rattle.std.proofs.lemmas.Result.{IfOk-at_ok, IfOk-weaker}
 use Rattle.zone_blocks.specs.declared.config.Config.{Config}
-use Rattle.mem_system.specs.Cpus.{CpuInRun}
-use Rattle.mem_system.specs.Locked.{KnownLocked}
-use Rattle.script_replay.specs.Lines.{ServesAll, SystemState, system_state}
-use Rattle.script_replay.specs.Terms.{boot_tables, numbered_terms}
-use Rattle.script_replay.specs.Each.{AreAllAnswers, workers_from}
+use Rattle.mem_system.specs.{CpuInRun, KnownLocked}
+use Rattle.script_replay.specs.{ServesAll, SystemState, system_state, boot_tables, numbered_terms, AreAllAnswers, workers_from}
 use Rattle.script_replay.proofs.Running.{go_least}
-use Rattle.load_run.specs.Ending.{EndsHeld, boot_end_text}
-use Rattle.load_run.specs.Survey.{SeesAllPasts}
+use Rattle.load_run.specs.{EndsHeld, boot_end_text, SeesAllPasts}
 use Rattle.load_run.proofs.Starting.{given_back, lent_parts, lent_so_far, new_state}
 use Rattle.load_run.proofs.Joining.{are_answers, early_there, later_there}
 use Rattle.load_run.proofs.thread_running.run_by_threads.Goals as goal

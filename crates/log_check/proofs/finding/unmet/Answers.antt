@@ -1,7 +1,6 @@
 -- The condition found is the first of the step's that isn't met.
 use Rattle.std.proofs.Common.{◌∙◌, sym}
-use Rattle.mem_core.specs.Rows.{state_in}
-use Rattle.mem_core.specs.Conditions.{conditions_of}
+use Rattle.mem_core.specs.{state_in, conditions_of}
 use Rattle.mem_core.proofs.AllMet.{found_unmet, needs_first}
 use Rattle.log_check.proofs.finding.unmet.Goals as goal
 

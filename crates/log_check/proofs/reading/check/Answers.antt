@@ -3,9 +3,8 @@ use Rattle.std.proofs.Common.{◌∙◌, ◌≡◌, ◌<◌, ◌≤◌, ◌++◌
 use Rattle.std.specs.Io.KnownBytes.{Consumes}
 use Rattle.log_check.specs.declared.verdict.LogVerdict.{LogVerdict}
 use Rattle.log_check.specs.declared.reader.LogReader.{LogReader}
-use Rattle.log_check.specs.Taking.{HasRoomForLine, ReadsOrJudges}
+use Rattle.log_check.specs.{HasRoomForLine, ReadsOrJudges, NamesLineAfter}
 use Rattle.log_check.proofs.Exact.{exact_if}
-use Rattle.log_check.specs.Reading.{NamesLineAfter}
 use Rattle.log_check.proofs.Parts.{IsReadTo, all_far, all_read, ended, ended_far, kept, more}
 use Rattle.log_check.proofs.reading.check.Goals.{in-Ok+in_ok-end-in-Ok+in_default, in-Err}
 use Rattle.log_check.proofs.reading.check.Goals as goal

@@ -1,8 +1,7 @@
 -- Serves the contract of `write_illegal`: one text follows the other.
 use Rattle.std.proofs.Common.{◌++◌, codes}
-use Rattle.log_check.specs.ReasonTexts.{reason_text}
+use Rattle.log_check.specs.{reason_text, due_text, step_place_text}
 use Rattle.log_check.proofs.Pieces.{behind}
-use Rattle.log_check.specs.Texts.{due_text, step_place_text}
 use Rattle.log_check.proofs.text.write_illegal.Goals as goal
 
 pub returns : goal.returns

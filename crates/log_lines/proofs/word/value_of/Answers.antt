@@ -1,5 +1,4 @@
-use Rattle.std.proofs.Common.{◌∙◌}
-use Rattle.std.proofs.Common.{rules}
+use Rattle.std.proofs.Common.{◌∙◌, rules}
 use Rattle.std.proofs.lemmas.Fmt.{parse-decimal}
 use Rattle.log_lines.proofs.Numbers.{utf8_decimal}
 use Rattle.log_lines.proofs.word.value_of.Goals as goal

@@ -1,8 +1,7 @@
 use Rattle.std.proofs.Common.{arith, Some}
-use Rattle.lru_lists.specs.Queue.{link_at}
+use Rattle.lru_lists.specs.{link_at, units_of}
 use Rattle.lru_lists.proofs.Packing.{numbered}
 use Rattle.lru_lists.proofs.Records.{length_newer, newest_frame, room, pushed_linked, pushed_units, push_others, push_use}
-use Rattle.lru_lists.specs.Queue.{units_of}
 use Rattle.lru_lists.proofs.queue.push_newest.Goals as goal
 
 pub set_newer-requires : goal.set_newer-requires

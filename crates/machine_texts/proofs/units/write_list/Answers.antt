@@ -2,12 +2,9 @@ use Rattle.std.proofs.Common.{◌≡◌, ◌++◌, ◌+◌, ℕ, ◌<◌, ◌≤
 use Rattle.std.proofs.lemmas.Option.{none-some}
 use Rattle.std.specs.String.{string_bytes}
 use Rattle.frame_word.specs.Seats.{KnownTable}
-use Rattle.boot_words.specs.Looking.{LoadsReferences}
-use Rattle.boot_words.specs.Pasts.{own_past}
-use Rattle.boot_words.specs.Seats.{zone_of_boot}
+use Rattle.boot_words.specs.{LoadsReferences, own_past, zone_of_boot}
 use Rattle.lru_lists.specs.Lists.{entry_after}
-use Rattle.mem_machine.specs.Machines.{home_of}
-use Rattle.mem_machine.specs.Showing.{entries_in, listed}
+use Rattle.mem_machine.specs.{home_of, entries_in, listed}
 use Rattle.machine_texts.specs.Units.{order_at, unit_text}
 use Rattle.machine_texts.proofs.UnitLines.{is_met, joined, met_more, met_none}
 use Rattle.machine_texts.proofs.units.write_list.Goals as goal

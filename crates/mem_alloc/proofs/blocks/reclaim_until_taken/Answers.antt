@@ -1,10 +1,6 @@
 use Rattle.std.proofs.Common.{◌≡◌, ℕ, ◌+◌, ◌^◌, ◌<◌, refl, ◌∙◌, subst}
-use Rattle.mem_machine.specs.Blocks.{taken_steps, unplaced_steps}
-use Rattle.mem_reclaim.specs.Moves.{FreesBySteps}
-use Rattle.mem_reclaim.specs.Rounds.{ReclaimsRound}
-use Rattle.mem_reclaim.specs.Staying.{MissedAll}
-use Rattle.mem_machine.specs.Local.{visit_state}
-use Rattle.mem_machine.specs.Transitions.{transition}
+use Rattle.mem_machine.specs.{taken_steps, unplaced_steps, visit_state, transition}
+use Rattle.mem_reclaim.specs.{FreesBySteps, ReclaimsRound, MissedAll}
 use Rattle.mem_alloc.specs.Blocks.{FindsNoBlock, TakesFreeBlock}
 use Rattle.mem_alloc.proofs.Rounding.{rounds_none, rounds_done, rounds_succeed, rounds_end, rounds_more}
 use Rattle.mem_alloc.proofs.Taking.{is_none, by_none, none_spares}

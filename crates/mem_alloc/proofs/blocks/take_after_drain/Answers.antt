@@ -1,12 +1,9 @@
 use Rattle.std.proofs.Common.{◌+◌, ◌^◌, ◌<◌, sym, ap, ◌∙◌, subst}
-use Rattle.group_tree.specs.Groups.{has_group}
-use Rattle.group_tree.specs.Room.{PathHasRoom}
+use Rattle.group_tree.specs.{has_group, PathHasRoom}
 use Rattle.group_charge.specs.Charges.{current_of}
 use Rattle.cpu_part.specs.Cpus.{KnownCpu}
 use Rattle.group_charge.specs.declared.note.Note.TheVariants.{Zone}
-use Rattle.mem_machine.specs.Machines.{KnownMachine, is_killed, with_note}
-use Rattle.mem_machine.specs.Local.{Visits}
-use Rattle.mem_machine.specs.Local.{visit_state}
+use Rattle.mem_machine.specs.{KnownMachine, is_killed, with_note, Visits, visit_state}
 use Rattle.mem_alloc.specs.Blocks.{MakesTakeRounds, MayHaveBlock}
 use Rattle.mem_alloc.proofs.Rounding.{noted_visit, zone_noted}
 use Rattle.mem_alloc.proofs.Taking.{is_refused, is_none, by_none, back_part, never_over, noted_room}
@@ -56,7 +53,7 @@ returns-in-Ok g c = record {
 
 pub reclaim_until_taken-requires : goal.reclaim_until_taken-requires
 reclaim_until_taken-requires g c = record {
-  visit = subst (λ (x : KnownMachine). Visits g.N.BootName.frames (visit_state x c.take_block.new.cpu)) (sym c.note.ensures)
+  visit = subst (λ (x : KnownMachine). Visits g.N.BootName.frames x c.take_block.new.cpu) (sym c.note.ensures)
       (noted_visit g.N.BootName.frames c.take_block.new.self c.take_block.new.cpu _ c.take_block.ensures.visit);
   room =
       let none = is_none _ _ c.args.group c.args.order c.in-Err-NoBlock.field-0 c.in-Err-NoBlock.field-0-is c.in-Err-NoBlock.ensures.refuses in

@@ -2,8 +2,7 @@ use Rattle.std.proofs.Common.{[], inl, inr, refl, sym, ◌∙◌, subst}
 use Rattle.std.proofs.lemmas.Bool.{true≢false}
 use Rattle.group_charge.specs.Charges.{Ledger}
 use Rattle.step_rules.specs.State.{State}
-use Rattle.mem_machine.specs.Stocks.{HasDrained}
-use Rattle.mem_machine.specs.Steps.{fill_steps, over_steps}
+use Rattle.mem_machine.specs.{HasDrained, fill_steps, over_steps}
 use Rattle.mem_machine.proofs.Followed.{makes_none}
 use Rattle.mem_alloc.specs.High.{PathHasHighRoom}
 use Rattle.mem_alloc.proofs.charging.fill_batch.Goals as goal

@@ -3,8 +3,7 @@ use Rattle.std.specs.Prelude.{IfErr}
 use Rattle.group_tree.specs.Groups.{has_group}
 use Rattle.group_tree.proofs.CallerLemmas.{in_subtree-above}
 use Rattle.step_rules.specs.State.{State}
-use Rattle.mem_machine.specs.Machines.{KnownMachine}
-use Rattle.mem_machine.specs.Stocks.{HasDrained, IsDrained}
+use Rattle.mem_machine.specs.{KnownMachine, HasDrained, IsDrained}
 use Rattle.mem_alloc.proofs.Lowering.{Lowers, lowers_both, usages_fall, run_lowers}
 use Rattle.mem_alloc.proofs.Killing.{relieving_lowers}
 use Rattle.mem_alloc.proofs.Emptied.{relieves_drained}

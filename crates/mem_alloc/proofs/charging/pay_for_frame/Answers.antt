@@ -2,10 +2,7 @@ use Rattle.std.proofs.Common.{ℕ, sym, ap, ◌∙◌, subst}
 use Rattle.std.proofs.lemmas.Bool.{false≢true}
 use Rattle.group_tree.specs.Groups.{has_group}
 use Rattle.boot_words.specs.Pasts.{IsHeld}
-use Rattle.mem_machine.specs.Machines.{IsCpuOf, KnownMachine, is_killed}
-use Rattle.mem_machine.specs.Local.{Visits, visit_state}
-use Rattle.mem_machine.specs.Paying.{HoldsPage}
-use Rattle.mem_machine.specs.Stocks.{IsDrained}
+use Rattle.mem_machine.specs.{IsCpuOf, KnownMachine, is_killed, Visits, HoldsPage, IsDrained}
 use Rattle.mem_machine.proofs.DrainingAll.{drained_now, drained_trees}
 use Rattle.mem_machine.proofs.Moved.{number_range}
 use Rattle.mem_alloc.proofs.Filling.{charged_page, pays_anew, pays_none}
@@ -22,8 +19,8 @@ returns-then-holds_page g c =
     let page = looked.holds.0 c.if-holds_page.true in
     record {
       pays = pays_none t c.args.machine.now c.holds_page.new.machine c.args.cpu.now looked.machine c.args.sizes c.args.group page;
-      visit = subst (λ (m : KnownMachine). Visits t (visit_state m c.args.cpu.now)) (sym looked.machine) c.requires.visit;
-      page = subst (λ (m : KnownMachine). HoldsPage t (visit_state m c.args.cpu.now) c.args.group) (sym looked.machine) page;
+      visit = subst (λ (m : KnownMachine). Visits t m c.args.cpu.now) (sym looked.machine) c.requires.visit;
+      page = subst (λ (m : KnownMachine). HoldsPage t m c.args.cpu.now.number c.args.group) (sym looked.machine) page;
     }
 
 -- the CPU that holds the lock is one of the boot
@@ -39,7 +36,7 @@ drain_stock-requires-clause-held g c =
 pub fill_drained_stock-requires-clause-visit : goal.fill_drained_stock-requires-clause-visit
 fill_drained_stock-requires-clause-visit g c =
     c.drain_stock.ensures.visit c.args.cpu.now
-    (subst (λ (m : KnownMachine). Visits g.N.BootName.frames (visit_state m c.args.cpu.now)) (sym c.holds_page.ensures.machine) c.requires.visit)
+    (subst (λ (m : KnownMachine). Visits g.N.BootName.frames m c.args.cpu.now) (sym c.holds_page.ensures.machine) c.requires.visit)
 
 pub fill_drained_stock-requires-clause-there : goal.fill_drained_stock-requires-clause-there
 fill_drained_stock-requires-clause-there g c =

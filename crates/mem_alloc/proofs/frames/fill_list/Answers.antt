@@ -1,7 +1,6 @@
 use Rattle.std.proofs.Common.{[], length, inl, inr, ap, refl, sym, ◌∙◌, subst, arith, length-append, rules}
 use Rattle.std.proofs.lemmas.List.{nil_from_length}
-use Rattle.mem_machine.specs.Machines.{IsCpuOf}
-use Rattle.mem_machine.specs.Steps.{refill_steps}
+use Rattle.mem_machine.specs.{IsCpuOf, refill_steps}
 use Rattle.mem_machine.proofs.Followed.{makes_none}
 use Rattle.mem_machine.proofs.Moved.{number_range}
 use Rattle.mem_alloc.proofs.Filling.{lent_part, lent_stock, lent_none, lent_batch, no_frame, reclaims_for, reclaimed_front}

@@ -1,16 +1,13 @@
 use Rattle.std.proofs.Common.{sym, ap, ◌∙◌, subst}
 use Rattle.group_charge.specs.declared.note.Note.TheVariants.{Zone}
-use Rattle.mem_machine.specs.Machines.{KnownMachine}
-use Rattle.mem_machine.specs.Local.{Visits}
-use Rattle.mem_machine.specs.Local.{visit_state}
-use Rattle.mem_machine.specs.Showing.{stock_now}
+use Rattle.mem_machine.specs.{KnownMachine, Visits, visit_state, stock_now}
 use Rattle.mem_alloc.specs.Frames.{MakesRefillRounds}
 use Rattle.mem_alloc.proofs.Rounding.{noted_visit, zone_noted}
 use Rattle.mem_alloc.proofs.frames.refill_in_rounds.Goals as goal
 
 pub make_refill_rounds-requires-clause-visit : goal.make_refill_rounds-requires-clause-visit
 make_refill_rounds-requires-clause-visit g c =
-    subst (λ (x : KnownMachine). Visits g.N.BootName.frames (visit_state x c.args.cpu.now)) (sym c.note.ensures)
+    subst (λ (x : KnownMachine). Visits g.N.BootName.frames x c.args.cpu.now) (sym c.note.ensures)
     (noted_visit g.N.BootName.frames c.args.machine.now c.args.cpu.now (Zone 0) c.requires.visit)
 
 pub returns-clause-refills : goal.returns-clause-refills
@@ -21,4 +18,4 @@ returns-clause-refills g c =
 pub returns-clause-stock : goal.returns-clause-stock
 returns-clause-stock g c =
     c.make_refill_rounds.ensures.stock
-    ∙ ap (λ (m : KnownMachine). stock_now g.N.BootName.frames (visit_state m c.args.cpu.now)) c.note.ensures
+    ∙ ap (λ (m : KnownMachine). stock_now g.N.BootName.frames m c.args.cpu.now.number) c.note.ensures

@@ -4,8 +4,7 @@ use Rattle.group_charge.specs.Charges.{Ledger}
 use Rattle.group_charge.specs.declared.settings.Settings.{Settings}
 use Rattle.group_charge.specs.declared.note.Note.TheVariants.{High}
 use Rattle.step_rules.specs.declared.step.NoteKey.TheVariants as key
-use Rattle.mem_machine.specs.Machines.{KnownMachine, with_note}
-use Rattle.mem_machine.specs.Steps.{note_steps}
+use Rattle.mem_machine.specs.{KnownMachine, with_note, note_steps}
 use Rattle.mem_reclaim.proofs.Grown.{held_after, held_noted}
 use Rattle.mem_reclaim.proofs.Keeping.{keeps_both, keeps_none}
 use Rattle.mem_alloc.specs.High.{high_of}

@@ -2,14 +2,10 @@ use Rattle.std.proofs.Common.{◌≡◌, false, Option, Some, sym, ap, ◌∙◌
 use Rattle.std.specs.Prelude.{IfSome}
 use Rattle.std.proofs.lemmas.Bool.{false≢true}
 use Rattle.group_charge.specs.Charges.{AreCharges, Ledger}
-use Rattle.mem_machine.specs.Machines.{KnownMachine}
+use Rattle.mem_machine.specs.{KnownMachine, Makes, BySteps}
 use Rattle.mem_reclaim.specs.declared.sets.Killed.{Killed}
-use Rattle.mem_reclaim.specs.Killing.{IsKilledBy, KillsVictim, victim_of, with_all_killed}
-use Rattle.mem_reclaim.specs.Sets.{kill_set}
-use Rattle.mem_reclaim.specs.Victim.{IsVictim}
+use Rattle.mem_reclaim.specs.{IsKilledBy, KillsVictim, victim_of, with_all_killed, kill_set, IsVictim}
 use Rattle.mem_alloc.specs.Kills.{KillsForRoom, has_room_at}
-use Rattle.mem_machine.specs.Local.{Makes}
-use Rattle.mem_machine.specs.Transitions.{BySteps}
 use Rattle.mem_alloc.proofs.Killing.{enough_room, fewer_alive, kills_end, so_far_killed, so_far_nobody, so_far_held, so_far_there}
 use Rattle.mem_alloc.proofs.kills.kill_for.Goals as goal
 

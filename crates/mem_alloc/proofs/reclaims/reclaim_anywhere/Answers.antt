@@ -1,8 +1,6 @@
 use Rattle.std.proofs.Common.{ℕ, ◌∙◌, subst}
 use Rattle.std.proofs.lemmas.Bool.{lt-ltb}
-use Rattle.mem_reclaim.specs.Moves.{FreesBySteps}
-use Rattle.mem_reclaim.specs.Rounds.{ReclaimsRound}
-use Rattle.mem_reclaim.specs.Staying.{MissedAll}
+use Rattle.mem_reclaim.specs.{FreesBySteps, ReclaimsRound, MissedAll}
 use Rattle.mem_alloc.proofs.reclaims.reclaim_anywhere.Goals as goal
 
 pub returns-clause-reclaims : goal.returns-clause-reclaims

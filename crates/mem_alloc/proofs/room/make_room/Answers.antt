@@ -2,11 +2,10 @@ use Rattle.std.proofs.Common.{◌≡◌, true, List, refl, sym, ap, ◌∙◌, s
 use Rattle.group_tree.specs.declared.group.Group.{Group}
 use Rattle.group_tree.specs.Groups.{has_group}
 use Rattle.group_charge.specs.Charges.{Ledger, with_max_noted}
-use Rattle.mem_machine.specs.Machines.{KnownMachine}
+use Rattle.mem_machine.specs.{KnownMachine, drain_stocks_steps, note_max_steps}
 use Rattle.mem_alloc.specs.Kills.{has_room_at}
 use Rattle.mem_alloc.proofs.Lowering.{Lowers, lowers_both, note_lowers, all_lower, lowered_there}
 use Rattle.mem_alloc.proofs.Killing.{few_lower}
-use Rattle.mem_machine.specs.Steps.{drain_stocks_steps, note_max_steps}
 use Rattle.mem_reclaim.proofs.Grown.{held_after}
 use Rattle.mem_alloc.proofs.Making.{clears_by, limit_held, limit_visits, relieves_by}
 use Rattle.mem_alloc.proofs.room.make_room.Goals as goal

@@ -1,7 +1,6 @@
 -- The groups that were passed have their new accounts.
 use Rattle.std.proofs.Common.{◌≡◌, take, vec_len}
-use Rattle.mem_core.specs.Rows.{state_in}
-use Rattle.mem_core.specs.Accounts.{account_after, HaveSmallPeaks}
+use Rattle.mem_core.specs.{state_in, account_after, HaveSmallPeaks}
 use Rattle.mem_core.proofs.AccountLemmas.{AreChanged}
 use Rattle.mem_core.proofs.accounts.update_accounts.Given as goal
 

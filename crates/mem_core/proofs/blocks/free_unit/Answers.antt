@@ -2,12 +2,10 @@
 use Rattle.std.proofs.Common.{◌≡◌, ℕ, ◌+◌, ◌-◌, List, length, get_or, ◌∙◌, ap, arith, inl, inr}
 use Rattle.step_rules.specs.State.{State}
 use Rattle.mem_core.specs.Rows.{state_in}
-use Rattle.std.specs.Prelude.{◌⊎◌, min}
+use Rattle.std.specs.Prelude.{◌⊎◌, min, if◌then◌else◌}
 use Rattle.step_rules.specs.declared.phase.Phase.{Phase}
 use Rattle.step_rules.specs.declared.phase.Phase.TheVariants.{InZone}
-use Rattle.step_rules.specs.Phases.{unit_of}
-use Rattle.std.specs.Prelude.{if◌then◌else◌}
-use Rattle.step_rules.specs.After.{unit_size, is_within}
+use Rattle.step_rules.specs.{unit_of, unit_size, is_within}
 use Rattle.mem_core.proofs.Ranges.{ranged, unit_phases, least_ends}
 use Rattle.mem_core.proofs.blocks.free_unit.Goals as goal
 

@@ -1,8 +1,7 @@
 -- A checker that has taken no step judges the log.
 use Rattle.std.proofs.Common.{◌∙◌, ap, sym, subst}
 use Rattle.step_rules.specs.State.{State, Zone, at_boot}
-use Rattle.mem_core.specs.Checked.{IsVerdict}
-use Rattle.mem_core.specs.Shown.{zone_of_config}
+use Rattle.mem_core.specs.{IsVerdict, zone_of_config}
 use Rattle.mem_core.proofs.Checking.{says_of_log}
 use Rattle.mem_core.proofs.Keeping.{always_keeps}
 use Rattle.mem_core.proofs.check.check.Goals as goal

@@ -3,9 +3,7 @@ use Rattle.std.proofs.Common.{◌≡◌, ◌∙◌, ap, inl, inr, subst, sym}
 use Rattle.std.proofs.lemmas.Bool.{true≢false}
 use Rattle.mem_core.specs.Rows.{state_in}
 use Rattle.step_rules.specs.declared.step.Answer.{Answer}
-use Rattle.step_rules.specs.Answers.{IsPlacing}
-use Rattle.step_rules.specs.Legal.{Allows}
-use Rattle.step_rules.specs.After.{after}
+use Rattle.step_rules.specs.{IsPlacing, Allows, after}
 use Rattle.step_rules.proofs.Answering.{answers_alike}
 use Rattle.mem_core.proofs.checker.take_other.Goals as goal
 

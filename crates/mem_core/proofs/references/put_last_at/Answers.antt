@@ -1,13 +1,10 @@
 -- The goals of `put_last_at`.
 use Rattle.std.proofs.Common.{◌≡◌, ◌-◌, ◌<◌, length, sym, ◌∙◌, ap, subst, arith}
 use Rattle.step_rules.specs.State.{State}
-use Rattle.step_rules.specs.After.{with_part, with_phase, with_references}
+use Rattle.step_rules.specs.{with_part, with_phase, with_references, at_stage, with_back}
 use Rattle.mem_core.specs.Rows.{state_in}
-use Rattle.mem_core.proofs.Serving.{put_room}
+use Rattle.mem_core.proofs.Serving.{put_room, after_last_cpu}
 use Rattle.step_rules.specs.declared.phase.Stage.TheVariants.{BackAt}
-use Rattle.step_rules.specs.Phases.{at_stage}
-use Rattle.step_rules.specs.After.{with_back}
-use Rattle.mem_core.proofs.Serving.{after_last_cpu}
 use Rattle.mem_core.proofs.references.put_last_at.Goals as goal
 
 pub set_references-requires-clause-few : goal.set_references-requires-clause-few

@@ -2,9 +2,7 @@
 use Rattle.std.proofs.Common.{◌≡◌, ◌+◌, ◌≤◌, [], ◌∷◌, ◌++◌, length, take, sym, ◌∙◌, ap, subst, arith, length-append}
 use Rattle.std.specs.List.{zip}
 use Rattle.step_rules.specs.declared.step.Step.{Step}
-use Rattle.step_rules.specs.State.{Zone}
-use Rattle.step_rules.specs.After.{Run, IsLegalRun}
-use Rattle.step_rules.specs.Laws.{pushed}
+use Rattle.step_rules.specs.{Zone, Run, IsLegalRun, pushed}
 use Rattle.mem_core.proofs.Playing.{PlaysOn, PlaysOn-start, PlaysOn-step, PlaysOn-all, zip-take_more, length-zip-take}
 use Rattle.mem_core.specs.Shown.{zone_of_config}
 use Rattle.mem_core.proofs.Keeping.{keeps_promise, always_keeps}

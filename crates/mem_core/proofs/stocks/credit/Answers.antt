@@ -1,10 +1,9 @@
 -- The goals of `credit`.
 use Rattle.std.proofs.Common.{◌^◌, ◌<◌, length, sym, ◌∙◌, ap, subst}
 use Rattle.step_rules.specs.State.{State}
-use Rattle.step_rules.specs.After.{with_part}
+use Rattle.step_rules.specs.{with_part, credited}
 use Rattle.mem_core.specs.Rows.{state_in}
 use Rattle.mem_core.proofs.Serving.{credit_room, pages_few}
-use Rattle.step_rules.specs.After.{credited}
 use Rattle.mem_core.proofs.stocks.credit.Goals as goal
 
 pub credit-requires-clause-room : goal.credit-requires-clause-room

@@ -1,9 +1,8 @@
 -- The goals of `drain_stock`.
 use Rattle.std.proofs.Common.{◌≡◌, ℕ, ◌^◌, ◌≤◌, sym, ◌∙◌, ap, subst}
 use Rattle.step_rules.specs.State.{State}
-use Rattle.step_rules.specs.After.{with_part}
+use Rattle.step_rules.specs.{with_part, drained, with_more}
 use Rattle.mem_core.specs.Rows.{state_in}
-use Rattle.step_rules.specs.After.{drained, with_more}
 use Rattle.mem_core.proofs.stocks.drain_stock.Goals as goal
 
 pub add_pending-requires-clause-few : goal.add_pending-requires-clause-few

@@ -1,10 +1,9 @@
 -- The goals of `fill`.
 use Rattle.std.proofs.Common.{◌≡◌, ◌-◌, ◌^◌, ◌<◌, sym, ◌∙◌, ap, subst}
 use Rattle.step_rules.specs.State.{State}
-use Rattle.step_rules.specs.After.{with_part, with_pending}
+use Rattle.step_rules.specs.{with_part, with_pending, filled}
 use Rattle.mem_core.specs.Rows.{state_in}
 use Rattle.mem_core.proofs.Serving.{book_few}
-use Rattle.step_rules.specs.After.{filled}
 use Rattle.mem_core.proofs.stocks.fill.Goals as goal
 
 pub fill_stock-requires-clause-few : goal.fill_stock-requires-clause-few

@@ -1,12 +1,10 @@
 -- The goals of `take_front`.
 use Rattle.std.proofs.Common.{◌≡◌, ◌<◌, ◌≤◌, length, sym, ◌∙◌, ap, subst}
 use Rattle.step_rules.specs.State.{State}
-use Rattle.step_rules.specs.After.{with_part, with_phase}
+use Rattle.step_rules.specs.{with_part, with_phase, front_of, paid, consumed}
 use Rattle.mem_core.specs.Rows.{state_in}
-use Rattle.step_rules.specs.State.{front_of}
 use Rattle.step_rules.specs.declared.phase.Phase.TheVariants.{Head}
 use Rattle.step_rules.specs.declared.phase.Stage.TheVariants.{FreshAt}
-use Rattle.step_rules.specs.After.{paid, consumed}
 use Rattle.mem_core.proofs.Serving.{consume_room, consume_some}
 use Rattle.mem_core.proofs.stocks.take_front.Goals as goal
 

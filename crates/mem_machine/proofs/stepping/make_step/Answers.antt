@@ -1,8 +1,7 @@
 use Rattle.std.proofs.Common.{refl, sym, subst}
 use Rattle.step_rules.specs.declared.step.Action.{Action}
 use Rattle.step_rules.specs.declared.step.Answer.{Answer}
-use Rattle.boot_words.specs.Pasts.{MakesStep}
-use Rattle.boot_words.specs.Steps.{IsPlain}
+use Rattle.boot_words.specs.{MakesStep, IsPlain}
 use Rattle.mem_machine.specs.Noted.{MayTake}
 use Rattle.mem_machine.specs.Steps.{zone_makes}
 use Rattle.mem_machine.proofs.AtTable.{held_at, made_at, take_at}

@@ -1,6 +1,5 @@
 use Rattle.std.proofs.Common.{◌≡◌, IsTrue}
-use Rattle.group_tree.specs.Ancestors.{depth_at}
-use Rattle.group_tree.specs.Groups.{has_group, in_subtree}
+use Rattle.group_tree.specs.{depth_at, has_group, in_subtree}
 use Rattle.mem_machine.proofs.subtrees.is_at_or_below.Given as goal
 
 abbrev pub invariant-loop-group : goal.invariant-loop-group

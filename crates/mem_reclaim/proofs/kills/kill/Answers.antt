@@ -3,8 +3,7 @@ use Rattle.group_tree.specs.declared.group.Group.{Group}
 use Rattle.group_tree.specs.Groups.{has_group}
 use Rattle.group_charge.specs.Charges.{Ledger}
 use Rattle.mem_machine.specs.Machines.{KnownMachine}
-use Rattle.mem_reclaim.specs.Sets.{HasNoFlagged, IsHighestFlagged, alive_in_subtree}
-use Rattle.mem_reclaim.specs.Killing.{KillsSubtree}
+use Rattle.mem_reclaim.specs.{HasNoFlagged, IsHighestFlagged, alive_in_subtree, KillsSubtree}
 use Rattle.mem_reclaim.proofs.Choosing.{chosen_there}
 use Rattle.mem_reclaim.proofs.KilledRoots.{on_path_there}
 use Rattle.mem_reclaim.proofs.KillSets.{KilledSo, OneKilled, alone_killed, head_killed}

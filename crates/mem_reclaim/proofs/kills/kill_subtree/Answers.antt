@@ -1,5 +1,4 @@
-use Rattle.mem_reclaim.specs.Killing.{KillsGroups}
-use Rattle.mem_reclaim.specs.Sets.{alive_in_subtree}
+use Rattle.mem_reclaim.specs.{KillsGroups, alive_in_subtree}
 use Rattle.mem_reclaim.proofs.KillSets.{KilledSo, subtree_killed}
 use Rattle.mem_reclaim.proofs.Grown.{held_after, held_noted}
 use Rattle.mem_reclaim.proofs.kills.kill_subtree.Goals as goal

@@ -1,6 +1,5 @@
 use Rattle.std.proofs.Common.{Bool, sym, subst}
-use Rattle.mem_reclaim.specs.Moves.{FreesBySteps}
-use Rattle.mem_reclaim.specs.Passes.{PassesGroup}
+use Rattle.mem_reclaim.specs.{FreesBySteps, PassesGroup}
 use Rattle.mem_reclaim.proofs.passes.reclaim_group.Goals as goal
 
 pub returns-then-is_first-clause-passes : goal.returns-then-is_first-clause-passes

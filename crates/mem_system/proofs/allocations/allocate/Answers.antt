@@ -1,7 +1,6 @@
 use Rattle.std.proofs.Common.{◌≡◌, ◌≤◌, ℕ, Some, subst, rules}
 use Rattle.group_tree.specs.Groups.{number_at}
-use Rattle.mem_system.specs.Allocations.{Allocates, FreshOf, outcome_of}
-use Rattle.mem_system.specs.Outcomes.{reply_of}
+use Rattle.mem_system.specs.{Allocates, FreshOf, outcome_of, reply_of}
 use Rattle.mem_system.proofs.Found.{found_there}
 use Rattle.mem_system.proofs.Allocating.{allocated, has_groups}
 use Rattle.mem_machine.specs.Local.{VisitMakes, visit_state}

@@ -1,8 +1,7 @@
 use Rattle.std.proofs.Common.{◌≡◌, ◌≢◌, ℕ, subst, rules}
 use Rattle.std.specs.Prelude.{Result}
 use Rattle.mem_alloc.specs.declared.faults.AllocFault.{AllocFault}
-use Rattle.mem_alloc.specs.Frames.{AllocatesFrame}
-use Rattle.mem_alloc.specs.Blocks.{AllocatesBlock}
+use Rattle.mem_alloc.specs.{AllocatesFrame, AllocatesBlock}
 use Rattle.mem_alloc.proofs.CallerLemmas.{frame_over_there, block_over_there}
 use Rattle.mem_machine.specs.Local.{visit_state}
 use Rattle.mem_system.specs.Commands.{transition}

@@ -2,10 +2,8 @@ use Rattle.std.proofs.Common.{◌≡◌, ◌∙◌, ℕ, List, length, All, ap, 
 use Rattle.std.specs.Prelude.{min}
 use Rattle.std.specs.Vec.{vec_capacity}
 use Rattle.group_tree.specs.Room.{max_count}
-use Rattle.mem_system.specs.Cpus.{CpuInRun, parts_of}
-use Rattle.mem_system.specs.Locked.{IsEmptyWithRoom, KnownLocked}
-use Rattle.mem_system.specs.Left.{NothingIsLeft}
-use Rattle.mem_system.specs.Ends.{ForEachCpu, SettlesInVisit, VisitsUnderLock, Empties, IsSettledUnpinned, KnownEmptiedBoot, MakesLastVisits, drops_of, pins_of_all}
+use Rattle.mem_system.specs.{CpuInRun, parts_of, IsEmptyWithRoom, KnownLocked, NothingIsLeft, ForEachCpu, SettlesInVisit, VisitsUnderLock, Empties}
+use Rattle.mem_system.specs.{IsSettledUnpinned, KnownEmptiedBoot, MakesLastVisits, drops_of, pins_of_all}
 use Rattle.mem_system.proofs.Closing.{turn_long, written_back, all_visits}
 use Rattle.mem_system.proofs.boot_end.make_last_visits.Goals as goal
 

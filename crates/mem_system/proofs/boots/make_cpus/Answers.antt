@@ -1,13 +1,9 @@
 use Rattle.std.proofs.Common.{◌≡◌, ◌+◌, ◌-◌, ◌<◌, ◌++◌, ◌∷◌, [], All, length, sym, ap, ◌∙◌, subst, arith, rules}
 use Rattle.std.specs.List.{remove}
 use Rattle.std.proofs.lemmas.List.{map-append}
-use Rattle.boot_words.specs.Cpus.{IsAwayCpu, KnownCpuSeat}
-use Rattle.boot_words.specs.Opening.{cpu_at_first, cpus_at_first}
-use Rattle.boot_words.specs.Pasts.{own_past}
-use Rattle.boot_words.specs.Rule.{AllOf}
+use Rattle.boot_words.specs.{IsAwayCpu, KnownCpuSeat, cpu_at_first, cpus_at_first, own_past, AllOf}
 use Rattle.cpu_part.specs.Cpus.{IsIdle, first_cpu}
-use Rattle.mem_system.specs.Boots.{first_cpus, first_pasts}
-use Rattle.mem_system.specs.Cpus.{CpuInRun, parts_of, pasts_of}
+use Rattle.mem_system.specs.{first_cpus, first_pasts, CpuInRun, parts_of, pasts_of}
 use Rattle.mem_system.proofs.Parts.{seats_left, front_is, cpus_next, cpus_idle, pasts_next}
 use Rattle.mem_system.proofs.boots.make_cpus.Goals as goal
 

@@ -1,10 +1,7 @@
 use Rattle.std.proofs.Common.{◌≡◌, ◌+◌, ◌-◌, ◌≤◌}
 use Rattle.std.specs.Vec.{vec_len, vec_capacity}
-use Rattle.boot_words.specs.Cpus.{IsAwayCpu}
-use Rattle.boot_words.specs.Opening.{cpus_at_first}
-use Rattle.boot_words.specs.Rule.{AllOf}
-use Rattle.mem_system.specs.Boots.{first_cpus, first_pasts}
-use Rattle.mem_system.specs.Cpus.{parts_of, pasts_of}
+use Rattle.boot_words.specs.{IsAwayCpu, cpus_at_first, AllOf}
+use Rattle.mem_system.specs.{first_cpus, first_pasts, parts_of, pasts_of}
 use Rattle.mem_system.proofs.boots.make_cpus.Given as goal
 
 -- the parts of the CPUs so far are made, and the seats of the others are left

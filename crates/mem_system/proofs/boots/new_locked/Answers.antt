@@ -1,8 +1,6 @@
 use Rattle.std.proofs.Common.{ap, rules}
-use Rattle.step_rules.specs.State.{visits}
-use Rattle.step_rules.specs.After.{Run, state_of}
-use Rattle.boot_words.specs.Pasts.{KnownPasts, own_past}
-use Rattle.boot_words.specs.Seats.{zone_of_boot}
+use Rattle.step_rules.specs.{visits, Run, state_of}
+use Rattle.boot_words.specs.{KnownPasts, own_past, zone_of_boot}
 use Rattle.mem_system.proofs.Counted.{first_counted}
 use Rattle.mem_system.proofs.boots.new_locked.Goals as goal
 

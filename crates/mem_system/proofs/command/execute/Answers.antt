@@ -4,9 +4,7 @@ use Rattle.zone_blocks.specs.declared.config.Config.{Config}
 use Rattle.group_charge.specs.Charges.{Ledger}
 use Rattle.cpu_part.specs.Cpus.{KnownCpu}
 use Rattle.mem_machine.proofs.Followed.{makes_none}
-use Rattle.mem_system.specs.Commands.{ListAndFreshStayWithin, NamesFrameBelow}
-use Rattle.mem_system.specs.Files.{Reads}
-use Rattle.mem_system.specs.Outcomes.{HasItsGroups, reply_of}
+use Rattle.mem_system.specs.{ListAndFreshStayWithin, NamesFrameBelow, Reads, HasItsGroups, reply_of}
 use Rattle.mem_machine.proofs.Made.{visit_same}
 use Rattle.mem_system.proofs.Keeping.{keeps_visit}
 use Rattle.mem_system.proofs.command.execute.Goals as goal

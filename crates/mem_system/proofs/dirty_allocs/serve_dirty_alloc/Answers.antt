@@ -1,6 +1,6 @@
 use Rattle.std.proofs.Common.{subst}
-use Rattle.mem_system.specs.declared.command.Cmd.TheVariants.{Dirty}
-use Rattle.mem_system.specs.declared.command.Reply.{Reply}
+use Rattle.mem_system.specs.declared.command.LockedCommand.TheVariants.{Dirty}
+use Rattle.mem_system.specs.declared.command.ReplyWithText.{ReplyWithText}
 use Rattle.mem_system.specs.Visits.{IsServed, LockedState, locked_state}
 use Rattle.mem_system.proofs.Dirtying.{dirty_done, given_inside}
 use Rattle.mem_system.proofs.dirty_allocs.serve_dirty_alloc.Goals as goal
@@ -24,6 +24,6 @@ returns-clause-served g c =
     record {
       between = now;
       allocates = served;
-      notes = subst (λ (r : Reply). IsServed t (Dirty c.in-Frame.frame) r now end)
+      notes = subst (λ (r : ReplyWithText). IsServed t (Dirty c.in-Frame.frame) r now end)
           (dirty_done t c.args.path c.in-Frame.frame start now c.args.order served settled.0 settled.1 _ end noted) noted;
     }

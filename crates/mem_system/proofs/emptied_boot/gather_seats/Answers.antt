@@ -1,8 +1,7 @@
 use Rattle.std.proofs.Common.{◌≡◌, ◌<◌, ◌++◌, ◌∷◌, [], ◌∙◌, All, List, length, map, arith, rules, ap, subst, sym, append-nil, append_assoc}
 use Rattle.std.proofs.lemmas.List.{nil_from_length}
 use Rattle.std.proofs.lemmas.List.Elements.{All-head, All-tail}
-use Rattle.boot_words.specs.Cpus.{KnownCpuSeat}
-use Rattle.boot_words.specs.Rule.{AllOf}
+use Rattle.boot_words.specs.{KnownCpuSeat, AllOf}
 use Rattle.cpu_part.specs.Cpus.{IsIdle}
 use Rattle.mem_system.specs.Cpus.{CpuInRun, KnowsItself, seat_of}
 use Rattle.mem_system.proofs.Gathering.{front_of}

@@ -1,7 +1,5 @@
 use Rattle.std.proofs.Common.{◌≡◌, ◌∙◌, List, ap, arith, length, subst, sym}
-use Rattle.mem_system.specs.Cpus.{CpuInRun, parts_of}
-use Rattle.mem_system.specs.Ends.{pins_of_all}
-use Rattle.mem_system.specs.Puts.{EachPuts}
+use Rattle.mem_system.specs.{CpuInRun, parts_of, pins_of_all, EachPuts}
 use Rattle.mem_system.proofs.Closing.{written_back}
 use Rattle.mem_system.proofs.Putting.{puts_and_ends}
 use Rattle.mem_system.proofs.ending.put_and_end.Goals as goal

@@ -4,8 +4,7 @@ use Rattle.group_tree.specs.declared.fault.Fault.{Fault}
 use Rattle.group_charge.specs.Charges.{Ledger}
 use Rattle.control_files.specs.declared.file.File.{File}
 use Rattle.control_files.specs.Files.{file_text}
-use Rattle.mem_system.specs.Files.{IsFileOf, Reads}
-use Rattle.mem_system.specs.Outcomes.{text_reply}
+use Rattle.mem_system.specs.{IsFileOf, Reads, text_reply}
 use Rattle.mem_system.proofs.Found.{found_there}
 use Rattle.mem_system.proofs.files.read_file.Goals as goal
 

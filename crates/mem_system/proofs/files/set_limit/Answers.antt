@@ -1,7 +1,6 @@
 use Rattle.std.proofs.Common.{ap, ◌∙◌}
 use Rattle.group_tree.specs.Groups.{has_group}
-use Rattle.mem_machine.specs.Machines.{KnownMachine}
-use Rattle.mem_machine.specs.Steps.{set_max_steps}
+use Rattle.mem_machine.specs.{KnownMachine, set_max_steps}
 use Rattle.mem_reclaim.proofs.Grown.{held_after}
 use Rattle.mem_system.proofs.Found.{has_group-limited}
 use Rattle.mem_system.proofs.Keeping.{limited_to, limited_none}

@@ -1,6 +1,5 @@
 use Rattle.std.proofs.Common.{[], sym, refl, subst}
-use Rattle.mem_machine.specs.Local.{Makes}
-use Rattle.mem_machine.specs.Steps.{make_steps}
+use Rattle.mem_machine.specs.{Makes, make_steps}
 use Rattle.mem_machine.proofs.Followed.{makes_none}
 use Rattle.mem_system.proofs.groups.make_group.Goals as goal
 

@@ -1,8 +1,7 @@
 use Rattle.std.proofs.Common.{◌<◌, ◌≤◌, length, arith, rules, subst, sym}
 use Rattle.std.proofs.lemmas.List.Elements.{All-map, All-weaker}
 use Rattle.std.specs.Prelude.{take}
-use Rattle.mem_system.specs.Cpus.{CpuInRun}
-use Rattle.mem_system.specs.Ends.{Empties, VisitsUnderLock, IsSettledUnpinned, IsEmptied}
+use Rattle.mem_system.specs.{CpuInRun, Empties, VisitsUnderLock, IsSettledUnpinned, IsEmptied}
 use Rattle.mem_system.proofs.InTurns.{so_far_more, so_far_end, same_at, all_more, all_taken, emptied_still, parts_all}
 use Rattle.mem_system.proofs.last_visits.empty_all.Goals as goal
 

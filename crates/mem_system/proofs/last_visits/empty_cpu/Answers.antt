@@ -1,10 +1,7 @@
 -- Serves the contract of `empty_cpu`: the list is returned whole, and then the stock is drained.
 use Rattle.std.proofs.Common.{sym, ◌∙◌, subst}
 use Rattle.std.specs.Prelude.{ℕ, take}
-use Rattle.mem_machine.specs.Stocks.{Drains, stock_group}
-use Rattle.mem_machine.specs.Local.{Makes}
-use Rattle.mem_machine.specs.Machines.{IsCpuOf}
-use Rattle.mem_machine.specs.Steps.{drain_steps}
+use Rattle.mem_machine.specs.{Drains, stock_group, Makes, IsCpuOf, drain_steps}
 use Rattle.mem_machine.proofs.Moved.{number_range}
 use Rattle.mem_system.proofs.Listing.{cut_off}
 use Rattle.mem_system.proofs.Turns.{EmptyParts, whole_list, taken_alone, emptied_alone, emptied_drained, emptied}

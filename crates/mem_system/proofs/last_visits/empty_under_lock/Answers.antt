@@ -1,8 +1,6 @@
 use Rattle.std.proofs.Common.{◌∙◌, ap, subst, sym}
-use Rattle.mem_machine.specs.Local.{IsShut}
-use Rattle.mem_machine.specs.Machines.{KnownMachine}
-use Rattle.mem_system.specs.Cpus.{CpuInRun, cpu_in_run}
-use Rattle.mem_system.specs.Ends.{Empties, VisitsUnderLock, machine_and_cpu}
+use Rattle.mem_machine.specs.{IsShut, KnownMachine}
+use Rattle.mem_system.specs.{CpuInRun, cpu_in_run, Empties, VisitsUnderLock, machine_and_cpu}
 use Rattle.mem_system.proofs.Locking.{alone_seen, emptied_seen, holds_seen, locked_visit, part_given, part_taken, run_twice, same_holder}
 use Rattle.mem_system.proofs.last_visits.empty_under_lock.Goals as goal
 

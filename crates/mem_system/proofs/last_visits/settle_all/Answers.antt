@@ -1,7 +1,6 @@
 use Rattle.std.proofs.Common.{◌<◌, ◌≤◌, length, rules}
 use Rattle.std.proofs.lemmas.List.Elements.{All-map}
-use Rattle.mem_system.specs.Cpus.{CpuInRun}
-use Rattle.mem_system.specs.Ends.{SettlesInVisit, VisitsUnderLock, IsSettledUnpinned}
+use Rattle.mem_system.specs.{CpuInRun, SettlesInVisit, VisitsUnderLock, IsSettledUnpinned}
 use Rattle.mem_system.proofs.InTurns.{so_far_more, so_far_end, no_pin_at, all_more, all_taken}
 use Rattle.mem_system.proofs.last_visits.settle_all.Goals as goal
 

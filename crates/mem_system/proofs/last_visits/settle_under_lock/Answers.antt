@@ -1,8 +1,6 @@
 use Rattle.std.proofs.Common.{◌∙◌, ap, subst, sym}
-use Rattle.mem_machine.specs.Local.{IsShut}
-use Rattle.mem_machine.specs.Machines.{KnownMachine}
-use Rattle.mem_system.specs.Cpus.{CpuInRun, cpu_in_run}
-use Rattle.mem_system.specs.Ends.{SettlesInVisit, VisitsUnderLock, machine_and_cpu}
+use Rattle.mem_machine.specs.{IsShut, KnownMachine}
+use Rattle.mem_system.specs.{CpuInRun, cpu_in_run, SettlesInVisit, VisitsUnderLock, machine_and_cpu}
 use Rattle.mem_system.proofs.Locking.{holds_seen, locked_visit, same_holder}
 use Rattle.mem_system.proofs.last_visits.settle_under_lock.Goals as goal
 

@@ -1,8 +1,7 @@
 use Rattle.std.proofs.Common.{◌≡◌, ℕ, [], ◌∷◌, ◌++◌, length, ap, refl, ◌∙◌, subst, arith}
 use Rattle.std.proofs.lemmas.List.{length-append}
 use Rattle.cpu_part.specs.Cpus.{KnownCpu}
-use Rattle.mem_machine.specs.Local.{Makes, visit_state}
-use Rattle.mem_machine.specs.Steps.{lend_steps}
+use Rattle.mem_machine.specs.{Makes, visit_state, lend_steps}
 use Rattle.mem_system.proofs.Listing.{cut_off}
 use Rattle.mem_system.proofs.releases.list_frame.Goals as goal
 use Rattle.mem_machine.proofs.Followed.{makes_both}

@@ -30,11 +30,10 @@ returns-in-Left-clause-released g c = search rules
 pub returns-after-is_single-clause-stays : goal.returns-after-is_single-clause-stays
 returns-after-is_single-clause-stays g c =
     let t = g.N.BootName.frames in
-    let before = visit_state c.args.machine.now c.args.cpu.now in
     elim c.if-is_single.branch [
       | then-is_single w ↦
           let last = w.list_frame.ensures.stays in
-          let both : KeepsVisit t before (visit_state w.list_frame.new.machine w.list_frame.new.cpu) =
+          let both : KeepsVisit t c.args.cpu.now w.list_frame.new.machine w.list_frame.new.cpu =
           record { visit = last.visit; number = last.number; back = last.back } in
           rw (w.machine-is, w.cpu-is) both
       | else-is_single w ↦ rw (w.machine-is, w.cpu-is) (keeps_visit t c.args.machine.now c.release.new.self c.args.cpu.now c.in-Returned.ensures.visit)

@@ -1,8 +1,7 @@
 use Rattle.std.proofs.Common.{List, ap, ◌∙◌}
 use Rattle.group_tree.specs.declared.group.Group.{Group}
 use Rattle.group_tree.specs.Groups.{has_group}
-use Rattle.mem_machine.specs.Steps.{drain_stocks_steps}
-use Rattle.mem_machine.specs.Stocks.{of_subtree}
+use Rattle.mem_machine.specs.{drain_stocks_steps, of_subtree}
 use Rattle.mem_reclaim.proofs.Grown.{held_after}
 use Rattle.mem_reclaim.proofs.LettingGo.{drains_leave}
 use Rattle.mem_system.proofs.Keeping.{lowered_by}

@@ -5,14 +5,10 @@ use Rattle.group_tree.specs.Groups.{has_group, number_at}
 use Rattle.group_charge.specs.Charges.{Ledger}
 use Rattle.boot_words.specs.Cpus.{KnownCpuSeat}
 use Rattle.mem_machine.specs.Machines.{KnownMachine}
-use Rattle.mem_system.specs.declared.command.Cmd.TheVariants.{Alloc}
+use Rattle.mem_system.specs.declared.command.LockedCommand.TheVariants.{Alloc}
 use Rattle.mem_system.specs.declared.outcome.Outcome.{Outcome}
-use Rattle.mem_system.specs.declared.command.Reply.{Reply}
-use Rattle.mem_system.specs.Cpus.{CpuInRun, cpu_in_run}
-use Rattle.mem_system.specs.Locked.{KnownLocked}
-use Rattle.mem_system.specs.Allocations.{outcome_of}
-use Rattle.mem_system.specs.Outcomes.{HasItsGroups, reply_of}
-use Rattle.mem_system.specs.Visits.{locked_state, IsServed}
+use Rattle.mem_system.specs.declared.command.ReplyWithText.{ReplyWithText}
+use Rattle.mem_system.specs.{CpuInRun, cpu_in_run, KnownLocked, outcome_of, HasItsGroups, reply_of, locked_state, IsServed}
 use Rattle.mem_system.proofs.Lost.{no_unit_is_lost}
 use Rattle.mem_system.proofs.Visiting.{GoesThrough, counted, forgotten_holds, forgotten_shut, resting_shut, served}
 use Rattle.mem_system.proofs.Staying.{settled_groups}
@@ -140,7 +136,7 @@ returns-clause-served g c path at =
     ap (λ (gs : List Group). number_at gs path.now) (groups_found g (goal.at.returns-clause-served g c).After-settle) ∙ at in
     let executed = frame_allocated t c.locked.inside.sizes path.now c.args.group c.settle.new.self x c.settle.new.cpu d answer
     c.alloc_frame-answer.ensures.allocates found in
-    subst (λ (z : Reply × KnownLocked × CpuInRun). IsServed t (Alloc path 0) z.0 (locked_state z.1 z.2) (locked_state k (cpu_in_run d c.unlock.new.past)))
+    subst (λ (z : ReplyWithText × KnownLocked × CpuInRun). IsServed t (Alloc path 0) z.0 (locked_state z.1 z.2) (locked_state k (cpu_in_run d c.unlock.new.past)))
     (λ i. (sym told i, c.locked.view_is i, c.cpu.view_is i))
     (served t (Alloc path 0) reply l k c.cpu.inside.part c.cpu.inside.past c.alloc_frame-answer.ensures.allocates.steps d c.unlock.new.past
     (visit g (goal.at.returns-clause-served g c).After-unlock) refl executed)

@@ -2,10 +2,7 @@ use Rattle.std.proofs.Common.{◌≡◌, ℕ, ◌+◌, ◌≤◌, List, length, 
 use Rattle.group_charge.specs.Charges.{Ledger}
 use Rattle.boot_words.specs.Cpus.{KnownCpuSeat}
 use Rattle.mem_machine.specs.Machines.{KnownMachine}
-use Rattle.mem_system.specs.Cpus.{CpuInRun, cpu_in_run}
-use Rattle.mem_system.specs.Locked.{KnownLocked}
-use Rattle.mem_system.specs.Outcomes.{HasItsGroups, reply_of}
-use Rattle.mem_system.specs.Visits.{locked_state, IsServed}
+use Rattle.mem_system.specs.{CpuInRun, cpu_in_run, KnownLocked, HasItsGroups, reply_of, locked_state, IsServed}
 use Rattle.mem_system.proofs.Lost.{no_unit_is_lost}
 use Rattle.mem_system.proofs.Visiting.{GoesThrough, counted, forgotten_holds, forgotten_shut, resting_shut, served}
 use Rattle.mem_system.proofs.visits.serve_outcome.Given as given

@@ -1,7 +1,6 @@
 use Rattle.std.proofs.Common.{arith, subst}
 use Rattle.std.proofs.lemmas.Grind.{common_steps}
-use Rattle.script_lines.specs.Script.{IsCut, IsNamed}
-use Rattle.script_lines.specs.Verb.{its_verb, name_of_verb}
+use Rattle.script_lines.specs.{IsCut, IsNamed, its_verb, name_of_verb}
 use Rattle.script_lines.proofs.Readings.{begins, from_arguments, on_none}
 use Rattle.script_lines.proofs.script.parse_command.Goals as goal
 

@@ -3,8 +3,7 @@ use Rattle.script_lines.proofs.Cuts.{cut_slice, digits_no_space}
 use Rattle.script_lines.proofs.Fronts.{front_rest}
 use Rattle.script_lines.proofs.Readings.{on_none, request_parts}
 use Rattle.script_lines.proofs.script.parse_request.Goals as goal
-use Rattle.script_lines.proofs.script.parse_request.Goals.{then-cpu-lt1-via-then-cpu-lt1}
-use Rattle.script_lines.proofs.script.parse_request.Goals.{then-cpu-lt1-via-else-cpu-lt1+then-sizes-cpu}
+use Rattle.script_lines.proofs.script.parse_request.Goals.{then-cpu-lt1-via-then-cpu-lt1, then-cpu-lt1-via-else-cpu-lt1+then-sizes-cpu}
 
 pub returns-in_err-cpu : goal.returns-in_err-cpu
 returns-in_err-cpu c = on_none _ _ _ c.from_residual.ensures (λ cpu command is.

@@ -1,7 +1,5 @@
 use Rattle.std.proofs.Common.{rules, ◌≡◌, ◌+◌, ◌-◌, None, Some, length, take, drop, arith, subst, sym, ap, ◌∙◌}
-use Rattle.script_lines.specs.Names.{code_of}
-use Rattle.script_lines.specs.Script.{IsCut}
-use Rattle.script_lines.specs.Verb.{verb_coded}
+use Rattle.script_lines.specs.{code_of, IsCut, verb_coded}
 use Rattle.script_lines.proofs.Readings.{on_none}
 use Rattle.script_lines.proofs.Verbs.{named, verb_coded-name_of}
 use Rattle.script_lines.proofs.Words.{word_alone, word_bytes, word_cut, word_is}

@@ -4,8 +4,7 @@ use Rattle.std.proofs.lemmas.List.Elements.{All-more}
 use Rattle.script_lines.specs.Verb.{all_verbs}
 use Rattle.script_lines.specs.declared.verb.Verb.{Verb}
 use Rattle.script_lines.specs.declared.verb.Verb.TheVariants.{Mkdir}
-use Rattle.script_lint.specs.Ends.{IsNamedBy}
-use Rattle.script_lint.specs.Lines.{IsGoodText}
+use Rattle.script_lint.specs.{IsNamedBy, IsGoodText}
 use Rattle.script_lint.proofs.beginning.has_name.Goals as goal
 
 pub loop-verb-preserved : goal.loop-verb-preserved

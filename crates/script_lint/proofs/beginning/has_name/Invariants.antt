@@ -1,7 +1,6 @@
 use Rattle.std.proofs.Common.{All, take}
 use Rattle.script_lines.specs.Verb.{all_verbs}
-use Rattle.script_lint.specs.Ends.{IsNamedBy}
-use Rattle.script_lint.specs.Lines.{IsGoodText}
+use Rattle.script_lint.specs.{IsNamedBy, IsGoodText}
 use Rattle.script_lint.proofs.beginning.has_name.Given as goal
 
 -- the names so far don't make a good line

@@ -1,6 +1,4 @@
-use Rattle.script_lint.specs.Doubts.{IsDoubtful}
-use Rattle.script_lint.specs.Pasts.{IsMissing}
-use Rattle.script_lint.specs.Refusals.{IsRefused, IsRefusedAfter}
+use Rattle.script_lint.specs.{IsDoubtful, IsMissing, IsRefused, IsRefusedAfter}
 use Rattle.script_lint.proofs.Judging.{judged_else, judged_or}
 use Rattle.script_lint.proofs.refused.why_named.Goals as goal
 

@@ -1,7 +1,5 @@
 use Rattle.std.proofs.Common.{◌++◌, codes}
-use Rattle.script_lint.specs.Causes.{verb_of}
-use Rattle.script_lint.specs.Forms.{form_text_of}
-use Rattle.script_lint.specs.Texts.{shown_word_text}
+use Rattle.script_lint.specs.{verb_of, form_text_of, shown_word_text}
 use Rattle.script_lint.proofs.Pieces.{follow}
 use Rattle.script_lint.proofs.text.write_number.Goals as goal
 

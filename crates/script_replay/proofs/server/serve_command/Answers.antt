@@ -1,10 +1,7 @@
 use Rattle.std.proofs.Common.{◌≡◌, Some, rules, subst, sym}
 use Rattle.mem_system.specs.Visits.{locked_state}
 use Rattle.script_lines.specs.declared.line.Command.{Command}
-use Rattle.script_replay.specs.Answers.{ServesAnswer}
-use Rattle.script_replay.specs.Commands.{frame_path}
-use Rattle.script_replay.specs.Terms.{terms}
-use Rattle.script_replay.specs.ValueAnswers.{answer_of}
+use Rattle.script_replay.specs.{ServesAnswer, frame_path, terms, answer_of}
 use Rattle.script_replay.proofs.Serving.{frame_is}
 use Rattle.script_replay.proofs.server.serve_command.Goals as goal
 

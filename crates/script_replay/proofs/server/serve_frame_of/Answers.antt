@@ -1,13 +1,10 @@
 use Rattle.std.proofs.Common.{◌∙◌, ℕ, ap, refl}
 use Rattle.cpu_part.specs.declared.answers.Fast.TheVariants.{Got}
 use Rattle.group_tree.specs.Groups.{number_at}
-use Rattle.mem_system.specs.Locked.{KnownLocked}
-use Rattle.mem_system.specs.Visits.{locked_state}
+use Rattle.mem_system.specs.{KnownLocked, locked_state}
 use Rattle.reply_texts.specs.declared.steps.UnlockedAnswer.TheVariants as unlocked
 use Rattle.script_lines.specs.declared.line.Command.TheVariants.{Alloc, Fast}
-use Rattle.script_replay.specs.Answers.{OnlyWatched, steps_alone}
-use Rattle.script_replay.specs.Terms.{terms}
-use Rattle.script_replay.specs.ValueAnswers.{answer_of}
+use Rattle.script_replay.specs.{OnlyWatched, steps_alone, terms, answer_of}
 use Rattle.script_replay.proofs.Gaining.{watched_gains}
 use Rattle.script_replay.proofs.Serving.{lock_served, none_got, then_watched}
 use Rattle.script_replay.proofs.server.serve_frame_of.Goals as goal

@@ -1,8 +1,6 @@
 use Rattle.std.proofs.Common.{[], rules}
 use Rattle.mem_system.specs.Visits.{locked_state}
-use Rattle.script_replay.specs.Answers.{AnswersAlone, Gains, NeedsLock, steps_alone}
-use Rattle.script_replay.specs.Terms.{terms}
-use Rattle.script_replay.specs.ValueAnswers.{answer_of}
+use Rattle.script_replay.specs.{AnswersAlone, Gains, NeedsLock, steps_alone, terms, answer_of}
 use Rattle.script_replay.proofs.Serving.{lock_served, only_settles, unlocked_served, untried, vain_is}
 use Rattle.script_replay.proofs.server.serve_other.Goals as goal
 

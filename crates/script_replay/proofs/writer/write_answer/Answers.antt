@@ -1,9 +1,6 @@
 use Rattle.std.proofs.Common.{◌&&◌, ◌++◌}
 use Rattle.mem_system.specs.Visits.{locked_state}
-use Rattle.script_replay.specs.Answers.{explanation_if, is_noted}
-use Rattle.script_replay.specs.Commands.{head_named, path_removed}
-use Rattle.script_replay.specs.Reasons.{borrower_of, reasoned_text}
-use Rattle.script_replay.specs.ValueAnswers.{answer_of}
+use Rattle.script_replay.specs.{explanation_if, is_noted, head_named, path_removed, borrower_of, reasoned_text, answer_of}
 use Rattle.script_replay.proofs.Serving.{value_text}
 use Rattle.script_replay.proofs.writer.write_answer.Goals as goal
 

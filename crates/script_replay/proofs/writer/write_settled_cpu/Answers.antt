@@ -1,7 +1,5 @@
 use Rattle.std.proofs.Common.{refl, rules}
-use Rattle.machine_texts.specs.Blocks.{blocks_text}
-use Rattle.machine_texts.specs.Show.{show_text}
-use Rattle.machine_texts.specs.Stock.{stock_line_text}
+use Rattle.machine_texts.specs.{blocks_text, show_text, stock_line_text}
 use Rattle.mem_system.specs.Visits.{locked_state}
 use Rattle.reply_texts.specs.Answers.{answer_text}
 use Rattle.reply_texts.specs.LineAnswer as answer

@@ -2,10 +2,7 @@ use Rattle.std.proofs.Common.{◌≡◌, ◌&&◌, ◌++◌, ◌∙◌, ap, Bool
 use Rattle.std.specs.String.{string_bytes}
 use Rattle.group_charge.specs.Charges.{Ledger}
 use Rattle.reply_texts.specs.Answers.{answer_text}
-use Rattle.script_replay.specs.Answers.{explanation_if, is_noted}
-use Rattle.script_replay.specs.Commands.{head_named, path_removed}
-use Rattle.script_replay.specs.Reasons.{borrower_of, reasoned_text}
-use Rattle.script_replay.specs.ValueAnswers.{answer_of}
+use Rattle.script_replay.specs.{explanation_if, is_noted, head_named, path_removed, borrower_of, reasoned_text, answer_of}
 use Rattle.script_replay.proofs.Serving.{plainly, with_both}
 use Rattle.script_replay.proofs.writer.write_value.Goals as goal
 

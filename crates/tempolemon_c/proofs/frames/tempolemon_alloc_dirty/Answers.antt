@@ -1,7 +1,6 @@
 use Rattle.std.proofs.Common.{ℕ, refl, subst, inr}
 use Rattle.tempolemon_c.specs.declared.calls.Call.TheVariants.{Alloc}
-use Rattle.tempolemon_c.specs.Behind.{behind}
-use Rattle.tempolemon_c.specs.Calls.{CallsBehind}
+use Rattle.tempolemon_c.specs.{behind, CallsBehind}
 use Rattle.tempolemon_c.proofs.frames.tempolemon_alloc_dirty.Goals as goal
 
 pub returns-then-status-eq-DONE : goal.returns-then-status-eq-DONE

@@ -4,8 +4,7 @@ use Rattle.frame_word.specs.declared.answers.Get.{Get}
 use Rattle.frame_word.specs.declared.answers.Get.TheVariants.{Held}
 use Rattle.step_rules.specs.State.{times}
 use Rattle.step_rules.proofs.Lists.{times_last, times_same}
-use Rattle.cpu_part.specs.Cpus.{KnownCpu}
-use Rattle.cpu_part.specs.Calls.{PinAnswers}
+use Rattle.cpu_part.specs.{KnownCpu, PinAnswers}
 use Rattle.bench.proofs.references.PinsSubject.call.Goals as goal
 
 held_is_pinned : (f : ℕ) (got : Get) (c d : KnownCpu) → got ≡ Held → PinAnswers f got c d → 1 ≤ times f d.pins

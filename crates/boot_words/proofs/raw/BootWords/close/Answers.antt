@@ -1,6 +1,5 @@
 use Rattle.std.proofs.Common.{◌++◌, ◌∙◌, ap, subst}
-use Rattle.boot_words.specs.Seats.{zone_of_boot}
-use Rattle.boot_words.specs.Closed.{IsClosedRun, pasts_of_cpus}
+use Rattle.boot_words.specs.{zone_of_boot, IsClosedRun, pasts_of_cpus}
 use Rattle.boot_words.proofs.Closing.{closed_run}
 use Rattle.boot_words.proofs.raw.BootWords.close.Goals as goal
 

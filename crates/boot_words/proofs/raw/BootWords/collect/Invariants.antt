@@ -1,5 +1,4 @@
-use Rattle.boot_words.specs.Seats.{zone_of_boot, frame_of_word}
-use Rattle.boot_words.specs.Pasts.{cpu_past, own_past}
+use Rattle.boot_words.specs.{zone_of_boot, frame_of_word, cpu_past, own_past}
 use Rattle.boot_words.proofs.Visiting.{collects_told}
 use Rattle.boot_words.proofs.raw.BootWords.collect.Given as goal
 

@@ -1,7 +1,6 @@
 use Rattle.std.proofs.Common.{◌≡◌, ◌+◌, ◌-◌, sym, ap, subst, arith}
 use Rattle.step_rules.specs.declared.step.Action.TheVariants.{Consume}
-use Rattle.boot_words.specs.Pasts.{KnownPasts, MayDo}
-use Rattle.boot_words.specs.Cpus.{IsAwayCpu}
+use Rattle.boot_words.specs.{KnownPasts, MayDo, IsAwayCpu}
 use Rattle.boot_words.proofs.Prepaying.{consumes}
 use Rattle.boot_words.proofs.raw.BootWords.consume.Goals as goal
 

@@ -1,12 +1,9 @@
-use Rattle.std.proofs.Common.{◌+◌, refl, sym, ap, subst}
+use Rattle.std.proofs.Common.{◌+◌, refl, sym, ap, subst, ◌∙◌}
 use Rattle.step_rules.specs.declared.step.Action.TheVariants.{Credit}
-use Rattle.boot_words.specs.Pasts.{KnownPasts, MayDo, own_past}
-use Rattle.boot_words.specs.Cpus.{IsAwayCpu}
-use Rattle.std.proofs.Common.{◌∙◌}
+use Rattle.boot_words.specs.{KnownPasts, MayDo, own_past, IsAwayCpu, zone_of_boot}
 use Rattle.stock_word.specs.declared.view.Stock.TheVariants.{DrainedOf, HeldBy}
 use Rattle.stock_word.specs.Stock.{word_of}
 use Rattle.step_rules.specs.declared.step.Answer.TheVariants.{Stocked}
-use Rattle.boot_words.specs.Seats.{zone_of_boot}
 use Rattle.boot_words.proofs.Groupless.{no_credit}
 use Rattle.boot_words.proofs.Prepaying.{TellsPage, credits, exchanged_page}
 use Rattle.boot_words.proofs.raw.BootWords.credit.Goals as goal

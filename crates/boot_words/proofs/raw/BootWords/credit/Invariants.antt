@@ -1,8 +1,7 @@
 use Rattle.stock_word.specs.declared.view.Stock.TheVariants.{DrainedOf, HeldBy}
 use Rattle.step_rules.specs.declared.step.Action.TheVariants.{Credit}
 use Rattle.step_rules.specs.declared.step.Answer.TheVariants.{Stocked}
-use Rattle.boot_words.specs.Seats.{zone_of_boot}
-use Rattle.boot_words.specs.Pasts.{own_past}
+use Rattle.boot_words.specs.{zone_of_boot, own_past}
 use Rattle.boot_words.proofs.Prepaying.{TellsPage}
 use Rattle.boot_words.proofs.raw.BootWords.credit.Given as goal
 

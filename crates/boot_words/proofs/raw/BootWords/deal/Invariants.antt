@@ -1,6 +1,5 @@
 use Rattle.std.proofs.Common.{◌≡◌, ◌≤◌, ◌+◌, ◌-◌, ◌++◌, vec_capacity, vec_len}
-use Rattle.boot_words.specs.Opening.{cpus_at_first}
-use Rattle.boot_words.specs.Seats.{cpus_pasts}
+use Rattle.boot_words.specs.{cpus_at_first, cpus_pasts}
 use Rattle.boot_words.proofs.raw.BootWords.deal.Given as goal
 
 abbrev pub invariant-loop-cpu : goal.invariant-loop-cpu

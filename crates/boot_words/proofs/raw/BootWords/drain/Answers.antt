@@ -1,8 +1,7 @@
 use Rattle.std.proofs.Common.{sym, ◌∙◌, subst}
 use Rattle.stock_word.specs.declared.view.Stock.TheVariants.{DrainedOf}
 use Rattle.stock_word.specs.Stock.{word_of}
-use Rattle.boot_words.specs.Pasts.{KnownPasts, cpu_past, own_past}
-use Rattle.boot_words.specs.Seats.{zone_of_boot, MayChange}
+use Rattle.boot_words.specs.{KnownPasts, cpu_past, own_past, zone_of_boot, MayChange}
 use Rattle.boot_words.specs.declared.word.Word.TheVariants.{StockOf}
 use Rattle.boot_words.proofs.Drains.{Drains, cpu_of_drain, drained_none, drained_some, drains, looked_on, looks_to_drain}
 use Rattle.boot_words.proofs.raw.BootWords.drain.Goals as goal

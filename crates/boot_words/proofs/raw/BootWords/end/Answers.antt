@@ -2,8 +2,7 @@ use Rattle.std.proofs.Common.{◌≡◌, ◌∙◌, ap, subst, List}
 use Rattle.std.specs.Slots.{slots_items}
 use Rattle.step_rules.specs.State.{Zone}
 use Rattle.boot_words.specs.declared.past.Past.{Past}
-use Rattle.boot_words.specs.Seats.{zone_of_boot}
-use Rattle.boot_words.specs.Closed.{IsEndOfRun}
+use Rattle.boot_words.specs.{zone_of_boot, IsEndOfRun}
 use Rattle.boot_words.proofs.Closing.{end_of_run}
 use Rattle.boot_words.proofs.raw.BootWords.end.Goals as goal
 

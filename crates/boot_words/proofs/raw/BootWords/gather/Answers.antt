@@ -1,7 +1,6 @@
 use Rattle.std.proofs.Common.{◌≡◌, [], ◌∷◌, ◌++◌, length, List, sym, ap, ◌∙◌, subst, append_assoc, append-nil, arith, refl}
 use Rattle.std.specs.Vec.Iter.{into_iter_items}
-use Rattle.boot_words.specs.Rule.{AllOf}
-use Rattle.boot_words.specs.Closed.{HasCpuPast, pasts_of_cpus}
+use Rattle.boot_words.specs.{AllOf, HasCpuPast, pasts_of_cpus}
 use Rattle.boot_words.proofs.raw.BootWords.gather.Goals as goal
 
 pub join-requires : goal.join-requires

@@ -1,7 +1,6 @@
 use Rattle.std.proofs.Common.{◌≡◌, ◌++◌, length}
 use Rattle.std.specs.Vec.Iter.{into_iter_items, into_iter_len}
-use Rattle.boot_words.specs.Rule.{AllOf}
-use Rattle.boot_words.specs.Closed.{HasCpuPast, pasts_of_cpus}
+use Rattle.boot_words.specs.{AllOf, HasCpuPast, pasts_of_cpus}
 use Rattle.boot_words.proofs.raw.BootWords.gather.Given as goal
 
 abbrev pub invariant-loop-cpu : goal.invariant-loop-cpu

@@ -1,10 +1,7 @@
 use Rattle.std.proofs.Common.{◌≡◌, false, refl, ap, sym, subst}
-use Rattle.step_rules.specs.After.{state_of}
-use Rattle.step_rules.specs.Views.{holds_lock}
+use Rattle.step_rules.specs.{state_of, holds_lock}
 use Rattle.step_rules.specs.declared.step.Action.TheVariants.{Get}
-use Rattle.boot_words.specs.Pasts.{KnownPasts, MayDo, own_past}
-use Rattle.boot_words.specs.Seats.{zone_of_boot}
-use Rattle.boot_words.specs.Cpus.{IsAwayCpu}
+use Rattle.boot_words.specs.{KnownPasts, MayDo, own_past, zone_of_boot, IsAwayCpu}
 use Rattle.boot_words.proofs.Keeping.{keeps_gets}
 use Rattle.boot_words.proofs.raw.BootWords.get.Goals as goal
 

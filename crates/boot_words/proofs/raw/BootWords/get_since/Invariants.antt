@@ -1,5 +1,4 @@
-use Rattle.boot_words.specs.Seats.{zone_of_boot, frame_of_word}
-use Rattle.boot_words.specs.Pasts.{own_past}
+use Rattle.boot_words.specs.{zone_of_boot, frame_of_word, own_past}
 use Rattle.boot_words.proofs.Referring.{Adds, Sees}
 use Rattle.boot_words.proofs.raw.BootWords.get_since.Given as goal
 

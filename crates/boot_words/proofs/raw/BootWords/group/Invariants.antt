@@ -1,5 +1,4 @@
-use Rattle.boot_words.specs.Seats.{zone_of_boot, cpu_of_word}
-use Rattle.boot_words.specs.Pasts.{cpu_past, own_past}
+use Rattle.boot_words.specs.{zone_of_boot, cpu_of_word, cpu_past, own_past}
 use Rattle.boot_words.proofs.Looking.{SeesGroup}
 use Rattle.boot_words.proofs.raw.BootWords.group.Given as goal
 

@@ -1,5 +1,4 @@
-use Rattle.boot_words.specs.Seats.{zone_of_boot}
-use Rattle.boot_words.specs.Pasts.{cpu_past, own_past}
+use Rattle.boot_words.specs.{zone_of_boot, cpu_past, own_past}
 use Rattle.boot_words.proofs.Looking.{SeesStock}
 use Rattle.boot_words.proofs.raw.BootWords.look.Given as goal
 

@@ -1,6 +1,5 @@
 use Rattle.std.proofs.Common.{◌++◌, ap, sym, ◌∙◌, subst}
-use Rattle.boot_words.specs.Pasts.{KnownPasts}
-use Rattle.boot_words.specs.Cpus.{IsAwayCpu}
+use Rattle.boot_words.specs.{KnownPasts, IsAwayCpu}
 use Rattle.boot_words.proofs.SeenSame.{meet_knows, meets}
 use Rattle.boot_words.proofs.raw.BootWords.meet.Goals as goal
 

@@ -1,6 +1,5 @@
 use Rattle.std.proofs.Common.{◌+◌, ◌≤◌, sym, subst, arith}
-use Rattle.boot_words.specs.Rule.{AllOf}
-use Rattle.boot_words.specs.Cpus.{IsAwayCpu}
+use Rattle.boot_words.specs.{AllOf, IsAwayCpu}
 use Rattle.boot_words.proofs.SeenSame.{firsts_away}
 use Rattle.boot_words.proofs.raw.BootWords.new.Goals as goal
 

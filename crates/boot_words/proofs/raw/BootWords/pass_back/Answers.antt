@@ -1,7 +1,6 @@
 use Rattle.std.proofs.Common.{sym, subst}
 use Rattle.frame_word.specs.ReferenceRule.{mark}
-use Rattle.boot_words.specs.Pasts.{cpu_past, own_past}
-use Rattle.boot_words.specs.Seats.{zone_of_boot, MayChange}
+use Rattle.boot_words.specs.{cpu_past, own_past, zone_of_boot, MayChange}
 use Rattle.boot_words.specs.declared.word.Word.TheVariants.{OfFrame}
 use Rattle.boot_words.proofs.Visiting.{frame_of_pass_back, passed_back_made, passes_back_held, passes_told}
 use Rattle.boot_words.proofs.raw.BootWords.pass_back.Goals as goal

@@ -1,6 +1,5 @@
 use Rattle.std.proofs.Common.{sym, subst}
-use Rattle.boot_words.specs.Pasts.{put_said}
-use Rattle.boot_words.specs.Cpus.{IsAwayCpu}
+use Rattle.boot_words.specs.{put_said, IsAwayCpu}
 use Rattle.boot_words.proofs.Keeping.{keeps_put}
 use Rattle.boot_words.proofs.raw.BootWords.put.Goals as goal
 

@@ -1,5 +1,4 @@
-use Rattle.boot_words.specs.Seats.{zone_of_boot}
-use Rattle.boot_words.specs.Pasts.{cpu_past, own_past}
+use Rattle.boot_words.specs.{zone_of_boot, cpu_past, own_past}
 use Rattle.boot_words.proofs.Drains.{PutsHeld}
 use Rattle.boot_words.proofs.raw.BootWords.put_held.Given as goal
 

@@ -1,8 +1,7 @@
 use Rattle.std.proofs.Common.{◌-◌, subst}
 use Rattle.step_rules.specs.declared.step.Action.TheVariants.{Put}
 use Rattle.step_rules.specs.declared.step.Answer.TheVariants.{Last, Left}
-use Rattle.boot_words.specs.Pasts.{own_past}
-use Rattle.boot_words.specs.Seats.{zone_of_boot}
+use Rattle.boot_words.specs.{own_past, zone_of_boot}
 use Rattle.boot_words.proofs.Fast.{Made}
 use Rattle.boot_words.proofs.Referring.{says_last, says_left}
 use Rattle.boot_words.proofs.Calling.{frame_of_put, made, puts}

@@ -1,5 +1,4 @@
-use Rattle.boot_words.specs.Seats.{zone_of_boot, frame_of_word}
-use Rattle.boot_words.specs.Pasts.{own_past}
+use Rattle.boot_words.specs.{zone_of_boot, frame_of_word, own_past}
 use Rattle.boot_words.proofs.Referring.{Puts}
 use Rattle.boot_words.proofs.raw.BootWords.put_one.Given as goal
 

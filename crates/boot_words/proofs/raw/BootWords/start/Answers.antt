@@ -1,6 +1,5 @@
 use Rattle.std.proofs.Common.{◌∙◌, sym, subst, List, ℕ, ◌∷◌, []}
-use Rattle.boot_words.specs.Rule.{RunRule}
-use Rattle.boot_words.specs.Seats.{all_pasts}
+use Rattle.boot_words.specs.{RunRule, all_pasts}
 use Rattle.boot_words.proofs.Beginning.{rule_opens}
 use Rattle.boot_words.proofs.raw.BootWords.start.Goals as goal
 

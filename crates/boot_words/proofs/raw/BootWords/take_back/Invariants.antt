@@ -1,6 +1,4 @@
-use Rattle.boot_words.specs.Composed.{take_back_run}
-use Rattle.boot_words.specs.Seats.{zone_of_boot}
-use Rattle.boot_words.specs.Pasts.{cpu_past, own_past}
+use Rattle.boot_words.specs.{take_back_run, zone_of_boot, cpu_past, own_past}
 use Rattle.boot_words.proofs.InTurn.{MadeInTurn}
 use Rattle.boot_words.proofs.raw.BootWords.take_back.Given as goal
 

@@ -2,8 +2,7 @@ use Rattle.std.proofs.Common.{◌<◌, length, set, sym, ap, ◌∙◌, subst, a
 use Rattle.std.proofs.lemmas.List.{length-set}
 use Rattle.group_tree.specs.Groups.{with_group}
 use Rattle.group_tree.proofs.GroupLemmas.{can_make}
-use Rattle.group_charge.specs.Charges.{SamePages, empty_account, with_new_group}
-use Rattle.group_charge.specs.Kept.{ledger_of}
+use Rattle.group_charge.specs.{SamePages, empty_account, with_new_group, ledger_of}
 use Rattle.group_charge.proofs.ChargeLemmas.{AreCharges-new, same_ledger}
 use Rattle.group_charge.proofs.KeptLemmas.{kept_new}
 use Rattle.group_charge.proofs.ReaderLemmas.{new_pages}

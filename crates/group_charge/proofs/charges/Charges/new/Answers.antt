@@ -1,7 +1,6 @@
 use Rattle.std.proofs.Common.{replicate, ap, ◌∙◌}
 use Rattle.std.proofs.lemmas.List.{length-replicate}
-use Rattle.group_charge.specs.Charges.{empty_account, initial_ledger}
-use Rattle.group_charge.specs.Kept.{ledger_of}
+use Rattle.group_charge.specs.{empty_account, initial_ledger, ledger_of}
 use Rattle.group_charge.proofs.ChargeLemmas.{AreCharges-initial}
 use Rattle.group_charge.proofs.StoredLemmas.{kept_as, stored_initial}
 use Rattle.group_charge.proofs.charges.Charges.new.Goals as goal

@@ -1,9 +1,7 @@
 use Rattle.std.proofs.Common.{IsTrue, length, sym, ap, ◌∙◌, subst, arith}
 use Rattle.std.proofs.lemmas.List.{length-set}
-use Rattle.group_tree.specs.Events.{with_one_more}
-use Rattle.group_tree.specs.Groups.{has_group}
-use Rattle.group_charge.specs.Charges.{AreCharges, CountsEvent, Ledger, SamePages, SamePeaks, SameUsage, with_noted}
-use Rattle.group_charge.specs.Kept.{account_by, accounts_of, ledger_of}
+use Rattle.group_tree.specs.{with_one_more, has_group}
+use Rattle.group_charge.specs.{AreCharges, CountsEvent, Ledger, SamePages, SamePeaks, SameUsage, with_noted, account_by, accounts_of, ledger_of}
 use Rattle.group_charge.proofs.ChargeLemmas.{AreCharges-noted, same_ledger}
 use Rattle.group_charge.proofs.KeptLemmas.{kept_noted, number_below}
 use Rattle.group_charge.proofs.ReaderLemmas.{note_counts, note_pages, note_peaks}

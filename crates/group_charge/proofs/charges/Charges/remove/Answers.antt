@@ -1,7 +1,6 @@
 use Rattle.std.proofs.Common.{◌≡◌, IsTrue, false, set, sym, ap, ◌∙◌, subst}
 use Rattle.group_tree.specs.Groups.{has_child, has_group, without_group}
-use Rattle.group_charge.specs.Charges.{Ledger, SamePages, current_of, with_group_removed}
-use Rattle.group_charge.specs.Kept.{ledger_of}
+use Rattle.group_charge.specs.{Ledger, SamePages, current_of, with_group_removed, ledger_of}
 use Rattle.group_charge.proofs.ChargeLemmas.{AreCharges-removed, same_ledger}
 use Rattle.group_charge.proofs.KeptLemmas.{kept_removed}
 use Rattle.group_charge.proofs.ReaderLemmas.{removed_pages}

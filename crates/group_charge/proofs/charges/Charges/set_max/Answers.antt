@@ -1,8 +1,7 @@
 use Rattle.std.proofs.Common.{sym, ap, ◌∙◌, subst}
 use Rattle.group_tree.specs.Groups.{has_group}
 use Rattle.group_tree.proofs.CallerLemmas.{has_group-limited}
-use Rattle.group_charge.specs.Charges.{Ledger, SamePages, with_group_limit}
-use Rattle.group_charge.specs.Kept.{ledger_of}
+use Rattle.group_charge.specs.{Ledger, SamePages, with_group_limit, ledger_of}
 use Rattle.group_charge.proofs.ChargeLemmas.{AreCharges-limited, same_ledger}
 use Rattle.group_charge.proofs.KeptLemmas.{kept_limited}
 use Rattle.group_charge.proofs.ReaderLemmas.{limit_pages}

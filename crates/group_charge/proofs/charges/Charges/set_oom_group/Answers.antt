@@ -1,8 +1,7 @@
 use Rattle.std.proofs.Common.{sym, ap, ◌∙◌, subst}
 use Rattle.group_tree.specs.Groups.{has_group}
 use Rattle.group_tree.proofs.CallerLemmas.{has_group-flagged}
-use Rattle.group_charge.specs.Charges.{Ledger, SamePages, with_oom_flag}
-use Rattle.group_charge.specs.Kept.{ledger_of}
+use Rattle.group_charge.specs.{Ledger, SamePages, with_oom_flag, ledger_of}
 use Rattle.group_charge.proofs.ChargeLemmas.{AreCharges-flagged, same_ledger}
 use Rattle.group_charge.proofs.KeptLemmas.{kept_flagged}
 use Rattle.group_charge.proofs.ReaderLemmas.{flag_pages}

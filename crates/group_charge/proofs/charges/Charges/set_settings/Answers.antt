@@ -1,6 +1,5 @@
 use Rattle.std.proofs.Common.{ap, ◌∙◌}
-use Rattle.group_charge.specs.Charges.{with_settings}
-use Rattle.group_charge.specs.Kept.{ledger_of}
+use Rattle.group_charge.specs.{with_settings, ledger_of}
 use Rattle.group_charge.proofs.charges.Charges.set_settings.Goals as goal
 
 pub returns : goal.returns

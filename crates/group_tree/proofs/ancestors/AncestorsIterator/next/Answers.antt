@@ -1,6 +1,5 @@
 use Rattle.std.proofs.Common.{IsTrue, ◌∷◌, length, sym, ap, ◌∙◌, subst, rules}
-use Rattle.group_tree.specs.Groups.{has_group}
-use Rattle.group_tree.specs.Ancestors.{ancestors_from, is_there}
+use Rattle.group_tree.specs.{has_group, ancestors_from, is_there}
 use Rattle.group_tree.proofs.AncestorLemmas.{ancestors_of-step, parent-is_there}
 use Rattle.group_tree.proofs.ancestors.AncestorsIterator.next.Goals as goal
 

@@ -1,5 +1,4 @@
-use Rattle.std.proofs.Common.{◌≤◌, ◌+◌, length, arith, sym, ◌∙◌}
-use Rattle.std.proofs.Common.{below_more}
+use Rattle.std.proofs.Common.{◌≤◌, ◌+◌, length, arith, sym, ◌∙◌, below_more}
 use Rattle.group_tree.proofs.GroupLemmas.{length-full}
 use Rattle.group_tree.proofs.tree.Tree.least_free.Goals as goal
 

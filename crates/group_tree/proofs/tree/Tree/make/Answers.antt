@@ -1,8 +1,6 @@
 use Rattle.std.proofs.Common.{◌≡◌, ◌∷◌, [], sym, ap, ◌∙◌, subst, rules, true, None, is_some, set, IsTrue}
 use Rattle.std.proofs.lemmas.Slice.{pushed}
-use Rattle.group_tree.specs.Path.{depth_of}
-use Rattle.group_tree.specs.Groups.{AreGroups, has_group, new_row, number_at, with_group}
-use Rattle.group_tree.specs.Slots.{AreSlots}
+use Rattle.group_tree.specs.{depth_of, AreGroups, has_group, new_row, number_at, with_group, AreSlots}
 use Rattle.group_tree.proofs.SlotLemmas.{AreSlots-with}
 use Rattle.group_tree.proofs.GroupLemmas.{AreGroups-with, can_make}
 use Rattle.group_tree.proofs.CallerLemmas.{has_group-with_kept, has_group-with_new}

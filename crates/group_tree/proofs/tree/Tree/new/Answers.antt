@@ -1,8 +1,7 @@
 use Rattle.std.proofs.Common.{◌≡◌, ◌∷◌, [], sym, ap, ◌∙◌, subst, rules, true, get_or, set, replicate}
 use Rattle.std.proofs.lemmas.Slice.{pushed}
-use Rattle.group_tree.specs.Groups.{AreGroups, initial_groups}
+use Rattle.group_tree.specs.{AreGroups, initial_groups, AreSlots}
 use Rattle.group_tree.proofs.GroupLemmas.{AreGroups-initial}
-use Rattle.group_tree.specs.Slots.{AreSlots}
 use Rattle.group_tree.proofs.SlotLemmas.{AreSlots-initial}
 use Rattle.group_tree.proofs.tree.Tree.new.Goals as goal
 

@@ -1,7 +1,6 @@
 use Rattle.std.proofs.Common.{Some, sym, ap, ◌∙◌, subst}
 use Rattle.std.proofs.lemmas.Bool.{true≢false}
-use Rattle.group_tree.specs.Groups.{AreGroups}
-use Rattle.group_tree.specs.Slots.{AreSlots}
+use Rattle.group_tree.specs.{AreGroups, AreSlots}
 use Rattle.group_tree.proofs.GroupLemmas.{parent_of-root}
 use Rattle.group_tree.proofs.SlotLemmas.{parent-slot, slot_read}
 use Rattle.group_tree.proofs.tree.Tree.parent.Goals as goal

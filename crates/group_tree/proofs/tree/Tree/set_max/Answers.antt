@@ -1,8 +1,7 @@
 use Rattle.std.proofs.Common.{◌≡◌, ◌++◌, take, drop, length, sym, ap, ◌∙◌, subst, rules, ◌<◌, arith, set, get_or}
-use Rattle.group_tree.specs.Groups.{AreGroups, with_limit}
+use Rattle.group_tree.specs.{AreGroups, with_limit, AreSlots, free_slot}
 use Rattle.group_tree.proofs.GroupLemmas.{AreGroups-limited, length-limited, take_new}
 use Rattle.std.proofs.lemmas.List.{get_or_default}
-use Rattle.group_tree.specs.Slots.{AreSlots, free_slot}
 use Rattle.group_tree.proofs.SlotLemmas.{AreSlots-limited, limit_set}
 use Rattle.group_tree.proofs.tree.Tree.set_max.Goals as goal
 

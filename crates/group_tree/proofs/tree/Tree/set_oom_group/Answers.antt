@@ -1,7 +1,6 @@
 use Rattle.std.proofs.Common.{◌≡◌, ◌++◌, take, drop, length, sym, ap, ◌∙◌, subst, rules}
-use Rattle.group_tree.specs.Groups.{AreGroups, with_oom_group}
+use Rattle.group_tree.specs.{AreGroups, with_oom_group, AreSlots}
 use Rattle.group_tree.proofs.GroupLemmas.{AreGroups-flagged, length-flagged, take_new}
-use Rattle.group_tree.specs.Slots.{AreSlots}
 use Rattle.group_tree.proofs.SlotLemmas.{AreSlots-flagged}
 use Rattle.group_tree.proofs.tree.Tree.set_oom_group.Goals as goal
 

@@ -1,7 +1,6 @@
 use Rattle.std.proofs.Common.{ap, rules, subst, sym}
 use Rattle.atomic_table.specs.Table.{Allows, rest}
-use Rattle.host_memory.specs.Cells.{IsGuarded}
-use Rattle.host_memory.specs.Cells.{Gives, IsGuarded}
+use Rattle.host_memory.specs.Cells.{IsGuarded, Gives}
 use Rattle.host_memory.proofs.Steps.{gives_back}
 use Rattle.host_memory.proofs.try_cell.TryCell.put_back.Goals as goal
 

@@ -1,9 +1,7 @@
 -- Serves the contract of `answer_plainly`: the line is too long.
 use Rattle.std.proofs.Common.{List, ℕ, IfOk, None, Option, ap, subst, sym}
 use Rattle.script_replay.specs.Lines.{system_state}
-use Rattle.line_server.specs.Known.{KnownServer, terms_of}
-use Rattle.line_server.specs.Lines.{text_of}
-use Rattle.line_server.specs.Turns.{HasAnswer}
+use Rattle.line_server.specs.{KnownServer, terms_of, text_of, HasAnswer}
 use Rattle.line_server.proofs.Answered.{too_long}
 use Rattle.line_server.proofs.server.Server.answer_plainly.Goals as goal
 

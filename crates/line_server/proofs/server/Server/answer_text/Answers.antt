@@ -3,8 +3,7 @@ use Rattle.std.proofs.Common.{◌≡◌, ◌≤◌, ◌∙◌, ◌++◌, IfOk, L
 use Rattle.std.proofs.lemmas.List.{take-append-le, take_all}
 use Rattle.mem_system.specs.Cpus.{CpuInRun}
 use Rattle.script_replay.specs.Lines.{SystemState, system_state}
-use Rattle.line_server.specs.Known.{KnownServer, terms_of}
-use Rattle.line_server.specs.Turns.{AnswersServed, GivesAnswer, HasAnswer}
+use Rattle.line_server.specs.{KnownServer, terms_of, AnswersServed, GivesAnswer, HasAnswer}
 use Rattle.line_server.proofs.Answered.{bad, served, skipped}
 use Rattle.line_server.proofs.server.Server.answer_text.Goals as goal
 

@@ -1,8 +1,7 @@
 -- Serves the contract of `serve`: each line is one turn more, up to the end or to a fault.
 use Rattle.std.proofs.Common.{◌+◌, ◌∙◌, refl, subst}
 use Rattle.line_server.specs.declared.fault.ServeFault.TheVariants.{Input}
-use Rattle.line_server.specs.Known.{terms_of}
-use Rattle.line_server.specs.Sessions.{EndsTurn, FailsTurn}
+use Rattle.line_server.specs.{terms_of, EndsTurn, FailsTurn}
 use Rattle.line_server.proofs.Sessions.{at_first, one_more, session_ended, session_failed}
 use Rattle.line_server.proofs.server.Server.serve.Goals as goal
 

@@ -1,8 +1,7 @@
 -- Serves the contract of `serve_buffered`: a new buffer has the bytes of the input, or there is none.
 use Rattle.std.proofs.Common.{IfErr, List, OnOk, Option, inl, refl, subst, ℕ}
 use Rattle.line_server.specs.declared.fault.ServeFault.TheVariants.{NoMemory}
-use Rattle.line_server.specs.Known.{terms_of}
-use Rattle.line_server.specs.Sessions.{FailsSession, ServesSession}
+use Rattle.line_server.specs.{terms_of, FailsSession, ServesSession}
 use Rattle.line_server.proofs.Sessions.{buffer_is_new, none_served}
 use Rattle.line_server.proofs.server.Server.serve_buffered.Goals as goal
 

@@ -2,8 +2,7 @@
 use Rattle.std.proofs.Common.{◌+◌, ◌∙◌, ap, subst}
 use Rattle.step_rules.specs.State.{State, is_unheld, one_if}
 use Rattle.mem_core.specs.Shown.{state_shown}
-use Rattle.log_check.specs.Taking.{Checked}
-use Rattle.log_check.specs.Reasons.{IsReason}
+use Rattle.log_check.specs.{Checked, IsReason}
 use Rattle.log_check.proofs.Steps.{ends_illegally, leaves_step, refuses_step, takes_step}
 use Rattle.log_check.proofs.progress.Progress.take_step.Goals as goal
 

@@ -1,7 +1,6 @@
 use Rattle.std.proofs.Common.{◌≡◌, ◌≢◌, ◌∙◌, ℕ, List, None, Some, Option, arith, rules, refl, sym}
 use Rattle.lru_lists.specs.declared.record.LruList.TheVariants.{Inactive, Active}
-use Rattle.lru_lists.specs.Queue.{units_of}
-use Rattle.lru_lists.specs.Lists.{home_in, list_of}
+use Rattle.lru_lists.specs.{units_of, home_in, list_of}
 use Rattle.lru_lists.proofs.Linking.{within}
 use Rattle.lru_lists.proofs.Pairs.{oldest_first, entries_first, some_oldest, list_at_home, other_lacks, elsewhere}
 use Rattle.std.specs.Option.{IsSome}

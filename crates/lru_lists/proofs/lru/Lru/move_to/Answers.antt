@@ -1,6 +1,5 @@
 use Rattle.std.proofs.Common.{◌∙◌, refl, ap}
-use Rattle.lru_lists.specs.Queue.{link_at}
-use Rattle.lru_lists.specs.Lists.{owner_of}
+use Rattle.lru_lists.specs.{link_at, owner_of}
 use Rattle.lru_lists.proofs.Pairs.{unlinked_each, home_of_list, entry_unlinked, moved_owners}
 use Rattle.lru_lists.proofs.lru.Lru.move_to.Goals as goal
 

@@ -1,6 +1,5 @@
 use Rattle.std.proofs.Common.{◌∙◌}
-use Rattle.lru_lists.specs.Queue.{link_at, units_of}
-use Rattle.lru_lists.specs.Lists.{home_in, queue_of, list_of}
+use Rattle.lru_lists.specs.{link_at, units_of, home_in, queue_of, list_of}
 use Rattle.lru_lists.proofs.Records.{newer_frame}
 use Rattle.lru_lists.proofs.Pairs.{home_of_list, after_read, some_list}
 use Rattle.lru_lists.proofs.lru.Lru.newer.Goals as goal

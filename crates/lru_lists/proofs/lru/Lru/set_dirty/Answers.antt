@@ -1,6 +1,5 @@
 use Rattle.std.proofs.Common.{refl}
-use Rattle.lru_lists.specs.Queue.{link_at}
-use Rattle.lru_lists.specs.Lists.{dirtied}
+use Rattle.lru_lists.specs.{link_at, dirtied}
 use Rattle.lru_lists.proofs.Pairs.{remarked_stands, remarked_entries}
 use Rattle.lru_lists.proofs.lru.Lru.set_dirty.Goals as goal
 

@@ -1,7 +1,6 @@
 use Rattle.std.proofs.Common.{◌≢◌, true, sym, ◌∙◌, refl}
 use Rattle.lru_lists.specs.declared.record.LruList.TheVariants.{Inactive, Active}
-use Rattle.lru_lists.specs.Queue.{link_at}
-use Rattle.lru_lists.specs.Lists.{list_of, marked}
+use Rattle.lru_lists.specs.{link_at, list_of, marked}
 use Rattle.lru_lists.proofs.Pairs.{remarked_stands, remarked_entries, other_unchanged, home_of_list, marks_true, marks_false, marked_owners}
 use Rattle.lru_lists.proofs.lru.Lru.touch.Goals as goal
 

@@ -4,11 +4,7 @@ use Rattle.step_rules.specs.State.{Zone, State}
 use Rattle.step_rules.specs.Legal.{Allows}
 use Rattle.mem_core.specs.declared.rows.Rows.{Rows}
 use Rattle.mem_core.specs.Rows as rows
-use Rattle.mem_core.specs.Rooms.{pages_asked}
-use Rattle.mem_core.specs.Bounded.{IsBounded}
-use Rattle.mem_core.specs.Shown.{CoreState, state_shown}
-use Rattle.mem_core.specs.Checked.{Leads}
-use Rattle.mem_core.specs.Inside.{rows_shown}
+use Rattle.mem_core.specs.{pages_asked, IsBounded, CoreState, state_shown, Leads, rows_shown}
 use Rattle.mem_core.proofs.Linking.{rows_are, ready}
 use Rattle.mem_core.proofs.Checking.{kept}
 use Rattle.mem_core.proofs.checker.Checker.accept.Goals as goal

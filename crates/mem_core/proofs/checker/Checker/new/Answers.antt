@@ -5,8 +5,7 @@ use Rattle.step_rules.specs.Invariant.{KeepsInvariant, IsHomed}
 use Rattle.step_rules.proofs.Runs.{sound_boot}
 use Rattle.step_rules.proofs.Keeping.{homed_run}
 use Rattle.mem_core.specs.Rows as rows
-use Rattle.mem_core.specs.Bounded.{IsBounded}
-use Rattle.mem_core.specs.Shown.{zone_of_config}
+use Rattle.mem_core.specs.{IsBounded, zone_of_config}
 use Rattle.mem_core.proofs.Linking.{rows_are}
 use Rattle.mem_core.proofs.Advancing.{bounded_boot}
 use Rattle.mem_core.proofs.checker.Checker.new.Goals as goal

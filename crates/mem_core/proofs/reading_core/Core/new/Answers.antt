@@ -5,15 +5,14 @@ use Rattle.step_rules.specs.Invariant.{KeepsInvariant, IsHomed}
 use Rattle.step_rules.proofs.Runs.{sound_boot}
 use Rattle.step_rules.proofs.Keeping.{homed_run}
 use Rattle.mem_core.specs.Rows as rows
-use Rattle.mem_core.specs.Bounded.{IsBounded}
+use Rattle.mem_core.specs.{IsBounded, zone_of_config, new_account, account_in, HaveSmallPeaks}
 use Rattle.mem_core.specs.declared.reading_core.Core.TheInside.{Inside}
 use Rattle.mem_core.proofs.Linking.{shown_is}
 use Rattle.mem_core.proofs.Advancing.{bounded_boot}
 use Rattle.std.proofs.Common.{replicate}
 use Rattle.std.proofs.lemmas.List.{get_or-replicate, length-replicate}
 use Rattle.mem_core.proofs.Starting.{replicate_all}
-use Rattle.mem_core.specs.Shown.{zone_of_config}
-use Rattle.mem_core.specs.Accounts.{Account, new_account, account_in, HaveSmallPeaks}
+use Rattle.mem_core.specs.Accounts.{Account}
 use Rattle.mem_core.proofs.Accounting.{tell_start}
 use Rattle.mem_core.proofs.reading_core.Core.new.Goals as goal
 

@@ -1,22 +1,16 @@
 -- A core that showed a run shows it with the step and its answer.
 use Rattle.std.proofs.Common.{◌≡◌, ℕ, ◌+◌, ◌*◌, ◌^◌, ◌<◌, ◌++◌, ◌∷◌, [], List, sym, ◌∙◌, ap, subst, arith}
 use Rattle.zone_blocks.specs.Areas.{AreMaximalBlocks}
-use Rattle.step_rules.specs.State.{Zone, State, free_in}
-use Rattle.step_rules.specs.Legal.{Allows}
-use Rattle.step_rules.specs.After.{after}
+use Rattle.step_rules.specs.{Zone, free_in, Allows, after, UsageMoves, KeepsInvariant, IsHomed}
+use Rattle.step_rules.specs.State.{State}
 use Rattle.step_rules.proofs.Placed.{zone_kept}
-use Rattle.step_rules.specs.Peaks.{UsageMoves}
-use Rattle.step_rules.specs.Invariant.{KeepsInvariant, IsHomed}
 use Rattle.step_rules.proofs.Keeping.{homes_allowed}
 use Rattle.mem_core.specs.declared.rows.Rows.{Rows}
 use Rattle.mem_core.specs.Rooms.{pages_asked}
 use Rattle.mem_core.specs.Rows as rows
-use Rattle.mem_core.specs.Bounded.{IsBounded}
+use Rattle.mem_core.specs.{IsBounded, CoreState, state_shown, core_state, IsWhole, PlacesFrontIn, AccountsFollow}
 use Rattle.mem_core.specs.declared.reading_core.Core.TheInside.{Inside}
-use Rattle.mem_core.specs.Shown.{CoreState, state_shown}
-use Rattle.mem_core.specs.Inside.{core_state, IsWhole}
-use Rattle.mem_core.specs.Promise.{PlacesFrontIn}
-use Rattle.mem_core.specs.Accounts.{Account, AccountsFollow}
+use Rattle.mem_core.specs.Accounts.{Account}
 use Rattle.mem_core.proofs.Linking.{shown_is, ready}
 use Rattle.mem_core.proofs.Advancing.{sound_after, usage_after, widened, bounded_after, follow_illegal, shown_more, first_from}
 use Rattle.mem_core.proofs.Keeping.{keeps_promise}

@@ -4,8 +4,7 @@ use Rattle.std.specs.Prelude.{if◌then◌else◌}
 use Rattle.std.specs.List.{slice_index_or}
 use Rattle.group_tree.specs.Groups.{in_subtree}
 use Rattle.step_rules.specs.State.{sum_to}
-use Rattle.mem_core.specs.Rows.{state_in}
-use Rattle.mem_core.specs.Counted.{IsTally, class_in, keeper_class}
+use Rattle.mem_core.specs.{state_in, IsTally, class_in, keeper_class}
 use Rattle.mem_core.proofs.Tallying.{kept_by_class, sizes_few}
 use Rattle.mem_core.proofs.rows.Rows.frames_kept.Goals as goal
 

@@ -1,11 +1,9 @@
 -- The goals of `no_frame_passes`.
 use Rattle.std.proofs.Common.{◌≡◌, ◌==◌, true, length, sym, ◌∙◌, ap, arith}
-use Rattle.mem_core.specs.Rows.{state_in}
+use Rattle.mem_core.specs.{state_in, class_in, transit_class}
 use Rattle.std.specs.Prelude.{not}
-use Rattle.step_rules.specs.Phases.{is_passing}
-use Rattle.step_rules.specs.State.{all_to}
+use Rattle.step_rules.specs.{is_passing, all_to}
 use Rattle.step_rules.proofs.Sums.{all_same}
-use Rattle.mem_core.specs.Counted.{class_in, transit_class}
 use Rattle.mem_core.proofs.Adding.{all_not}
 use Rattle.mem_core.proofs.Tallying.{all_of, rest_class}
 use Rattle.mem_core.proofs.rows.Rows.no_frame_passes.Goals as goal

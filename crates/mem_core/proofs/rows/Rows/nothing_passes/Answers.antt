@@ -1,11 +1,9 @@
 -- The goals of `nothing_passes`.
 use Rattle.std.proofs.Common.{◌≡◌, ◌+◌, ◌==◌, length, sym, ◌∙◌, ap, arith}
 use Rattle.std.specs.Prelude.{not}
-use Rattle.mem_core.specs.Rows.{state_in}
-use Rattle.step_rules.specs.Legal.{rests}
-use Rattle.step_rules.specs.State.{all_to}
+use Rattle.mem_core.specs.{state_in, class_in, transit_class}
+use Rattle.step_rules.specs.{rests, all_to}
 use Rattle.step_rules.proofs.Sums.{all_same}
-use Rattle.mem_core.specs.Counted.{class_in, transit_class}
 use Rattle.mem_core.proofs.Adding.{all_not}
 use Rattle.mem_core.proofs.Tallying.{none_of, rests_class}
 use Rattle.mem_core.proofs.rows.Rows.nothing_passes.Goals as goal

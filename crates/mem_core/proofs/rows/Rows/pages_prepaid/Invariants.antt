@@ -1,7 +1,6 @@
 -- What the loop of `pages_prepaid` keeps.
 use Rattle.std.proofs.Common.{◌≡◌, ◌≤◌, ◌*◌, ◌^◌}
-use Rattle.step_rules.specs.State.{sum_to}
-use Rattle.step_rules.specs.Usage.{stock_in_subtree}
+use Rattle.step_rules.specs.{sum_to, stock_in_subtree}
 use Rattle.mem_core.specs.Rows.{state_in}
 use Rattle.mem_core.proofs.rows.Rows.pages_prepaid.Given as goal
 

@@ -1,8 +1,5 @@
 use Rattle.std.proofs.Common.{refl, sym, subst}
-use Rattle.mem_machine.specs.Kept.{machine_of}
-use Rattle.mem_machine.specs.Local.{Makes, StaysVisited}
-use Rattle.mem_machine.specs.Steps.{drain_steps}
-use Rattle.mem_machine.specs.Stocks.{Drains, stock_group}
+use Rattle.mem_machine.specs.{machine_of, Makes, StaysVisited, drain_steps, Drains, stock_group}
 use Rattle.mem_machine.proofs.Drained.{drains_noted, makes_noted, noted_sound}
 use Rattle.mem_machine.proofs.Made.{visit_same}
 use Rattle.mem_machine.proofs.machine.Machine.drain_noted.Goals as goal

@@ -1,7 +1,6 @@
 use Rattle.std.proofs.Common.{◌≡◌, Some, None, refl, sym, ap, ◌∙◌, arith, rules}
 use Rattle.step_rules.specs.declared.step.Action.TheVariants.{DrainStock}
-use Rattle.mem_machine.specs.Kept.{machine_of}
-use Rattle.mem_machine.specs.Machines.{stock_group}
+use Rattle.mem_machine.specs.{machine_of, stock_group}
 use Rattle.mem_machine.proofs.AtTable.{made_at, may_at}
 use Rattle.mem_machine.proofs.Drained.{drained_now, drained_sound, emptied_sound, knows_drain, no_group_none, noted_none, noted_some, sum_within, there_now, ungrant_may}
 use Rattle.mem_machine.proofs.Draining.{drain_may, drained_none}

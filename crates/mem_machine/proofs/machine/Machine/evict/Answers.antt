@@ -1,8 +1,7 @@
 use Rattle.std.proofs.Common.{Some, None, refl, arith, rules}
 use Rattle.step_rules.specs.declared.step.Action.TheVariants.{Freeze}
 use Rattle.step_rules.specs.declared.step.Answer.TheVariants.{Done, Missed}
-use Rattle.mem_machine.specs.Evicting.{evict_steps}
-use Rattle.mem_machine.specs.Kept.{machine_of}
+use Rattle.mem_machine.specs.{evict_steps, machine_of}
 use Rattle.mem_machine.proofs.Freeing.{unit_in_use, unit_charged}
 use Rattle.mem_machine.proofs.Noted.{legal_step}
 use Rattle.mem_machine.proofs.Releases.{notes_back, notes_of_zone, read_head, return_may}

@@ -7,9 +7,7 @@ use Rattle.step_rules.specs.declared.step.Answer.TheVariants.{Granted}
 use Rattle.step_rules.specs.State.{State}
 use Rattle.boot_words.specs.Pasts.{MayMake, local_by_pasts}
 use Rattle.step_rules.specs.Laws.{IsLocalStep}
-use Rattle.mem_machine.specs.Kept.{machine_of}
-use Rattle.mem_machine.specs.Local.{local_of}
-use Rattle.mem_machine.specs.Machines.{KnownMachine}
+use Rattle.mem_machine.specs.{machine_of, local_of, KnownMachine}
 use Rattle.mem_machine.proofs.Noted.{legal_step}
 use Rattle.mem_machine.proofs.Prepaying.{fill_fits, fill_leads, fill_may, fill_noted, filled_now, filled_sound, filler_is, knows_fill, nothing_booked, refused_may, refused_now, refused_sound, refused_visits}
 use Rattle.mem_machine.proofs.machine.Machine.fill_stock.Goals as goal

@@ -3,8 +3,7 @@ use Rattle.frame_word.specs.Seats.{KnownTable}
 use Rattle.step_rules.specs.declared.phase.Hold.TheVariants.{HeldBy}
 use Rattle.boot_words.specs.Pasts.{Locks, own_past}
 use Rattle.boot_words.specs.Cpus.{IsAwayCpu}
-use Rattle.mem_machine.specs.Kept.{machine_of}
-use Rattle.mem_machine.specs.Machines.{KnownMachine, with_past}
+use Rattle.mem_machine.specs.{machine_of, KnownMachine, with_past}
 use Rattle.mem_machine.proofs.Locks.{locked_holds, locked_shut, rests_at, sound_then}
 use Rattle.mem_machine.proofs.machine.Machine.lock.Goals as goal
 

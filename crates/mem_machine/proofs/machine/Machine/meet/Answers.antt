@@ -1,10 +1,8 @@
 use Rattle.std.proofs.Common.{◌≡◌, sym, ap, ◌∙◌, subst}
 use Rattle.frame_word.specs.Seats.{KnownTable}
 use Rattle.step_rules.specs.State.{State}
-use Rattle.boot_words.specs.Pasts.{Meets}
-use Rattle.boot_words.specs.Cpus.{IsAwayCpu}
-use Rattle.mem_machine.specs.Kept.{machine_of}
-use Rattle.mem_machine.specs.Machines.{KnownMachine, left_by}
+use Rattle.boot_words.specs.{Meets, IsAwayCpu}
+use Rattle.mem_machine.specs.{machine_of, KnownMachine, left_by}
 use Rattle.mem_machine.proofs.Locks.{met_knows, rests_at, sound_then}
 use Rattle.mem_machine.proofs.machine.Machine.meet.Goals as goal
 

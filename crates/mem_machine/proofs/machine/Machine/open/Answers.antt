@@ -6,10 +6,8 @@ use Rattle.step_rules.specs.declared.step.Answer.TheVariants.{Done}
 use Rattle.step_rules.specs.State.{visits}
 use Rattle.step_watch.specs.Watched.{Watches}
 use Rattle.boot_words.specs.Pasts.{IsHeld, MakesStep, MayMake}
-use Rattle.mem_machine.specs.Kept.{machine_of}
-use Rattle.mem_machine.specs.Local.{IsShut, Makes}
-use Rattle.mem_machine.specs.Machines.{KnownMachine, with_run}
-use Rattle.mem_machine.specs.Steps.{open_steps, zone_makes}
+use Rattle.mem_machine.specs.{machine_of, IsShut, Makes, KnownMachine, with_run, open_steps}
+use Rattle.mem_machine.specs.Steps.{zone_makes}
 use Rattle.mem_machine.proofs.AtTable.{made_at, may_at}
 use Rattle.mem_machine.proofs.Holds.{hold_then, holds_then, makes_then, may_open, sound_held}
 use Rattle.mem_machine.proofs.Made.{holds_here}

@@ -2,8 +2,7 @@ use Rattle.std.proofs.Common.{refl, arith, rules}
 use Rattle.step_rules.specs.declared.step.Action.TheVariants.{Put}
 use Rattle.step_rules.specs.declared.step.Answer.TheVariants as answer
 use Rattle.mem_machine.specs.declared.releasing.Released.TheVariants.{Left, Returned}
-use Rattle.mem_machine.specs.Kept.{machine_of}
-use Rattle.mem_machine.specs.Releasing.{release_steps}
+use Rattle.mem_machine.specs.{machine_of, release_steps}
 use Rattle.mem_machine.proofs.Freeing.{unit_in_use, unit_charged}
 use Rattle.mem_machine.proofs.Noted.{legal_step}
 use Rattle.mem_machine.proofs.Releases.{left_all, left_few, notes_back, notes_of_zone, put_may, put_returns, read_head, return_may, returned_all}

@@ -1,8 +1,6 @@
 use Rattle.std.proofs.Common.{[], sym, ap, ◌∙◌, subst}
 use Rattle.group_charge.specs.Charges.{with_settings}
-use Rattle.mem_machine.specs.Kept.{machine_of}
-use Rattle.mem_machine.specs.Local.{Makes}
-use Rattle.mem_machine.specs.Machines.{KnownMachine}
+use Rattle.mem_machine.specs.{machine_of, Makes, KnownMachine}
 use Rattle.mem_machine.proofs.GroupSteps.{settings_consistent, settings_make}
 use Rattle.mem_machine.proofs.Made.{visit_same}
 use Rattle.mem_machine.proofs.machine.Machine.set_settings.Goals as goal

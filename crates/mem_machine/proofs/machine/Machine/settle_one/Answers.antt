@@ -1,6 +1,5 @@
 use Rattle.std.proofs.Common.{◌≡◌, ◌≤◌, ◌∙◌, Some, length, true, false, arith, rules, ap, sym}
-use Rattle.mem_machine.specs.Kept.{machine_of}
-use Rattle.mem_machine.specs.Machines.{KnownMachine, is_killed, stock_group}
+use Rattle.mem_machine.specs.{machine_of, KnownMachine, is_killed, stock_group}
 use Rattle.mem_machine.proofs.Settled.{killed_read, number_here, owner_here, settles_kept, settles_dropped, some_owner, steps_of}
 use Rattle.mem_machine.proofs.machine.Machine.settle_one.Goals as goal
 

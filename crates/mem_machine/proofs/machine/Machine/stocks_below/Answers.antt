@@ -3,8 +3,7 @@ use Rattle.std.specs.Int.{bit_at}
 use Rattle.group_tree.specs.declared.group.Group.{Group}
 use Rattle.group_tree.specs.Groups.{in_subtree}
 use Rattle.group_tree.proofs.GroupLemmas.{has_group-contains}
-use Rattle.mem_machine.specs.Machines.{KnownMachine}
-use Rattle.mem_machine.specs.Stocks.{stock_group}
+use Rattle.mem_machine.specs.{KnownMachine, stock_group}
 use Rattle.mem_machine.proofs.Choosing.{FoundSoFar, OwnsStock, stocks_found, found_more, found_not}
 use Rattle.mem_machine.proofs.Owning.{stocks_owned}
 use Rattle.mem_machine.proofs.machine.Machine.stocks_below.Goals.{then-is_at_or_below, else-is_at_or_below}

@@ -1,16 +1,12 @@
 use Rattle.std.proofs.Common.{ℕ, ◌≤◌, ◌<◌, ◌^◌, ap, refl, sym, subst, ◌∙◌, rules, arith, IsTrue, ◌+◌}
-use Rattle.group_tree.specs.Groups.{has_group}
-use Rattle.group_tree.specs.Room.{IsLowestOver}
+use Rattle.group_tree.specs.{has_group, IsLowestOver}
 use Rattle.group_charge.specs.Charges.{current_of}
 use Rattle.zone_blocks.specs.Zone.{BuddyZone}
 use Rattle.boot_words.specs.Pasts.{MakesStep}
 use Rattle.step_rules.specs.declared.step.Action.TheVariants.{Grant, Unfreeze}
 use Rattle.step_rules.specs.declared.step.Answer.TheVariants.{Done, Over}
-use Rattle.mem_machine.specs.Kept.{machine_of}
-use Rattle.mem_machine.specs.Machines.{KnownMachine}
-use Rattle.mem_machine.specs.Noted.{MayTake, Notes}
-use Rattle.mem_machine.specs.Steps.{over_steps, zone_makes}
-use Rattle.mem_machine.specs.Blocks.{taken_steps, unplaced_steps}
+use Rattle.mem_machine.specs.{machine_of, KnownMachine, MayTake, Notes, over_steps, taken_steps, unplaced_steps}
+use Rattle.mem_machine.specs.Steps.{zone_makes}
 use Rattle.mem_machine.proofs.AtTable.{made_at, may_at}
 use Rattle.mem_machine.proofs.GroupSteps.{may_group}
 use Rattle.mem_machine.proofs.Made.{held_here}

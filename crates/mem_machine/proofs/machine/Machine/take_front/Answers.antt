@@ -1,16 +1,13 @@
 use Rattle.std.proofs.Common.{subst, sym, rules}
-use Rattle.mem_machine.specs.Kept.{machine_of}
-use Rattle.mem_machine.specs.Local.{Visits, visit_state}
-use Rattle.mem_machine.specs.Machines.{KnownMachine}
-use Rattle.mem_machine.specs.Paying.{HoldsPage}
+use Rattle.mem_machine.specs.{machine_of, Visits, KnownMachine, HoldsPage}
 use Rattle.mem_machine.proofs.Fronts.{front_may, front_noted, front_paid, front_sound}
 use Rattle.mem_machine.proofs.machine.Machine.take_front.Goals as goal
 
 pub take_front-frame-requires-clause-legal : goal.take_front-frame-requires-clause-legal
 take_front-frame-requires-clause-legal g c =
     let t = g.N.BootName.frames in
-    front_may t (machine_of c.self.inside) c.args.cpu.now (subst (λ (x : KnownMachine). Visits t (visit_state x c.args.cpu.now)) (sym c.self.view_is) c.requires.visit) c.args.group
-    (subst (λ (x : KnownMachine). HoldsPage t (visit_state x c.args.cpu.now) c.args.group) (sym c.self.view_is) c.requires.page) c.requires.none_fresh c.requires.front
+    front_may t (machine_of c.self.inside) c.args.cpu.now (subst (λ (x : KnownMachine). Visits t x c.args.cpu.now) (sym c.self.view_is) c.requires.visit) c.args.group
+    (subst (λ (x : KnownMachine). HoldsPage t x c.args.cpu.now.number c.args.group) (sym c.self.view_is) c.requires.page) c.requires.none_fresh c.requires.front
 
 pub invariant_of-self : goal.invariant_of-self
 invariant_of-self g c =

@@ -2,14 +2,9 @@ use Rattle.std.proofs.Common.{◌≡◌, ◌∙◌, ap, sym, subst}
 use Rattle.frame_word.specs.Seats.{KnownTable}
 use Rattle.step_rules.specs.declared.phase.Hold.TheVariants.{Unheld}
 use Rattle.step_rules.specs.declared.step.Action.TheVariants.{Unlock}
-use Rattle.boot_words.specs.Pasts.{IsHeld, MayMake, Unlocks}
+use Rattle.boot_words.specs.{IsHeld, MayMake, Unlocks, zone_of_boot, stock_in, IsAwayCpu, state_left}
 use Rattle.step_rules.specs.After.{Run, state_of}
-use Rattle.boot_words.specs.Seats.{zone_of_boot}
-use Rattle.boot_words.specs.Words.{stock_in}
-use Rattle.boot_words.specs.Cpus.{IsAwayCpu, state_left}
-use Rattle.mem_machine.specs.Kept.{machine_of}
-use Rattle.mem_machine.specs.Local.{IsShut}
-use Rattle.mem_machine.specs.Machines.{KnownMachine}
+use Rattle.mem_machine.specs.{machine_of, IsShut, KnownMachine}
 use Rattle.mem_machine.proofs.Locks.{may_unlock, sound_then, unlocked_found, unlocked_knows}
 use Rattle.mem_machine.proofs.Made.{holds_here}
 use Rattle.mem_machine.proofs.machine.Machine.unlock.Goals as goal

@@ -3,14 +3,10 @@ use Rattle.std.specs.Prelude.{slice_get}
 use Rattle.std.proofs.lemmas.List.{length-map}
 use Rattle.frame_word.specs.Seats.{KnownTable}
 use Rattle.boot_words.specs.declared.past.Past.{Past}
-use Rattle.boot_words.specs.Cpus.{IsAwayCpu}
-use Rattle.boot_words.specs.Opening.{cpus_at_first}
-use Rattle.boot_words.specs.Pasts.{KnownPasts, own_past}
-use Rattle.boot_words.specs.Rule.{AllOf}
+use Rattle.boot_words.specs.{IsAwayCpu, cpus_at_first, KnownPasts, own_past, AllOf}
 use Rattle.boot_words.proofs.Gaining.{a_boot_has_no_steps}
 use Rattle.cpu_part.specs.Cpus.{IsIdle}
-use Rattle.mem_system.specs.Boots.{KnownBoot}
-use Rattle.mem_system.specs.Cpus.{CpuInRun, pasts_of}
+use Rattle.mem_system.specs.{KnownBoot, CpuInRun, pasts_of}
 use Rattle.mem_system.proofs.Parts.{cpus_idle, cpus_long, first_past_at}
 use Rattle.mem_system.proofs.boots.Boot.into_parts.Goals as goal
 

@@ -1,12 +1,9 @@
 use Rattle.std.proofs.Common.{◌∙◌, List, length, sym, ap, subst}
 use Rattle.std.proofs.lemmas.List.{length-map}
 use Rattle.std.proofs.lemmas.List.Elements.{All-weaker}
-use Rattle.boot_words.specs.Closed.{HasCpuPast}
-use Rattle.boot_words.specs.Cpus.{KnownCpuSeat}
-use Rattle.boot_words.specs.Rule.{AllOf}
+use Rattle.boot_words.specs.{HasCpuPast, KnownCpuSeat, AllOf}
 use Rattle.cpu_part.specs.Cpus.{IsIdle}
-use Rattle.mem_system.specs.Cpus.{parts_of, seat_of}
-use Rattle.mem_system.specs.Ends.{Closes, IsClosed, IsEmptied, KnownEmptiedBoot}
+use Rattle.mem_system.specs.{parts_of, seat_of, Closes, IsClosed, IsEmptied, KnownEmptiedBoot}
 use Rattle.mem_system.proofs.Closing.{all_closes}
 use Rattle.mem_system.proofs.Gathering.{closed_run, have_pasts}
 use Rattle.mem_system.proofs.emptied_boot.EmptiedBoot.close.Goals as goal

@@ -1,8 +1,6 @@
 use Rattle.std.proofs.Common.{◌<◌, ◌≤◌, arith, refl, rules, subst}
-use Rattle.script_replay.specs.Lines.{system_state}
-use Rattle.script_replay.specs.Ranges.{CommandInRange}
-use Rattle.tempolemon_c.specs.HandleCalls.{IsCpu, RefusesCall}
-use Rattle.tempolemon_c.specs.Known.{KnownLive}
+use Rattle.script_replay.specs.{system_state, CommandInRange}
+use Rattle.tempolemon_c.specs.{IsCpu, RefusesCall, KnownLive}
 use Rattle.tempolemon_c.proofs.live.Live.serve_command.Goals as goal
 
 pub returns-then-frame-self : goal.returns-then-frame-self

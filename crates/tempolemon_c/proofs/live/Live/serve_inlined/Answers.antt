@@ -2,11 +2,8 @@ use Rattle.std.proofs.Common.{◌≡◌, ◌≤◌, ◌∙◌, ◌++◌, List, d
 use Rattle.std.proofs.lemmas.List.{take-append-le, take_all}
 use Rattle.mem_system.specs.Cpus.{CpuInRun}
 use Rattle.script_lines.specs.declared.line.Command.{Command}
-use Rattle.script_replay.specs.Lines.{system_state}
-use Rattle.script_replay.specs.Ranges.{CpuCommandInRange}
-use Rattle.script_replay.specs.ValueAnswers.{SaysCommand, answer_of}
-use Rattle.tempolemon_c.specs.HandleCalls.{ReturnsCommandAnswer}
-use Rattle.tempolemon_c.specs.Known.{KnownLive}
+use Rattle.script_replay.specs.{system_state, CpuCommandInRange, SaysCommand, answer_of}
+use Rattle.tempolemon_c.specs.{ReturnsCommandAnswer, KnownLive}
 use Rattle.tempolemon_c.specs.declared.calls.CallAnswer.TheVariants.{Served}
 use Rattle.tempolemon_c.proofs.live.Live.serve_inlined.Goals as goal
 

@@ -6,10 +6,8 @@ use Rattle.group_tree.specs.Groups.{number_at, path_of}
 use Rattle.group_charge.specs.Charges.{AreCharges, Ledger}
 use Rattle.mem_system.specs.Cpus.{CpuInRun}
 use Rattle.script_lines.specs.declared.line.Command.TheVariants as cmd
-use Rattle.script_replay.specs.Lines.{system_state}
-use Rattle.script_replay.specs.ValueAnswers.{SaysCommand, answer_of}
-use Rattle.tempolemon_c.specs.HandleCalls.{CallsLive, IsCpu}
-use Rattle.tempolemon_c.specs.Known.{KnownLive}
+use Rattle.script_replay.specs.{system_state, SaysCommand, answer_of}
+use Rattle.tempolemon_c.specs.{CallsLive, IsCpu, KnownLive}
 use Rattle.tempolemon_c.specs.declared.calls.Call.TheVariants.{Alloc}
 use Rattle.tempolemon_c.specs.declared.calls.CallAnswer.TheVariants.{Served}
 use Rattle.tempolemon_c.proofs.Finding.{frame_taken}

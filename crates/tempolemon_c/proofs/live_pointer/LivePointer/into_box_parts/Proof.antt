@@ -4,8 +4,7 @@ use Rattle.host_memory.proofs.Walks.{◌≡◌, refl, sym, ap, ◌∙◌, ◌⊑
 use base.Logic.{snd∗}
 use Rattle.std_heap.specs.contracts.Global as Heap
 use Rattle.host_memory.specs.contracts.box_parts.BoxParts as BoxParts
-use Rattle.tempolemon_c.specs.Owned.{live_owns}
-use Rattle.tempolemon_c.specs.Known.{KnownLive}
+use Rattle.tempolemon_c.specs.{live_owns, KnownLive}
 use Rattle.tempolemon_c.specs.contracts.live.Live as Live
 use Rattle.tempolemon_c.specs.contracts.live_pointer.LivePointer as LivePointer
 use Rattle.tempolemon_c.specs.contracts.live_pointer.LivePointer.into_box_parts as F

@@ -2,8 +2,7 @@ use Rattle.std.proofs.Common.{◌≡◌, ◌<◌, ℕ, ◌+◌, sym, subst, inl,
 use Rattle.std.specs.Option.{MatchOption}
 use Rattle.std.specs.List.{Contains}
 use Rattle.zone_blocks.specs.declared.block.Block.{Block}
-use Rattle.zone_blocks.specs.Areas.{FreeBlocks, AreBlocksApart, HasNoneFrom, IsSmallestFrom}
-use Rattle.zone_blocks.specs.OrderLists.{HasNoneAfter, IsNextAfter}
+use Rattle.zone_blocks.specs.{FreeBlocks, AreBlocksApart, HasNoneFrom, IsSmallestFrom, HasNoneAfter, IsNextAfter}
 use Rattle.zone_blocks.proofs.OrderLists.{from_there, blocks_apart}
 use Rattle.zone_blocks.proofs.Calls.{in_zone_of, node_within, behind_gives, above_gives, some_gives, none_gives}
 use Rattle.zone_blocks.proofs.areas.FreeAreas.after.Goals as goal

@@ -1,9 +1,6 @@
 use Rattle.std.proofs.Common.{◌≡◌, ◌<◌, List, Bool, sym, subst, arith, set}
 use Rattle.zone_blocks.specs.declared.block.Block.{Block}
-use Rattle.zone_blocks.specs.Block.{IsBlock}
-use Rattle.zone_blocks.specs.Areas.{FreeBlocks, Inserts, Overlaps}
-use Rattle.zone_blocks.specs.OrderLists.{blocks_of, AreOrderLists}
-use Rattle.zone_blocks.specs.PairBits.{ArePairBits}
+use Rattle.zone_blocks.specs.{IsBlock, FreeBlocks, Inserts, Overlaps, blocks_of, AreOrderLists, ArePairBits}
 use Rattle.zone_blocks.proofs.Nested.{covers_start}
 use Rattle.zone_blocks.proofs.Calls.{bits_written, in_zone_of, node_within, last_found, inserted}
 use Rattle.zone_blocks.proofs.Pairing.{inserts_one}

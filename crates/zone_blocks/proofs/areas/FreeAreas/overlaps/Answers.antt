@@ -1,7 +1,6 @@
 use Rattle.std.proofs.Common.{ℕ, ◌+◌, List, Bool, get_or, [], sym, ap, subst, arith, refl, below_more}
 use Rattle.std.proofs.lemmas.Bool.{false≢true, iff_false}
-use Rattle.zone_blocks.specs.Areas.{FreeBlocks, Overlaps}
-use Rattle.zone_blocks.specs.OrderLists.{MeetsRange}
+use Rattle.zone_blocks.specs.{FreeBlocks, Overlaps, MeetsRange}
 use Rattle.zone_blocks.proofs.OrderLists.{overlaps_from, overlaps_none}
 use Rattle.zone_blocks.proofs.Calls.{read_bits}
 use Rattle.zone_blocks.proofs.areas.FreeAreas.overlaps.Goals as goal

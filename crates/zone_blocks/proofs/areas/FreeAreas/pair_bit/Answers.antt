@@ -1,7 +1,6 @@
 use Rattle.std.proofs.Common.{◌≡◌, ◌↔◌, true, subst}
 use Rattle.std.specs.Option.{MatchOption}
-use Rattle.zone_blocks.specs.Block.{HasPairBit}
-use Rattle.zone_blocks.specs.Areas.{FreeBlocks, IsOneOfPair}
+use Rattle.zone_blocks.specs.{HasPairBit, FreeBlocks, IsOneOfPair}
 use Rattle.zone_blocks.proofs.Pairing.{pair_read}
 use Rattle.zone_blocks.proofs.areas.FreeAreas.pair_bit.Goals as goal
 

@@ -1,9 +1,7 @@
 use Rattle.std.proofs.Common.{◌≡◌, ◌<◌, List, Bool, sym, subst, inl, arith, set}
 use Rattle.std.specs.List.{Contains}
 use Rattle.zone_blocks.specs.declared.block.Block.{Block}
-use Rattle.zone_blocks.specs.Areas.{FreeBlocks, RemovesBlock}
-use Rattle.zone_blocks.specs.OrderLists.{blocks_of, AreOrderLists}
-use Rattle.zone_blocks.specs.PairBits.{ArePairBits}
+use Rattle.zone_blocks.specs.{FreeBlocks, RemovesBlock, blocks_of, AreOrderLists, ArePairBits}
 use Rattle.zone_blocks.proofs.OrderLists.{from_there}
 use Rattle.zone_blocks.proofs.Calls.{bit_within, bits_written, in_zone_of, node_within, removed}
 use Rattle.zone_blocks.proofs.Pairing.{removes_one}

@@ -1,6 +1,5 @@
 use Rattle.std.proofs.Common.{◌≡◌, ℕ, length, sym, ◌∙◌, ap, subst}
-use Rattle.zone_blocks.specs.Block.{IsBlock}
-use Rattle.zone_blocks.specs.Zone.{BuddyZone}
+use Rattle.zone_blocks.specs.{IsBlock, BuddyZone}
 use Rattle.zone_blocks.proofs.BuddyFrames.{length-set_of}
 use Rattle.zone_blocks.proofs.buddy.Buddy.give.Goals as goal
 

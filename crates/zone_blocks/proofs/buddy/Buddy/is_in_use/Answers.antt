@@ -1,7 +1,6 @@
 use Rattle.std.proofs.Common.{ℕ, sym, ◌∙◌, subst}
 use Rattle.std.proofs.lemmas.Bool.{iff_false, not-true, not_from_false, false_from_ne_true, false≢true}
-use Rattle.zone_blocks.specs.Block.{IsBlock}
-use Rattle.zone_blocks.specs.Zone.{BuddyZone, IsInUse}
+use Rattle.zone_blocks.specs.{IsBlock, BuddyZone, IsInUse}
 use Rattle.zone_blocks.proofs.BuddyFrames.{length-set_of, in_use_apart, overlaps_not_in_use}
 use Rattle.zone_blocks.proofs.buddy.Buddy.is_in_use.Goals as goal
 

@@ -1,7 +1,6 @@
 use Rattle.std.proofs.Common.{◌≡◌, ℕ, true, replicate, sym, ◌∙◌, subst, arith}
 use Rattle.std.proofs.lemmas.List.{length-replicate}
-use Rattle.zone_blocks.specs.Areas.{FreeBlocks, AreMaximalBlocks}
-use Rattle.zone_blocks.specs.Zone.{free_set_of}
+use Rattle.zone_blocks.specs.{FreeBlocks, AreMaximalBlocks, free_set_of}
 use Rattle.zone_blocks.proofs.BuddyFrames.{set_of_maximal}
 use Rattle.zone_blocks.proofs.buddy.Buddy.new.Goals as goal
 

@@ -1,7 +1,5 @@
 use Rattle.std.proofs.Common.{ℕ, sym, ◌∙◌, subst}
-use Rattle.zone_blocks.specs.Block.{IsBlock}
-use Rattle.zone_blocks.specs.Areas.{HasNoneFrom}
-use Rattle.zone_blocks.specs.Zone.{BuddyZone, block_at, free_set_of, TakesFrames}
+use Rattle.zone_blocks.specs.{IsBlock, HasNoneFrom, BuddyZone, block_at, free_set_of, TakesFrames}
 use Rattle.zone_blocks.proofs.BuddyFrames.{length-set_of, takes_frames, kept_less}
 use Rattle.zone_blocks.proofs.buddy.Buddy.take.Goals as goal
 

@@ -1,9 +1,7 @@
 use Rattle.std.proofs.Common.{ℕ, Option, None, Some, rules, sym, ◌∙◌, subst}
 use Rattle.std.specs.Option.{IsSome, MatchOption}
 use Rattle.zone_blocks.specs.declared.block.Block.{Block}
-use Rattle.zone_blocks.specs.Block.{IsBlock}
-use Rattle.zone_blocks.specs.Areas.{IsFree}
-use Rattle.zone_blocks.specs.Zone.{BuddyZone, block_at, free_set_of, TakesFrames}
+use Rattle.zone_blocks.specs.{IsBlock, IsFree, BuddyZone, block_at, free_set_of, TakesFrames}
 use Rattle.zone_blocks.proofs.BuddyFrames.{length-set_of, in_a_block, takes_frames, kept_less}
 use Rattle.zone_blocks.proofs.buddy.Buddy.take_frame.Goals as goal
 

@@ -5,21 +5,19 @@ use Rattle.frame_word.specs.Seats.{KnownTable}
 use Rattle.group_charge.specs.Charges.{Ledger}
 use Rattle.control_files.specs.Files as files
 use Rattle.mem_system.specs.Cpus.{CpuInRun}
-use Rattle.mem_system.specs.declared.command.Cmd.{Cmd}
-use Rattle.mem_system.specs.declared.command.Cmd.TheVariants as cmd
-use Rattle.mem_system.specs.declared.command.Reply.{Reply}
-use Rattle.mem_system.specs.declared.command.Reply.TheVariants as reply
+use Rattle.mem_system.specs.declared.command.LockedCommand.{LockedCommand}
+use Rattle.mem_system.specs.declared.command.LockedCommand.TheVariants as cmd
+use Rattle.mem_system.specs.declared.command.ReplyWithText.{ReplyWithText}
+use Rattle.mem_system.specs.declared.command.ReplyWithText.TheVariants as reply
 use Rattle.mem_system.specs.declared.outcome.Outcome.{Outcome}
-use Rattle.mem_system.specs.Outcomes.{HasItsGroups, reply_of, text_reply}
-use Rattle.mem_system.specs.Visits.{IsServed, IsVisited, ServesOutcome, locked_state}
+use Rattle.mem_system.specs.{HasItsGroups, reply_of, text_reply, IsServed, IsVisited, ServesOutcome, locked_state}
 use Rattle.zone_threads.specs.declared.calls.ReadAnswer.{ReadAnswer}
-use Rattle.zone_threads.specs.Calling.{IsReadUnderLock}
-use Rattle.zone_threads.specs.Homes.{KnownBehind}
+use Rattle.zone_threads.specs.{IsReadUnderLock, KnownBehind}
 use Rattle.zone_threads.proofs.behind.Behind.read.Goals.{in-Ok, in-Err}
 use Rattle.zone_threads.proofs.behind.Behind.read.Goals as goal
 
 -- a visit with an outcome is one with the reply that the charges make of the outcome
-replied : (t : KnownTable) (sizes : Config) (asked : Cmd) (outcome : Outcome) (reply : Reply) (from to : CpuInRun)
+replied : (t : KnownTable) (sizes : Config) (asked : LockedCommand) (outcome : Outcome) (reply : ReplyWithText) (from to : CpuInRun)
     → (v : IsVisited t sizes (ServesOutcome t asked outcome) from to) → reply_of v.left.machine.ledger outcome ≡ reply
     → IsVisited t sizes (IsServed t asked reply) from to
 replied t sizes asked outcome reply from to v is = record {
@@ -27,7 +25,7 @@ replied t sizes asked outcome reply from to v is = record {
   left = v.left;
   sizes_are = v.sizes_are;
   sound_before = v.sound_before;
-  served = subst (λ (r : Reply). IsServed t asked r (locked_state v.found from) (locked_state v.left to)) is v.served;
+  served = subst (λ (r : ReplyWithText). IsServed t asked r (locked_state v.found from) (locked_state v.left to)) is v.served;
   sound_after = v.sound_after;
 }
 

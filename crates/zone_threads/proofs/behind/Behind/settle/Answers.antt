@@ -5,9 +5,9 @@ use Rattle.zone_threads.proofs.behind.Behind.settle.Goals as goal
 pub returns : goal.returns
 returns g c = record {
   found = c.self.inside.locked;
-  left = c.settle.new.locked;
+  left = c.serve_settle.new.locked;
   sizes_are = ap (λ (b : KnownBehind). b.locked.sizes) c.self.view_is;
   sound_before = record { quiet = c.prove_quiet.ensures.quiet; consistent = c.prove_quiet.ensures.consistent; charges = c.prove_quiet.ensures.charges };
-  served = c.settle.ensures.served;
+  served = c.serve_settle.ensures.served;
   sound_after = record { quiet = c.prove_quiet-2.ensures.quiet; consistent = c.prove_quiet-2.ensures.consistent; charges = c.prove_quiet-2.ensures.charges };
 }

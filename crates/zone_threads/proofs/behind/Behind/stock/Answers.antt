@@ -6,10 +6,10 @@ pub returns-in_default : goal.returns-in_default
 returns-in_default g c =
     record {
       found = c.self.inside.locked;
-      settled = c.settle.new.locked;
-      left = c.settle.new.locked;
+      settled = c.serve_settle.new.locked;
+      left = c.serve_settle.new.locked;
       sound_before = search rules;
-      settles = c.settle.ensures.served;
+      settles = c.serve_settle.ensures.served;
       sound_settled = search rules;
       sound_after = search rules;
       told = tt;
@@ -19,10 +19,10 @@ pub returns : goal.returns
 returns g c =
     record {
       found = c.self.inside.locked;
-      settled = c.settle.new.locked;
-      left = c.settle.new.locked;
+      settled = c.serve_settle.new.locked;
+      left = c.serve_settle.new.locked;
       sound_before = search rules;
-      settles = c.settle.ensures.served;
+      settles = c.serve_settle.ensures.served;
       sound_settled = search rules;
       sound_after = search rules;
       told = record { text_is = search rules; stays = refl };

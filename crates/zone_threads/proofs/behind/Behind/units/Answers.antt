@@ -8,10 +8,10 @@ pub returns-in_default : goal.returns-in_default
 returns-in_default g c =
     record {
       found = c.self.inside.locked;
-      settled = c.settle.new.locked;
+      settled = c.serve_settle.new.locked;
       left = c.write_units_at-shown.new.locked;
       sound_before = search rules;
-      settles = c.settle.ensures.served;
+      settles = c.serve_settle.ensures.served;
       sound_settled = search rules;
       sound_after = search rules;
       told = tt;
@@ -22,10 +22,10 @@ returns-then-not-is_there g c =
     let gone : c.in-Ok.is_there ≡ false = search rules in
     record {
       found = c.self.inside.locked;
-      settled = c.settle.new.locked;
+      settled = c.serve_settle.new.locked;
       left = c.write_units_at-shown.new.locked;
       sound_before = search rules;
-      settles = c.settle.ensures.served;
+      settles = c.serve_settle.ensures.served;
       sound_settled = search rules;
       sound_after = search rules;
       told = units_missing _ _ _ _ _ _ (λ shown told. true≢false (sym told.0 ∙ gone)) c.in-Ok.ensures.units;
@@ -37,10 +37,10 @@ returns g c =
     let same : c.into_bytes.result.items ≡ string_bytes c.write_units_at-shown.new.text = search rules in
     record {
       found = c.self.inside.locked;
-      settled = c.settle.new.locked;
+      settled = c.serve_settle.new.locked;
       left = c.write_units_at-shown.new.locked;
       sound_before = search rules;
-      settles = c.settle.ensures.served;
+      settles = c.serve_settle.ensures.served;
       sound_settled = search rules;
       sound_after = search rules;
       told = units_shown _ _ _ _ _ _ _ (λ missing. there_is c.in-Ok.is_there there missing.0)

@@ -3,11 +3,10 @@ use Rattle.std.proofs.Common.{◌≡◌, ◌∙◌, ℕ, Some, refl, rules, subs
 use Rattle.zone_blocks.specs.declared.config.Config.{Config}
 use Rattle.frame_word.specs.Seats.{KnownTable}
 use Rattle.mem_system.specs.Cpus.{CpuInRun}
-use Rattle.mem_system.specs.declared.command.Cmd.TheVariants as cmd
+use Rattle.mem_system.specs.declared.command.LockedCommand.TheVariants as cmd
 use Rattle.mem_system.specs.declared.outcome.Outcome.{Outcome}
 use Rattle.mem_system.specs.Visits.{IsVisited, ServesOutcome}
-use Rattle.zone_threads.specs.Calling.{MissesDrop, Then}
-use Rattle.zone_threads.specs.Homes.{KnownHome, OnCpu}
+use Rattle.zone_threads.specs.{MissesDrop, Then, KnownHome, OnCpu}
 use Rattle.zone_threads.proofs.home.Home.release.Goals as goal
 
 same_cpu : (a b : CpuInRun) → Some a ≡ Some b → a ≡ b

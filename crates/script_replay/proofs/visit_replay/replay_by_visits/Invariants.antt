@@ -1,9 +1,0 @@
-use Rattle.std.proofs.Common.{take}
-use Rattle.std.specs.String.{string_bytes}
-use Rattle.script_replay.specs.Terms.{boot_tables}
-use Rattle.script_replay.specs.Visits.{VisitsAll}
-use Rattle.script_replay.proofs.visit_replay.replay_by_visits.Given as goal
-
-abbrev pub invariant-loop-line : goal.invariant-loop-line
-invariant-loop-line g l =
-    VisitsAll (boot_tables g.N.BootName.frames l.system.sizes) (take l.line-index l.lines) l.initial.cpus l.cpus (string_bytes l.answers)

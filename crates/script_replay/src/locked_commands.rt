@@ -1,0 +1,132 @@
+//! The commands under the lock. By value, the machine's watch takes the Lock before a command and the Unlock after it.
+
+ghost use Rattle.std.specs.Prelude.{◌≡◌, ◌∷◌, [], IsTrue, List, None, Some, ℕ};
+ghost use Rattle.std.specs.Borrow.{Bor};
+ghost use Rattle.group_tree.specs.Groups.{has_group, number_at};
+ghost use Rattle.boot_words.specs.Pasts.{own_past};
+ghost use Rattle.step_rules.specs.declared.step.Action.TheVariants.{Lock, Unlock};
+ghost use Rattle.step_rules.specs.declared.step.Answer.TheVariants.{Done};
+ghost use Rattle.mem_machine.specs.Showing.{stock_left};
+ghost use Rattle.mem_machine.specs.Steps.{cpu_makes};
+ghost use Rattle.mem_system.specs.Visits.{locked_state};
+ghost use Rattle.script_lines.specs.declared.line.Command.TheVariants.{Alloc};
+ghost use Rattle.script_replay.specs.Answers.{AnswersLocked, OnlyWatched, ServesUnderLock, locked_with_unit_notes};
+ghost use Rattle.script_replay.specs.Commands.{OnlySettles, locked_command_of};
+ghost use Rattle.script_replay.specs.Ranges.{CommandInRange};
+ghost use Rattle.script_replay.specs.ValueAnswers.{NamesItsGroups, answer_of};
+
+use crate::answer_value::AnswerValue;
+use crate::commands::locked_command_of;
+use cpu_part::{BootName, Tables};
+use group_tree::group::GroupId;
+use mem_system::{Cpu, Locked, serve_frame_outcome, serve_outcome, serve_settle};
+use script_lines::line::Command;
+use step_rules::step::{Action, Answer};
+
+// The watch takes the Lock of this CPU. It is asked first whether it is on, because an action has room for a path, and
+// building one for each line costs.
+#[inline(always)]
+#[tactic(auto, using(crate::proofs::Taking::unwatched))]
+fn watch_lock<N: BootName>(locked: &mut Locked<N>, cpu: u32)
+    ensures { OnlyWatched (cpu_makes cpu Lock Done ∷ []) locked.old locked.new }
+{
+    if !locked.watch().is_on() {
+        return;
+    }
+    locked.take_step(cpu, Action::Lock, Answer::Done);
+}
+
+// This CPU takes the lock for a command. Reclaimed units are noted from now on exactly if the command is explained.
+#[inline(always)]
+fn begin_command<N: BootName>(locked: &mut Locked<N>, cpu: u32, is_explained: bool)
+    ensures watched { OnlyWatched (cpu_makes cpu Lock Done ∷ []) (locked_with_unit_notes locked.old is_explained)
+        locked.new }
+    ensures zone { (own_past locked.old.machine.run.past).number ≡ 0 }
+{
+    locked.prove_quiet();
+    locked.set_unit_notes(is_explained);
+    watch_lock(locked, cpu);
+}
+
+// The CPU of this number releases the lock.
+#[inline(always)]
+#[tactic(auto, using(crate::proofs::Taking::unwatched))]
+fn end_command<N: BootName>(locked: &mut Locked<N>, cpu: u32)
+    ensures { OnlyWatched (cpu_makes cpu Unlock Done ∷ []) locked.old locked.new }
+{
+    if !locked.watch().is_on() {
+        return;
+    }
+    locked.take_step(cpu, Action::Unlock, Answer::Done);
+}
+
+// Serves a command, whose CPU holds the lock: carries out its `LockedCommand`, or only settles the CPU.
+#[inline(always)]
+#[tactic(auto, using(crate::proofs::InRange::locked_command_in_zone))]
+pub(crate) fn serve_locked<N: BootName>(
+    locked: &mut Locked<N>,
+    tables: &Tables<N>,
+    cpu: &mut Cpu<N>,
+    command: &Command<'_>,
+) -> AnswerValue
+    requires in_range { CommandInRange N.frames.frames command.now }
+    requires settles { locked_command_of command.now ≡ None → OnlySettles command.now }
+    ensures answers { AnswersLocked N.frames command.now (answer_of locked.new.machine.ledger result)
+        (locked_state locked.old cpu.old) (locked_state locked.new cpu.new) }
+    ensures groups { NamesItsGroups locked.new.machine.ledger result }
+    ensures last { cpu.new.last ≡ stock_left N.frames locked.new.machine cpu.new.part.number }
+{
+    match locked_command_of(command) {
+        Some(cmd) => AnswerValue::Served(serve_outcome(locked, tables, cpu, &cmd)),
+        None => {
+            serve_settle(locked, tables, cpu);
+            AnswerValue::Settled
+        }
+    }
+}
+
+// Serves a command under the lock. Reclaimed units are noted exactly if the command is explained.
+#[inline(always)]
+pub(crate) fn serve_under_lock<N: BootName>(
+    locked: &mut Locked<N>,
+    tables: &Tables<N>,
+    cpu: &mut Cpu<N>,
+    command: &Command<'_>,
+    is_explained: bool,
+) -> AnswerValue
+    requires in_range { CommandInRange N.frames.frames command.now }
+    requires settles { locked_command_of command.now ≡ None → OnlySettles command.now }
+    ensures served { ServesUnderLock N.frames is_explained command.now (answer_of locked.new.machine.ledger result)
+        (locked_state locked.old cpu.old) (locked_state locked.new cpu.new) }
+    ensures groups { NamesItsGroups locked.new.machine.ledger result }
+    ensures last { cpu.new.last ≡ stock_left N.frames locked.new.machine cpu.new.part.number }
+{
+    let cpu_number = cpu.number();
+    begin_command(locked, cpu_number, is_explained);
+    let value = serve_locked(locked, tables, cpu, command);
+    end_command(locked, cpu_number);
+    value
+}
+
+// Serves an Alloc of a single frame for this group under the lock. It doesn't look the group's path up again.
+#[inline(always)]
+pub(crate) fn serve_frame_under_lock<N: BootName>(
+    locked: &mut Locked<N>,
+    tables: &Tables<N>,
+    cpu: &mut Cpu<N>,
+    group: GroupId,
+    is_explained: bool,
+) -> AnswerValue
+    requires there { IsTrue (has_group locked.old.machine.ledger.groups group) }
+    ensures served { (path : Bor (List ℕ)) → number_at locked.old.machine.ledger.groups path.now ≡ Some group
+        → ServesUnderLock N.frames is_explained (Alloc path 0) (answer_of locked.new.machine.ledger result)
+        (locked_state locked.old cpu.old) (locked_state locked.new cpu.new) }
+    ensures groups { NamesItsGroups locked.new.machine.ledger result }
+    ensures last { cpu.new.last ≡ stock_left N.frames locked.new.machine cpu.new.part.number }
+{
+    let cpu_number = cpu.number();
+    begin_command(locked, cpu_number, is_explained);
+    let outcome = serve_frame_outcome(locked, tables, cpu, group);
+    end_command(locked, cpu_number);
+    AnswerValue::Served(outcome)
+}
