@@ -8,8 +8,12 @@ use Rattle.std.proofs.lemmas.List.{append_assoc, append-nil}
 use Rattle.std.proofs.lemmas.List.Folds.{list_any-append}
 use Rattle.frame_word.specs.Seats.{KnownTable}
 use Rattle.boot_words.specs.Pasts.{IsHeld}
+use Rattle.group_tree.specs.declared.event.EventKey.TheVariants as event
 use Rattle.group_tree.specs.declared.group.Group.{Group}
 use Rattle.group_tree.specs.Groups.{in_subtree, is_oom_group}
+use Rattle.group_charge.specs.Charges.{current_of}
+use Rattle.group_charge.proofs.UsageLemmas.{usage-noted}
+use Rattle.group_protection.proofs.Topping.{kept_still}
 use Rattle.lru_lists.specs.declared.record.Link.{Link}
 use Rattle.lru_lists.specs.declared.record.Home.{Home}
 use Rattle.lru_lists.specs.{owner_of, link_at}
@@ -293,12 +297,15 @@ module _ (t : KnownTable) (MayAsk : List Group → ℕ → ℕ → Type 0) (s : 
       (ap (λ (z : List Group × Option ℕ). of_subtree g z.0 z.1) (λ i. (sym groups i, sym (stocks.of q) i)) ∙ is))
 
   still_missed : (g : ℕ) (m n : KnownMachine) → OnlyReleases t m n → MissedAll g s m → MissedAll g s n
-  still_missed g m n keeps missed f h inside is clean =
-      let there = keeps.leaves f h is in
-      let kept : home_of n.links f ≢ None = λ none. none-some h (sym none ∙ is) in
-      let p = missed f h (ap (λ (l : List Group). in_subtree l g h.owner) (sym keeps.groups) ∙ inside) there (sym (keeps.dirt f kept) ∙ clean) in
-      let q = keeps.misses f in
-      omega (arith, p, q)
+  still_missed g m n keeps missed other inside = elim (missed other (ap (λ (l : List Group). in_subtree l g other) (sym keeps.groups) ∙ inside)) [
+    | inl all ↦ inl (λ f list is clean.
+        let there = keeps.leaves f (record { owner = other; list = list }) is in
+        let kept : home_of n.links f ≢ None = λ none. none-some (record { owner = other; list = list }) (sym none ∙ is) in
+        let p = all f list there (sym (keeps.dirt f kept) ∙ clean) in
+        let q = keeps.misses f in
+        omega (arith, p, q))
+    | inr spared ↦ inr (kept_still m.ledger n.ledger g other keeps.groups keeps.settings (keeps.usage other) spared)
+  ]
 
   ready_more : (r : Option ℕ) (g pages : ℕ) (killed : Killed) (made : Run) (m : KnownMachine) (steps : Run) (n : KnownMachine) → Ready g made m
       → (one : KillsOneVictim r g pages killed (transition t m steps n)) → Ready g (made ++ steps) n
@@ -372,10 +379,15 @@ module _ (t : KnownTable) (MayAsk : List Group → ℕ → ℕ → Type 0) (s : 
         since = passes_both t s m x made (note_oom_steps g) since note;
         noted = noted_last g made (note_oom_steps g) (or_left (g == g) false (eq-eqb g g refl));
         drained = drained_on g m x refl (λ q. parts_after t m (note_oom_steps g) x h.notes here q refl) drained;
-        missed = λ f home inside is clean.
-            let p = missed f home inside is clean in
-            let q = misses_after t m (note_oom_steps g) x h.notes here f in
-            omega (arith, p, q);
+        missed = λ other inside. elim (missed other inside) [
+          | inl all ↦ inl (λ f list is clean.
+              let p = all f list is clean in
+              let q = misses_after t m (note_oom_steps g) x h.notes here f in
+              omega (arith, p, q))
+          | inr spared ↦
+              let e : current_of x.ledger other ≡ current_of m.ledger other = usage-noted event.Oom m.ledger.groups m.ledger.accounts g other in
+              inr (kept_still m.ledger x.ledger g other refl refl (omega (arith, e)) spared)
+        ];
       } in
       subst (λ (k : Run). Tame made m k n) (sym h.steps_are) (tame_both made m x n (note_oom_steps g) h.killing
       (tame_quiet made m (note_oom_steps g) x note refl refl)
@@ -392,10 +404,13 @@ module _ (t : KnownTable) (MayAsk : List Group → ℕ → ℕ → Type 0) (s : 
   -- ---- a limit without room
 
   pub missed_since : (g : ℕ) (made : Run) (m n : KnownMachine) → Passes t s made m → MissedAll g m n → MissedAll g s n
-  missed_since g made m n since missed f h inside is clean =
-      let p = missed f h inside is clean in
-      let q = misses_after t s made m since.runs held_there f in
-      omega (arith, p, q)
+  missed_since g made m n since missed other inside = elim (missed other inside) [
+    | inl all ↦ inl (λ f list is clean.
+        let p = all f list is clean in
+        let q = misses_after t s made m since.runs held_there f in
+        omega (arith, p, q))
+    | inr spared ↦ inr spared
+  ]
 
   clears_tame : (g pages : ℕ) (made : Run) (m : KnownMachine) (steps : Run) (n : KnownMachine) → ClearsBelow g pages (transition t m steps n) → Tame made m steps n
   clears_tame g pages made m steps n h =

@@ -98,7 +98,7 @@ pub record WritesFlag (value : List ℕ) (group : ℕ) (call : Transition KnownM
 
 -- The value is the text of an amount, and this many pages of the group's subtree are reclaimed, by these steps alone.
 -- Stocks and killed groups stay, and no dirty unit is freed. If fewer pages are freed than asked for, each clean unit
--- that the subtree still keeps was tried and missed.
+-- that the subtree still keeps was tried and missed, or memory.min keeps it.
 pub record WritesAmount (value : List ℕ) (group : ℕ) (Ends : (asked freed : ℕ) → Type 0)
     (call : Transition KnownMachine) : Type 0 where
   pub asked : ℕ
