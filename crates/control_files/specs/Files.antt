@@ -9,7 +9,7 @@ use Rattle.group_charge.specs.Charges.{Ledger, current_of, peak_of, events_of, e
 use Rattle.control_files.specs.Flag.{flag_word}
 use Rattle.control_files.specs.Limit.{page_bytes}
 use Rattle.control_files.specs.declared.file.File.{File}
-use Rattle.control_files.specs.declared.file.File.TheVariants.{Current, Max, High, Peak, Events, EventsLocal, OomGroup, Reclaim}
+use Rattle.control_files.specs.declared.file.File.TheVariants.{Current, Max, High, Low, Min, Peak, Events, EventsLocal, OomGroup, Reclaim}
 
 -- the bytes of a file's name, and whether it can be read and written
 pub record Row : Type 0 where
@@ -22,6 +22,8 @@ abbrev pub row_of : File → Row
 row_of Current = record { name = codes "memory.current"; is_readable = true; is_writable = false }
 row_of Max = record { name = codes "memory.max"; is_readable = true; is_writable = true }
 row_of High = record { name = codes "memory.high"; is_readable = true; is_writable = true }
+row_of Low = record { name = codes "memory.low"; is_readable = true; is_writable = true }
+row_of Min = record { name = codes "memory.min"; is_readable = true; is_writable = true }
 row_of Peak = record { name = codes "memory.peak"; is_readable = true; is_writable = false }
 row_of Events = record { name = codes "memory.events"; is_readable = true; is_writable = false }
 row_of EventsLocal = record { name = codes "memory.events.local"; is_readable = true; is_writable = false }
@@ -66,6 +68,8 @@ abbrev pub file_text : Ledger → ℕ → File → Result (List ℕ) Fault
 file_text ledger g Current = Ok (pages_text (current_of ledger g))
 file_text ledger g Max = Ok (limit_text (limit_of ledger.groups g))
 file_text ledger g High = Ok (limit_text (settings_of ledger g).high)
+file_text ledger g Low = Ok (limit_text (settings_of ledger g).low)
+file_text ledger g Min = Ok (limit_text (settings_of ledger g).min)
 file_text ledger g Peak = Ok (pages_text (peak_of ledger g))
 file_text ledger g Events = Ok (events_text (events_of ledger g))
 file_text ledger g EventsLocal = Ok (events_text (events_local_of ledger g))

@@ -25,6 +25,10 @@ pub enum File {
     Max,
     /// memory.high: how far that usage may rise before reclaim lowers it.
     High,
+    /// memory.low: how much of that usage reclaim spares while it finds pages elsewhere.
+    Low,
+    /// memory.min: how much of that usage reclaim spares.
+    Min,
     /// memory.peak: the greatest usage since the group was made.
     Peak,
     /// memory.events: how many events of each kind the group and those below it had.
@@ -38,10 +42,12 @@ pub enum File {
 }
 
 // All files.
-const FILES: [File; 8] = [
+const FILES: [File; 10] = [
     File::Current,
     File::Max,
     File::High,
+    File::Low,
+    File::Min,
     File::Peak,
     File::Events,
     File::EventsLocal,
@@ -60,6 +66,8 @@ impl File {
             File::Current => ("memory.current", true, false),
             File::Max => ("memory.max", true, true),
             File::High => ("memory.high", true, true),
+            File::Low => ("memory.low", true, true),
+            File::Min => ("memory.min", true, true),
             File::Peak => ("memory.peak", true, false),
             File::Events => ("memory.events", true, false),
             File::EventsLocal => ("memory.events.local", true, false),
@@ -104,6 +112,8 @@ pub fn file_text(charges: &Charges, group: GroupId, file: File) -> Result<ArrayT
         File::Current => Ok(pages_text(charges.current(group))),
         File::Max => Ok(write_limit(charges.max(group))),
         File::High => Ok(write_limit(charges.settings(group).high)),
+        File::Low => Ok(write_limit(charges.settings(group).low)),
+        File::Min => Ok(write_limit(charges.settings(group).min)),
         File::Peak => Ok(pages_text(charges.peak(group))),
         File::Events => Ok(events_text(charges.events(group))),
         File::EventsLocal => Ok(events_text(charges.events_local(group))),

@@ -12,7 +12,7 @@ use Rattle.group_tree.proofs.CallerLemmas.{limit_of-limited}
 use Rattle.group_charge.specs.Charges.{current_of}
 use Rattle.zone_blocks.specs.declared.config.Config.{Config}
 use Rattle.control_files.specs.declared.file.File.{File}
-use Rattle.control_files.specs.declared.file.File.TheVariants.{Max, High, OomGroup, Reclaim}
+use Rattle.control_files.specs.declared.file.File.TheVariants.{Max, High, Low, Min, OomGroup, Reclaim}
 use Rattle.cpu_part.specs.Cpus.{KnownCpu}
 use Rattle.step_rules.specs.After.{Run}
 use Rattle.mem_machine.specs.declared.releasing.Released.TheVariants as released
@@ -157,6 +157,8 @@ module _ (t : KnownTable) (MayAsk : List Group → ℕ → ℕ → Type 0) (s : 
     set_no_rash g Max steps n is h =
         sets_rash path g h.limit steps n is.number (asks g h.limit (record { file = is; reads = h.reads })) h.sets
     set_no_rash g High steps n is h = quiet steps (high_quiet g h.limit (transition t (with_high_of s g h.limit) steps n) h.lowers)
+    set_no_rash g Low steps n is h = quiet steps (ap has_kill h.steps_are)
+    set_no_rash g Min steps n is h = quiet steps (ap has_kill h.steps_are)
     set_no_rash g OomGroup steps n is h = quiet steps (ap has_kill h.sets.steps_are)
     set_no_rash g Reclaim steps n is h = quiet steps (ap has_kill h.steps_are ∙ h.reclaims.moves.no_kill)
     set_no_rash g file steps n is h = absurd h

@@ -4,9 +4,9 @@ use Rattle.group_tree.specs.declared.group.Group.{Group}
 use Rattle.group_tree.specs.Groups.{number_at}
 use Rattle.group_tree.specs.declared.fault.Fault.{Fault}
 use Rattle.group_tree.specs.declared.fault.Fault.TheVariants.{NoGroup, NoFile, ReadOnly, BadLimit, BadNumber, Again}
-use Rattle.group_charge.specs.Charges.{Ledger, current_of, with_group_limit, with_oom_flag, with_settings}
+use Rattle.group_charge.specs.Charges.{Ledger, current_of, settings_of, with_group_limit, with_oom_flag, with_settings}
 use Rattle.control_files.specs.declared.file.File.{File}
-use Rattle.control_files.specs.declared.file.File.TheVariants.{Max, High, OomGroup, Reclaim}
+use Rattle.control_files.specs.declared.file.File.TheVariants.{Max, High, Low, Min, OomGroup, Reclaim}
 use Rattle.control_files.specs.{name_of_file, file_text, is_writable, IsFlagText, IsNoFlagText, ReadsAmount, ReadsAs, IsTooGreat, IsNoAmountText}
 use Rattle.control_files.specs.{IsNoLimitText}
 use Rattle.step_rules.specs.After.{Run}
@@ -71,7 +71,19 @@ pub record WritesLimit (value : List ℕ) (group : ℕ) (call : Transition Known
 -- the machine with another memory.high of the group; no step sets it, since no rule reads it
 abbrev pub with_high_of : KnownMachine → (group : ℕ) → Option ℕ → KnownMachine
 with_high_of machine group limit = record machine {
-  ledger = with_settings machine.ledger group (record { high = limit });
+  ledger = with_settings machine.ledger group (record (settings_of machine.ledger group) { high = limit });
+}
+
+-- the same with another memory.low
+abbrev pub with_low_of : KnownMachine → (group : ℕ) → Option ℕ → KnownMachine
+with_low_of machine group limit = record machine {
+  ledger = with_settings machine.ledger group (record (settings_of machine.ledger group) { low = limit });
+}
+
+-- and with another memory.min
+abbrev pub with_min_of : KnownMachine → (group : ℕ) → Option ℕ → KnownMachine
+with_min_of machine group limit = record machine {
+  ledger = with_settings machine.ledger group (record (settings_of machine.ledger group) { min = limit });
 }
 
 -- the value is the text of a limit, which becomes the group's memory.high, and then its usage is lowered to it
@@ -80,6 +92,13 @@ pub record WritesHigh (value : List ℕ) (group : ℕ) (call : Transition KnownM
   pub reads : ReadsAs value limit
   pub lowers : LowersToHigh group limit
       (transition call.table (with_high_of call.before group limit) call.steps call.after)
+
+-- the value is the text of a limit, and `Sets` says which machine that leaves; no step is made
+pub record WritesSetting (Sets : Option ℕ → KnownMachine) (value : List ℕ) (call : Transition KnownMachine) : Type 0 where
+  pub limit : Option ℕ
+  pub reads : ReadsAs value limit
+  pub machine : call.after ≡ Sets limit
+  pub steps_are : call.steps ≡ []
 
 -- the machine with another flag of the group: whether it is killed as a whole
 abbrev pub with_flag_of : KnownMachine → (group : ℕ) → Bool → KnownMachine
@@ -115,6 +134,8 @@ pub record WritesAmount (value : List ℕ) (group : ℕ) (Ends : (asked freed : 
 abbrev pub SetsFile : File → (value : List ℕ) → (group : ℕ) → Transition KnownMachine → Type 0
 SetsFile Max value group call = WritesLimit value group call
 SetsFile High value group call = WritesHigh value group call
+SetsFile Low value group call = WritesSetting (with_low_of call.before group) value call
+SetsFile Min value group call = WritesSetting (with_min_of call.before group) value call
 SetsFile OomGroup value group call = WritesFlag value group call
 SetsFile Reclaim value group call = WritesAmount value group (λ asked freed. asked ≤ freed) call
 SetsFile read_only value group call = ⊥
@@ -126,6 +147,10 @@ RefusesValue Max value BadLimit = IsNoLimitText value
 RefusesValue Max value BadNumber = IsTooGreat value
 RefusesValue High value BadLimit = IsNoLimitText value
 RefusesValue High value BadNumber = IsTooGreat value
+RefusesValue Low value BadLimit = IsNoLimitText value
+RefusesValue Low value BadNumber = IsTooGreat value
+RefusesValue Min value BadLimit = IsNoLimitText value
+RefusesValue Min value BadNumber = IsTooGreat value
 RefusesValue OomGroup value BadLimit = IsNoFlagText value
 RefusesValue Reclaim value BadLimit = IsNoAmountText value
 RefusesValue Reclaim value BadNumber = IsTooGreat value

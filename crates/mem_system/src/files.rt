@@ -105,8 +105,41 @@ fn write_high<N: BootName>(
 {
     match read_limit(value) {
         Ok(high) => {
-            machine.set_settings(group, Settings { high });
+            let settings = machine.charges().settings(group);
+            machine.set_settings(group, Settings { high, ..settings });
             lower_to_high(machine, tables, group, high);
+            Outcome::Done
+        }
+        Err(fault) => Outcome::Refused(fault),
+    }
+}
+
+// Gives the group the memory.low that the value writes. The value is refused if it is no limit.
+fn write_low<N: BootName>(machine: &mut Machine<N>, group: GroupId, value: &[u8]) -> Outcome
+    ensures written { ComesToAlone N.frames result (WritesTo File.Low value.now group) machine.old machine.new }
+    ensures groups { HasItsGroups machine.new.ledger result }
+    ensures visit { StaysVisited N.frames machine.old machine.new }
+{
+    match read_limit(value) {
+        Ok(low) => {
+            let settings = machine.charges().settings(group);
+            machine.set_settings(group, Settings { low, ..settings });
+            Outcome::Done
+        }
+        Err(fault) => Outcome::Refused(fault),
+    }
+}
+
+// The same for memory.min.
+fn write_min<N: BootName>(machine: &mut Machine<N>, group: GroupId, value: &[u8]) -> Outcome
+    ensures written { ComesToAlone N.frames result (WritesTo File.Min value.now group) machine.old machine.new }
+    ensures groups { HasItsGroups machine.new.ledger result }
+    ensures visit { StaysVisited N.frames machine.old machine.new }
+{
+    match read_limit(value) {
+        Ok(min) => {
+            let settings = machine.charges().settings(group);
+            machine.set_settings(group, Settings { min, ..settings });
             Outcome::Done
         }
         Err(fault) => Outcome::Refused(fault),
@@ -196,6 +229,8 @@ pub(crate) fn write_file<N: BootName>(
     match file {
         File::Max => write_limit(machine, tables, group, value),
         File::High => write_high(machine, tables, group, value),
+        File::Low => write_low(machine, group, value),
+        File::Min => write_min(machine, group, value),
         File::OomGroup => write_flag(machine, tables, group, value),
         File::Reclaim => write_reclaim(machine, tables, group, value),
         _ => Outcome::Refused(Fault::ReadOnly),

@@ -6,7 +6,7 @@ ghost use Rattle.group_tree.specs.Path.{is_root};
 ghost use Rattle.script_lint.specs.Refusals.{CantChange, HasFile, IsJudged, IsNoFileName, IsNoPath, IsRefused, LacksFile, RefusesOrder};
 ghost use Rattle.script_lint.specs.Refusals.{RefusesRead, RefusesReadOf, NeverTakesValue, RefusesWriteOf};
 ghost use Rattle.script_lint.specs.Refusals.{is_unmodelled};
-ghost use Rattle.script_lint.specs.Refusals.{LacksAmount, LacksFlag, LacksLimit, is_of_swap, is_protection, is_statistic};
+ghost use Rattle.script_lint.specs.Refusals.{LacksAmount, LacksFlag, LacksLimit, is_of_swap, is_statistic};
 ghost use Rattle.script_lint.specs.Doubts.{IsDoubtful, IsFewBytes, takes_bytes};
 ghost use Rattle.script_lint.specs.Refused.{sentence, verdict};
 ghost use Rattle.script_lint.specs.declared.refusal.Refusal.{Refusal};
@@ -259,13 +259,7 @@ fn no_file(name: &[u8]) -> Refusal
 fn is_unmodelled(name: &[u8]) -> bool
     ensures { result ≡ is_unmodelled name.now }
 {
-    is_protection(name) || is_statistic(name) || is_of_swap(name)
-}
-
-fn is_protection(name: &[u8]) -> bool
-    ensures { result ≡ is_protection name.now }
-{
-    name == b"memory.low".as_slice() || name == b"memory.min".as_slice()
+    is_statistic(name) || is_of_swap(name)
 }
 
 fn is_statistic(name: &[u8]) -> bool
@@ -287,7 +281,7 @@ fn value_refusal(file: File, value: &[u8]) -> Option<Refusal>
     ensures { IsJudged (NeverTakesValue file value.now) result }
 {
     match file {
-        File::Max | File::High => limit_refusal(value),
+        File::Max | File::High | File::Low | File::Min => limit_refusal(value),
         File::Reclaim => amount_refusal(value),
         File::OomGroup => flag_refusal(value),
         File::Current | File::Peak | File::Events | File::EventsLocal => Some(Refusal::ReadOnly),
