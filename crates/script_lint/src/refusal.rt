@@ -46,7 +46,7 @@ pub enum Refusal {
     WriteOnly,
     /// The file can't be written.
     ReadOnly,
-    /// memory.max or memory.high doesn't take this value.
+    /// memory.max, memory.high, memory.low or memory.min doesn't take this value.
     NoLimit,
     /// memory.reclaim doesn't take this value.
     NoAmount,
@@ -83,20 +83,22 @@ impl Refusal {
             Refusal::RootToChange => "/ can't be made or removed",
             Refusal::NeverMade => "no line before makes this group",
             Refusal::NotModelled => {
-                "this file isn't modelled; the files are memory.current, memory.max, memory.high, \
-                memory.peak, memory.events, memory.events.local, memory.oom.group, memory.reclaim"
+                "this file isn't modelled; the files are memory.current, memory.max, memory.high, memory.low, \
+                memory.min, memory.peak, memory.events, memory.events.local, memory.oom.group, memory.reclaim"
             }
             Refusal::NoFile => {
-                "no such file; the files are memory.current, memory.max, memory.high, \
-                memory.peak, memory.events, memory.events.local, memory.oom.group, memory.reclaim"
+                "no such file; the files are memory.current, memory.max, memory.high, memory.low, \
+                memory.min, memory.peak, memory.events, memory.events.local, memory.oom.group, memory.reclaim"
             }
             Refusal::FileOfRoot => "/ has no files",
             Refusal::WriteOnly => "memory.reclaim can't be read",
             Refusal::ReadOnly => {
-                "only memory.max, memory.high, memory.oom.group and memory.reclaim can be written"
+                "only memory.max, memory.high, memory.low, memory.min, memory.oom.group and memory.reclaim \
+                can be written"
             }
             Refusal::NoLimit => {
-                "memory.max and memory.high take a whole number of bytes, with K M G T P E, or max"
+                "memory.max, memory.high, memory.low and memory.min take a whole number of bytes, with K M G T \
+                P E, or max"
             }
             Refusal::NoAmount => "memory.reclaim takes a whole number of bytes, with K M G T P E",
             Refusal::NoFlag => "memory.oom.group takes 0 or 1",
@@ -143,6 +145,8 @@ fn takes_bytes(name: &[u8]) -> bool
 {
     name == b"memory.max".as_slice()
         || name == b"memory.high".as_slice()
+        || name == b"memory.low".as_slice()
+        || name == b"memory.min".as_slice()
         || name == b"memory.reclaim".as_slice()
 }
 
