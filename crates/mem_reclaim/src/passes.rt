@@ -23,9 +23,9 @@ fn age_and_scan<N: BootName>(
     want: u64,
 ) -> u64
     requires there { IsTrue (has_group machine.old.ledger.groups group) }
-    requires held { IsHeld N.frames machine.old.run.past }
-    ensures passes { FreesBySteps N.frames result machine.old machine.new (PassesGroup true group want) }
-    ensures keeps { Keeps N.frames machine.old machine.new }
+    requires held { IsHeld N.table machine.old.run.past }
+    ensures passes { FreesBySteps N.table result machine.old machine.new (PassesGroup true group want) }
+    ensures keeps { Keeps N.table machine.old machine.new }
     ensures usage { UsageFalls group result machine.old machine.new }
     ensures few { result < want + 2 ^ 32 }
 {
@@ -42,9 +42,9 @@ fn scan_both<N: BootName>(
 ) -> u64
     requires there { IsTrue (has_group machine.old.ledger.groups group) }
     requires wanted { 0 < want }
-    requires held { IsHeld N.frames machine.old.run.past }
-    ensures passes { FreesBySteps N.frames result machine.old machine.new (PassesGroup false group want) }
-    ensures keeps { Keeps N.frames machine.old machine.new }
+    requires held { IsHeld N.table machine.old.run.past }
+    ensures passes { FreesBySteps N.table result machine.old machine.new (PassesGroup false group want) }
+    ensures keeps { Keeps N.table machine.old machine.new }
     ensures usage { UsageFalls group result machine.old machine.new }
     ensures few { result < want + 2 ^ 32 }
     ensures leaves { OnlyLeave machine.old machine.new }
@@ -76,9 +76,9 @@ fn reclaim_group<N: BootName>(
 ) -> u64
     requires there { IsTrue (has_group machine.old.ledger.groups group) }
     requires wanted { 0 < want }
-    requires held { IsHeld N.frames machine.old.run.past }
-    ensures passes { FreesBySteps N.frames result machine.old machine.new (PassesGroup is_first group want) }
-    ensures keeps { Keeps N.frames machine.old machine.new }
+    requires held { IsHeld N.table machine.old.run.past }
+    ensures passes { FreesBySteps N.table result machine.old machine.new (PassesGroup is_first group want) }
+    ensures keeps { Keeps N.table machine.old machine.new }
     ensures usage { UsageFalls group result machine.old machine.new }
     ensures few { result < want + 2 ^ 32 }
     ensures leaves { is_first ≡ false → OnlyLeave machine.old machine.new }
@@ -103,9 +103,9 @@ pub(crate) fn reclaim_pass<N: BootName>(
 ) -> u64
     requires there { IsTrue (has_group machine.old.ledger.groups group) }
     requires subtree { IsSubtree machine.old.ledger.groups group groups }
-    requires held { IsHeld N.frames machine.old.run.past }
-    ensures passes { FreesBySteps N.frames result machine.old machine.new (ReclaimsPass group is_first want) }
-    ensures keeps { Keeps N.frames machine.old machine.new }
+    requires held { IsHeld N.table machine.old.run.past }
+    ensures passes { FreesBySteps N.table result machine.old machine.new (ReclaimsPass group is_first want) }
+    ensures keeps { Keeps N.table machine.old machine.new }
     ensures usage { current_of machine.new.ledger group + result ≡ current_of machine.old.ledger group }
     ensures few { result < want + 2 ^ 32 }
     ensures leaves { is_first ≡ false → OnlyLeave machine.old machine.new }

@@ -35,8 +35,8 @@ impl<N: BootName> Behind<N> {
         cpu: &mut Cpu<N>,
         cmd: &LockedCommand<'_>,
     ) -> Outcome
-        requires { IsOfZone N.frames cmd.now }
-        ensures { IsVisited N.frames self.old.locked.sizes (ServesOutcome N.frames cmd.now result)
+        requires { IsOfZone N.table cmd.now }
+        ensures { IsVisited N.table self.old.locked.sizes (ServesOutcome N.table cmd.now result)
             cpu.old cpu.new }
     {
         self.locked.prove_quiet();
@@ -54,9 +54,9 @@ impl<N: BootName> Behind<N> {
         group: u32,
     ) -> Option<Outcome>
         ensures served { IfSome result (λ outcome.
-            IsVisited N.frames self.old.locked.sizes (ServesFrameOutcome N.frames group outcome)
+            IsVisited N.table self.old.locked.sizes (ServesFrameOutcome N.table group outcome)
             cpu.old cpu.new) }
-        ensures none { IfNone result (NoGroupBehindLock N.frames group cpu.old cpu.new) }
+        ensures none { IfNone result (NoGroupBehindLock N.table group cpu.old cpu.new) }
     {
         self.locked.prove_quiet();
         let Some(group) = find_group(self.locked.charges(), group) else {
@@ -78,9 +78,9 @@ impl<N: BootName> Behind<N> {
         order: u32,
     ) -> Option<Outcome>
         ensures served { IfSome result (λ outcome.
-            IsVisited N.frames self.old.locked.sizes (ServesBlock N.frames group order outcome)
+            IsVisited N.table self.old.locked.sizes (ServesBlock N.table group order outcome)
             cpu.old cpu.new) }
-        ensures none { IfNone result (NoGroupBehindLock N.frames group cpu.old cpu.new) }
+        ensures none { IfNone result (NoGroupBehindLock N.table group cpu.old cpu.new) }
     {
         self.locked.prove_quiet();
         let Some(group) = find_group(self.locked.charges(), group) else {
@@ -109,9 +109,9 @@ impl<N: BootName> Behind<N> {
         order: u32,
     ) -> Option<Outcome>
         ensures served { IfSome result (λ outcome.
-            IsVisited N.frames self.old.locked.sizes (ServesDirtyUnit N.frames group order outcome)
+            IsVisited N.table self.old.locked.sizes (ServesDirtyUnit N.table group order outcome)
             cpu.old cpu.new) }
-        ensures none { IfNone result (NoGroupBehindLock N.frames group cpu.old cpu.new) }
+        ensures none { IfNone result (NoGroupBehindLock N.table group cpu.old cpu.new) }
     {
         self.locked.prove_quiet();
         let Some(group) = find_group(self.locked.charges(), group) else {
@@ -128,7 +128,7 @@ impl<N: BootName> Behind<N> {
     /// Settles a CPU.
     #[inline(always)]
     pub fn settle(&mut self, tables: &Tables<N>, cpu: &mut Cpu<N>)
-        ensures { IsVisited N.frames self.old.locked.sizes (SettlesCaller N.frames) cpu.old cpu.new }
+        ensures { IsVisited N.table self.old.locked.sizes (SettlesCaller N.table) cpu.old cpu.new }
     {
         self.locked.prove_quiet();
         serve_settle(&mut self.locked, tables, cpu);
@@ -137,7 +137,7 @@ impl<N: BootName> Behind<N> {
 
     /// Reads a file of a group, with its text.
     pub fn read(&mut self, tables: &Tables<N>, cpu: &mut Cpu<N>, asked: &ReadCall<'_>) -> ReadAnswer
-        ensures { IsReadUnderLock N.frames self.old.locked.sizes asked.now cpu.old cpu.new result }
+        ensures { IsReadUnderLock N.table self.old.locked.sizes asked.now cpu.old cpu.new result }
     {
         let ReadCall { path, file } = *asked;
         self.locked.prove_quiet();

@@ -5,7 +5,7 @@ use Rattle.mem_reclaim.proofs.Grown.{held_after}
 use Rattle.mem_reclaim.proofs.passes.reclaim_pass.Goals as goal
 
 pub loop-number-init : goal.loop-number-init
-loop-number-init g c = pass_none g.N.BootName.frames c.args.is_first c.args.group c.args.want c.args.machine.now c.args.groups c.requires.subtree
+loop-number-init g c = pass_none g.N.BootName.table c.args.is_first c.args.group c.args.want c.args.machine.now c.args.groups c.requires.subtree
 
 pub returns-then-want-freed-clause-passes : goal.returns-then-want-freed-clause-passes
 returns-then-want-freed-clause-passes g c = (pass_enough _ _ _ _ _ _ _ _ c.loop-number.invariant c.if-want-freed.true).passes
@@ -19,7 +19,7 @@ reclaim_group-freed-requires-clause-there g c =
 pub reclaim_group-freed-requires-clause-held : goal.reclaim_group-freed-requires-clause-held
 reclaim_group-freed-requires-clause-held g c =
     let so = c.loop-number.invariant.so_far in
-    held_after g.N.BootName.frames c.args.machine.now so.steps c.loop-number.machine so.moves.runs c.requires.held
+    held_after g.N.BootName.table c.args.machine.now so.steps c.loop-number.machine so.moves.runs c.requires.held
 
 pub loop-number-preserved : goal.loop-number-preserved
 loop-number-preserved g c =

@@ -12,7 +12,7 @@ use Rattle.mem_reclaim.proofs.reclaiming.reclaim.Goals as goal
 
 pub returns-then-want-first-clause-reclaims : goal.returns-then-want-first-clause-reclaims
 returns-then-want-first-clause-reclaims g c =
-    first_enough g.N.BootName.frames (ReclaimsPass c.args.group) true false c.args.want c.args.machine.now
+    first_enough g.N.BootName.table (ReclaimsPass c.args.group) true false c.args.want c.args.machine.now
     (let ne = c.if-want-eq0.false in omega (arith, ne)) c.reclaim_pass-first.result
     c.reclaim_pass-first.new.machine c.reclaim_pass-first.ensures.passes c.if-want-first.true
 
@@ -27,21 +27,21 @@ reclaim_pass-requires-clause-subtree g c =
 pub reclaim_pass-requires-clause-held : goal.reclaim_pass-requires-clause-held
 reclaim_pass-requires-clause-held g c =
     let first = c.reclaim_pass-first.ensures.passes in
-    held_after g.N.BootName.frames c.args.machine.now first.steps c.reclaim_pass-first.new.machine first.moves.runs c.requires.held
+    held_after g.N.BootName.table c.args.machine.now first.steps c.reclaim_pass-first.new.machine first.moves.runs c.requires.held
 
 pub returns-clause-reclaims : goal.returns-clause-reclaims
 returns-clause-reclaims g c =
-    both_done g.N.BootName.frames (ReclaimsPass c.args.group) true false c.args.want c.args.machine.now
+    both_done g.N.BootName.table (ReclaimsPass c.args.group) true false c.args.want c.args.machine.now
     (let ne = c.if-want-eq0.false in omega (arith, ne)) c.reclaim_pass-first.result
     c.reclaim_pass-first.new.machine c.reclaim_pass-first.ensures.passes c.if-want-first.false c.reclaim_pass.result c.reclaim_pass.new.machine
     c.reclaim_pass.ensures.passes
 
 pub returns-clause-keeps : goal.returns-clause-keeps
-returns-clause-keeps g c = keeps_both g.N.BootName.frames c.args.machine.now c.reclaim_pass-first.new.machine c.reclaim_pass.new.machine c.reclaim_pass-first.ensures.keeps c.reclaim_pass.ensures.keeps
+returns-clause-keeps g c = keeps_both g.N.BootName.table c.args.machine.now c.reclaim_pass-first.new.machine c.reclaim_pass.new.machine c.reclaim_pass-first.ensures.keeps c.reclaim_pass.ensures.keeps
 
 pub returns-clause-missed : goal.returns-clause-missed
 returns-clause-missed g c less =
-    missed_then g.N.BootName.frames c.args.group c.args.want c.reclaim_pass-first.result c.reclaim_pass.result c.args.machine.now c.reclaim_pass-first.new.machine
+    missed_then g.N.BootName.table c.args.group c.args.want c.reclaim_pass-first.result c.reclaim_pass.result c.args.machine.now c.reclaim_pass-first.new.machine
     c.reclaim_pass.new.machine c.reclaim_pass-first.ensures.keeps (c.reclaim_pass.ensures.missed refl) less
 
 pub returns-clause-tried_all : goal.returns-clause-tried_all
@@ -51,5 +51,5 @@ pub returns-then-want-eq0-clause-reclaims : goal.returns-then-want-eq0-clause-re
 returns-then-want-eq0-clause-reclaims g c = record {
   steps = [];
   does = inl ((let none = c.if-want-eq0.true in omega (arith, none)), record { no_page = refl; machine = refl; no_step = refl });
-  moves = moves_rest g.N.BootName.frames c.args.machine.now;
+  moves = moves_rest g.N.BootName.table c.args.machine.now;
 }

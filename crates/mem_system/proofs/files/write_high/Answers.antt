@@ -12,12 +12,12 @@ lower_to_high-requires-clause-there g c =
 
 pub lower_to_high-requires-clause-held : goal.lower_to_high-requires-clause-held
 lower_to_high-requires-clause-held g c =
-    held_after g.N.BootName.frames c.args.machine.now [] c.set_settings.new.self c.set_settings.ensures.steps c.requires.held
+    held_after g.N.BootName.table c.args.machine.now [] c.set_settings.new.self c.set_settings.ensures.steps c.requires.held
 
 pub returns-in-Ok-clause-written : goal.returns-in-Ok-clause-written
 returns-in-Ok-clause-written g c =
     let set = c.set_settings.ensures in
-    high_written g.N.BootName.frames c.args.value.now c.args.group c.in-Ok.high c.args.machine.now c.set_settings.new.self c.lower_to_high.new.machine
+    high_written g.N.BootName.table c.args.value.now c.args.group c.in-Ok.high c.args.machine.now c.set_settings.new.self c.lower_to_high.new.machine
     ((c.in-Ok.ensures.ok c.in-Ok.high).0 refl) set.machine set.steps c.lower_to_high.ensures.lowers
 
 pub returns-in-Ok-clause-visit : goal.returns-in-Ok-clause-visit
@@ -26,5 +26,5 @@ returns-in-Ok-clause-visit g c = λ y v. c.lower_to_high.ensures.visit y (c.set_
 pub returns-in-Err-clause-written : goal.returns-in-Err-clause-written
 returns-in-Err-clause-written g c =
     let told = c.in-Err.ensures in
-    refused_by g.N.BootName.frames High c.args.value.now c.args.group c.in-Err.fault c.args.machine.now
+    refused_by g.N.BootName.table High c.args.value.now c.args.group c.in-Err.fault c.args.machine.now
     (refused_high c.args.value.now c.in-Err.fault told.err (λ e. told.bad_number.0 (ap Err e)) (λ e. told.bad_limit.0 (ap Err e)))
