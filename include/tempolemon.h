@@ -61,6 +61,8 @@ enum {
     TEMPOLEMON_LAST = 18,     /* the last reference was put */
     TEMPOLEMON_REFUSED = 20,  /* the status says why; of 15 the number is the group whose limit has no room */
     TEMPOLEMON_NOT_FAST = 21, /* no call here answers this */
+    TEMPOLEMON_PAGES = 22,    /* the group has so many pages (tempolemon_threads.h alone) */
+    TEMPOLEMON_NO_LIMIT = 23, /* the group has no such limit (tempolemon_threads.h alone) */
 };
 
 /* The sizes of a zone. */

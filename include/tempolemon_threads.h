@@ -108,6 +108,19 @@ uint8_t tempolemon_try_clean(tempolemon_cpu_part *part, uint32_t frame, tempolem
 uint8_t tempolemon_try_owner(tempolemon_cpu_part *part, uint32_t frame, tempolemon_result *out);
 uint8_t tempolemon_try_settle(tempolemon_cpu_part *part, tempolemon_result *out);
 
+/* A group's memory.current, .peak, .max and .high by its number, in pages of 4,096 bytes: PAGES with the number, NO_LIMIT if
+ * it has none, BAD_GROUP if no group has the number. The CPU isn't settled. */
+uint8_t tempolemon_try_usage(tempolemon_cpu_part *part, uint32_t group, tempolemon_result *out);
+uint8_t tempolemon_try_peak(tempolemon_cpu_part *part, uint32_t group, tempolemon_result *out);
+uint8_t tempolemon_try_max(tempolemon_cpu_part *part, uint32_t group, tempolemon_result *out);
+uint8_t tempolemon_try_high(tempolemon_cpu_part *part, uint32_t group, tempolemon_result *out);
+
+/* Writes of a group's memory.max, .high and .reclaim by its number, in pages; 2^32 or more are `max`. They answer as
+ * tempolemon_try_write does, or BAD_GROUP. A number may be given to a new group once its group is removed. */
+uint8_t tempolemon_try_set_max(tempolemon_cpu_part *part, uint32_t group, uint64_t pages, tempolemon_result *out);
+uint8_t tempolemon_try_set_high(tempolemon_cpu_part *part, uint32_t group, uint64_t pages, tempolemon_result *out);
+uint8_t tempolemon_try_reclaim(tempolemon_cpu_part *part, uint32_t group, uint64_t pages, tempolemon_result *out);
+
 /* The texts of the commands show, blocks, stock and units. The CPU is settled, memory of malloc is taken for the text,
  * and the text is written at the start of the buffer: DONE with its length, SMALL_BUFFER with the length that it needs,
  * NOT_LIVE, BUSY, NO_MEMORY; of units also the refusal that no group has the path. Unless it is DONE the buffer is
@@ -223,6 +236,30 @@ static inline uint8_t tempolemon_on_owner(tempolemon_cpu *cpu, uint32_t frame, t
 }
 static inline uint8_t tempolemon_on_settle(tempolemon_cpu *cpu, tempolemon_result *out) {
     TEMPOLEMON_CALL(cpu, tempolemon_try_settle(&cpu->part, out));
+}
+static inline uint8_t tempolemon_on_usage(tempolemon_cpu *cpu, uint32_t group, tempolemon_result *out) {
+    TEMPOLEMON_CALL(cpu, tempolemon_try_usage(&cpu->part, group, out));
+}
+static inline uint8_t tempolemon_on_peak(tempolemon_cpu *cpu, uint32_t group, tempolemon_result *out) {
+    TEMPOLEMON_CALL(cpu, tempolemon_try_peak(&cpu->part, group, out));
+}
+static inline uint8_t tempolemon_on_max(tempolemon_cpu *cpu, uint32_t group, tempolemon_result *out) {
+    TEMPOLEMON_CALL(cpu, tempolemon_try_max(&cpu->part, group, out));
+}
+static inline uint8_t tempolemon_on_high(tempolemon_cpu *cpu, uint32_t group, tempolemon_result *out) {
+    TEMPOLEMON_CALL(cpu, tempolemon_try_high(&cpu->part, group, out));
+}
+static inline uint8_t tempolemon_on_set_max(tempolemon_cpu *cpu, uint32_t group, uint64_t pages,
+                                            tempolemon_result *out) {
+    TEMPOLEMON_CALL(cpu, tempolemon_try_set_max(&cpu->part, group, pages, out));
+}
+static inline uint8_t tempolemon_on_set_high(tempolemon_cpu *cpu, uint32_t group, uint64_t pages,
+                                             tempolemon_result *out) {
+    TEMPOLEMON_CALL(cpu, tempolemon_try_set_high(&cpu->part, group, pages, out));
+}
+static inline uint8_t tempolemon_on_reclaim(tempolemon_cpu *cpu, uint32_t group, uint64_t pages,
+                                            tempolemon_result *out) {
+    TEMPOLEMON_CALL(cpu, tempolemon_try_reclaim(&cpu->part, group, pages, out));
 }
 static inline uint8_t tempolemon_on_show(tempolemon_cpu *cpu, char *text, size_t room, size_t *written) {
     TEMPOLEMON_CALL(cpu, tempolemon_try_show(&cpu->part, (uint8_t *)text, room, written));

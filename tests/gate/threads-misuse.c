@@ -29,6 +29,9 @@ static void all_are(const char *what, tempolemon_cpu *cpu, uint8_t wanted) {
         tempolemon_on_read(cpu, "/x", 2, "memory.max", 10, text, sizeof text, &result),
         tempolemon_on_touch(cpu, 0, &result), tempolemon_on_dirty(cpu, 0, &result), tempolemon_on_clean(cpu, 0, &result),
         tempolemon_on_owner(cpu, 0, &result), tempolemon_on_settle(cpu, &result),
+        tempolemon_on_usage(cpu, 0, &result), tempolemon_on_peak(cpu, 0, &result), tempolemon_on_max(cpu, 0, &result),
+        tempolemon_on_high(cpu, 0, &result), tempolemon_on_set_max(cpu, 0, 1, &result),
+        tempolemon_on_set_high(cpu, 0, 1, &result), tempolemon_on_reclaim(cpu, 0, 1, &result),
         tempolemon_on_show(cpu, text, sizeof text, &written), tempolemon_on_blocks(cpu, text, sizeof text, &written),
         tempolemon_on_stock(cpu, text, sizeof text, &written), tempolemon_on_units(cpu, "/", 1, text, sizeof text, &written),
         tempolemon_return(cpu),
@@ -79,6 +82,10 @@ static void refusals(void) {
     is("group 64", tempolemon_on_alloc(&one, 64, 0, &result), TEMPOLEMON_BAD_GROUP);
     is("group 1, dirty", tempolemon_on_alloc_dirty(&one, 1, 0, &result), TEMPOLEMON_BAD_GROUP);
     is("group 64, dirty", tempolemon_on_alloc_dirty(&one, 64, 2, &result), TEMPOLEMON_BAD_GROUP);
+    is("the usage of group 1", tempolemon_on_usage(&one, 1, &result), TEMPOLEMON_BAD_GROUP);
+    is("the limit of group 64", tempolemon_on_max(&one, 64, &result), TEMPOLEMON_BAD_GROUP);
+    is("a limit of group 63", tempolemon_on_set_max(&one, 63, 1, &result), TEMPOLEMON_BAD_GROUP);
+    is("a limit of the root", tempolemon_on_set_max(&one, 0, 1, &result), 10);
     is("a put without a pin", tempolemon_on_put(&one, 0, &result), 21);
     is("its kind", result.kind, TEMPOLEMON_REFUSED);
     is("a short buffer", tempolemon_on_read(&one, "/a", 2, "memory.max", 10, text, 159, &result), TEMPOLEMON_SMALL_BUFFER);
@@ -94,6 +101,30 @@ static void refusals(void) {
     const size_t needed = written;
     is("the text", tempolemon_on_show(&one, text, needed, &written), TEMPOLEMON_DONE);
     is("its length", written, needed);
+
+    /* pages by a group's number */
+    is("a limit", tempolemon_on_set_max(&one, group, 9, &result), TEMPOLEMON_DONE);
+    is("memory.high", tempolemon_on_set_high(&one, group, (uint64_t)1 << 32, &result), TEMPOLEMON_DONE);
+    is("the limit", tempolemon_on_max(&one, group, &result), TEMPOLEMON_DONE);
+    is("its pages", result.number + 100 * result.kind, 9 + 100 * TEMPOLEMON_PAGES);
+    is("its text", tempolemon_on_read(&one, "/a", 2, "memory.max", 10, text, 256, &result), TEMPOLEMON_DONE);
+    is("is the same", (unsigned long)memcmp(text, "36864\n", 6), 0);
+    is("no memory.high", tempolemon_on_high(&one, group, &result), TEMPOLEMON_DONE);
+    is("its kind", result.kind, TEMPOLEMON_NO_LIMIT);
+    is("an allocation", tempolemon_on_alloc_dirty(&one, group, 3, &result), TEMPOLEMON_DONE);
+    const uint32_t eight = (uint32_t)result.number;
+    is("the usage", tempolemon_on_usage(&one, group, &result), TEMPOLEMON_DONE);
+    is("its pages", result.number, 8);
+    is("the usage of the root", tempolemon_on_usage(&one, 0, &result), TEMPOLEMON_DONE);
+    is("its pages", result.number, 8);
+    is("a reclaim of dirty pages", tempolemon_on_reclaim(&one, group, 1, &result), 17);
+    is("its clean", tempolemon_on_clean(&one, eight, &result), TEMPOLEMON_DONE);
+    is("a reclaim", tempolemon_on_reclaim(&one, group, 1, &result), TEMPOLEMON_DONE);
+    is("the usage", tempolemon_on_usage(&one, group, &result), TEMPOLEMON_DONE);
+    is("is none", result.number, 0);
+    is("the peak", tempolemon_on_peak(&one, group, &result), TEMPOLEMON_DONE);
+    is("its pages", result.number, 8);
+    is("no limit", tempolemon_on_set_max(&one, group, UINT64_MAX, &result), TEMPOLEMON_DONE);
 
     /* a unit of any order is kept and dirty at once */
     for (uint32_t order = 0; order < 3; order++) {
@@ -164,6 +195,10 @@ static void free_lock(void) {
         FREE_AFTER(tempolemon_try_alloc(&one.part, 40, 0, &result));
         FREE_AFTER(tempolemon_try_alloc_dirty(&one.part, 1, 0, &result));
         FREE_AFTER(tempolemon_try_alloc_dirty(&one.part, 40, 0, &result));
+        FREE_AFTER(tempolemon_try_usage(&one.part, 1, &result));
+        FREE_AFTER(tempolemon_try_usage(&one.part, 40, &result));
+        FREE_AFTER(tempolemon_try_set_max(&one.part, 1, 16, &result));
+        FREE_AFTER(tempolemon_try_set_max(&one.part, 40, 16, &result));
         FREE_AFTER(tempolemon_try_write(&one.part, (const uint8_t *)"/a", 2, (const uint8_t *)"memory.max", 10,
                                         (const uint8_t *)"64K", 3, &result));
         FREE_AFTER(tempolemon_try_read(&one.part, (const uint8_t *)"/a", 2, (const uint8_t *)"memory.max", 10,

@@ -159,7 +159,10 @@ function* livesHere(other, places) {
     lives.has(life.path) ? lives.get(life.path).push(its) : lives.set(life.path, [its]);
     if (at % 256 === 0) yield at / other.lives.length;
   }
-  for (const its of lives.values()) yield curvesOf(its) && 1;
+  for (const its of lives.values()) {
+    curvesOf(its); // kept, so that the first drawing needn't join them all at once
+    yield 1;
+  }
   return lives;
 }
 /** What two runs have at the same line: the answers, the kills, and usage, limit and peak of each group; what differs comes first. */

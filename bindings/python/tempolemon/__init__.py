@@ -41,7 +41,7 @@ class Kind(enum.IntEnum):
     """The last reference was put."""
 
 
-_HELD, _UNPINNED = 14, {15: Zero, 16: Raced, 17: Full}
+_HELD, _PAGES, _UNPINNED = 14, 22, {15: Zero, 16: Raced, 17: Full}
 
 
 class Result(NamedTuple):
@@ -152,6 +152,40 @@ class Cpu:
         length = self._call(raw.library.tempolemon_try_read, *_text(path), *_text(file), text, 256)[1]
         return text.raw[:length].decode(errors="surrogateescape")
 
+    def usage(self, group: int) -> int:
+        """The usage of the group and those below it, in pages, as memory.current has it in bytes. Raises BadGroup.
+
+        The CPU isn't settled; nor is it by the next three calls.
+        """
+        return self._call(raw.library.tempolemon_try_usage, _word(group))[1]
+
+    def peak(self, group: int) -> int:
+        """The greatest usage since the group was made, in pages. Raises BadGroup."""
+        return self._call(raw.library.tempolemon_try_peak, _word(group))[1]
+
+    def max(self, group: int) -> Optional[int]:
+        """The group's memory.max in pages, or None for `max`. Raises BadGroup."""
+        return self._pages_of(raw.library.tempolemon_try_max, group)
+
+    def high(self, group: int) -> Optional[int]:
+        """The group's memory.high in pages, or None for `max`. Raises BadGroup."""
+        return self._pages_of(raw.library.tempolemon_try_high, group)
+
+    def set_max(self, group: int, pages: Optional[int]) -> None:
+        """Writes the group's memory.max: so many pages, or None for `max`. Raises BadGroup, NoFile of the root."""
+        self._call(raw.library.tempolemon_try_set_max, _word(group), _pages(pages))
+
+    def set_high(self, group: int, pages: Optional[int]) -> None:
+        """Writes the group's memory.high: so many pages, or None for `max`. Raises BadGroup, NoFile of the root."""
+        self._call(raw.library.tempolemon_try_set_high, _word(group), _pages(pages))
+
+    def reclaim(self, group: int, pages: int) -> None:
+        """Reclaims so many pages from the group and those below it, as a write of memory.reclaim does.
+
+        Raises Again if fewer came back; BadGroup, NoFile of the root.
+        """
+        self._call(raw.library.tempolemon_try_reclaim, _word(group), _pages(pages))
+
     def alloc(self, group: int, order: int = 0) -> int:
         """Allocates 2^order frames for the group: the first one. It takes the lock only if the order isn't 0, or the CPU's
         list and stock can't serve.
@@ -240,6 +274,10 @@ class Cpu:
         finally:
             self._lock.release()
 
+    def _pages_of(self, call: Callable[..., int], group: int) -> Optional[int]:
+        kind, number = self._call(call, _word(group))
+        return number if kind == _PAGES else None
+
     def _result_of(self, call: Callable[..., int], *words: Any) -> Result:
         kind, number = self._call(call, *words)
         return Result(Kind(kind), number)
@@ -300,6 +338,11 @@ def _word(number: int) -> int:
     if not 0 <= number < 1 << 32:
         raise OverflowError(f"{number} isn't a number of 32 bits")
     return number
+
+
+def _pages(pages: Optional[int]) -> int:
+    """So many pages as a call takes them: 2^32 or more are `max`."""
+    return 1 << 32 if pages is None else _word(pages)
 
 
 def _text(text: str) -> Any:

@@ -237,6 +237,63 @@ impl Cpu<'_> {
         Ok(String::from_utf8_lossy(&text[..read.number as usize]).into_owned())
     }
 
+    /// The usage of the group and those below it, in pages, as memory.current has it in bytes. It takes the lock, and doesn't
+    /// settle the CPU; nor do the next three calls.
+    ///
+    /// Errors: `BadGroup`.
+    pub fn usage(&self, group: Group) -> Result<u32, Error> {
+        let usage = self.call(|cpu, out| unsafe { raw::tempolemon_try_usage(cpu, group.0, out) })?;
+        Ok(usage.number as u32)
+    }
+
+    /// The greatest usage since the group was made, in pages.
+    ///
+    /// Errors: `BadGroup`.
+    pub fn peak(&self, group: Group) -> Result<u32, Error> {
+        let peak = self.call(|cpu, out| unsafe { raw::tempolemon_try_peak(cpu, group.0, out) })?;
+        Ok(peak.number as u32)
+    }
+
+    /// The group's memory.max in pages, or `None` for `max`.
+    ///
+    /// Errors: `BadGroup`.
+    pub fn max(&self, group: Group) -> Result<Option<u32>, Error> {
+        let max = self.call(|cpu, out| unsafe { raw::tempolemon_try_max(cpu, group.0, out) })?;
+        Ok((max.kind == kind::PAGES).then_some(max.number as u32))
+    }
+
+    /// The group's memory.high in pages, or `None` for `max`.
+    ///
+    /// Errors: `BadGroup`.
+    pub fn high(&self, group: Group) -> Result<Option<u32>, Error> {
+        let high = self.call(|cpu, out| unsafe { raw::tempolemon_try_high(cpu, group.0, out) })?;
+        Ok((high.kind == kind::PAGES).then_some(high.number as u32))
+    }
+
+    /// Writes the group's memory.max: so many pages, or `None` for `max`.
+    ///
+    /// Errors: `BadGroup`, `NoFile` of the root.
+    pub fn set_max(&self, group: Group, pages: Option<u32>) -> Result<(), Error> {
+        let pages = pages.map_or(u64::MAX, u64::from);
+        self.call(|cpu, out| unsafe { raw::tempolemon_try_set_max(cpu, group.0, pages, out) }).map(drop)
+    }
+
+    /// Writes the group's memory.high: so many pages, or `None` for `max`.
+    ///
+    /// Errors: those of [`Cpu::set_max`].
+    pub fn set_high(&self, group: Group, pages: Option<u32>) -> Result<(), Error> {
+        let pages = pages.map_or(u64::MAX, u64::from);
+        self.call(|cpu, out| unsafe { raw::tempolemon_try_set_high(cpu, group.0, pages, out) }).map(drop)
+    }
+
+    /// Reclaims so many pages from the group and those below it, as a write of memory.reclaim does.
+    ///
+    /// Errors: `Again` if fewer came back; those of [`Cpu::set_max`].
+    pub fn reclaim(&self, group: Group, pages: u32) -> Result<(), Error> {
+        let pages = u64::from(pages);
+        self.call(|cpu, out| unsafe { raw::tempolemon_try_reclaim(cpu, group.0, pages, out) }).map(drop)
+    }
+
     /// Allocates 2^order frames for the group, and returns the first one. It takes the lock only if the order isn't 0, or
     /// the CPU's list and stock can't serve.
     ///

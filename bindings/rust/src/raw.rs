@@ -17,6 +17,7 @@ pub mod kind {
     pub const HELD: u8 = 14;
     pub const ZERO: u8 = 15;
     pub const RACED: u8 = 16;
+    pub const PAGES: u8 = 22;
 }
 
 /// A zone or a CPU, or none.
@@ -62,6 +63,13 @@ extern "C" {
         value: *const u8, value_length: usize, out: *mut TypedResult) -> u8;
     pub fn tempolemon_try_read(part: *mut Handle, path: *const u8, length: usize, file: *const u8, file_length: usize,
         text: *mut u8, room: usize, out: *mut TypedResult) -> u8;
+    pub fn tempolemon_try_usage(part: *mut Handle, group: u32, out: *mut TypedResult) -> u8;
+    pub fn tempolemon_try_peak(part: *mut Handle, group: u32, out: *mut TypedResult) -> u8;
+    pub fn tempolemon_try_max(part: *mut Handle, group: u32, out: *mut TypedResult) -> u8;
+    pub fn tempolemon_try_high(part: *mut Handle, group: u32, out: *mut TypedResult) -> u8;
+    pub fn tempolemon_try_set_max(part: *mut Handle, group: u32, pages: u64, out: *mut TypedResult) -> u8;
+    pub fn tempolemon_try_set_high(part: *mut Handle, group: u32, pages: u64, out: *mut TypedResult) -> u8;
+    pub fn tempolemon_try_reclaim(part: *mut Handle, group: u32, pages: u64, out: *mut TypedResult) -> u8;
     pub fn tempolemon_try_show(part: *mut Handle, text: *mut u8, room: usize, written: *mut usize) -> u8;
     pub fn tempolemon_try_blocks(part: *mut Handle, text: *mut u8, room: usize, written: *mut usize) -> u8;
     pub fn tempolemon_try_stock(part: *mut Handle, text: *mut u8, room: usize, written: *mut usize) -> u8;

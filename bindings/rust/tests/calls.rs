@@ -17,6 +17,12 @@ fn each_call_is_answered() -> Result<(), Error> {
     let a = cpu.mkdir("/a")?;
     cpu.write("/a", "memory.max", "128K")?;
     assert_eq!(cpu.read("/a", "memory.max")?, "131072\n");
+    assert_eq!((cpu.max(a)?, cpu.high(a)?, cpu.usage(a)?), (Some(32), None, 0));
+    cpu.set_max(a, None)?;
+    cpu.set_high(a, Some(16))?;
+    assert_eq!((cpu.max(a)?, cpu.high(a)?), (None, Some(16)));
+    assert_eq!(cpu.reclaim(a, 1), Err(Error::Again));
+    assert_eq!(cpu.usage(Group(63)), Err(Error::BadGroup));
     let frame = cpu.alloc(a, 0)?;
     assert_eq!(cpu.release(frame)?, Released::Listed);
     assert_eq!(cpu.owner(frame)?, Owner::Cpu(1));
@@ -37,6 +43,7 @@ fn each_call_is_answered() -> Result<(), Error> {
         assert!(text.ends_with('\n'), "{text}");
     }
     assert_eq!(cpu.units("/a")?, "none\n");
+    assert!(cpu.peak(a)? >= 2, "{}", cpu.peak(a)?);
     cpu.rmdir("/a")?;
     drop(cpu);
     let report = zone.end()?;

@@ -62,3 +62,9 @@ pub const REFUSED: u8 = 20;
 
 /// There was no frame without the lock. No call gives this.
 pub const NOT_FAST: u8 = 21;
+
+/// The group has so many pages.
+pub const PAGES: u8 = 22;
+
+/// The group has no such limit.
+pub const NO_LIMIT: u8 = 23;

@@ -1,5 +1,5 @@
 //! A session with a boot: each line is answered before the next one is read. An answer is what `replay` writes for the
-//! line, with an empty line behind it; or it is the line's part of a log. A bad line is answered with the reason, and
+//! line, with an empty line after it; or it is the line's part of a log. A bad line is answered with the reason, and
 //! changes nothing.
 //!
 //! Lines are read one at a time, and nothing behind a line feed, so an answer can be written before the next line is

@@ -24,9 +24,10 @@ use stock_word::Stock;
 /// What a CPU has for itself: its part of the memory controller, and its seat with its own past of the run. By the past it
 /// knows its own lists and pins, whatever others did since its last step. `into_seat` consumes it.
 pub struct Cpu<N: BootName> {
-    pub(crate) part: CpuLists<N>,
-    // Empty while the CPU holds the lock: the machine has it then.
+    // Empty while the CPU holds the lock: the machine has it then. It stands first: the part ends with an unused line, so
+    // that what a CPU writes is in no cache line of what is beside it in memory.
     pub(crate) past: CpuSeat,
+    pub(crate) part: CpuLists<N>,
 }
 
 impl<N: BootName> Model for Cpu<N> {

@@ -1,3 +1,6 @@
+//! The lines of a script, served and answered: all by one thread (`replay`), those of each CPU by a thread of its own
+//! (`run_each`), or one at a time for a session (`serve_line`).
+
 mod answer_value;
 mod calls;
 mod commands;

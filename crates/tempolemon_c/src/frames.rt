@@ -145,7 +145,7 @@ pub extern "C" fn tempolemon_clean(
     serve_call(alloc, handle, cpu, &call, out)
 }
 
-/// Tells the place of this frame.
+/// Says whether this frame is free, lent to a CPU or charged to a group.
 #[unsafe(no_mangle)]
 pub extern "C" fn tempolemon_owner(
     alloc: Global,
@@ -160,7 +160,7 @@ pub extern "C" fn tempolemon_owner(
     serve_call(alloc, handle, cpu, &call, out)
 }
 
-/// Settles the CPU.
+/// Settles the CPU: what it has fresh becomes kept units of its stock's group, and what it has back is freed.
 #[unsafe(no_mangle)]
 pub extern "C" fn tempolemon_settle(
     alloc: Global,

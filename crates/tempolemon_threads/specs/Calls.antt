@@ -1,5 +1,5 @@
 -- What the calls on a CPU's handle do, and what they give the host.
-use Rattle.std.specs.Prelude.{◌≡◌, ◌⊎◌, ℕ, zero, suc, ◌<◌, ◌≤◌, List, Option, None, IsSome, length}
+use Rattle.std.specs.Prelude.{◌≡◌, ◌⊎◌, ℕ, zero, suc, ◌<◌, ◌≤◌, ◌^◌, nat_lt, if◌then◌else◌, List, Option, None, Some, IsSome, length}
 use Rattle.group_tree.specs.Faults.{number_of}
 use Rattle.group_tree.specs.declared.fault.Fault.TheVariants.{NoGroup}
 use Rattle.control_files.specs.Text.{longest_text}
@@ -41,6 +41,10 @@ pub record AnswersPart (asked : Call) (before after : Option Led) (status : ℕ)
 -- what a call does
 abbrev pub CallsPart : Call → (before after : Option Led) (status : ℕ) (out : TypedResult) → Type 0
 CallsPart asked before after status out = IsNotLive before after status out ⊎ AnswersPart asked before after status out
+
+-- so many pages as a limit: 2^32 pages or more are none
+abbrev pub limit_of_pages : ℕ → Option ℕ
+limit_of_pages pages = if nat_lt pages (2 ^ 32) then Some pages else None
 
 -- what an allocation does: a single frame may need no lock
 abbrev pub AllocsPart : (group order : ℕ) (before after : Option Led) (status : ℕ) (out : TypedResult) → Type 0

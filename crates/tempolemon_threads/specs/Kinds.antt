@@ -38,6 +38,8 @@ abbrev pub call_result_of : CallAnswer → TypedResult
 call_result_of answer.Busy = no_result
 call_result_of answer.NoFrame = no_result
 call_result_of answer.NoGroup = no_result
+call_result_of (answer.Pages pages) = result_with 22 pages
+call_result_of answer.NoLimit = result_with 23 0
 call_result_of (answer.Served outcome) = outcome_result outcome
 call_result_of (answer.Taken frame) = result_with 3 frame
 call_result_of answer.Listed = result_with 13 0

@@ -13,6 +13,7 @@
 
 mod calling;
 mod frames;
+mod group_pages;
 mod groups;
 mod handle_calls;
 mod handles;

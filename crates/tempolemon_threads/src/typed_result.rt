@@ -5,8 +5,8 @@ ghost use Rattle.tempolemon_threads.specs.Kinds.{call_result_of, call_status_of,
 
 use crate::status::BUSY;
 use host_memory::kinds::{
-    ACTIVE, CHARGED, CPU, FRAME, FREE, GROUP, LEFT, LISTED, MARKED, NOTHING, OK, REFUSED, RETURNED,
-    SETTLED, TEXT,
+    ACTIVE, CHARGED, CPU, FRAME, FREE, GROUP, LEFT, LISTED, MARKED, NO_LIMIT, NOTHING, OK, PAGES,
+    REFUSED, RETURNED, SETTLED, TEXT,
 };
 use host_memory::status::{BAD_FRAME, BAD_GROUP, DONE, OVER_LIMIT};
 use host_memory::typed_result::{TypedAnswer, answer_of_get, answer_of_put, with_number};
@@ -24,6 +24,8 @@ pub(crate) fn typed_answer_of(answer: CallAnswer) -> TypedAnswer
         CallAnswer::Busy => with_number(BUSY, NOTHING, 0),
         CallAnswer::NoFrame => with_number(BAD_FRAME, NOTHING, 0),
         CallAnswer::NoGroup => with_number(BAD_GROUP, NOTHING, 0),
+        CallAnswer::Pages(pages) => with_number(DONE, PAGES, u64::from(pages)),
+        CallAnswer::NoLimit => with_number(DONE, NO_LIMIT, 0),
         CallAnswer::Served(outcome) => answer_of_outcome(outcome),
         CallAnswer::Taken(frame) => with_number(DONE, FRAME, u64::from(frame.number())),
         CallAnswer::Listed => with_number(DONE, LISTED, 0),

@@ -1,13 +1,16 @@
 -- What each call does to the CPU of a thread, by its answer, and by which steps of the run.
-use Rattle.std.specs.Prelude.{◌≡◌, ◌+◌, ◌<◌, ◌≤◌, ◌⊎◌, ℕ, false, List, length, Ok, Some}
+use Rattle.std.specs.Prelude.{◌≡◌, ◌+◌, ◌<◌, ◌≤◌, ◌⊎◌, ℕ, true, false, List, length, None, Ok, Option, Some}
 use Rattle.std.specs.Borrow.{Bor}
 use Rattle.frame_word.specs.Seats.{KnownTable}
 use Rattle.frame_word.specs.declared.answers.Get.{Get}
 use Rattle.frame_word.specs.declared.answers.Put.{Put}
 use Rattle.zone_blocks.specs.declared.config.Config.{Config}
-use Rattle.group_tree.specs.{most_groups, has_group, path_of}
+use Rattle.group_tree.specs.{most_groups, has_group, limit_of, path_of}
 use Rattle.group_tree.specs.declared.group.Group.{Group}
 use Rattle.group_tree.specs.declared.fault.Fault.TheVariants.{NotPinned, PinsFull}
+use Rattle.group_charge.specs.Charges.{Ledger, current_of, peak_of, settings_of}
+use Rattle.control_files.specs.declared.file.File.{File}
+use Rattle.control_files.specs.Files.{limit_text, name_of_file}
 use Rattle.boot_words.specs.{GrewByAll, own_past}
 use Rattle.step_rules.specs.State.{times}
 use Rattle.cpu_part.specs.{DropAnswers, FastAnswers, PinAnswers, UnpinAnswers, most_pins, steps_of_drop, steps_of_fast, steps_of_get, steps_of_put}
@@ -25,6 +28,8 @@ use Rattle.zone_threads.specs.declared.calls.Call.{Call}
 use Rattle.zone_threads.specs.declared.calls.Call.TheVariants as call
 use Rattle.zone_threads.specs.declared.calls.CallAnswer.{CallAnswer}
 use Rattle.zone_threads.specs.declared.calls.CallAnswer.TheVariants as answer
+use Rattle.zone_threads.specs.declared.calls.GroupPages.{GroupPages}
+use Rattle.zone_threads.specs.declared.calls.GroupPages.TheVariants as of_group
 use Rattle.zone_threads.specs.declared.served.Missed.{Missed}
 use Rattle.zone_threads.specs.declared.served.Missed.TheVariants as missed
 use Rattle.zone_threads.specs.declared.calls.ReadCall.{ReadCall}
@@ -44,6 +49,17 @@ pub record ServesDirtyUnit (frames : KnownTable) (group order : ℕ) (outcome : 
   pub path : Bor (List ℕ)
   pub path_is : path_of before.locked.machine.ledger.groups group ≡ Some path.now
   pub serves : ServesDirtyAlloc frames path order outcome before after
+
+-- a limit was written to a file of the group of this number, by its path and as a read of the file shows it
+pub record ServesPages (frames : KnownTable) (group : ℕ) (file : File) (pages : Option ℕ) (outcome : Outcome)
+    (before after : LockedState) : Type 0 where
+  pub path : Bor (List ℕ)
+  pub name : Bor (List ℕ)
+  pub value : Bor (List ℕ)
+  pub path_is : path_of before.locked.machine.ledger.groups group ≡ Some path.now
+  pub name_is : name.now ≡ name_of_file file
+  pub value_is : value.now ≡ limit_text pages
+  pub serves : ServesOutcome frames (cmd.Write path name value) outcome before after
 
 -- the fast allocation got no frame
 abbrev pub GetsNoFrame : Fast → Type 0
@@ -105,6 +121,27 @@ abbrev pub NoGroupBehindLock : KnownTable → ℕ → (from to : CpuInRun) → T
 NoGroupBehindLock frames group from to =
     SeenBehindLock frames (λ found. IsMissingIn found.machine.ledger.groups group) from to
 
+-- a number of pages that a group has; None for no limit
+abbrev pub group_pages : GroupPages → Ledger → ℕ → Option ℕ
+group_pages of_group.Usage ledger group = Some (current_of ledger group)
+group_pages of_group.Peak ledger group = Some (peak_of ledger group)
+group_pages of_group.Max ledger group = limit_of ledger.groups group
+group_pages of_group.High ledger group = (settings_of ledger group).high
+
+-- what is said of the pages of the group of this number
+abbrev pub SaysPages : Ledger → (group : ℕ) → GroupPages → CallAnswer → Type 0
+SaysPages ledger group which answer.NoGroup = IsMissingIn ledger.groups group
+SaysPages ledger group which (answer.Pages pages) =
+    (has_group ledger.groups group ≡ true) × (group_pages which ledger group ≡ Some pages)
+SaysPages ledger group which answer.NoLimit =
+    (has_group ledger.groups group ≡ true) × (group_pages which ledger group ≡ None)
+SaysPages ledger group which other = ⊥
+
+-- it was said of what lay behind the lock: the CPU has seen the run that led to this
+abbrev pub ReadsPages : KnownTable → (group : ℕ) → GroupPages → CallAnswer → (from to : CpuInRun) → Type 0
+ReadsPages frames group which said from to =
+    SeenBehindLock frames (λ found. SaysPages found.machine.ledger group which said) from to
+
 -- What a get does to the CPU, by its answer. Whether the zone has the frame is looked at first.
 abbrev pub CallsGet : KnownTable → (frame : ℕ) → CallAnswer → (from to : CpuInRun) → Type 0
 CallsGet frames frame answer.NoFrame from to = (frames.frames ≤ frame) × (to ≡ from)
@@ -157,6 +194,13 @@ Calls frames (call.AllocDirty group order) from to answer.NoGroup =
     OnCpu (NoGroupBehindLock frames group) from to
 Calls frames (call.AllocDirty group order) from to (answer.Served outcome) =
     OnCpu (IsVisited frames from.sizes (ServesDirtyUnit frames group order outcome)) from to
+Calls frames (call.ReadPages group which) from to answer.Busy = to ≡ from
+Calls frames (call.ReadPages group which) from to said = OnCpu (ReadsPages frames group which said) from to
+Calls frames (call.WritePages group file pages) from to answer.Busy = to ≡ from
+Calls frames (call.WritePages group file pages) from to answer.NoGroup =
+    OnCpu (NoGroupBehindLock frames group) from to
+Calls frames (call.WritePages group file pages) from to (answer.Served outcome) =
+    OnCpu (IsVisited frames from.sizes (ServesPages frames group file pages outcome)) from to
 Calls frames (call.Release frame) from to answer.Busy =
     (frame < frames.frames) × OnCpu (MissesDrop frame) from to
 Calls frames (call.Release frame) from to answer.NoFrame = (frames.frames ≤ frame) × (to ≡ from)

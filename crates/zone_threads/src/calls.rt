@@ -4,6 +4,8 @@ ghost use Rattle.std.specs.Prelude.{IsSome};
 ghost use Rattle.zone_threads.specs.Calling.{Calls};
 
 use crate::home::Home;
+use control_files::file::File;
+use control_files::limit::Limit;
 use control_files::text::ArrayText;
 use cpu_part::BootName;
 use frame_word::{Frame, Get, Put};
@@ -16,20 +18,58 @@ pub enum Call<'a> {
     /// Serves this command under the lock.
     Visit(LockedCommand<'a>),
     /// Takes a frame, charged to the group of this number: of the CPU's list and stock, or else under the lock.
-    AllocFrame { group: u32 },
+    AllocFrame {
+        group: u32,
+    },
     /// Takes a block of 2^order frames, charged to the group of this number, under the lock.
-    AllocBlock { group: u32, order: u32 },
+    AllocBlock {
+        group: u32,
+        order: u32,
+    },
     /// Takes a dirty unit of 2^order frames, charged to the group of this number, under the lock: it is kept and dirty
     /// before another CPU is served.
-    AllocDirty { group: u32, order: u32 },
+    AllocDirty {
+        group: u32,
+        order: u32,
+    },
+    /// Reads a number of pages of the group of this number, under the lock. The CPU isn't settled.
+    ReadPages {
+        group: u32,
+        which: GroupPages,
+    },
+    /// Writes so many pages, or no limit, to this file of the group of this number, under the lock.
+    WritePages {
+        group: u32,
+        file: File,
+        pages: Limit,
+    },
     /// Releases the unit that this frame heads: if it is a fresh frame of the CPU, to its list, or else under the lock.
-    Release { frame: u32 },
+    Release {
+        frame: u32,
+    },
     /// Pins this frame, without the lock.
-    Get { frame: u32 },
+    Get {
+        frame: u32,
+    },
     /// Puts a pin of this frame, without the lock.
-    Put { frame: u32 },
+    Put {
+        frame: u32,
+    },
     /// Settles the CPU, under the lock.
     Settle,
+}
+
+/// A number of pages that a group has.
+#[derive(Clone, Copy, Debug, PartialEq, Eq)]
+pub enum GroupPages {
+    /// The usage of the group and those below it (memory.current).
+    Usage,
+    /// The greatest usage since the group was made (memory.peak).
+    Peak,
+    /// The limit of the usage (memory.max).
+    Max,
+    /// How far the usage may rise before reclaim lowers it (memory.high).
+    High,
 }
 
 /// What a call returns.
@@ -41,6 +81,10 @@ pub enum CallAnswer {
     NoFrame,
     /// No group has such a number.
     NoGroup,
+    /// The group has so many pages.
+    Pages(u32),
+    /// The group has no such limit.
+    NoLimit,
     /// It was served under the lock, with this outcome.
     Served(Outcome),
     /// This frame of the CPU's list was taken.
@@ -87,6 +131,8 @@ impl<N: BootName> Home<N> {
             Call::AllocFrame { group } => self.alloc_frame(group),
             Call::AllocBlock { group, order } => self.alloc_block(group, order),
             Call::AllocDirty { group, order } => self.alloc_dirty(group, order),
+            Call::ReadPages { group, which } => self.read_pages(group, which),
+            Call::WritePages { group, file, pages } => self.write_pages(group, file, pages),
             Call::Release { frame } => self.release(frame),
             Call::Get { frame } => self.get(frame),
             Call::Put { frame } => self.put(frame),

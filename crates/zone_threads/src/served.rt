@@ -4,11 +4,12 @@ ghost use Rattle.std.specs.Prelude.{◌≡◌, IfNone, IfSome, IsTrue};
 ghost use Rattle.group_tree.specs.Groups.{has_group};
 ghost use Rattle.mem_system.specs.{IsOfZone, SettlesCaller, IsVisited, ServesFrameOutcome, ServesOutcome};
 ghost use Rattle.zone_threads.specs.Calling.{NoGroupBehindLock, IsMissingIn, IsReadUnderLock, ServesBlock};
-ghost use Rattle.zone_threads.specs.Calling.{ServesDirtyUnit};
+ghost use Rattle.zone_threads.specs.Calling.{ReadsPages, SaysPages, ServesDirtyUnit, ServesPages};
 
 use crate::behind::Behind;
-use crate::calls::{ReadAnswer, ReadCall};
-use control_files::file::file_text;
+use crate::calls::{CallAnswer, GroupPages, ReadAnswer, ReadCall};
+use control_files::file::{File, file_text};
+use control_files::limit::{Limit, write_limit};
 use cpu_part::{BootName, Tables};
 use group_charge::charges::Charges;
 use group_tree::group::GroupId;
@@ -125,6 +126,54 @@ impl<N: BootName> Behind<N> {
         Some(outcome)
     }
 
+    /// Reads a number of pages of the group of this number. The CPU isn't settled.
+    pub fn read_pages(
+        &mut self,
+        tables: &Tables<N>,
+        cpu: &mut Cpu<N>,
+        group: u32,
+        which: GroupPages,
+    ) -> CallAnswer
+        ensures { ReadsPages N.frames group which result cpu.old cpu.new }
+    {
+        self.locked.prove_quiet();
+        let answer = pages_read(self.locked.charges(), group, which);
+        self.locked.meet(tables, cpu);
+        self.locked.prove_quiet();
+        answer
+    }
+
+    /// Writes so many pages, or no limit, to this file of the group of this number; `None` if there is none.
+    pub fn write_pages(
+        &mut self,
+        tables: &Tables<N>,
+        cpu: &mut Cpu<N>,
+        group: u32,
+        file: File,
+        pages: Limit,
+    ) -> Option<Outcome>
+        ensures served { IfSome result (λ outcome.
+            IsVisited N.frames self.old.locked.sizes (ServesPages N.frames group file pages outcome)
+            cpu.old cpu.new) }
+        ensures none { IfNone result (NoGroupBehindLock N.frames group cpu.old cpu.new) }
+    {
+        self.locked.prove_quiet();
+        let Some(group) = find_group(self.locked.charges(), group) else {
+            self.locked.meet(tables, cpu);
+            self.locked.prove_quiet();
+            return None;
+        };
+        let path = *self.locked.charges().tree().path_of(group);
+        let path = path.as_bytes();
+        let value = write_limit(pages);
+        let value = value.as_bytes();
+        let file = file.name().as_bytes();
+        let cmd = LockedCommand::Write { path, file, value };
+        let outcome = serve_outcome(&mut self.locked, tables, cpu, &cmd);
+        self.locked.prove_quiet();
+        Some(outcome)
+    }
+
     /// Settles a CPU.
     #[inline(always)]
     pub fn settle(&mut self, tables: &Tables<N>, cpu: &mut Cpu<N>)
@@ -173,4 +222,23 @@ fn find_group(charges: &Charges, number: u32) -> Option<GroupId>
         return None;
     }
     Some(group)
+}
+
+// Reads a number of pages of the group of this number.
+fn pages_read(charges: &Charges, number: u32, which: GroupPages) -> CallAnswer
+    ensures { SaysPages charges.now number which result }
+{
+    let Some(group) = find_group(charges, number) else {
+        return CallAnswer::NoGroup;
+    };
+    let pages = match which {
+        GroupPages::Usage => Some(charges.current(group)),
+        GroupPages::Peak => Some(charges.peak(group)),
+        GroupPages::Max => charges.max(group),
+        GroupPages::High => charges.settings(group).high,
+    };
+    match pages {
+        Some(pages) => CallAnswer::Pages(pages),
+        None => CallAnswer::NoLimit,
+    }
 }

@@ -3,14 +3,18 @@
 ghost use Rattle.std.specs.Prelude.{◌≡◌, ◌↔◌, IfNone, IfSome, IsSome, IsTrue, MatchResult};
 ghost use Rattle.mem_system.specs.{IsOfZone, NamesFrameBelow, IsVisited, ServesFrameOutcome, ServesOutcome};
 ghost use Rattle.zone_threads.specs.Calling.{Calls, IfMissing, AnswersRead, ServesBlock, ServesDirtyUnit};
+ghost use Rattle.zone_threads.specs.Calling.{ServesPages};
 ghost use Rattle.zone_threads.specs.Homes.{OnCpu};
 ghost use Rattle.zone_threads.specs.Shown.{ReadsText};
-ghost use Rattle.zone_threads.specs.declared.calls.Call.TheVariants.{AllocBlock, AllocDirty, Settle, Visit};
+ghost use Rattle.zone_threads.specs.declared.calls.Call.TheVariants.{AllocBlock, AllocDirty, ReadPages, Settle, Visit};
+ghost use Rattle.zone_threads.specs.declared.calls.Call.TheVariants.{WritePages};
 
-use crate::calls::{CallAnswer, ReadAnswer, ReadCall};
+use crate::calls::{CallAnswer, GroupPages, ReadAnswer, ReadCall};
 use crate::home::Home;
 use crate::served::Missed;
 use crate::texts::{TextAnswer, TextCall};
+use control_files::file::File;
+use control_files::limit::Limit;
 use cpu_part::BootName;
 use mem_system::{LockedCommand, Outcome};
 use std::alloc::Global;
@@ -49,6 +53,35 @@ impl<N: BootName> Home<N> {
     {
         match self.serve_dirty(group, order) {
             Ok(served) => CallAnswer::Served(served),
+            Err(Missed::Busy) => CallAnswer::Busy,
+            Err(Missed::NoGroup) => CallAnswer::NoGroup,
+        }
+    }
+
+    /// Reads a number of pages of the group of this number under the lock.
+    pub fn read_pages(&mut self, group: u32, which: GroupPages) -> CallAnswer
+        requires some { IsSome self.old.cpu }
+        ensures { Calls N.frames (ReadPages group which) self.old self.new result }
+    {
+        let zone = &*self.zone;
+        let Some(cpu) = &mut self.cpu else {
+            unreachable!()
+        };
+        let Some((mut behind, loan)) = zone.take() else {
+            return CallAnswer::Busy;
+        };
+        let answer = behind.read_pages(&zone.tables, cpu, group, which);
+        zone.lock.put_back(behind, loan);
+        answer
+    }
+
+    /// Writes so many pages, or no limit, to this file of the group of this number under the lock.
+    pub fn write_pages(&mut self, group: u32, file: File, pages: Limit) -> CallAnswer
+        requires some { IsSome self.old.cpu }
+        ensures { Calls N.frames (WritePages group file pages) self.old self.new result }
+    {
+        match self.serve_pages(group, file, pages) {
+            Ok(written) => CallAnswer::Served(written),
             Err(Missed::Busy) => CallAnswer::Busy,
             Err(Missed::NoGroup) => CallAnswer::NoGroup,
         }
@@ -190,6 +223,29 @@ impl<N: BootName> Home<N> {
             None => Err(Missed::NoGroup),
             Some(outcome) => Ok(outcome),
         }
+    }
+
+    // Writes pages to a file under the lock.
+    fn serve_pages(&mut self, group: u32, file: File, pages: Limit) -> Result<Outcome, Missed>
+        requires some { IsSome self.old.cpu }
+        ensures { MatchResult result
+            (λ outcome. OnCpu (IsVisited N.frames self.old.sizes (ServesPages N.frames group file pages outcome))
+            self.old self.new)
+            (λ missed. IfMissing N.frames group missed self.old self.new) }
+    {
+        let zone = &*self.zone;
+        let Some(cpu) = &mut self.cpu else {
+            unreachable!()
+        };
+        let Some((mut behind, loan)) = zone.take() else {
+            return Err(Missed::Busy);
+        };
+        let served = behind.write_pages(&zone.tables, cpu, group, file, pages);
+        zone.lock.put_back(behind, loan);
+        let Some(written) = served else {
+            return Err(Missed::NoGroup);
+        };
+        Ok(written)
     }
 }
 

@@ -1,0 +1,66 @@
+"""What the page cache for SQLite refuses, each with its words; tests/gate/sqlite gives the path of its shared object."""
+import ctypes
+import sys
+
+CACHE = ctypes.CDLL(sys.argv[1], mode=ctypes.RTLD_GLOBAL)
+MIB = 1 << 20
+
+
+def call(name, *words):
+    """What the page cache answers: None, or why not."""
+    function = getattr(CACHE, f"tempolemon_pcache_{name}")
+    function.restype = ctypes.c_char_p
+    said = function(*(ctypes.c_size_t(it) if isinstance(it, int) else it for it in words))
+    return said and said.decode()
+
+
+def want(said, wanted):
+    """Ends if another answer was wanted."""
+    if said != wanted:
+        sys.exit(f"{said!r}, not {wanted!r}")
+
+
+BUDGET = "a budget is 1M to 2G"
+NAME = "a tenant's name has 1 to 31 bytes without /"
+want(call("install", MIB - 1), BUDGET)
+want(call("install", 2048 * MIB + 4096), BUDGET)
+want(call("install", 8 * MIB), None)
+import sqlite3  # noqa: E402 - it initializes SQLite
+
+want(call("install", 8 * MIB), "SQLite is initialized already")
+for name in (b"", b"a/b", b"x" * 32):
+    want(call("tenant", name), NAME)
+    want(call("limit", name, MIB), NAME)
+want(call("limit", b"a", 262143), "a limit is at least 256K")
+want(call("limit", b"a", 262144), None)
+text = ctypes.create_string_buffer(257)
+want(call("read", b"b", b"memory.max", text), "no group or file of this name")
+want(call("read", b"a", b"memory.low", text), "no group or file of this name")
+want(call("read", b"a", b"memory.max", text), None)
+want(text.value, b"262144\n")
+
+# a database in memory can't be reclaimed: at its tenant's limit it gets SQLITE_NOMEM, and the limit can't be lowered below it
+want(call("tenant", b"a"), None)
+database = sqlite3.connect(":memory:")
+database.execute("create table t(x)")
+try:
+    database.execute("insert into t values(zeroblob(1000000))")
+    sys.exit("a limit of 256 KiB holds 1 MB")
+except MemoryError:
+    pass
+want(call("limit", b"a", 2 * MIB), None)
+database.execute("insert into t values(zeroblob(1000000))")
+want(call("limit", b"a", MIB), "its databases have pinned more than that")
+database.close()
+want(call("limit", b"a", MIB), None)
+
+# 62 tenants and caches: the next gets SQLITE_NOMEM
+want(call("limit", b"a", 8 * MIB), None)
+opened = [sqlite3.connect(":memory:") for _ in range(61)]
+try:
+    opened.append(sqlite3.connect(":memory:"))
+    opened[-1].execute("create table t(x)")
+    sys.exit("a cache more than there are groups was made")
+except MemoryError:
+    pass
+want(call("tenant", b"c"), "no group of this name can be made")
