@@ -130,5 +130,6 @@ is_last Third settings = true
 abbrev pub Reclaims : (target want : ℕ) → Reclaiming
 Reclaims target want done = WhileWanted (ReclaimsPass target) (passes_of done.before.ledger.settings) want done
 
+-- the pass that takes what memory.low protects
 abbrev pub third_pass : Pass
 third_pass = Third
