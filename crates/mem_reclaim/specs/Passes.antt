@@ -102,8 +102,8 @@ TakesTurnOf pass of_min of_low usage group want done =
 -- The turn of a group in a reclaim with this target. What protects the group is found when the turn begins.
 abbrev pub TakesTurn : Pass → (target group want : ℕ) → Reclaiming
 TakesTurn pass target group want done =
-    TakesTurnOf pass (effective min_key done.before.ledger target group) (effective low_key done.before.ledger target group)
-    (current_of done.before.ledger group) group want done
+    TakesTurnOf pass (effective min_key done.before.ledger target group)
+    (effective low_key done.before.ledger target group) (current_of done.before.ledger group) group want done
 
 -- ---- a reclaim
 
