@@ -78,7 +78,8 @@ fn pages_on<N: BootName>(
     ensures pages { result ≡ pages_on machine.now list only_dirty group }
     ensures few { result < 2 ^ 42 }
 {
-    let _units = machine.list_len(group, list); // Called for its contract: a list is short enough for the sum.
+    let _units = machine.list_len(group, list); // Fewer than 2^32, so no sum overflows.
+    machine.prove_consistent();
     machine
         .entries(group, list)
         .map(|entry| counted_pages(machine, &entry, only_dirty))
