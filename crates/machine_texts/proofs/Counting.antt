@@ -11,7 +11,7 @@ use Rattle.step_rules.specs.declared.phase.ChargedUnit.{ChargedUnit}
 use Rattle.mem_machine.specs.declared.frame_state.FrameState.{FrameState}
 use Rattle.mem_machine.specs.declared.frame_state.FrameState.TheVariants.{Free, Lent, Head, Tail}
 use Rattle.mem_machine.specs.{KnownMachine, IsConsistent, frame_state_at, headed_unit}
-use Rattle.machine_texts.specs.Stat.{counted_pages, is_counted, unit_pages}
+use Rattle.machine_texts.specs.Stat.{counted_pages, is_counted, pages_at}
 
 -- ---- the units of a list
 
@@ -24,7 +24,7 @@ module _ (t : KnownTable) (m : KnownMachine) (ok : IsConsistent t m) (f : ℕ) w
   few_of (Head unit) is = pow_mono {i = unit.order} {j = 10} (ok.units.heads f unit is).block.order
   few_of (Tail group) is = omega arith
 
-  pub few_pages : unit_pages m f ≤ 1024
+  pub few_pages : pages_at m f ≤ 1024
   few_pages = few_of (frame_state_at m.frame_states f) refl
 
 few_if : (b : Bool) (n : ℕ) → n ≤ 1024 → cond b n 0 ≤ 1024
@@ -36,7 +36,7 @@ pub few_on : (t : KnownTable) (m : KnownMachine) → IsConsistent t m → (only_
     → sum_by (counted_pages m only_dirty) es ≤ length es * 1024
 few_on t m ok only_dirty [] = let none : sum_by (counted_pages m only_dirty) [] ≡ 0 = refl in omega (arith, none)
 few_on t m ok only_dirty (e ∷ es) =
-    let one = few_if (is_counted only_dirty e) (unit_pages m e.number) (few_pages t m ok e.number) in
+    let one = few_if (is_counted only_dirty e) (pages_at m e.number) (few_pages t m ok e.number) in
     let more = few_on t m ok only_dirty es in
     let both = sum_by-cons (counted_pages m only_dirty) e es in
     omega (arith, one, more, both)
