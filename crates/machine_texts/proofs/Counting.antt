@@ -7,7 +7,6 @@ use Rattle.std.proofs.Math.Pow.{pow_mono}
 use Rattle.frame_word.specs.Seats.{KnownTable}
 use Rattle.group_tree.specs.declared.group.Group.{Group}
 use Rattle.lru_lists.specs.declared.record.Entry.{Entry}
-use Rattle.step_rules.specs.declared.phase.ChargedUnit.{ChargedUnit}
 use Rattle.mem_machine.specs.declared.frame_state.FrameState.{FrameState}
 use Rattle.mem_machine.specs.declared.frame_state.FrameState.TheVariants.{Free, Lent, Head, Tail}
 use Rattle.mem_machine.specs.{KnownMachine, IsConsistent, frame_state_at, headed_unit}
@@ -18,7 +17,7 @@ use Rattle.machine_texts.specs.Stat.{counted_pages, is_counted, pages_at}
 -- a unit has at most 1,024 pages
 module _ (t : KnownTable) (m : KnownMachine) (ok : IsConsistent t m) (f : ℕ) where
   few_of : (s : FrameState) → frame_state_at m.frame_states f ≡ s
-      → option_map_or (λ (unit : ChargedUnit). 2 ^ unit.order) (headed_unit s) 0 ≤ 1024
+      → option_map_or (λ unit. 2 ^ unit.order) (headed_unit s) 0 ≤ 1024
   few_of Free is = omega arith
   few_of (Lent cpu) is = omega arith
   few_of (Head unit) is = pow_mono {i = unit.order} {j = 10} (ok.units.heads f unit is).block.order
