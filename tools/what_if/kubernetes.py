@@ -1,4 +1,4 @@
-"""Pods as `kubectl get pods -o json` writes them: their limits, what MemoryQoS sets, and the names that long ids stand for."""
+"""Pods as `kubectl get pods -o json` writes them: limits, what MemoryQoS sets, and the names that long ids stand for."""
 import decimal
 import json
 import re
@@ -10,8 +10,8 @@ from .files import read_json
 POWERS = {"": 1, "m": decimal.Decimal("0.001"), **{unit: 1000 ** power for power, unit in enumerate("kMGTPE", 1)},
           **{f"{unit}i": 1024 ** power for power, unit in enumerate("KMGTPE", 1)}}
 PAGE = 4096
-QOS_HEAD = ("# MemoryQoS of Kubernetes 1.27, in bytes: memory.min is the request, and memory.high request + 0.9 * (limit - request),"
-            f" rounded down to pages of {PAGE}")
+QOS_HEAD = ("# MemoryQoS of Kubernetes 1.27, in bytes: memory.min is the request, and memory.high request + 0.9 * "
+            f"(limit - request), rounded down to pages of {PAGE}")
 
 
 def quantity(word):

@@ -44,8 +44,8 @@ def reclaimed_share(replay, group):
 
 
 def needed(usage):
-    """Of each group the most anonymous frames below it, counted with the frame that is asked for: a limit reclaims all
-    else before it kills, so with one frame less something dies."""
+    """Of each group the most anonymous frames below it, counted with the frame that is asked for: without memory.min a
+    limit reclaims all else before it kills, so with one frame less something dies."""
     have, sums, most = {}, dict.fromkeys(usage.groups, 0), dict.fromkeys(usage.groups, 0)
     for sample in usage.samples:
         grown = []

@@ -17,7 +17,7 @@ Found = namedtuple("Found", "is_found mins before after")
 
 
 def mins_of(usage, group, frames):
-    """This memory.min for a group, and at least it for those above, because no group is protected by more than its parent."""
+    """This memory.min for a group, and at least it for those above: no group is protected by more than its parent."""
     mins = {group: frames}
     for above in list(path_up(group))[1:-1]:
         values = [frames, *(sample.settings["min"].get(above, 0) for sample in usage.samples)]
@@ -78,7 +78,8 @@ def lines(size, found, sought, margin):
     least, deaths = amount_text(found.mins[sought.group] * size), first_deaths(found.after)
     yield f"# {sought.group} keeps {what} from a memory.min of {least} on; what was reclaimed of each group and those below:"
     rows = [[path_text(path), amount_text(found.before.groups[path].reclaimed * size),
-             amount_text(group.reclaimed * size), death_text(deaths.get(path))] for path, group in found.after.groups.items()]
+             amount_text(group.reclaimed * size), death_text(deaths.get(path))]
+            for path, group in found.after.groups.items()]
     yield from (f"# {line}" for line in table([["group", "min 0", f"min {least}", "died"], *rows]))
     yield from (f"{group} min {setting_word(value)}" for group, value in in_bytes(found, size, margin).items())
 

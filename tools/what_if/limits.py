@@ -3,7 +3,7 @@ import difflib
 
 from .amounts import Fault, read_limit
 from .files import open_text
-from .usage import DEFAULTS, no_settings
+from .usage import DEFAULTS, no_settings, setting_name
 
 FORMS = "a line is GROUP VALUE, GROUP high|low|min VALUE or GROUP oom.group"
 
@@ -21,7 +21,7 @@ def kind_of(words):
     kind = words[1] if len(words) == 3 else "max"
     file, _, name = kind.partition(".")
     if file == "memory" and name in DEFAULTS:
-        raise Fault(f"{FORMS}: write '{' '.join([words[0], *[name] * (name != 'max'), words[2]])}'")
+        raise Fault(f"{FORMS}: write '{words[0]}{'' if name == 'max' else f' {name}'} {words[2]}'")
     if len(words) != 2 and (len(words) != 3 or kind not in DEFAULTS or kind == "max"):
         raise Fault(FORMS)
     return kind
@@ -35,9 +35,9 @@ def add_line(words, groups, settings, flags):
     if value == "oom.group" and kind == "max":
         flags.add(group)
     elif group == "/":
-        raise Fault("the limit of / is the host's memory: --host SIZE" if kind == "max" else f"/ has no memory.{kind}")
+        raise Fault(f"/ has no {setting_name(kind)}" if kind != "max" else "the limit of / is the host's memory: --host SIZE")
     elif group in settings[kind]:
-        raise Fault(f"{group} has a second {'limit' if kind == 'max' else f'memory.{kind}'}")
+        raise Fault(f"{group} has a second {setting_name(kind)}")
     elif difflib.get_close_matches(value, ["oom.group", "memory.oom.group"], 1):
         raise Fault(f"'{value}' is no amount; did you mean oom.group?")
     else:

@@ -1,7 +1,7 @@
 """Signs that a usage or a limit has another unit than bytes and seconds, or rows of another meaning."""
 from .amounts import amount_text, note
 from .prepare import nearest_above
-from .usage import DEFAULTS
+from .usage import DEFAULTS, setting_name
 
 MIB, DAY = 1 << 20, 86_400
 
@@ -39,8 +39,8 @@ def small_settings(usage, size):
         last = {group: value for sample in usage.samples for group, value in sample.settings[kind].items()}
         for group, value in last.items():
             if value not in (None, default) and value < size:
-                yield (f"the {'limit' if kind == 'max' else f'memory.{kind}'} of {group}, {amount_text(value)}, is less than a "
-                       f"frame of {amount_text(size)}: it counts as 0; a smaller --frame or another unit (300M) may be meant")
+                yield (f"the {setting_name(kind)} of {group}, {amount_text(value)}, is less than a frame of "
+                       f"{amount_text(size)}: it counts as 0; a smaller --frame or another unit (300M) may be meant")
 
 
 def cumulative(usage):

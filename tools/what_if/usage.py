@@ -6,9 +6,9 @@ from .amounts import Fault, seconds_text
 from .files import open_text
 from .paths import MOST_GROUPS, check_path, is_below, path_up
 
-# The settings of a group, which are columns too, as they are if nothing was recorded. None is `max`.
+# The settings of a group, and what each is if nothing else was recorded; None is `max`.
 DEFAULTS = {"max": None, "high": None, "low": 0, "min": 0}
-# The header of a record with all settings. That of max is due, and the others may lack.
+# The columns of a record, and those that it must have.
 HEADER = ["seconds", "group", "anon", "file", *DEFAULTS]
 LEAST = HEADER[:5]
 # What to do about times and numbers in other forms.
@@ -30,6 +30,11 @@ def no_settings():
 def setting_word(value):
     """A setting as a row has it."""
     return "max" if value is None else str(value)
+
+
+def setting_name(kind):
+    """A setting as a sentence names it."""
+    return "limit" if kind == "max" else f"memory.{kind}"
 
 
 def whole_number(word, name):
