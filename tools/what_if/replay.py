@@ -26,6 +26,7 @@ class Group:
         self.times_without_room, self.first_without_room = 0, None
         # How many charges would have exceeded memory.high, when first, and for how long the usage was above it.
         self.times_over, self.first_over, self.seconds_above = 0, None, 0.0
+        self.times_broken = 0  # rounds that took pages which memory.low protects
         self.kills = self.times_away = 0
         # Which file pages were touched last, and how often without a reclaim since.
         self.touched, self.touches = [], 0
@@ -95,6 +96,8 @@ class Replay:
                 limit, bound = self.groups[from_node(words[2])], "high"
                 if words[-1] != "0":
                     self.count_over(limit)
+            elif words[1] == "low":
+                self.groups[from_node(words[2])].times_broken += 1
             elif words[1] == "round":
                 for group in self.groups.values():
                     group.touches = 0

@@ -7,9 +7,11 @@ from .usage import greatest_wanted, groups_with
 
 COLUMNS = ["group", "wanted", "usage", "no room", "reclaimed", "died"]
 # Those of each setting that some group has, after "usage". The limit's is there always.
-OF_SETTINGS = {"max": ["limit"], "high": ["high", "over", "above"], "low": ["low"], "min": ["min"]}
+OF_SETTINGS = {"max": ["limit"], "high": ["high", "over", "above"], "low": ["low", "broken"], "min": ["min"]}
 # The words of an explanation after which the program's bytes stand, of which a frame has 4,096.
-AMOUNTS = ("usage", "need", "bytes")
+AMOUNTS = ("usage", "need", "bytes", "min", "low")
+# What stands there for `max`.
+MAX = 4096 * (2 ** 32 - 1)
 
 
 def table(rows):
@@ -40,6 +42,8 @@ def group_row(group, wanted, size, death, kinds, is_restarted):
     settings = {kind: [limit_text(in_bytes(group.settings[kind], size))] for kind in kinds}
     if "high" in kinds:
         settings["high"] += [str(group.times_over), seconds_text(group.seconds_above)]
+    if "low" in kinds:
+        settings["low"] += [str(group.times_broken)]
     return [path_text(group.path), amount_text(wanted * size), amount_text(group.peak * size),
             *sum(settings.values(), []), str(group.times_without_room),
             amount_text(group.reclaimed * size), *([str(group.kills)] if is_restarted else []), death_text(death)]
@@ -51,7 +55,7 @@ def explanation(line, size):
     for at in range(2, len(words)):
         is_limit = words[1] in ("limit", "high") and at == 3
         if words[at].isdigit() and (is_limit or words[at - 1] in AMOUNTS):
-            words[at] = str(int(words[at]) // 4096 * size)
+            words[at] = "max" if int(words[at]) == MAX else str(int(words[at]) // 4096 * size)
         elif words[at] == NODE or words[at].startswith(NODE + "/"):
             words[at] = words[at][len(NODE):] or "/"
     return " ".join(words)
@@ -144,7 +148,7 @@ def group_object(group, wanted, size, death):
             "first_without_room_seconds": group.first_without_room,
             **{f"{kind}_bytes": in_bytes(group.settings[kind], size) for kind in ("high", "low", "min")},
             "times_over_high": group.times_over, "first_over_high_seconds": group.first_over,
-            "seconds_above_high": group.seconds_above,
+            "seconds_above_high": group.seconds_above, "times_low_broken": group.times_broken,
             "reclaimed_bytes": group.reclaimed * size, "kills": group.kills, "samples_away": group.times_away,
             "died_first_seconds": death and death.seconds, "died_first_by": death and death.limit.path}
 
