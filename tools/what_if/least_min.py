@@ -1,5 +1,6 @@
 """The least memory.min with which a group keeps its file pages beside the others."""
 import json
+import math
 from collections import namedtuple
 
 from .amounts import amount_text, path_text
@@ -12,17 +13,25 @@ from .usage import greatest_wanted, setting_word, with_settings
 # comes back.
 Sought = namedtuple("Sought", "group percent restart")
 # Whether there is one, of the group and those above it their memory.min in frames (None: max), and the replays with 0 for
-# the group and with these.
+# the group and with these. If there is none, they are those with the group's peak.
 Found = namedtuple("Found", "is_found mins before after")
 
 
 def mins_of(usage, group, frames):
-    """This memory.min for a group, and at least it for those above: no group is protected by more than its parent."""
-    mins = {group: frames}
-    for above in list(path_up(group))[1:-1]:
-        values = [frames, *(sample.settings["min"].get(above, 0) for sample in usage.samples)]
-        mins[above] = None if None in values else max(values)
-    return mins
+    """This memory.min for a group, and for each one above at least what its children have together, which share it. With 0
+    those above keep what was recorded."""
+    if frames == 0:
+        return {group: 0}
+    most = {}  # of what was recorded of each group
+    for sample in usage.samples:
+        for path, value in sample.settings["min"].items():
+            most[path] = max(most.get(path, 0), math.inf if value is None else value)
+    most[group] = frames
+    above = list(path_up(group))[1:-1]
+    for parent in above:
+        children = sum(value for path, value in most.items() if path.rpartition("/")[0] == parent)
+        most[parent] = max(most.get(parent, 0), children)
+    return {path: None if most[path] == math.inf else most[path] for path in [group, *above]}
 
 
 def find(memcg, usage, flags, sought):
@@ -40,15 +49,16 @@ def find(memcg, usage, flags, sought):
     def holds(frames):
         return keeps(play(frames, survives if sought.percent else keeps))
 
-    before, least = play(0), 0
-    after = before if keeps(before) else play(None)
-    is_found = keeps(after)
-    if after is not before:
-        # From the peak of the highest group on, memory.min protects as much as max.
-        peak = greatest_wanted(usage)[list(path_up(sought.group))[-2]]
-        least = bisect(0, peak, holds) if is_found else None
-        after = play(least) if is_found else after
-    return Found(is_found, mins_of(usage, sought.group, least), before, after)
+    before = play(0)
+    if keeps(before):
+        return Found(True, mins_of(usage, sought.group, 0), before, before)
+    # A memory.min of the peak protects the group from all reclaim for groups above.
+    least = greatest_wanted(usage)[sought.group]
+    after = play(least)
+    if keeps(after):
+        least = bisect(0, least, holds)
+        after = play(least)
+    return Found(keeps(after), mins_of(usage, sought.group, least), before, after)
 
 
 def reasons(found, sought, size):
@@ -68,11 +78,11 @@ def in_bytes(found, size, margin):
     return {group: amounts.get(group) for group in sorted(found.mins)}
 
 
-def lines(size, found, sought, margin):
+def min_lines(size, found, sought, margin):
     """What the value is, what each group loses without and with it, and the lines of limits.txt."""
     what = f"all but {sought.percent:g} % of its file pages" if sought.percent else "its file pages"
     if not found.is_found:
-        yield f"# no memory.min of {sought.group} keeps {what}:"
+        yield f"# no memory.min of {sought.group} keeps {what}, not even that of its peak:"
         yield from (f"# {reason}" for reason in dict.fromkeys(reasons(found, sought, size)))
         return
     least, deaths = amount_text(found.mins[sought.group] * size), first_deaths(found.after)
