@@ -10,7 +10,7 @@ COLUMNS = ["group", "wanted", "usage", "no room", "reclaimed", "died"]
 OF_SETTINGS = {"max": ["limit"], "high": ["high", "over", "above"], "low": ["low", "broken"], "min": ["min"]}
 # The words of an explanation after which the program's bytes stand, of which a frame has 4,096.
 AMOUNTS = ("usage", "need", "bytes", "min", "low")
-# What stands there for `max`.
+# The number that means `max` there.
 MAX = 4096 * (2 ** 32 - 1)
 
 
