@@ -36,6 +36,7 @@ function noteWords(note, dirty, spared = false) {
 const KINDS = {
   max: ["▲", "accent", "a limit had no room", "max"],
   high: ["△", "accent", "a charge would exceed memory.high", "max"],
+  low: ["▽", "green", "memory.low was broken", "reclaim"],
   lowered: ["▼", "accent", "a limit or memory.high was set below the usage", "max"],
   drain: ["○", "green", "stocks were drained", "reclaim"],
   reclaim: ["●", "green", "units were reclaimed", "reclaim"],
@@ -43,7 +44,7 @@ const KINDS = {
   kill: ["◆", "purple", "a group is killed", "kill"],
   refused: ["✕", "red", "refused", "refused"]
 };
-const LANES = { max: "max ▲△▼", reclaim: "reclaim ●○", oom: "oom ■", kill: "kill ◆", refused: "refused ✕" };
+const LANES = { max: "max ▲△▼", reclaim: "reclaim ●○▽", oom: "oom ■", kill: "kill ◆", refused: "refused ✕" };
 const notesUpTo = (run, { position, note }) => run.log.slice(run.behind.at(position), note).split("\n").slice(0, -1).filter(text => /^# (?!=|refused )/.test(text));
 const notesIndex = (run, event) => notesUpTo(run, event).length;
 /** The notes up to that of an event, from the limit or the wish that it is for. */
