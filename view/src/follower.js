@@ -1,18 +1,21 @@
 const MOST_CHOICES = 20;
 /**
  * What makes a kill: the limit and the usage under it, how many pages have no room, and how many pages reclaim would free
- * besides, if the victim's units were clean, if all below the limit were, and if these had no pins either. To find these takes a look at each
- * unit, so it is done for the first kills only: those of the verdict.
+ * besides, if memory.min spared none, if the victim's units were clean, if all below the limit were, and if these had no pins either. To find
+ * these takes a look at each unit, so it is done for the first kills only: those of the verdict.
  */
 function choiceOf(state, limited, need, victim = -1) {
-  const { max, current, path } = state.groups[limited], choice = { path, victim: state.groups[victim]?.path, max, usage: current, need, its: 0, dirty: 0, pinned: 0 };
-  for (const list of victim < 0 ? [] : state.subtree(limited).flatMap(group => [groupList(group, false), groupList(group, true)])) {
+  const { max, current, path } = state.groups[limited], below = victim < 0 ? [] : state.subtree(limited);
+  const pages = new Map(below.map(group => [group, { clean: 0, dirty: 0, pinned: 0 }]));
+  for (const list of below.flatMap(group => [groupList(group, false), groupList(group, true)])) {
     for (const frame of state.listed(list)) {
-      const pages = 2 ** orderOf(state.place[frame]), isPinned = state.pinsOn(frame) > 0;
-      choice[isPinned ? "pinned" : "dirty"] += pages;
-      if (!isPinned && groupOf(state.place[frame]) === victim) choice.its += pages;
+      const kind = state.pinsOn(frame) > 0 ? "pinned" : state.flags[frame] & DIRTY ? "dirty" : "clean";
+      pages.get(groupOf(state.place[frame]))[kind] += 2 ** orderOf(state.place[frame]);
     }
   }
+  const freed = (kindsOf, isSparing = true) => state.freed(limited, below.map(group => [group, kindsOf(group).reduce((sum, kind) => sum + pages.get(group)[kind], 0)]), isSparing);
+  const choice = { path, victim: state.groups[victim]?.path, max, usage: current, need, spared: freed(() => ["clean"], false), its: freed(group => group === victim ?
+    ["clean", "dirty"] : ["clean"]), dirty: freed(() => ["clean", "dirty"]), pinned: freed(() => ["clean", "dirty", "pinned"]) };
   choice.full = [...state.up(limited)].filter(above => above.number !== limited && state.missing(above.number, need)).map(above => above.path);
   return choice;
 }

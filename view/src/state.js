@@ -204,6 +204,17 @@ class State {
     const rest = claim < current ? Math.floor((above - claims) * (current - claim) / (this.groups[parent].current - claims)) : 0;
     return Math.min(claim + rest, above);
   }
+  /** How many pages reclaim frees below `top`, if it can free so many of each of its groups: it spares what memory.min protects, or nothing. */
+  freed(top, pages, isSparing) {
+    const usages = this.groups.map(group => group?.current), before = this.groups[top].current;
+    for (const [group, most] of pages) {
+      const count = Math.min(most, Math.max(0, this.groups[group].current - (isSparing ? this.protection("min", top, group) : 0)));
+      for (const above of this.up(group)) above.current -= count;
+    }
+    const freed = before - this.groups[top].current;
+    for (const group of this.groups) if (group) group.current = usages[group.number];
+    return freed;
+  }
   get isProtecting() {
     return this.groups.some(group => group && (group.low || group.min));
   }
