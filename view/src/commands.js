@@ -21,7 +21,7 @@ const settingOf = file => file.slice("memory.".length);
 // The words of each command: p is a path, o an order, f a frame, g a group's number, n a file's name, v a value.
 const COMMANDS = { mkdir: "p", rmdir: "p", write: "pnv", read: "pn", alloc: "po", fast: "g", release: "f", get: "f", put: "f",
   settle: "", touch: "f", dirty: "f", clean: "f", owner: "f", blocks: "", show: "", stock: "", units: "p" };
-const MOST_ROUNDS = 16, MOST_RUNS = 1024;
+const MOST_ROUNDS = 16, MOST_DETAILS = 1024;
 const SECONDS = /^# ([0-9]+(?:\.[0-9]+)?) s$/; // a sample of `tools/whatif`
 const CUT = "the comment of this line is cut, so that nobody can say what it asks for";
 

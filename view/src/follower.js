@@ -100,7 +100,7 @@ class Follower {
   }
   begin(line) {
     const { state } = this;
-    Object.assign(this, { line, isEnd: !line, due: null, told: 0, notes: [], runs: 0, more: 0, wants: null, note: "", isOpen: false, locks: 0,
+    Object.assign(this, { line, isEnd: !line, due: null, told: 0, notes: [], details: 0, more: 0, wants: null, note: "", isOpen: false, locks: 0,
       steps: 0, blocked: 0, isBlock: false, behindUngrant: "", over: null, owed: null, drains: [], own: null, took: -1, placed: -1,
       made: -1, isRemoved: false, isSet: false, left: "", got: "", isListed: false, granted: 0, hand: 0, unlisted: 0, passed: 0,
       givenBack: 0, freed: 0, limited: -1, drainedFor: -1, isDraining: false, killing: null, dying: [], killedWhole: -1, pinsPut: 0 });
@@ -149,9 +149,15 @@ class Follower {
     const { state } = this, told = { tried: 0, returned: 0, pages: 0 };
     let run = null;
     const close = () => {
-      if (run && this.runs++ < MOST_RUNS) this.notes.push(`# reclaimed ${run.path} ${run.first}${run.last > run.first ? `-${run.last}` : ""}`);
+      if (run && this.details++ < MOST_DETAILS) this.notes.push(`# reclaimed ${run.path} ${run.first}${run.last > run.first ? `-${run.last}` : ""}`);
       else if (run) this.more += run.last - run.first + 1;
       run = null;
+    };
+    const detail = note => {
+      if (this.details + (run ? 1 : 0) >= MOST_DETAILS) return;
+      close();
+      this.details++;
+      this.notes.push(note);
     };
     const attempt = function* (frame) {
       const path = state.path(groupOf(state.place[frame])), pages = yield frame;
@@ -168,18 +174,19 @@ class Follower {
       return pages;
     };
     for (const pass of state.isProtecting ? [1, 2, 3] : [1, 2]) {
-      for (const group of state.subtree(top)) if (told.pages < want) yield* this.turn(top, group, pass, want - told.pages, attempt);
+      for (const group of state.subtree(top)) if (told.pages < want) yield* this.turn(top, group, pass, want - told.pages, attempt, detail);
     }
     close();
     this.notes.push(`# round ${number} tried ${told.tried} missed ${told.tried - told.returned} returned ${told.returned} bytes ${told.pages * PAGE} usage ${state.groups[top].current * PAGE}`);
     return told.pages;
   }
   /** A group's turn in a pass: it ends at what is protected. The third pass spares what memory.min protects, and notes if it took what memory.low does. */
-  *turn(top, group, pass, want, attempt) {
-    const { state } = this, [inactive, active] = [groupList(group, false), groupList(group, true)];
+  *turn(top, group, pass, want, attempt, detail) {
+    const { state } = this, [inactive, active] = [groupList(group, false), groupList(group, true)], { current, path } = state.groups[group];
     const [min, low] = ["min", "low"].map(key => state.protection(key, top, group)), spared = pass === 3 ? min : Math.max(min, low);
-    const most = spared ? Math.min(want, state.groups[group].current - spared) : want;
+    const most = spared ? Math.min(want, current - spared) : want, are = `${path} usage ${current * PAGE} min ${min * PAGE} low ${low * PAGE}`;
     let freed = 0;
+    if (pass === 1 && most < want && current) detail(`# spared ${are}`);
     if (most <= 0) return;
     while (pass === 1 && state.length[active] > state.length[inactive]) this.move(state.first[active], false);
     for (const list of pass === 1 ? [inactive] : [inactive, active]) {
@@ -192,7 +199,9 @@ class Follower {
         else freed += yield* attempt(frame);
       }
     }
-    if (pass === 3 && freed && low > min) yield `note-low ${group}`;
+    if (pass !== 3 || !freed || low <= min) return;
+    yield `note-low ${group}`;
+    detail(`# low ${are}`);
   }
   /** Rounds until nothing is missing. -1 is yielded between those for the zone, if it is asked again. */
   *rounds(top, missing, isZone) {

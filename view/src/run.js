@@ -247,7 +247,7 @@ class Run {
       this.happened("drain", this.wanting, "", start);
       this.drained = true;
     } else if (what === "round" && / returned [1-9]/.test(text)) this.happened("reclaim", this.wanting, "", start);
-    else if (what === "oom") this.explain("oom", path, start);
+    else if (what === "low" || what === "oom") this.explain(what, path, start);
     else if (what === "killed") this.explain("kill", path, start);
   }
   /** The events of this position in the order in which one led to the next: that of the explanation, and the refusal last. */
