@@ -15,7 +15,7 @@ const EXPLAINED = [
   [/^# asked (\S+) (\d+)$/, (path, bytes) => `${pagesText(inPages(bytes))} of ${path} and below are to be reclaimed.`],
   [/^# zone order (\d+)$/, order => Number(order) ? `The zone has no free block of ${2 ** order} frames. Reclaim from all groups.` :
     "The zone has no free frame. Reclaim from all groups."],
-  [/^# spared (\S+) usage (\d+) min (\d+) low (\d+)$/, (path, usage, min, low) => `Reclaim spares ${path}, if it finds enough elsewhere: ${protectedText(usage, min, low)}.`],
+  [/^# spared (\S+) usage (\d+) min (\d+) low (\d+)$/, (path, usage, min, low) => `Reclaim spares pages of ${path}: ${protectedText(usage, min, low)}.`],
   [/^# low (\S+) usage (\d+) min (\d+) low (\d+)$/, (path, usage, min, low) => `▽ It found too little, so it takes what memory.low protects of ${path}: ${protectedText(usage, min, low)}.`],
   [/^# reclaimed (\d+) more frames$/, frames => `${plural(Number(frames), "more frame")} ${frames === "1" ? "was" : "were"} reclaimed.`],
   [/^# reclaimed (\S+) (\d+)(?:-(\d+))?$/, (path, first, last) => `${capital(framesText(Number(first), Number(last ?? first)))} of ${path} ${last ? "are" : "is"} freed: clean and without a pin.`],
