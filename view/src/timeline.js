@@ -122,7 +122,7 @@ function mostIn(pairs, [from, until]) {
 function scaleOf(lives, view) {
   const mostOf = (name, bound) => lives.map(life => mostIn(life[name], view)).reduce((most, value) => value <= bound && value > most ? value : most, 1);
   const used = Math.max(mostOf("series", Infinity), mostOf("peaks", Infinity));
-  return Math.max(used, ...Object.keys(DASHES).map(curve => mostOf(curve, 3 * used)));
+  return Math.max(used, ...Object.keys(BOUND_DASHES).map(curve => mostOf(curve, 3 * used)));
 }
 /** The usages one over another, and the limits and peaks of those that are lit, or of all if they are few. */
 function drawOver(pen, run, curves, lives, frame, view, x, lit) {
@@ -140,10 +140,10 @@ function drawOver(pen, run, curves, lives, frame, view, x, lit) {
   return ends;
 }
 // How the settings are drawn: the limit dashed, memory.high with one dot a dash, memory.low with two, memory.min with three.
-const DASHES = { limits: [5, 3], highs: [6, 2, 1, 2], lows: [6, 2, 1, 2, 1, 2], mins: [6, 2, 1, 2, 1, 2, 1, 2] };
+const BOUND_DASHES = { limits: [5, 3], highs: [6, 2, 1, 2], lows: [6, 2, 1, 2, 1, 2], mins: [6, 2, 1, 2, 1, 2, 1, 2] };
 /** A life's settings, and its peak, dotted: each as it was from line to line. memory.low and memory.min of 0 are none. */
 function drawBounds(pen, life, view, x, y) {
-  const drawn = (curve, pairs) => drawSteps(pen, life, pairs, view, x, y, { width: 1.5, dash: DASHES[curve] });
+  const drawn = (curve, pairs) => drawSteps(pen, life, pairs, view, x, y, { width: 1.5, dash: BOUND_DASHES[curve] });
   for (const curve of ["limits", "highs"]) drawn(curve, life[curve]);
   for (const curve of ["lows", "mins"]) if (life[curve].length > 1) drawn(curve, life[curve].map(([position, pages]) => [position, pages || -1]));
   drawSteps(pen, life, life.peaks, view, x, y, { dash: [1, 3] });
