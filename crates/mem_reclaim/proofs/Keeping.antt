@@ -4,7 +4,7 @@ use Rattle.std.proofs.lemmas.Bool.{true≢false}
 use Rattle.std.proofs.lemmas.Option.{none-some}
 use Rattle.frame_word.specs.Seats.{KnownTable}
 use Rattle.group_tree.specs.Groups.{in_subtree}
-use Rattle.group_charge.specs.Charges.{current_of}
+use Rattle.group_charge.specs.{KnownNotes, current_of}
 use Rattle.lru_lists.specs.declared.record.Link.{Link}
 use Rattle.lru_lists.specs.declared.record.Home.{Home}
 use Rattle.lru_lists.specs.{link_at, SameOwners, owner_of}
@@ -53,6 +53,38 @@ keeps_both t a b c p q = record {
   owners = λ f kept. q.owners f kept ∙ p.owners f (kept_before t b c q f kept);
   dirt = λ f kept. q.dirt f kept ∙ p.dirt f (kept_before t b c q f kept);
   misses = λ f. let x = p.misses f in let y = q.misses f in omega (arith, x, y);
+}
+
+-- other notes change nothing that is kept
+pub keeps_noted : (t : KnownTable) (m n : KnownMachine) (notes : KnownNotes) → Keeps t m n → Keeps t m (record n { notes = notes })
+keeps_noted t m n notes k = record {
+  stocks = k.stocks;
+  killed = k.killed;
+  groups = k.groups;
+  settings = k.settings;
+  hold = k.hold;
+  usage = k.usage;
+  visit = λ c v. visit_same t n (record n { notes = notes }) c refl (k.visit c v);
+  dirty = λ f is. let x = k.dirty f is in record { kept = x.kept; dirty = x.dirty };
+  owners = k.owners;
+  dirt = k.dirt;
+  misses = k.misses;
+}
+
+-- nor do other notes before
+pub keeps_after_notes : (t : KnownTable) (m n : KnownMachine) (notes : KnownNotes) → Keeps t (record m { notes = notes }) n → Keeps t m n
+keeps_after_notes t m n notes k = record {
+  stocks = k.stocks;
+  killed = k.killed;
+  groups = k.groups;
+  settings = k.settings;
+  hold = k.hold;
+  usage = k.usage;
+  visit = λ c v. k.visit c (visit_same t m (record m { notes = notes }) c refl v);
+  dirty = λ f is. k.dirty f (record { kept = is.kept; dirty = is.dirty });
+  owners = k.owners;
+  dirt = k.dirt;
+  misses = k.misses;
 }
 
 pub only_both : (a b c : KnownMachine) → OnlyLeave a b → OnlyLeave b c → OnlyLeave a c

@@ -11,7 +11,8 @@ use Rattle.group_protection.specs.Protections.{effective, low_key, min_key}
 use Rattle.mem_reclaim.specs.declared.passes.Pass.{Pass}
 use Rattle.mem_reclaim.specs.declared.passes.Pass.TheVariants.{First, Second, Third}
 use Rattle.mem_reclaim.specs.Laws.{ProtectedGroupsHaveNoTurn}
-use Rattle.mem_reclaim.specs.Passes.{left_by}
+use Rattle.mem_reclaim.specs.Passes.{notes_spared, spared_by, turn_want}
+use Rattle.mem_reclaim.proofs.Passing.{only_noted}
 use Rattle.mem_reclaim.specs.{TheVictimIsOne, Rises, all_missed_in, returned_in, own_frames, victim_note}
 
 pub the_victim_is_one : TheVictimIsOne
@@ -36,20 +37,29 @@ missed_units_were_tried t before freed steps after g moves missed f home below i
   | inr kept ↦ inr kept
 ]
 
--- each pass leaves at least what memory.min protects
-left_more : (pass : Pass) (of_min of_low : ℕ) → of_min ≤ left_by pass of_min of_low
-left_more First of_min of_low = omega arith
-left_more Second of_min of_low = omega arith
-left_more Third of_min of_low = omega arith
+-- each pass spares at least what memory.min protects
+spares_more : (pass : Pass) (of_min of_low : ℕ) → of_min ≤ spared_by pass of_min of_low
+spares_more First of_min of_low = omega arith
+spares_more Second of_min of_low = omega arith
+spares_more Third of_min of_low = omega arith
 
 pub protected_groups_have_no_turn : ProtectedGroupsHaveNoTurn
-protected_groups_have_no_turn pass target g want done (inl none) some low = none.1
+protected_groups_have_no_turn pass target g want done (inl none) some low =
+    let of_min : ℕ = effective min_key done.before.ledger target g in
+    let of_low : ℕ = effective low_key done.before.ledger target g in
+    let usage : ℕ = current_of done.before.ledger g in
+    let is_noted = notes_spared pass usage want (turn_want want usage (spared_by pass of_min of_low)) in
+    record {
+      no_page = none.1.no_page;
+      machine = only_noted is_noted done.before done.after (note.Spared g usage of_min of_low) none.1.machine;
+      no_step = none.1.no_step;
+    }
 protected_groups_have_no_turn pass target g want done (inr (wants, does)) some low =
     let of_min : ℕ = effective min_key done.before.ledger target g in
     let of_low : ℕ = effective low_key done.before.ledger target g in
-    let left : ℕ = left_by pass of_min of_low in
-    let more = left_more pass of_min of_low in
-    let e = cond-false (left == 0) want (min want (current_of done.before.ledger g - left)) (ne_eqb left 0 (λ none. omega (arith, none, more, some))) in
+    let spared : ℕ = spared_by pass of_min of_low in
+    let more = spares_more pass of_min of_low in
+    let e = cond-false (spared == 0) want (min want (current_of done.before.ledger g - spared)) (ne_eqb spared 0 (λ none. omega (arith, none, more, some))) in
     absurd (omega (arith, wants, e, more, low))
 
 -- the difference of a count that rose by this many and isn't at its greatest is this many

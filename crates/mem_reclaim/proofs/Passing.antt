@@ -12,7 +12,9 @@ use Rattle.group_tree.specs.declared.group.Group.{Group}
 use Rattle.group_tree.specs.Groups.{AreGroups, in_subtree}
 use Rattle.group_tree.proofs.CallerLemmas.{in_subtree-below}
 use Rattle.group_charge.specs.declared.settings.Settings.{Settings}
-use Rattle.group_charge.specs.Charges.{are_protecting, current_of, with_noted}
+use Rattle.group_charge.specs.Charges.{Ledger, are_protecting, current_of, with_noted}
+use Rattle.group_charge.specs.declared.note.Note.{Note}
+use Rattle.group_charge.specs.declared.note.Note.TheVariants as note
 use Rattle.group_charge.proofs.KeptLemmas.{number_below}
 use Rattle.group_charge.proofs.UsageLemmas.{usage-noted}
 use Rattle.group_protection.specs.Protections.{effective, low_key, min_key}
@@ -22,7 +24,8 @@ use Rattle.lru_lists.specs.declared.record.Home.{Home}
 use Rattle.lru_lists.specs.declared.record.LruList.{LruList}
 use Rattle.lru_lists.specs.declared.record.LruList.TheVariants.{Inactive, Active}
 use Rattle.step_rules.specs.declared.step.NoteKey.TheVariants as key
-use Rattle.mem_machine.specs.Machines.{KnownMachine, with_run}
+use Rattle.step_rules.specs.After.{Run}
+use Rattle.mem_machine.specs.Machines.{KnownMachine, home_of, with_detail, with_run}
 use Rattle.mem_machine.specs.Local.{Makes, StaysVisited}
 use Rattle.mem_machine.specs.Noted.{KnownRun}
 use Rattle.mem_machine.specs.Ageing.{AgesGroup}
@@ -33,15 +36,15 @@ use Rattle.mem_reclaim.specs.Moves.{FreesPages, FreesBySteps}
 use Rattle.mem_reclaim.specs.Units.{ScansList}
 use Rattle.mem_reclaim.specs.declared.passes.Pass.{Pass}
 use Rattle.mem_reclaim.specs.declared.passes.Pass.TheVariants.{First, Second, Third}
-use Rattle.mem_reclaim.specs.Passes.{AgesAndScans, NotesLowIf, PassesGroup, Reclaims, ReclaimsGroup, ReclaimsPass, TakesTurn, is_first, is_last, left_by}
-use Rattle.mem_reclaim.specs.Passes.{passes_of, subtree_of, turn_want}
+use Rattle.mem_reclaim.specs.Passes.{AgesAndScans, NotesLowIf, PassesGroup, Reclaims, ReclaimsGroup, ReclaimsPass, TakesTurn, TakesTurnOf, is_first, is_last}
+use Rattle.mem_reclaim.specs.Passes.{notes_spared, passes_of, spared_by, subtree_of, turn_want, with_detail_if}
 use Rattle.mem_reclaim.specs.Staying.{Keeps, OnlyLeave, IsMissed, MissedAll, MissedOfGroup, MissedOrKept, UsageFalls}
 use Rattle.mem_reclaim.proofs.Grown.{hold_after, misses_after, parts_after}
 use Rattle.mem_reclaim.proofs.Members.{first_taken, members, no_members, same_members}
-use Rattle.mem_reclaim.proofs.Wanting.{rested, SoFar, so_far_none, so_far_more, so_far_done, so_far_enough}
-use Rattle.mem_reclaim.proofs.Moving.{moves_none, moves_rest, moves_both}
+use Rattle.mem_reclaim.proofs.Wanting.{SoFar, so_far_none, so_far_more, so_far_done, so_far_enough}
+use Rattle.mem_reclaim.proofs.Moving.{moves_after_notes, moves_both, moves_none, moves_noted, moves_rest}
 use Rattle.mem_reclaim.proofs.Rising.{rises_none}
-use Rattle.mem_reclaim.proofs.Keeping.{keeps_none, keeps_both, keeps_owners, only_both, missed_still}
+use Rattle.mem_reclaim.proofs.Keeping.{keeps_after_notes, keeps_both, keeps_none, keeps_noted, keeps_owners, missed_still, only_both}
 
 -- ---- a group's first pass
 
@@ -96,19 +99,25 @@ abbrev pub low_noted : KnownMachine → ℕ → KnownRun → KnownMachine
 low_noted x g w = with_run (record x { ledger = with_noted event.Low x.ledger g }) w
 
 -- what the third pass over a group leaves
-pub record GroupGives (t : KnownTable) (breaks : Bool) (g want freed : ℕ) (m n : KnownMachine) : Type 0 where
-  pub passes : FreesBySteps t freed m n (ReclaimsGroup Third breaks g want)
+pub record GroupGives (t : KnownTable) (of_min of_low used g want freed : ℕ) (m n : KnownMachine) : Type 0 where
+  pub passes : FreesBySteps t freed m n (ReclaimsGroup Third of_min of_low used g want)
   pub keeps : Keeps t m n
   pub usage : UsageFalls g freed m n
   pub leaves : OnlyLeave m n
   pub missed : freed < want → MissedOfGroup g m n
 
-module _ (t : KnownTable) (breaks : Bool) (g want freed : ℕ) (m x : KnownMachine) (leads : FreesBySteps t freed m x (PassesGroup false g want)) where
+module _ (t : KnownTable) (of_min of_low usage g want freed : ℕ) (m x : KnownMachine) (leads : FreesBySteps t freed m x (PassesGroup false g want)) where
+  abbrev detail : Note
+  detail = note.Low g usage of_min of_low
+
+  abbrev breaks : Bool
+  breaks = nat_lt of_min of_low && nat_lt 0 freed
+
   -- memory.low isn't broken
-  pub low_holds : (breaks && nat_lt 0 freed) ≡ false → FreesBySteps t freed m x (ReclaimsGroup Third breaks g want)
+  pub low_holds : breaks ≡ false → FreesBySteps t freed m x (ReclaimsGroup Third of_min of_low usage g want)
   low_holds off = record {
     steps = leads.steps;
-    does = subst (λ (b : Bool). NotesLowIf b g (PassesGroup false g want) (progress freed m leads.steps x)) (sym off) leads.does;
+    does = subst (λ (b : Bool). NotesLowIf b g detail (PassesGroup false g want) (progress freed m leads.steps x)) (sym off) leads.does;
     moves = leads.moves;
   }
 
@@ -141,20 +150,23 @@ module _ (t : KnownTable) (breaks : Bool) (g want freed : ℕ) (m x : KnownMachi
       misses = λ f. let e = misses_after t x (note_steps key.Low g) (low_noted x g w) runs held f in omega (arith, e);
     }
 
-    low_gives : (breaks && nat_lt 0 freed) ≡ true → StaysVisited t x (low_noted x g w) → Keeps t m x → UsageFalls g freed m x → OnlyLeave m x
-        → (freed < want → MissedOfGroup g m x) → GroupGives t breaks g want freed m (low_noted x g w)
-    low_gives on visit keeps usage leaves missed =
+    low_gives : breaks ≡ true → StaysVisited t x (low_noted x g w) → Keeps t m x → UsageFalls g freed m x → OnlyLeave m x
+        → (freed < want → MissedOfGroup g m x) → GroupGives t of_min of_low usage g want freed m (with_detail (low_noted x g w) detail)
+    low_gives on visit keeps falls leaves missed =
         let e : freed + 0 ≡ freed = omega arith in
+        let n = with_detail (low_noted x g w) detail in
+        let steps = leads.steps ++ note_steps key.Low g in
         record {
           passes = record {
-            steps = leads.steps ++ note_steps key.Low g;
-            does = subst (λ (b : Bool). NotesLowIf b g (PassesGroup false g want) (progress freed m (leads.steps ++ note_steps key.Low g) (low_noted x g w))) (sym on)
+            steps = steps;
+            does = subst (λ (b : Bool). NotesLowIf b g detail (PassesGroup false g want) (progress freed m steps n)) (sym on)
                 (record { reclaimed = x; earlier = leads.steps; seen = w; does = leads.does; noted = refl; steps_are = refl });
-            moves = subst (λ (k : ℕ). FreesPages t m k (leads.steps ++ note_steps key.Low g) (low_noted x g w)) e
-                (moves_both t m x (low_noted x g w) freed 0 leads.steps (note_steps key.Low g) leads.moves low_moves);
+            moves = moves_noted t m (low_noted x g w) freed steps n.notes
+                (subst (λ (k : ℕ). FreesPages t m k steps (low_noted x g w)) e
+                (moves_both t m x (low_noted x g w) freed 0 leads.steps (note_steps key.Low g) leads.moves low_moves));
           };
-          keeps = keeps_both t m x (low_noted x g w) keeps (low_keeps visit);
-          usage = λ h below. let a = same_usage h in let u = usage h below in omega (arith, a, u);
+          keeps = keeps_noted t m (low_noted x g w) n.notes (keeps_both t m x (low_noted x g w) keeps (low_keeps visit));
+          usage = λ h below. let a = same_usage h in let u = falls h below in omega (arith, a, u);
           leaves = λ f h home. leaves f h home;
           missed = λ less f list home clean.
               let more = missed less f list home clean in
@@ -163,12 +175,13 @@ module _ (t : KnownTable) (breaks : Bool) (g want freed : ℕ) (m x : KnownMachi
         }
 
 -- memory.low was broken, and that is noted
-pub low_broken : (t : KnownTable) (breaks : Bool) (g want freed : ℕ) (m x n : KnownMachine) → FreesBySteps t freed m x (PassesGroup false g want) → IsHeld t x.run.past
-    → n ≡ low_noted x g n.run → Makes t x (note_steps key.Low g) n → StaysVisited t x n → (breaks && nat_lt 0 freed) ≡ true → Keeps t m x → UsageFalls g freed m x → OnlyLeave m x
-    → (freed < want → MissedOfGroup g m x) → GroupGives t breaks g want freed m n
-low_broken t breaks g want freed m x n leads held is runs visit on keeps usage leaves missed =
-    subst (GroupGives t breaks g want freed m) (sym is)
-    (low_gives t breaks g want freed m x leads n.run held (subst (Makes t x (note_steps key.Low g)) is runs) on (subst (StaysVisited t x) is visit) keeps usage leaves missed)
+pub low_broken : (t : KnownTable) (of_min of_low usage g want freed : ℕ) (m x n last : KnownMachine) → FreesBySteps t freed m x (PassesGroup false g want) → IsHeld t x.run.past
+    → n ≡ low_noted x g n.run → Makes t x (note_steps key.Low g) n → StaysVisited t x n → last ≡ with_detail n (note.Low g usage of_min of_low)
+    → (nat_lt of_min of_low && nat_lt 0 freed) ≡ true → Keeps t m x → UsageFalls g freed m x → OnlyLeave m x
+    → (freed < want → MissedOfGroup g m x) → GroupGives t of_min of_low usage g want freed m last
+low_broken t of_min of_low usage g want freed m x n last leads held is runs visit detailed on keeps falls leaves missed =
+    subst (GroupGives t of_min of_low usage g want freed m) (sym (detailed ∙ ap (λ (k : KnownMachine). with_detail k (note.Low g usage of_min of_low)) is))
+    (low_gives t of_min of_low usage g want freed m x leads n.run held (subst (Makes t x (note_steps key.Low g)) is runs) on (subst (StaysVisited t x) is visit) keeps falls leaves missed)
 
 -- ---- a turn
 
@@ -177,78 +190,127 @@ last_not_first First settings last = absurd (false≢true last)
 last_not_first Second settings last = refl
 last_not_first Third settings last = refl
 
+-- a detail changes the notes alone
+pub only_noted : (b : Bool) (m x : KnownMachine) (detail : Note) → x ≡ with_detail_if b m detail → x ≡ record m { notes = x.notes }
+only_noted b m x detail is = subst (λ (k : KnownMachine). k ≡ record m { notes = k.notes }) (sym is) (at b)
+  where
+    at : (c : Bool) → with_detail_if c m detail ≡ record m { notes = (with_detail_if c m detail).notes }
+    at true = refl
+    at false = refl
+
 pub record TurnTaken (t : KnownTable) (pass : Pass) (target g want freed : ℕ) (m n : KnownMachine) : Type 0 where
   pub turn : FreesBySteps t freed m n (TakesTurn pass target g want)
+  pub keeps : Keeps t m n
+  pub usage : UsageFalls g freed m n
+  pub few : freed < want + 2 ^ 32
+  pub leaves : is_first pass ≡ false → OnlyLeave m n
   pub tried : is_last pass m.ledger.settings ≡ true → freed < want → MissedOrKept target g m n
 
-module _ (t : KnownTable) (pass : Pass) (target g want wanted : ℕ) (m : KnownMachine) (facts : AreGroups m.ledger.groups)
-    (below : in_subtree m.ledger.groups target g ≡ true) where
-  abbrev pub of_min : ℕ
-  of_min = effective min_key m.ledger target g
+-- the turn begins with the machine `x`, in which what protects the group may be noted
+module _ (t : KnownTable) (pass : Pass) (target g want of_min of_low usage wanted : ℕ) (m x : KnownMachine) (l : Ledger) (same : l ≡ m.ledger)
+    (facts : AreGroups l.groups) (below : in_subtree m.ledger.groups target g ≡ true) (least : of_min ≡ effective min_key l target g)
+    (low : of_low ≡ effective low_key l target g) (uses : usage ≡ current_of l g) (is : wanted ≡ turn_want want usage (spared_by pass of_min of_low))
+    (begins : x ≡ with_detail_if (notes_spared pass usage want wanted) m (note.Spared g usage of_min of_low)) where
+  abbrev spared : ℕ
+  spared = spared_by pass of_min of_low
 
-  abbrev pub of_low : ℕ
-  of_low = effective low_key m.ledger target g
+  min_is : of_min ≡ effective min_key m.ledger target g
+  min_is = least ∙ ap (λ (k : Ledger). effective min_key k target g) same
 
-  abbrev pub left_here : ℕ
-  left_here = left_by pass of_min of_low
+  low_is : of_low ≡ effective low_key m.ledger target g
+  low_is = low ∙ ap (λ (k : Ledger). effective low_key k target g) same
 
-  -- the last pass leaves a group what memory.min protects
-  last_leaves_min : (p : Pass) → is_last p m.ledger.settings ≡ true → left_by p of_min of_low ≡ of_min
-  last_leaves_min First last = absurd (false≢true last)
-  last_leaves_min Second last =
+  usage_is : usage ≡ current_of m.ledger g
+  usage_is = uses ∙ ap (λ (k : Ledger). current_of k g) same
+
+  notes_alone : x ≡ record m { notes = x.notes }
+  notes_alone = only_noted (notes_spared pass usage want wanted) m x (note.Spared g usage of_min of_low) begins
+
+  begins_so : x ≡ with_detail_if (notes_spared pass usage want (turn_want want usage spared)) m (note.Spared g usage of_min of_low)
+  begins_so = begins ∙ (λ i. with_detail_if (notes_spared pass usage want (is i)) m (note.Spared g usage of_min of_low))
+
+  as_turn : (freed : ℕ) (steps : Run) (n : KnownMachine) → TakesTurnOf pass of_min of_low usage g want (progress freed m steps n)
+      → TakesTurn pass target g want (progress freed m steps n)
+  as_turn freed steps n = subst (λ (v : ℕ × ℕ × ℕ). TakesTurnOf pass v.0 v.1 v.2 g want (progress freed m steps n)) (λ i. (min_is i, low_is i, usage_is i))
+
+  -- the last pass spares what memory.min protects
+  last_spares_min : (p : Pass) → is_last p m.ledger.settings ≡ true → spared_by p of_min of_low ≡ of_min
+  last_spares_min First last = absurd (false≢true last)
+  last_spares_min Second last =
       let off = not-true (are_protecting m.ledger.settings) last in
-      let a : of_min ≡ 0 = nothing_set min_key m.ledger target g off in
-      let b : of_low ≡ 0 = nothing_set low_key m.ledger target g off in
+      let a : of_min ≡ 0 = min_is ∙ nothing_set min_key m.ledger target g off in
+      let b : of_low ≡ 0 = low_is ∙ nothing_set low_key m.ledger target g off in
       omega (arith, a, b)
-  last_leaves_min Third last = refl
+  last_spares_min Third last = refl
 
-  kept : (n : KnownMachine) → Keeps t m n → is_last pass m.ledger.settings ≡ true → left_here ≢ 0 → current_of n.ledger g ≤ left_here → MissedOrKept target g m n
-  kept n keeps last some low =
-      let e = last_leaves_min pass last in
-      inr (kept_by_min m.ledger n.ledger target g facts keeps.groups keeps.settings below (λ none. some (e ∙ none)) (omega (arith, low, e)))
+  kept : (n : KnownMachine) → Keeps t m n → is_last pass m.ledger.settings ≡ true → spared ≢ 0 → current_of n.ledger g ≤ spared → MissedOrKept target g m n
+  kept n keeps last some few =
+      let e = last_spares_min pass last in
+      inr (kept_by_min m.ledger n.ledger target g (subst (λ (k : Ledger). AreGroups k.groups) same facts) keeps.groups keeps.settings below
+          (λ none. some (e ∙ min_is ∙ none)) (omega (arith, few, e, min_is)))
 
-  module _ (is : wanted ≡ turn_want want (current_of m.ledger g) left_here) where
-    wants_all : left_here ≡ 0 → wanted ≡ want
-    wants_all zero_left = is ∙ cond-true (left_here == 0) want (min want (current_of m.ledger g - left_here)) (eq-eqb left_here 0 zero_left)
+  wants_all : spared ≡ 0 → wanted ≡ want
+  wants_all none = is ∙ cond-true (spared == 0) want (min want (usage - spared)) (eq-eqb spared 0 none)
 
-    wants_rest : left_here ≢ 0 → wanted ≡ min want (current_of m.ledger g - left_here)
-    wants_rest some = is ∙ cond-false (left_here == 0) want (min want (current_of m.ledger g - left_here)) (ne_eqb left_here 0 some)
+  wants_rest : spared ≢ 0 → wanted ≡ min want (usage - spared)
+  wants_rest some = is ∙ cond-false (spared == 0) want (min want (usage - spared)) (ne_eqb spared 0 some)
 
-    -- nothing is wanted
-    pub turn_none : 0 < want → wanted ≡ 0 → TurnTaken t pass target g want 0 m m
-    turn_none some none = record {
-      turn = record { steps = []; does = inl (sym is ∙ none, rested m); moves = moves_rest t m };
-      tried = λ last less. elim (cases_eq left_here 0) [
-        | inl zero_left ↦ let e = wants_all zero_left in absurd (omega (arith, e, none, some))
-        | inr more ↦ let e = wants_rest more in kept m (keeps_none t m) last more (omega (arith, e, none, some))
-      ];
-    }
+  -- nothing is wanted
+  pub turn_none : 0 < want → wanted ≡ 0 → TurnTaken t pass target g want 0 m x
+  turn_none some none =
+      let keeps : Keeps t m x = subst (Keeps t m) (sym notes_alone) (keeps_noted t m m x.notes (keeps_none t m)) in
+      let uses_same = ap (λ (k : KnownMachine). current_of k.ledger g) notes_alone in
+      record {
+        turn = record {
+          steps = [];
+          does = as_turn 0 [] x (inl (sym is ∙ none, record { no_page = refl; machine = begins_so; no_step = refl }));
+          moves = subst (FreesPages t m 0 []) (sym notes_alone) (moves_noted t m m 0 [] x.notes (moves_rest t m));
+        };
+        keeps = keeps;
+        usage = λ above inside. let e = ap (λ (k : KnownMachine). current_of k.ledger above) notes_alone in omega (arith, e);
+        few = omega (arith, some);
+        leaves = λ off f h home. sym (ap (λ (k : KnownMachine). home_of k.links f) notes_alone) ∙ home;
+        tried = λ last less. elim (cases_eq spared 0) [
+          | inl all ↦ let e = wants_all all in absurd (omega (arith, e, none, some))
+          | inr more ↦ let e = wants_rest more in kept x keeps last more (omega (arith, e, none, some, uses_same, usage_is))
+        ];
+      }
 
-    pub turn_some : wanted ≢ 0 → (breaks : Bool) → breaks ≡ nat_lt of_min of_low → (freed : ℕ) (n : KnownMachine) → FreesBySteps t freed m n (ReclaimsGroup pass breaks g wanted)
-        → Keeps t m n → in_subtree m.ledger.groups g g ≡ true → UsageFalls g freed m n → (is_first pass ≡ false → freed < wanted → MissedOfGroup g m n)
-        → TurnTaken t pass target g want freed m n
-    turn_some some breaks broken freed n leads keeps own usage missed = record {
-      turn = record {
-        steps = leads.steps;
-        does = inr (
-          omega (arith, is, some),
-          subst (λ (x : Bool × ℕ). ReclaimsGroup pass x.0 g x.1 (progress freed m leads.steps n)) (λ i. (broken i, is i)) leads.does,
-        );
-        moves = leads.moves;
-      };
-      tried = λ last less.
-          let clean = missed (last_not_first pass m.ledger.settings last) in
-          elim (cases_eq left_here 0) [
-            | inl zero_left ↦ let e = wants_all zero_left in inl (clean (omega (arith, e, less)))
-            | inr more ↦ elim (cases_lt freed wanted) [
-              | inl few ↦ inl (clean few)
-              | inr enough ↦
-                  let e = wants_rest more in
-                  let u = usage g own in
-                  kept n keeps last more (omega (arith, e, u, less, enough))
-            ]
-          ];
-    }
+  pub turn_some : wanted ≢ 0 → (freed : ℕ) (n : KnownMachine) → FreesBySteps t freed x n (ReclaimsGroup pass of_min of_low usage g wanted)
+      → Keeps t x n → in_subtree m.ledger.groups g g ≡ true → UsageFalls g freed x n → freed < wanted + 2 ^ 32
+      → (is_first pass ≡ false → OnlyLeave x n) → (is_first pass ≡ false → freed < wanted → MissedOfGroup g x n) → TurnTaken t pass target g want freed m n
+  turn_some some freed n leads keeps own falls few leaves missed =
+      let still : Keeps t m n = keeps_after_notes t m n x.notes (subst (λ (k : KnownMachine). Keeps t k n) notes_alone keeps) in
+      let fell : UsageFalls g freed m n = subst (λ (k : KnownMachine). UsageFalls g freed k n) notes_alone falls in
+      record {
+        turn = record {
+          steps = leads.steps;
+          does = as_turn freed leads.steps n (inr (
+            omega (arith, is, some),
+            subst (λ (v : ℕ × KnownMachine). ReclaimsGroup pass of_min of_low usage g v.0 (progress freed v.1 leads.steps n)) (λ i. (is i, begins_so i)) leads.does,
+          ));
+          moves = moves_after_notes t m n freed leads.steps x.notes (subst (λ (k : KnownMachine). FreesPages t k freed leads.steps n) notes_alone leads.moves);
+        };
+        keeps = still;
+        usage = fell;
+        few = elim (cases_eq spared 0) [
+          | inl all ↦ let e = wants_all all in omega (arith, e, few)
+          | inr more ↦ let e = wants_rest more in omega (arith, e, few)
+        ];
+        leaves = λ off. subst (λ (k : KnownMachine). OnlyLeave k n) notes_alone (leaves off);
+        tried = λ last less.
+            let clean : freed < wanted → MissedOfGroup g m n = λ fewer. subst (λ (k : KnownMachine). MissedOfGroup g k n) notes_alone (missed (last_not_first pass m.ledger.settings last) fewer) in
+            elim (cases_eq spared 0) [
+              | inl all ↦ let e = wants_all all in inl (clean (omega (arith, e, less)))
+              | inr more ↦ elim (cases_lt freed wanted) [
+                | inl fewer ↦ inl (clean fewer)
+                | inr enough ↦
+                    let e = wants_rest more in
+                    let u = fell g own in
+                    kept n still last more (omega (arith, e, u, less, enough, usage_is))
+              ]
+            ];
+      }
 
 -- what was tried stays tried, also counted from before
 tried_still : (t : KnownTable) (target other : ℕ) (a b c d : KnownMachine) → Keeps t a b → Keeps t c d → OnlyLeave c d → MissedOrKept target other b c → MissedOrKept target other a d

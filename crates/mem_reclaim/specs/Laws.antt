@@ -19,7 +19,7 @@ use Rattle.mem_reclaim.specs.Rounds.{ReclaimsRound}
 use Rattle.mem_reclaim.specs.Sets.{IsKilledRoot, kill_set}
 use Rattle.mem_reclaim.specs.Staying.{MissedAll}
 use Rattle.mem_reclaim.specs.Victim.{IsVictim, may_be_killed, own_frames}
-use Rattle.mem_reclaim.specs.Wanted.{FreesNothing, Progress}
+use Rattle.mem_reclaim.specs.Wanted.{FreesNothing, Progress, progress}
 
 -- `killed` is the victim for the group `limited` in this machine, with its killed root
 pub record IsChosen (machine : KnownMachine) (limited : ℕ) (killed : Killed) : Type 0 where
@@ -68,12 +68,14 @@ MissedUnitsWereTried =
     → home_of after.links frame ≡ Some home → (link_at after.links frame).is_dirty ≡ false
     → (1 ≤ missed_in frame steps) ⊎ IsKeptByMin after.ledger group home.owner
 
--- a group has no turn if its usage is no more than what memory.min protects, so that no pass takes a page of it
+-- a group has no turn if its usage is no more than what memory.min protects: no pass takes a page of it, and nothing
+-- changes but what is noted
 abbrev pub ProtectedGroupsHaveNoTurn : Type 0
 ProtectedGroupsHaveNoTurn =
     (pass : Pass) (target group want : ℕ) (done : Progress) → TakesTurn pass target group want done
     → 1 ≤ effective min_key done.before.ledger target group
-    → current_of done.before.ledger group ≤ effective min_key done.before.ledger target group → FreesNothing done
+    → current_of done.before.ledger group ≤ effective min_key done.before.ledger target group
+    → FreesNothing (progress done.freed (record done.before { notes = done.after.notes }) done.steps done.after)
 
 -- the last note is of a round of this number: it reports the units that the steps return, the freezes among them that
 -- missed, the pages, and the usage

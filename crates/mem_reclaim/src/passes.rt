@@ -3,15 +3,17 @@
 ghost use Rattle.std.specs.Prelude.{◌≡◌, ◌<◌, ◌+◌, ◌^◌, ◌&&◌, true, false, nat_lt, IsTrue};
 ghost use Rattle.group_tree.specs.Groups.{has_group, in_subtree};
 ghost use Rattle.group_charge.specs.Charges.{current_of};
+ghost use Rattle.group_charge.specs.declared.note.Note.TheVariants.{Spared};
 ghost use Rattle.boot_words.specs.Pasts.{IsHeld};
 ghost use Rattle.mem_machine.specs.Subtrees.{IsSubtree};
 ghost use Rattle.mem_reclaim.specs.Moves.{FreesBySteps};
-ghost use Rattle.mem_reclaim.specs.Passes.{PassesGroup, ReclaimsGroup, ReclaimsPass, TakesTurn, is_first, is_last};
-ghost use Rattle.mem_reclaim.specs.Passes.{left_by, third_pass, turn_want};
+ghost use Rattle.mem_reclaim.specs.Passes.{PassesGroup, ReclaimsGroup, ReclaimsPass, TakesTurn, is_first, is_last, notes_spared};
+ghost use Rattle.mem_reclaim.specs.Passes.{spared_by, third_pass, turn_want, with_detail_if};
 ghost use Rattle.mem_reclaim.specs.Staying.{Keeps, MissedAll, MissedOfGroup, MissedOrKept, OnlyLeave, UsageFalls};
 
 use crate::scan::scan;
 use cpu_part::{BootName, Tables};
+use group_charge::note::Note;
 use group_protection::protecting::{Protection, protection_of};
 use group_tree::group::GroupId;
 use lru_lists::record::LruList;
@@ -29,9 +31,9 @@ pub enum Pass {
     Third,
 }
 
-// How much of its usage the pass leaves a group that is protected so.
-fn left_by(pass: Pass, protection: Protection) -> u32
-    ensures { result ≡ left_by pass protection.min protection.low }
+// How much of its usage the pass spares a group that is protected so.
+fn spared_by(pass: Pass, protection: Protection) -> u32
+    ensures { result ≡ spared_by pass protection.min protection.low }
 {
     match pass {
         Pass::First | Pass::Second => protection.min.max(protection.low),
@@ -39,14 +41,14 @@ fn left_by(pass: Pass, protection: Protection) -> u32
     }
 }
 
-// How many pages a turn wants of a group that is left this much of its usage.
-fn turn_want(want: u64, usage: u32, left: u32) -> u64
-    ensures { result ≡ turn_want want usage left }
+// How many pages a turn wants of a group of whose usage the pass spares this much.
+fn turn_want(want: u64, usage: u32, spared: u32) -> u64
+    ensures { result ≡ turn_want want usage spared }
 {
-    if left == 0 {
+    if spared == 0 {
         return want;
     }
-    want.min(u64::from(usage.saturating_sub(left)))
+    want.min(u64::from(usage.saturating_sub(spared)))
 }
 
 // The first pass over a group: its lists are aged, and then its inactive units are scanned; marked ones are spared.
@@ -100,26 +102,28 @@ fn scan_both<N: BootName>(
     inactive + active
 }
 
-// Whether a turn that freed this many pages broke memory.low.
-fn broke_low(breaks_low: bool, freed: u64) -> bool
-    ensures { result ≡ (breaks_low && nat_lt 0 freed) }
+// Whether a turn of the third pass that freed this many pages broke memory.low.
+fn broke_low(protection: Protection, freed: u64) -> bool
+    ensures { result ≡ (nat_lt protection.min protection.low && nat_lt 0 freed) }
 {
-    breaks_low && freed > 0
+    protection.min < protection.low && freed > 0
 }
 
-// The third pass over a group is as the second. An event `low` is noted if memory.low is broken.
+// The third pass over a group is as the second. If memory.low is broken, an event `low` is noted, and what was protected
+// when the turn began.
 fn scan_and_note<N: BootName>(
     machine: &mut Machine<N>,
     tables: &Tables<N>,
     group: GroupId,
     want: u64,
-    breaks_low: bool,
+    usage: u32,
+    protection: Protection,
 ) -> u64
     requires there { IsTrue (has_group machine.old.ledger.groups group) }
     requires wanted { 0 < want }
     requires held { IsHeld N.frames machine.old.run.past }
     ensures passes { FreesBySteps N.frames result machine.old machine.new
-        (ReclaimsGroup third_pass breaks_low group want) }
+        (ReclaimsGroup third_pass protection.min protection.low usage group want) }
     ensures keeps { Keeps N.frames machine.old machine.new }
     ensures usage { UsageFalls group result machine.old machine.new }
     ensures few { result < want + 2 ^ 32 }
@@ -127,8 +131,15 @@ fn scan_and_note<N: BootName>(
     ensures missed { result < want → MissedOfGroup group machine.old machine.new }
 {
     let freed = scan_both(machine, tables, group, want);
-    if broke_low(breaks_low, freed) {
+    if broke_low(protection, freed) {
         machine.note_event(tables, NoteKey::Low, group);
+        let Protection { min, low } = protection;
+        machine.note_detail(Note::Low {
+            group,
+            usage,
+            min,
+            low,
+        });
     }
     freed
 }
@@ -140,12 +151,14 @@ fn reclaim_group<N: BootName>(
     group: GroupId,
     want: u64,
     pass: Pass,
-    breaks_low: bool,
+    usage: u32,
+    protection: Protection,
 ) -> u64
     requires there { IsTrue (has_group machine.old.ledger.groups group) }
     requires wanted { 0 < want }
     requires held { IsHeld N.frames machine.old.run.past }
-    ensures passes { FreesBySteps N.frames result machine.old machine.new (ReclaimsGroup pass breaks_low group want) }
+    ensures passes { FreesBySteps N.frames result machine.old machine.new
+        (ReclaimsGroup pass protection.min protection.low usage group want) }
     ensures keeps { Keeps N.frames machine.old machine.new }
     ensures usage { UsageFalls group result machine.old machine.new }
     ensures few { result < want + 2 ^ 32 }
@@ -155,7 +168,38 @@ fn reclaim_group<N: BootName>(
     match pass {
         Pass::First => age_and_scan(machine, tables, group, want),
         Pass::Second => scan_both(machine, tables, group, want),
-        Pass::Third => scan_and_note(machine, tables, group, want, breaks_low),
+        Pass::Third => scan_and_note(machine, tables, group, want, usage, protection),
+    }
+}
+
+// Whether this is the first pass, which wants fewer pages of a group than are wanted, though the group has some.
+fn notes_spared(pass: Pass, usage: u32, want: u64, wanted: u64) -> bool
+    ensures { result ≡ notes_spared pass usage want wanted }
+{
+    wanted < want && usage > 0 && matches!(pass, Pass::First)
+}
+
+// Notes what protects the group, if the pass notes that.
+fn note_spared<N: BootName>(
+    machine: &mut Machine<N>,
+    group: GroupId,
+    want: u64,
+    wanted: u64,
+    pass: Pass,
+    usage: u32,
+    protection: Protection,
+)
+    ensures { machine.new ≡ with_detail_if (notes_spared pass usage want wanted) machine.old
+        (Spared group usage protection.min protection.low) }
+{
+    if notes_spared(pass, usage, want, wanted) {
+        let Protection { min, low } = protection;
+        machine.note_detail(Note::Spared {
+            group,
+            usage,
+            min,
+            low,
+        });
     }
 }
 
@@ -183,12 +227,13 @@ fn take_turn<N: BootName>(
     let charges = machine.charges();
     prove_charges(charges);
     let protection = protection_of(charges, target, group);
-    let wanted = turn_want(want, charges.current(group), left_by(pass, protection));
+    let usage = charges.current(group);
+    let wanted = turn_want(want, usage, spared_by(pass, protection));
+    note_spared(machine, group, want, wanted, pass, usage, protection);
     if wanted == 0 {
         return 0;
     }
-    let breaks_low = protection.min < protection.low;
-    reclaim_group(machine, tables, group, wanted, pass, breaks_low)
+    reclaim_group(machine, tables, group, wanted, pass, usage, protection)
 }
 
 /// One pass over `groups`, those of the subtree of `target`, by ascending number, as long as pages are wanted. Returns

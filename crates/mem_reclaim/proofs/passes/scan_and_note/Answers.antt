@@ -14,13 +14,15 @@ returns-then-broke_low g c =
     let e = c.scan_both-freed.ensures in
     let x = c.scan_both-freed.new.machine in
     let n = c.note_event.ensures in
+    let p = c.args.protection in
     let gives =
-    low_broken t c.args.breaks_low c.args.group c.args.want c.scan_both-freed.result c.args.machine.now x c.note_event.new.self e.passes
-    (held_after t c.args.machine.now e.passes.steps x e.passes.moves.runs c.requires.held) n.machine n.steps n.visit
+    low_broken t p.min p.low c.args.usage c.args.group c.args.want c.scan_both-freed.result c.args.machine.now x c.note_event.new.self c.note_detail.new.self e.passes
+    (held_after t c.args.machine.now e.passes.steps x e.passes.moves.runs c.requires.held) n.machine n.steps n.visit c.note_detail.ensures
     (sym c.broke_low.ensures ∙ c.if-broke_low.true) e.keeps e.usage e.leaves e.missed in
     record { passes = gives.passes; keeps = gives.keeps; usage = gives.usage; few = e.few; leaves = gives.leaves; missed = gives.missed }
 
 pub returns-else-broke_low-clause-passes : goal.returns-else-broke_low-clause-passes
 returns-else-broke_low-clause-passes g c =
-    low_holds g.N.BootName.frames c.args.breaks_low c.args.group c.args.want c.scan_both-freed.result c.args.machine.now c.scan_both-freed.new.machine
+    let p = c.args.protection in
+    low_holds g.N.BootName.frames p.min p.low c.args.usage c.args.group c.args.want c.scan_both-freed.result c.args.machine.now c.scan_both-freed.new.machine
     c.scan_both-freed.ensures.passes (sym c.broke_low.ensures ∙ c.if-broke_low.false)
