@@ -14,7 +14,7 @@ const REFUSALS = { 1: ["NoParent", "the parent group is not there"], 2: ["Exists
 const VALUES = "memory.max, memory.high and memory.reclaim take whole bytes, with K M G T P E, the first two also max; memory.oom.group takes 0 or 1";
 const refused = (number, path = "") => `refused ${number} ${REFUSALS[number][0]}${path && ` ${path}`}`;
 const FILES = { "memory.current": "r", "memory.max": "rw", "memory.high": "rw", "memory.peak": "r", "memory.events": "r",
-  "memory.events.local": "r", "memory.oom.group": "rw", "memory.reclaim": "w" };
+  "memory.events.local": "r", "memory.oom.group": "rw", "memory.reclaim": "w", "memory.stat": "r" };
 // The words of each command: p is a path, o an order, f a frame, g a group's number, n a file's name, v a value.
 const COMMANDS = { mkdir: "p", rmdir: "p", write: "pnv", read: "pn", alloc: "po", fast: "g", release: "f", get: "f", put: "f",
   settle: "", touch: "f", dirty: "f", clean: "f", owner: "f", blocks: "", show: "", stock: "", units: "p" };
@@ -98,6 +98,22 @@ function unitsOf(state, group) {
     }
   }
   return lines.join("\n") || "none";
+}
+/** memory.stat: the bytes of the units that the group and those below it keep. */
+function statOf(state, group) {
+  const sums = { file: 0, file_dirty: 0, inactive_file: 0, active_file: 0 };
+  for (const below of state.subtree(group)) {
+    for (const name of ["inactive", "active"]) {
+      for (const head of state.listed(groupList(below, name === "active"))) {
+        const bytes = PAGE * 2 ** orderOf(state.place[head]);
+        sums.file += bytes;
+        sums[`${name}_file`] += bytes;
+        if (state.flags[head] & DIRTY) sums.file_dirty += bytes;
+        state.effort++;
+      }
+    }
+  }
+  return Object.entries(sums).map(([key, bytes]) => `${key} ${bytes}`).join("\n");
 }
 function readOf(group, file) {
   const keys = [["low", "low"], ["high", "high"], ["max", "max"], ["oom", "oom"], ["oom_kill", "kill"], ["oom_group_kill", "group_kill"]];

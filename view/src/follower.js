@@ -688,7 +688,8 @@ class Follower {
           group.current ? refused(8) : null;
       default:
         return own.group < 0 ? refused(6) : !Object.hasOwn(FILES, words[1]) || !own.group ? refused(10) : verb === "read" ?
-          words[1] === "memory.reclaim" ? refused(22) : readOf(group, words[1]) : this.written(group);
+          words[1] === "memory.reclaim" ? refused(22) : words[1] === "memory.stat" ? statOf(state, own.group) : readOf(group, words[1]) :
+          this.written(group);
     }
   }
   written(group) {

@@ -39,10 +39,12 @@ pub enum File {
     OomGroup,
     /// memory.reclaim: an amount written to it is reclaimed from the group and those below it.
     Reclaim,
+    /// memory.stat: what the group and those below it keep, by kind.
+    Stat,
 }
 
 // All files.
-const FILES: [File; 10] = [
+const FILES: [File; 11] = [
     File::Current,
     File::Max,
     File::High,
@@ -53,6 +55,7 @@ const FILES: [File; 10] = [
     File::EventsLocal,
     File::OomGroup,
     File::Reclaim,
+    File::Stat,
 ];
 
 impl File {
@@ -73,6 +76,7 @@ impl File {
             File::EventsLocal => ("memory.events.local", true, false),
             File::OomGroup => ("memory.oom.group", true, true),
             File::Reclaim => ("memory.reclaim", false, true),
+            File::Stat => ("memory.stat", true, false),
         }
     }
 
@@ -98,8 +102,8 @@ impl File {
     }
 }
 
-/// The text of a file of a group that exists. `NoFile` for the root, which has no files; `WriteOnly` for
-/// memory.reclaim, which can't be read.
+/// The text of a file of a group that exists. `NoFile` for the root, which has no files, and for memory.stat, which the
+/// charges don't know: `stat_text` writes it. `WriteOnly` for memory.reclaim, which can't be read.
 pub fn file_text(charges: &Charges, group: GroupId, file: File) -> Result<ArrayText, Fault>
     requires { IsTrue (has_group charges.now.groups group) }
     ensures root { group ≡ 0 → result ≡ Err Fault.NoFile }
@@ -119,6 +123,7 @@ pub fn file_text(charges: &Charges, group: GroupId, file: File) -> Result<ArrayT
         File::EventsLocal => Ok(events_text(charges.events_local(group))),
         File::OomGroup => Ok(write_flag(charges.is_oom_group(group))),
         File::Reclaim => Err(Fault::WriteOnly),
+        File::Stat => Err(Fault::NoFile),
     }
 }
 
@@ -134,8 +139,8 @@ fn events_text(counts: EventCounts) -> ArrayText
     text
 }
 
-// Writes the line of a key and its count.
-fn push_count(text: &mut ArrayText, key: &[u8], count: u64)
+/// Writes the line of a key and its count.
+pub(crate) fn push_count(text: &mut ArrayText, key: &[u8], count: u64)
     requires { length text.old + length key.now + 22 ≤ longest_text }
     ensures text { text.new ≡ text.old ++ count_line key.now count }
     ensures short { length text.new ≤ length text.old + length key.now + 22 }

@@ -1,5 +1,5 @@
--- How much of a group's usage is protected from a reclaim (cgroup-v2.rst, memory.min and memory.low; `effective_protection`
--- with memory_recursiveprot, mm/memcontrol.c, Linux 6.1).
+-- How much of a group's usage is protected from a reclaim (cgroup-v2.rst, memory.min and memory.low;
+-- `effective_protection` with memory_recursiveprot, mm/memcontrol.c, Linux 6.1).
 use Rattle.std.specs.Prelude.{◌≡◌, ℕ, zero, suc, ◌+◌, ◌-◌, ◌*◌, ◌/◌, ◌^◌, ◌<◌, ◌≤◌, ◌==◌, ◌||◌, min, nat_eq, nat_lt, nat_le}
 use Rattle.std.specs.Prelude.{Bool, true, false, Option, Some, None, unwrap_or, List, if◌then◌else◌, sum_by}
 use Rattle.std.specs.Option.{option_eq}
@@ -11,9 +11,11 @@ use Rattle.group_protection.specs.declared.protecting.Key.TheVariants.{Min, Low}
 -- memory.min or memory.low
 pub use Rattle.group_protection.specs.declared.protecting.Key.{Key}
 
+-- memory.min
 abbrev pub min_key : Key
 min_key = Min
 
+-- memory.low
 abbrev pub low_key : Key
 low_key = Low
 

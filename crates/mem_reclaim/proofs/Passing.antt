@@ -1,9 +1,9 @@
 -- Passes over a group and over the groups of a subtree. Serves all of `passes` and `reclaiming`.
-use Rattle.std.proofs.Common.{◌≡◌, ◌≢◌, ℕ, ◌+◌, ◌-◌, ◌^◌, ◌<◌, ◌≤◌, ◌==◌, ◌&&◌, ◌⊎◌, Bool, true, false, not, List, [], ◌∷◌, ◌++◌, cond}
+use Rattle.std.proofs.Common.{◌≡◌, ◌≢◌, ℕ, ◌+◌, ◌-◌, ◌^◌, ◌<◌, ◌≤◌, ◌==◌, ◌&&◌, Bool, true, false, List, [], ◌∷◌, ◌++◌, cond}
 use Rattle.std.proofs.Common.{refl, sym, ap, ◌∙◌, subst, inl, inr, arith, nat_lt}
-use Rattle.std.specs.Prelude.{max, min}
+use Rattle.std.specs.Prelude.{min}
 use Rattle.std.specs.Int.{bit_at}
-use Rattle.std.proofs.lemmas.Bool.{cases_eq, cases_lt, cond-false, cond-true, eq-eqb, false≢true, ne_eqb, not-true, true≢false}
+use Rattle.std.proofs.lemmas.Bool.{cases_eq, cases_lt, cond-false, cond-true, eq-eqb, false≢true, ne_eqb, not-true}
 use Rattle.std.proofs.lemmas.Nat.Bits.{bit_at-zero}
 use Rattle.frame_word.specs.Seats.{KnownTable}
 use Rattle.boot_words.specs.Pasts.{IsHeld}
@@ -20,7 +20,6 @@ use Rattle.group_charge.proofs.UsageLemmas.{usage-noted}
 use Rattle.group_protection.specs.Protections.{effective, low_key, min_key}
 use Rattle.group_protection.proofs.Effective.{nothing_set}
 use Rattle.group_protection.proofs.Topping.{kept_by_min, kept_still}
-use Rattle.lru_lists.specs.declared.record.Home.{Home}
 use Rattle.lru_lists.specs.declared.record.LruList.{LruList}
 use Rattle.lru_lists.specs.declared.record.LruList.TheVariants.{Inactive, Active}
 use Rattle.step_rules.specs.declared.step.NoteKey.TheVariants as key
@@ -207,13 +206,11 @@ pub record TurnTaken (t : KnownTable) (pass : Pass) (target g want freed : ℕ) 
   pub tried : is_last pass m.ledger.settings ≡ true → freed < want → MissedOrKept target g m n
 
 -- the turn begins with the machine `x`, in which what protects the group may be noted
-module _ (t : KnownTable) (pass : Pass) (target g want of_min of_low usage wanted : ℕ) (m x : KnownMachine) (l : Ledger) (same : l ≡ m.ledger)
+module _ (t : KnownTable) (pass : Pass) (target g want of_min of_low usage spared wanted : ℕ) (m x : KnownMachine) (l : Ledger) (same : l ≡ m.ledger)
     (facts : AreGroups l.groups) (below : in_subtree m.ledger.groups target g ≡ true) (least : of_min ≡ effective min_key l target g)
-    (low : of_low ≡ effective low_key l target g) (uses : usage ≡ current_of l g) (is : wanted ≡ turn_want want usage (spared_by pass of_min of_low))
+    (low : of_low ≡ effective low_key l target g) (uses : usage ≡ current_of l g) (spares : spared ≡ spared_by pass of_min of_low)
+    (wants : wanted ≡ turn_want want usage spared)
     (begins : x ≡ with_detail_if (notes_spared pass usage want wanted) m (note.Spared g usage of_min of_low)) where
-  abbrev spared : ℕ
-  spared = spared_by pass of_min of_low
-
   min_is : of_min ≡ effective min_key m.ledger target g
   min_is = least ∙ ap (λ (k : Ledger). effective min_key k target g) same
 
@@ -223,10 +220,13 @@ module _ (t : KnownTable) (pass : Pass) (target g want of_min of_low usage wante
   usage_is : usage ≡ current_of m.ledger g
   usage_is = uses ∙ ap (λ (k : Ledger). current_of k g) same
 
+  is : wanted ≡ turn_want want usage (spared_by pass of_min of_low)
+  is = wants ∙ (λ i. turn_want want usage (spares i))
+
   notes_alone : x ≡ record m { notes = x.notes }
   notes_alone = only_noted (notes_spared pass usage want wanted) m x (note.Spared g usage of_min of_low) begins
 
-  begins_so : x ≡ with_detail_if (notes_spared pass usage want (turn_want want usage spared)) m (note.Spared g usage of_min of_low)
+  begins_so : x ≡ with_detail_if (notes_spared pass usage want (turn_want want usage (spared_by pass of_min of_low))) m (note.Spared g usage of_min of_low)
   begins_so = begins ∙ (λ i. with_detail_if (notes_spared pass usage want (is i)) m (note.Spared g usage of_min of_low))
 
   as_turn : (freed : ℕ) (steps : Run) (n : KnownMachine) → TakesTurnOf pass of_min of_low usage g want (progress freed m steps n)
@@ -245,15 +245,15 @@ module _ (t : KnownTable) (pass : Pass) (target g want of_min of_low usage wante
 
   kept : (n : KnownMachine) → Keeps t m n → is_last pass m.ledger.settings ≡ true → spared ≢ 0 → current_of n.ledger g ≤ spared → MissedOrKept target g m n
   kept n keeps last some few =
-      let e = last_spares_min pass last in
+      let e = spares ∙ last_spares_min pass last in
       inr (kept_by_min m.ledger n.ledger target g (subst (λ (k : Ledger). AreGroups k.groups) same facts) keeps.groups keeps.settings below
-          (λ none. some (e ∙ min_is ∙ none)) (omega (arith, few, e, min_is)))
+      (λ none. some (e ∙ min_is ∙ none)) (omega (arith, few, e, min_is)))
 
   wants_all : spared ≡ 0 → wanted ≡ want
-  wants_all none = is ∙ cond-true (spared == 0) want (min want (usage - spared)) (eq-eqb spared 0 none)
+  wants_all none = wants ∙ cond-true (spared == 0) want (min want (usage - spared)) (eq-eqb spared 0 none)
 
   wants_rest : spared ≢ 0 → wanted ≡ min want (usage - spared)
-  wants_rest some = is ∙ cond-false (spared == 0) want (min want (usage - spared)) (ne_eqb spared 0 some)
+  wants_rest some = wants ∙ cond-false (spared == 0) want (min want (usage - spared)) (ne_eqb spared 0 some)
 
   -- nothing is wanted
   pub turn_none : 0 < want → wanted ≡ 0 → TurnTaken t pass target g want 0 m x

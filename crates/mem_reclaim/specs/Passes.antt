@@ -42,7 +42,7 @@ abbrev pub PassesGroup : (is_first : Bool) → ℕ → ℕ → Reclaiming
 PassesGroup true group want = AgesAndScans group want
 PassesGroup false group want = WhileWanted (ScansList false group) (Inactive ∷ Active ∷ []) want
 
--- first `Does`, and then an event `low` is noted at the group, which the run notes, and after it this detail
+-- first `Does`, and then an event `low` is noted at the group, which the run notes, and then this detail
 pub record NotesLow (group : ℕ) (detail : Note) (Does : Reclaiming) (done : Progress) : Type 0 where
   pub reclaimed : KnownMachine
   pub earlier : Run
@@ -78,7 +78,7 @@ spared_by Third of_min of_low = of_min
 abbrev pub turn_want : (want usage spared : ℕ) → ℕ
 turn_want want usage spared = if spared == 0 then want else min want (usage - spared)
 
--- the first pass notes a group of which it wants fewer pages than are wanted, unless the group has none
+-- the first pass notes if it wants fewer pages of a group than are wanted, unless the group has none
 abbrev pub notes_spared : Pass → (usage want wanted : ℕ) → Bool
 notes_spared pass usage want wanted = is_first pass && nat_lt wanted want && nat_lt 0 usage
 
@@ -90,8 +90,8 @@ with_detail_if is_noted machine note = if is_noted then with_detail machine note
 abbrev pub IfWanted : (ℕ → Reclaiming) → ℕ → Reclaiming
 IfWanted does want done = ((want ≡ 0) × FreesNothing done) ⊎ ((1 ≤ want) × does want done)
 
--- the turn of a group of this usage, of which memory.min and memory.low protect this much, which is noted before; it
--- has none if nothing is wanted of it
+-- The turn of a group of this usage, of which memory.min and memory.low protect this much. If that cuts the turn of the
+-- first pass short, a note says so before. The group has no turn if nothing is wanted of it.
 abbrev pub TakesTurnOf : Pass → (of_min of_low usage group want : ℕ) → Reclaiming
 TakesTurnOf pass of_min of_low usage group want done =
     let wanted = turn_want want usage (spared_by pass of_min of_low) in
@@ -102,8 +102,8 @@ TakesTurnOf pass of_min of_low usage group want done =
 -- The turn of a group in a reclaim with this target. What protects the group is found when the turn begins.
 abbrev pub TakesTurn : Pass → (target group want : ℕ) → Reclaiming
 TakesTurn pass target group want done =
-    TakesTurnOf pass (effective min_key done.before.ledger target group) (effective low_key done.before.ledger target group)
-    (current_of done.before.ledger group) group want done
+    TakesTurnOf pass (effective min_key done.before.ledger target group)
+    (effective low_key done.before.ledger target group) (current_of done.before.ledger group) group want done
 
 -- ---- a reclaim
 
@@ -130,5 +130,6 @@ is_last Third settings = true
 abbrev pub Reclaims : (target want : ℕ) → Reclaiming
 Reclaims target want done = WhileWanted (ReclaimsPass target) (passes_of done.before.ledger.settings) want done
 
+-- the pass that takes what memory.low protects
 abbrev pub third_pass : Pass
 third_pass = Third

@@ -17,8 +17,8 @@ pub record IsDirtyUnit (links : List Link) (frame : ℕ) : Type 0 where
   pub dirty : (link_at links frame).is_dirty ≡ true
 
 -- What a reclaim keeps. Stocks, killed groups, groups with their limits and settings, and each visit stay; no visit is
--- opened or shut. No usage rises. No dirty unit is freed. Each unit that is kept was kept for the same group, and is as dirty as
--- before. No miss is forgotten.
+-- opened or shut. No usage rises. No dirty unit is freed. Each unit that is kept was kept for the same group, and is as
+-- dirty as before. No miss is forgotten.
 pub record Keeps (table : KnownTable) (before after : KnownMachine) : Type 0 where
   pub stocks : (cpu : ℕ) → part_at table after cpu ≡ part_at table before cpu
   pub killed : after.killed ≡ before.killed

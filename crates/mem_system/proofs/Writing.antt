@@ -3,7 +3,7 @@ use Rattle.std.proofs.Common.{◌≡◌, ◌≢◌, ◌⊎◌, ℕ, false, ◌+�
 use Rattle.group_tree.specs.declared.fault.Fault.{Fault}
 use Rattle.group_tree.specs.declared.fault.Fault.TheVariants.{Again, BadLimit, BadNumber}
 use Rattle.control_files.specs.declared.file.File.{File}
-use Rattle.control_files.specs.declared.file.File.TheVariants.{Current, Max, High, Low, Min, Peak, Events, EventsLocal, OomGroup, Reclaim}
+use Rattle.control_files.specs.declared.file.File.TheVariants.{Current, Max, High, Low, Min, Peak, Events, EventsLocal, OomGroup, Reclaim, Stat}
 use Rattle.control_files.specs.{is_writable, IsNoFlagText, ReadsAmount, ReadsAs, IsNoAmountText, IsNoLimitText, IsTooGreat}
 use Rattle.frame_word.specs.Seats.{KnownTable}
 use Rattle.mem_machine.specs.{KnownMachine, Makes, BySteps, Transition, transition}
@@ -113,6 +113,7 @@ read_only Events a b c d e f = refl
 read_only EventsLocal a b c d e f = refl
 read_only OomGroup a b c d e f = absurd (e refl)
 read_only Reclaim a b c d e f = absurd (f refl)
+read_only Stat a b c d e f = refl
 
 module _ (t : KnownTable) (value : List ℕ) (g asked freed : ℕ) (m n : KnownMachine) (reads : ReadsAmount value asked)
     (leads : FreesBySteps t freed m n (ReclaimsAmount g asked)) (missed : freed < asked → MissedAll g m n)

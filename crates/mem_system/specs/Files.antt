@@ -6,10 +6,11 @@ use Rattle.group_tree.specs.declared.fault.Fault.{Fault}
 use Rattle.group_tree.specs.declared.fault.Fault.TheVariants.{NoGroup, NoFile, ReadOnly, BadLimit, BadNumber, Again}
 use Rattle.group_charge.specs.Charges.{Ledger, current_of, settings_of, with_group_limit, with_oom_flag, with_settings}
 use Rattle.control_files.specs.declared.file.File.{File}
-use Rattle.control_files.specs.declared.file.File.TheVariants.{Max, High, Low, Min, OomGroup, Reclaim}
+use Rattle.control_files.specs.declared.file.File.TheVariants.{Max, High, Low, Min, OomGroup, Reclaim, Stat}
 use Rattle.control_files.specs.{name_of_file, file_text, is_writable, IsFlagText, IsNoFlagText, ReadsAmount, ReadsAs, IsTooGreat, IsNoAmountText}
-use Rattle.control_files.specs.{IsNoLimitText}
+use Rattle.control_files.specs.{IsNoLimitText, stat_text}
 use Rattle.step_rules.specs.After.{Run}
+use Rattle.machine_texts.specs.{memory_stat}
 use Rattle.mem_machine.specs.{KnownMachine, with_run, Makes, KnownRun, set_max_steps, set_oom_group_steps, Transition, MachineStays, transition}
 use Rattle.mem_reclaim.specs.{FreesBySteps, ReclaimsAmount, Keeps, MissedAll}
 use Rattle.mem_system.specs.declared.command.ReplyWithText.{ReplyWithText}
@@ -34,19 +35,24 @@ HasNoFile groups path name NoGroup = number_at groups path ≡ None
 HasNoFile groups path name NoFile = HasNoFileNamed groups path name
 HasNoFile groups path name fault = ⊥
 
+-- what a file of the group shows: memory.stat what the machine keeps, each other file what the ledger says
+abbrev pub shown_text : KnownMachine → ℕ → File → Result (List ℕ) Fault
+shown_text machine group Stat = Ok (stat_text (memory_stat machine group))
+shown_text machine group file = file_text machine.ledger group file
+
 -- the answer of a file that exists: its text, or why it can't be read
-pub record ReadsFile (ledger : Ledger) (path name : List ℕ) (answer : Result (List ℕ) Fault) : Type 0 where
+pub record ReadsFile (machine : KnownMachine) (path name : List ℕ) (answer : Result (List ℕ) Fault) : Type 0 where
   pub group : ℕ
   pub file : File
-  pub is_file : IsFileOf ledger.groups path name group file
-  pub answer_is : answer ≡ file_text ledger group file
+  pub is_file : IsFileOf machine.ledger.groups path name group file
+  pub answer_is : answer ≡ shown_text machine group file
 
--- Read: the text of the file, by the ledger; or there is no such file, or it can't be read
-abbrev pub Reads : Ledger → (path name : List ℕ) → ReplyWithText → Type 0
-Reads ledger path name (Text text) = ReadsFile ledger path name (Ok text)
-Reads ledger path name (Refused fault) =
-    HasNoFile ledger.groups path name fault ⊎ ReadsFile ledger path name (Err fault)
-Reads ledger path name other = ⊥
+-- Read: the text of the file; or there is no such file, or it can't be read
+abbrev pub Reads : KnownMachine → (path name : List ℕ) → ReplyWithText → Type 0
+Reads machine path name (Text text) = ReadsFile machine path name (Ok text)
+Reads machine path name (Refused fault) =
+    HasNoFile machine.ledger.groups path name fault ⊎ ReadsFile machine path name (Err fault)
+Reads machine path name other = ⊥
 
 -- the machine with another limit of the group
 abbrev pub with_limit_of : KnownMachine → (group : ℕ) → Option ℕ → KnownMachine

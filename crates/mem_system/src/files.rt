@@ -19,6 +19,7 @@ use group_charge::charges::Charges;
 use group_charge::settings::Settings;
 use group_tree::fault::Fault;
 use group_tree::group::GroupId;
+use machine_texts::memory_stat;
 use mem_machine::Machine;
 use mem_reclaim::reclaim_amount;
 
@@ -37,13 +38,17 @@ fn find_file(charges: &Charges, path: &[u8], name: &[u8]) -> Result<(GroupId, Fi
 }
 
 // Reads a control file: refused for the first cause that holds, no group or no such file.
-pub(crate) fn read_file(charges: &Charges, path: &[u8], name: &[u8]) -> Outcome
-    ensures read { Reads charges.now path.now name.now (reply_of charges.now result) }
-    ensures groups { HasItsGroups charges.now result }
+pub(crate) fn read_file<N: BootName>(machine: &Machine<N>, path: &[u8], name: &[u8]) -> Outcome
+    ensures read { Reads machine.now path.now name.now (reply_of machine.now.ledger result) }
+    ensures groups { HasItsGroups machine.now.ledger result }
 {
-    match find_file(charges, path, name) {
-        Ok(found) => Outcome::Text(found.0, found.1),
-        Err(fault) => Outcome::Refused(fault),
+    let (group, file) = match find_file(machine.charges(), path, name) {
+        Ok(found) => found,
+        Err(fault) => return Outcome::Refused(fault),
+    };
+    match file {
+        File::Stat => Outcome::Stat(memory_stat(machine, group)),
+        _ => Outcome::Text(group, file),
     }
 }
 

@@ -19,8 +19,7 @@ use Rattle.script_lint.specs.declared.refusal.Refusal.TheVariants.{RootToChange,
 -- what only shows how memory is used
 abbrev pub is_statistic : List ℕ → Bool
 is_statistic name =
-    bytes_eq name (codes "memory.stat") || bytes_eq name (codes "memory.numa_stat")
-    || bytes_eq name (codes "memory.pressure")
+    bytes_eq name (codes "memory.numa_stat") || bytes_eq name (codes "memory.pressure")
 
 -- a name as that of a file about swap
 abbrev pub is_of_swap : List ℕ → Bool

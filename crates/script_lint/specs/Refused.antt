@@ -36,7 +36,7 @@ pub record AreRefused (sizes : Config) (script : List ℕ) (refused : List Refus
 -- the files that each group has
 abbrev pub files_text : List ℕ
 files_text = codes "the files are memory.current, memory.max, memory.high, memory.low, memory.min, memory.peak, "
-    ++ codes "memory.events, memory.events.local, memory.oom.group, memory.reclaim"
+    ++ codes "memory.events, memory.events.local, memory.oom.group, memory.reclaim, memory.stat"
 
 -- why a command is refused
 abbrev pub sentence : Refusal → List ℕ

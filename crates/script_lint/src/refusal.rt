@@ -84,11 +84,13 @@ impl Refusal {
             Refusal::NeverMade => "no line before makes this group",
             Refusal::NotModelled => {
                 "this file isn't modelled; the files are memory.current, memory.max, memory.high, memory.low, \
-                memory.min, memory.peak, memory.events, memory.events.local, memory.oom.group, memory.reclaim"
+                memory.min, memory.peak, memory.events, memory.events.local, memory.oom.group, memory.reclaim, \
+                memory.stat"
             }
             Refusal::NoFile => {
                 "no such file; the files are memory.current, memory.max, memory.high, memory.low, \
-                memory.min, memory.peak, memory.events, memory.events.local, memory.oom.group, memory.reclaim"
+                memory.min, memory.peak, memory.events, memory.events.local, memory.oom.group, memory.reclaim, \
+                memory.stat"
             }
             Refusal::FileOfRoot => "/ has no files",
             Refusal::WriteOnly => "memory.reclaim can't be read",
@@ -269,9 +271,7 @@ fn is_unmodelled(name: &[u8]) -> bool
 fn is_statistic(name: &[u8]) -> bool
     ensures { result ≡ is_statistic name.now }
 {
-    name == b"memory.stat".as_slice()
-        || name == b"memory.numa_stat".as_slice()
-        || name == b"memory.pressure".as_slice()
+    name == b"memory.numa_stat".as_slice() || name == b"memory.pressure".as_slice()
 }
 
 fn is_of_swap(name: &[u8]) -> bool
@@ -288,7 +288,9 @@ fn value_refusal(file: File, value: &[u8]) -> Option<Refusal>
         File::Max | File::High | File::Low | File::Min => limit_refusal(value),
         File::Reclaim => amount_refusal(value),
         File::OomGroup => flag_refusal(value),
-        File::Current | File::Peak | File::Events | File::EventsLocal => Some(Refusal::ReadOnly),
+        File::Current | File::Peak | File::Events | File::EventsLocal | File::Stat => {
+            Some(Refusal::ReadOnly)
+        }
     }
 }
 

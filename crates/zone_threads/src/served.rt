@@ -10,6 +10,7 @@ use crate::behind::Behind;
 use crate::calls::{CallAnswer, GroupPages, ReadAnswer, ReadCall};
 use control_files::file::{File, file_text};
 use control_files::limit::{Limit, write_limit};
+use control_files::stat::stat_text;
 use cpu_part::{BootName, Tables};
 use group_charge::charges::Charges;
 use group_tree::group::GroupId;
@@ -200,6 +201,9 @@ impl<N: BootName> Behind<N> {
         self.locked.prove_quiet();
         if let Outcome::Refused(fault) = outcome {
             return ReadAnswer::Refused(fault);
+        }
+        if let Outcome::Stat(stat) = outcome {
+            return ReadAnswer::Text(stat_text(stat));
         }
         let Outcome::Text(group, file) = outcome else {
             unreachable!()
