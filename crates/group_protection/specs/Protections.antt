@@ -87,7 +87,7 @@ NothingSetProtectsNothing =
     (key : Key) (ledger : Ledger) (target group : ℕ) → are_protecting ledger.settings ≡ false
     → effective key ledger target group ≡ 0
 
--- memory.min keeps the group's pages from a reclaim for the group `limited`: they are no more than memory.min of the
+-- memory.min may keep the group's pages from a reclaim for the group `limited`: they are no more than memory.min of the
 -- group right below `limited` on the path, which isn't 0
 pub record IsKeptByMin (ledger : Ledger) (limited group : ℕ) : Type 0 where
   pub top : ℕ

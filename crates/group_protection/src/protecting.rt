@@ -11,7 +11,7 @@ use group_tree::group::GroupId;
 /// A file that protects a group.
 #[derive(Clone, Copy, Debug, PartialEq, Eq)]
 pub enum Key {
-    /// memory.min: reclaim never takes what it protects.
+    /// memory.min: reclaim doesn't take what it protects, except in a last unit that is larger than what is wanted.
     Min,
     /// memory.low: reclaim takes what it protects only if it finds nothing else.
     Low,

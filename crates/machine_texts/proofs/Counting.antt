@@ -1,5 +1,5 @@
 -- Sums of the pages of kept units. Serves `memory_stat` and what it calls.
-use Rattle.std.proofs.Common.{◌≡◌, ℕ, ◌+◌, ◌*◌, ◌^◌, ◌<◌, ◌≤◌, Bool, true, false, cond, List, [], ◌∷◌, length, take, get_or, refl, sym, ap, ◌∙◌, arith}
+use Rattle.std.proofs.Common.{◌≡◌, ℕ, ◌+◌, ◌*◌, ◌^◌, ◌<◌, ◌≤◌, Bool, true, false, cond, List, [], ◌∷◌, length, take, get_or, refl, ap, ◌∙◌, arith}
 use Rattle.std.specs.Prelude.{sum_by}
 use Rattle.std.specs.Option.{option_map_or}
 use Rattle.std.proofs.lemmas.List.Sums.{sum_by-cons, sum_by_more}
@@ -7,24 +7,23 @@ use Rattle.std.proofs.Math.Pow.{pow_mono}
 use Rattle.frame_word.specs.Seats.{KnownTable}
 use Rattle.group_tree.specs.declared.group.Group.{Group}
 use Rattle.lru_lists.specs.declared.record.Entry.{Entry}
-use Rattle.step_rules.specs.declared.phase.ChargedUnit.{ChargedUnit}
 use Rattle.mem_machine.specs.declared.frame_state.FrameState.{FrameState}
 use Rattle.mem_machine.specs.declared.frame_state.FrameState.TheVariants.{Free, Lent, Head, Tail}
 use Rattle.mem_machine.specs.{KnownMachine, IsConsistent, frame_state_at, headed_unit}
-use Rattle.machine_texts.specs.Stat.{counted_pages, is_counted, unit_pages}
+use Rattle.machine_texts.specs.Stat.{counted_pages, is_counted, pages_at}
 
 -- ---- the units of a list
 
 -- a unit has at most 1,024 pages
 module _ (t : KnownTable) (m : KnownMachine) (ok : IsConsistent t m) (f : ℕ) where
   few_of : (s : FrameState) → frame_state_at m.frame_states f ≡ s
-      → option_map_or (λ (unit : ChargedUnit). 2 ^ unit.order) (headed_unit s) 0 ≤ 1024
+      → option_map_or (λ unit. 2 ^ unit.order) (headed_unit s) 0 ≤ 1024
   few_of Free is = omega arith
   few_of (Lent cpu) is = omega arith
   few_of (Head unit) is = pow_mono {i = unit.order} {j = 10} (ok.units.heads f unit is).block.order
   few_of (Tail group) is = omega arith
 
-  pub few_pages : unit_pages m f ≤ 1024
+  pub few_pages : pages_at m f ≤ 1024
   few_pages = few_of (frame_state_at m.frame_states f) refl
 
 few_if : (b : Bool) (n : ℕ) → n ≤ 1024 → cond b n 0 ≤ 1024
@@ -36,7 +35,7 @@ pub few_on : (t : KnownTable) (m : KnownMachine) → IsConsistent t m → (only_
     → sum_by (counted_pages m only_dirty) es ≤ length es * 1024
 few_on t m ok only_dirty [] = let none : sum_by (counted_pages m only_dirty) [] ≡ 0 = refl in omega (arith, none)
 few_on t m ok only_dirty (e ∷ es) =
-    let one = few_if (is_counted only_dirty e) (unit_pages m e.number) (few_pages t m ok e.number) in
+    let one = few_if (is_counted only_dirty e) (pages_at m e.number) (few_pages t m ok e.number) in
     let more = few_on t m ok only_dirty es in
     let both = sum_by-cons (counted_pages m only_dirty) e es in
     omega (arith, one, more, both)

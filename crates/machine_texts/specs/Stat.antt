@@ -1,5 +1,5 @@
 -- What memory.stat counts: the pages of kept units (cgroup-v2.rst, memory.stat).
-use Rattle.std.specs.Prelude.{ℕ, ◌+◌, ◌*◌, ◌^◌, ◌||◌, not, Bool, true, false, List, if◌then◌else◌, sum_by}
+use Rattle.std.specs.Prelude.{ℕ, ◌+◌, ◌*◌, ◌^◌, ◌||◌, not, Bool, true, false, if◌then◌else◌, sum_by}
 use Rattle.std.specs.Option.{option_map_or}
 use Rattle.group_tree.specs.declared.group.Group.{Group}
 use Rattle.group_tree.specs.Groups.{in_subtree}
@@ -11,8 +11,8 @@ use Rattle.control_files.specs.declared.stat.MemoryStat.{MemoryStat}
 use Rattle.mem_machine.specs.{frame_state_at, headed_unit, KnownMachine, entries_in}
 
 -- the pages of the unit that the frame heads
-abbrev pub unit_pages : KnownMachine → ℕ → ℕ
-unit_pages machine head =
+abbrev pub pages_at : KnownMachine → ℕ → ℕ
+pages_at machine head =
     option_map_or (λ unit. 2 ^ unit.order) (headed_unit (frame_state_at machine.frame_states head)) 0
 
 -- the unit of this entry is counted: each is, or only a dirty one
@@ -22,7 +22,7 @@ is_counted only_dirty entry = entry.is_dirty || not only_dirty
 -- the pages of the unit of this entry, if it is counted
 abbrev pub counted_pages : KnownMachine → (only_dirty : Bool) → Entry → ℕ
 counted_pages machine only_dirty entry =
-    if is_counted only_dirty entry then unit_pages machine entry.number else 0
+    if is_counted only_dirty entry then pages_at machine entry.number else 0
 
 -- the pages on this list of the group itself: all, or those of dirty units
 abbrev pub pages_on : KnownMachine → LruList → (only_dirty : Bool) → (group : ℕ) → ℕ

@@ -1,6 +1,6 @@
 //! The texts that show the machine: the places of the frames, what each group uses, the free blocks, the kept units of
-//! a group, how many pages they have, and a CPU's stock. And those that explain an answer: why a command is refused, what was tried, which units
-//! were reclaimed, and who was killed.
+//! a group, and a CPU's stock; and what memory.stat shows. And those that explain an answer: why a command is refused,
+//! what was tried, which units were reclaimed, and who was killed.
 #![tactic(auto)]
 
 mod blocks;

@@ -3,7 +3,7 @@
 ghost use Rattle.std.specs.Prelude.{◌≡◌, ◌<◌, ◌≤◌, ◌^◌, IsTrue};
 ghost use Rattle.group_tree.specs.Groups.{has_group};
 ghost use Rattle.machine_texts.specs.Stat.{counted_pages, is_counted, memory_stat, pages_below, pages_on, pages_shared};
-ghost use Rattle.machine_texts.specs.Stat.{unit_pages};
+ghost use Rattle.machine_texts.specs.Stat.{pages_at};
 
 use control_files::stat::MemoryStat;
 use control_files::text::PAGE_BYTES;
@@ -78,7 +78,8 @@ fn pages_on<N: BootName>(
     ensures pages { result ≡ pages_on machine.now list only_dirty group }
     ensures few { result < 2 ^ 42 }
 {
-    let _units = machine.list_len(group, list); // Called for its contract: a list is short enough for the sum.
+    let _units = machine.list_len(group, list); // Fewer than 2^32, so no sum overflows.
+    machine.prove_consistent();
     machine
         .entries(group, list)
         .map(|entry| counted_pages(machine, &entry, only_dirty))
@@ -91,7 +92,7 @@ fn counted_pages<N: BootName>(machine: &Machine<N>, entry: &Entry, only_dirty: b
     ensures few { result ≤ 1024 }
 {
     if is_counted(entry, only_dirty) {
-        unit_pages(machine, entry.number)
+        pages_at(machine, entry.number)
     } else {
         0
     }
@@ -105,8 +106,8 @@ fn is_counted(entry: &Entry, only_dirty: bool) -> bool
 }
 
 // The pages of the unit that the frame heads.
-fn unit_pages<N: BootName>(machine: &Machine<N>, head: u32) -> u64
-    ensures pages { result ≡ unit_pages machine.now head }
+fn pages_at<N: BootName>(machine: &Machine<N>, head: u32) -> u64
+    ensures pages { result ≡ pages_at machine.now head }
     ensures few { result ≤ 1024 }
 {
     let frame_states = machine.frame_states();

@@ -20,7 +20,7 @@ use Rattle.mem_alloc.specs.Kills.{IsAlive, KillsForRoom, has_room_at}
 use Rattle.mem_alloc.specs.NoRash.{IsChargedBelow, NoRashKill, has_oom_note}
 
 -- By these first steps of a call, everything else was tried for the limit of the group `limited`, which has no room.
--- The steps lead to a consistent machine. One of them notes `oom` there, and each stock of the subtree is drained. For
+-- The steps lead to a consistent machine, and each group keeps its memory.min. One of them notes `oom` there, and each stock of the subtree is drained. For
 -- each clean unit that the subtree still keeps and that memory.min doesn't, one of these steps is a freeze that missed.
 -- `killed` is the victim for this limit, with its killed root.
 pub record WasLast (MayAsk : List Group → ℕ → ℕ → Type 0) (table : KnownTable) (start : KnownMachine)
@@ -29,6 +29,7 @@ pub record WasLast (MayAsk : List Group → ℕ → ℕ → Type 0) (table : Kno
   pub leads : IsLocalRun (lock_holder start) (local_of table start) tried (local_of table now)
   pub consistent : IsConsistent table now
   pub charges : AreCharges now.ledger
+  pub settings : now.ledger.settings ≡ start.ledger.settings
   pub limited : ℕ
   pub need : ℕ
   pub asked : MayAsk now.ledger.groups limited need
@@ -64,15 +65,18 @@ KillsComeLast MayAsk =
 abbrev pub ChargesKillLast : Type 0
 ChargesKillLast = (group pages : ℕ) → KillsComeLast (IsChargedBelow group pages)
 
--- if no group has memory.min, each clean unit that the subtree still keeps was tried before a kill
-abbrev pub ChargesTryAllWithoutMin : Type 0
-ChargesTryAllWithoutMin =
-    (group pages : ℕ) (table : KnownTable) (start : KnownMachine) (tried : Run) (killed : Killed)
-    (last : WasLast (IsChargedBelow group pages) table start tried killed)
-    → ((other : ℕ) → setting min_key last.now.ledger other ≡ 0)
+-- if no group had memory.min when the call began, each clean unit that the subtree still keeps was tried before a kill
+abbrev pub TriesAllWithoutMin : (List Group → ℕ → ℕ → Type 0) → Type 0
+TriesAllWithoutMin MayAsk =
+    (table : KnownTable) (start : KnownMachine) (tried : Run) (killed : Killed)
+    (last : WasLast MayAsk table start tried killed) → ((other : ℕ) → setting min_key start.ledger other ≡ 0)
     → (frame : ℕ) (home : Home) → in_subtree last.now.ledger.groups last.limited home.owner ≡ true
     → home_of last.now.links frame ≡ Some home → (link_at last.now.links frame).is_dirty ≡ false
     → 1 ≤ missed_in frame tried
+
+-- so it is before the kills of a charge, for any group and any number of pages
+abbrev pub ChargesTryAllWithoutMin : Type 0
+ChargesTryAllWithoutMin = (group pages : ℕ) → TriesAllWithoutMin (IsChargedBelow group pages)
 
 -- kills for a limit end when it has room for the pages, when the group that asks for them is killed, or when no victim
 -- is left

@@ -1,5 +1,5 @@
--- No group is killed for a limit before everything else was tried. This is read from a call's steps and from the
--- machine to which they lead.
+-- No group is killed for a limit before everything else was tried that memory.min doesn't keep. This is read from a
+-- call's steps and from the machine to which they lead.
 use Rattle.std.specs.Prelude.{◌≡◌, ℕ, ◌≤◌, ◌==◌, ◌⊎◌, Bool, true, false, Some, List, [], ◌∷◌, ◌++◌}
 use Rattle.std.specs.List.{list_any}
 use Rattle.frame_word.specs.Seats.{KnownTable}
@@ -30,13 +30,14 @@ has_oom_note group steps = list_any (λ entry. is_oom_note group entry.0.action)
 
 -- What these steps of a call say of the machine that they left. Each frame's misses are those from before the call and
 -- those among the steps. Each unit that is kept was kept for the same group when the call began, and is as dirty as it
--- was then.
+-- was then. Each group has the memory.min that it had then.
 pub record IsLeftBySteps (call : Transition KnownMachine) : Type 0 where
   pub misses : CountsMisses call
   pub owners : (frame : ℕ) → HeadsKeptUnit call.after frame
       → owner_of (home_of call.after.links frame) ≡ owner_of (home_of call.before.links frame)
   pub dirt : (frame : ℕ) → HeadsKeptUnit call.after frame
       → (link_at call.after.links frame).is_dirty ≡ (link_at call.before.links frame).is_dirty
+  pub settings : call.after.ledger.settings ≡ call.before.ledger.settings
 
 -- For which limit and need a call that charges `pages` pages to a group may kill. The limit is that of the group or of
 -- an ancestor, the need is these pages, and they are at most `most_killed_for`.

@@ -3,7 +3,7 @@
 ghost use Rattle.mem_alloc.specs.KillLaws.{ChargesKillOverLimits, ChargesKillWholeSets};
 ghost use Rattle.mem_alloc.specs.Laws.{ChargesKillLast, ChargesTryAllWithoutMin, KillsEndInTime, RefillsAreWhole};
 
-/// A charge kills nobody before it tried everything else that memory.min doesn't protect.
+/// A charge kills nobody before it tried everything else that memory.min doesn't keep.
 pub fn charges_kill_last()
     ensures { ChargesKillLast }
 {}

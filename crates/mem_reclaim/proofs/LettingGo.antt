@@ -302,7 +302,7 @@ let_go_done t g list m i now s all =
 
 -- ---- the stocks are drained
 
-settings_stay : (l : Ledger) (o : Option ℕ) (n : ℕ) → (uncharged l o n).settings ≡ l.settings
+pub settings_stay : (l : Ledger) (o : Option ℕ) (n : ℕ) → (uncharged l o n).settings ≡ l.settings
 settings_stay l None n = refl
 settings_stay l (Some g) n = refl
 

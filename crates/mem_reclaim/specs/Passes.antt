@@ -58,7 +58,7 @@ NotesLowIf false group detail Does done = Does done
 NotesLowIf true group detail Does done = NotesLow group detail Does done
 
 -- What a pass does with a group of this usage, of which memory.min and memory.low protect this much. If the third frees
--- a page of a group of which memory.low protects more than memory.min, it breaks memory.low, and notes that.
+-- a page of a group of which memory.low protects more than memory.min, an event `low` is noted.
 abbrev pub ReclaimsGroup : Pass → (of_min of_low usage group want : ℕ) → Reclaiming
 ReclaimsGroup First of_min of_low usage group want done = PassesGroup true group want done
 ReclaimsGroup Second of_min of_low usage group want done = PassesGroup false group want done
@@ -116,7 +116,7 @@ abbrev pub ReclaimsPass : (target : ℕ) → Pass → ℕ → Reclaiming
 ReclaimsPass target pass want done =
     WhileWanted (TakesTurn pass target) (subtree_of done.before.ledger.groups target) want done
 
--- the passes of a reclaim: the third only if something is protected
+-- the passes of a reclaim: the third only if some group of the tree has memory.low or memory.min
 abbrev pub passes_of : List Settings → List Pass
 passes_of settings = First ∷ Second ∷ (if are_protecting settings then Third ∷ [] else [])
 

@@ -102,15 +102,15 @@ fn scan_both<N: BootName>(
     inactive + active
 }
 
-// Whether a turn of the third pass that freed this many pages broke memory.low.
-fn broke_low(protection: Protection, freed: u64) -> bool
+// Whether an event `low` is due to a turn of the third pass that freed this many pages.
+fn is_low_event(protection: Protection, freed: u64) -> bool
     ensures { result ≡ (nat_lt protection.min protection.low && nat_lt 0 freed) }
 {
     protection.min < protection.low && freed > 0
 }
 
-// The third pass over a group is as the second. If memory.low is broken, an event `low` is noted, and what was protected
-// when the turn began.
+// The third pass over a group is as the second. If it took what memory.low alone may protect, an event `low` is noted,
+// and what was protected when the turn began.
 fn scan_and_note<N: BootName>(
     machine: &mut Machine<N>,
     tables: &Tables<N>,
@@ -131,7 +131,7 @@ fn scan_and_note<N: BootName>(
     ensures missed { result < want → MissedOfGroup group machine.old machine.new }
 {
     let freed = scan_both(machine, tables, group, want);
-    if broke_low(protection, freed) {
+    if is_low_event(protection, freed) {
         machine.note_event(tables, NoteKey::Low, group);
         let Protection { min, low } = protection;
         machine.note_detail(Note::Low {

@@ -24,8 +24,8 @@ pub struct Reclaimed {
     pub tried_all: bool,
 }
 
-// The passes of a reclaim of `want` pages from `groups`, those of the subtree of `group`. If nothing is protected, the
-// third pass would only repeat the second.
+// The passes of a reclaim of `want` pages from `groups`, those of the subtree of `group`. If no group of the tree has
+// memory.low or memory.min, the third pass would only repeat the second.
 fn make_passes<N: BootName>(
     machine: &mut Machine<N>,
     tables: &Tables<N>,
@@ -60,8 +60,8 @@ fn make_passes<N: BootName>(
 /// Frees units that the subtree of `group` keeps, until at least `want` pages are freed or every clean unit that
 /// memory.min doesn't protect was tried. A unit is freed if only the zone has a reference on it; a dirty unit never is.
 /// The first pass ages each group's lists, tries its inactive units and gives marked ones a second chance. The second
-/// pass tries all clean units. If something is protected, these passes spare what memory.min or memory.low protects,
-/// and a third spares only what memory.min protects. Each pass goes over the groups by ascending number, and over a list
+/// pass tries all clean units. If some group of the tree has memory.low or memory.min, these passes spare what one of
+/// them protects, and a third spares only what memory.min protects. Each pass goes over the groups by ascending number, and over a list
 /// from the oldest unit to the newest. With `want` 0 nothing is done.
 pub fn reclaim<N: BootName>(
     machine: &mut Machine<N>,

@@ -135,7 +135,8 @@ impl<N: BootName> Behind<N> {
         group: u32,
         which: GroupPages,
     ) -> CallAnswer
-        ensures { ReadsPages N.frames group which result cpu.old cpu.new }
+        ensures says { SaysPages self.old.locked.machine.ledger group which result }
+        ensures reads { ReadsPages N.frames group which result cpu.old cpu.new }
     {
         self.locked.prove_quiet();
         let answer = pages_read(self.locked.charges(), group, which);
