@@ -184,9 +184,9 @@ class Follower {
   *turn(top, group, pass, want, attempt, detail) {
     const { state } = this, [inactive, active] = [groupList(group, false), groupList(group, true)], { current, path } = state.groups[group];
     const [min, low] = ["min", "low"].map(key => state.protection(key, top, group)), spared = pass === 3 ? min : Math.max(min, low);
-    const most = spared ? Math.min(want, current - spared) : want, are = `${path} usage ${current * PAGE} min ${min * PAGE} low ${low * PAGE}`;
+    const most = spared ? Math.min(want, current - spared) : want, facts = `${path} usage ${current * PAGE} min ${min * PAGE} low ${low * PAGE}`;
     let freed = 0;
-    if (pass === 1 && most < want && current) detail(`# spared ${are}`);
+    if (pass === 1 && most < want && current) detail(`# spared ${facts}`);
     if (most <= 0) return;
     while (pass === 1 && state.length[active] > state.length[inactive]) this.move(state.first[active], false);
     for (const list of pass === 1 ? [inactive] : [inactive, active]) {
@@ -201,7 +201,7 @@ class Follower {
     }
     if (pass !== 3 || !freed || low <= min) return;
     yield `note-low ${group}`;
-    detail(`# low ${are}`);
+    detail(`# low ${facts}`);
   }
   /** Rounds until nothing is missing. -1 is yielded between those for the zone, if it is asked again. */
   *rounds(top, missing, isZone) {
