@@ -35,7 +35,7 @@ want(call("limit", b"a", 262143), "a limit is at least 256K")
 want(call("limit", b"a", 262144), None)
 text = ctypes.create_string_buffer(257)
 want(call("read", b"b", b"memory.max", text), "no group or file of this name")
-want(call("read", b"a", b"memory.low", text), "no group or file of this name")
+want(call("read", b"a", b"memory.pressure", text), "no group or file of this name")
 want(call("read", b"a", b"memory.max", text), None)
 want(text.value, b"262144\n")
 

@@ -1,4 +1,4 @@
-/* Random typed calls: tests/gate/threads-c runs it.
+/* Random typed calls: tests/gate/threads-c runs it, and defines CONTROL_FILES.
  *
  *     threads-storm storm THREADS SECONDS SEED     by so many threads; at the end the audit has to add up
  *     threads-storm replay COMMANDS SEED           by one CPU handle; the script is written to standard output, and what
@@ -15,8 +15,7 @@
 
 enum { MOST_THREADS = 16, PATHS = 8, TEXT_ROOM = 100000 };
 static const char *const PATH[PATHS] = {"/a", "/b", "/a/c", "/a/d", "/b/e", "/a/c/f", "/g", "/no/where"};
-static const char *const FILES[] = {"memory.current", "memory.max", "memory.high", "memory.peak", "memory.events",
-                                    "memory.oom.group", "memory.reclaim", "nothing"};
+static const char *const FILES[] = {CONTROL_FILES "nothing"};
 static const char *const VALUES[] = {"max", "1M", "800K", "400K", "200K", "1", "4096", "x"};
 static const char *const AT_FRAME[] = {"release", "get", "put", "touch", "dirty", "clean", "owner"};
 static const char *const REFUSALS[] = {"", "NoParent", "Exists", "BadName", "TreeFull", "TooDeep", "NoGroup", "HasChildren",
@@ -81,7 +80,7 @@ static uint32_t some_group(caller *me) {
  * dirty unit, a script notes that by a second line. */
 static uint8_t call(caller *me, tempolemon_result *out) {
     const uint32_t pick = below(me, 100);
-    const char *path = PATH[below(me, PATHS)], *file = FILES[below(me, 8)], *value = VALUES[below(me, 8)];
+    const char *path = PATH[below(me, PATHS)], *file = FILES[below(me, sizeof FILES / sizeof *FILES)], *value = VALUES[below(me, 8)];
     const size_t length = strlen(path);
     *out = (tempolemon_result){0};
     me->written = 0;

@@ -3,7 +3,7 @@ import re
 
 from .amounts import Fault, note
 from .files import open_text
-from .series import Series, read_time
+from .series import MAX, SETTINGS, Series, read_time
 
 LINE = re.compile(r"(.*)/(memory\.[\w.]+):(?:(\w+) )?(\w+)$")
 
@@ -40,17 +40,21 @@ def snapshots(path):
 
 
 def read(path, _):
-    """The series of a file, and those of limits."""
+    """The series of a file, and those of settings."""
     lacking = set()
     for seconds, groups in snapshots(path):
         for group, (stat, files) in groups.items():
             current = files.get("memory.current", files.get("memory.usage_in_bytes"))
             kinds = values_of({key: int(word) for key, word in stat.items() if word.isdigit()},
                               int(current) if current and current.isdigit() else None)
-            limit = files.get("memory.max", files.get("memory.limit_in_bytes", "max"))
-            bounds = {"limit": limit, "high": files.get("memory.high", "max")} if kinds else {}
+            if not kinds:
+                continue
             lacking |= {group} if "usage" in kinds else set()
-            for kind, value in [*kinds.items(), *((kind, int(word)) for kind, word in bounds.items() if word.isdigit())]:
+            words = {kind: files.get(f"memory.{name}", "") for kind, name in SETTINGS.items()}
+            words["limit"] = words["limit"] or files.get("memory.limit_in_bytes", "")
+            kinds.update((kind, int(word)) for kind, word in words.items() if word.isdigit())
+            kinds.update((kind, MAX) for kind, word in words.items() if word == "max")
+            for kind, value in kinds.items():
                 yield Series(kind, {"path": group}, [(seconds, value)])
     if lacking:
         note(f"{len(lacking)} groups have no memory.stat, {min(lacking)} first: memory.current is counted as anonymous")

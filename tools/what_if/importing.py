@@ -5,7 +5,7 @@ from . import cgroupfs, grafana, prometheus, rows
 from .amounts import Fault, note, read_amount
 from .prepare import filled, not_cumulative, read_names, renamed
 from .series import KIND_NAMES, usage_of
-from .usage import HEADER, HIGH_HEADER
+from .usage import DEFAULTS, HEADER, groups_with, setting_word
 
 # The reader of each format, and whether a value counts all groups below.
 FORMATS = {"prometheus": (prometheus.read, True), "grafana": (grafana.read, True), "cgroupfs": (cgroupfs.read, True),
@@ -20,14 +20,14 @@ def split_kind(word):
 
 def usage_lines(usage):
     """The lines of a usage."""
-    has_high = any(high is not None for sample in usage.samples for high in sample.highs.values())
-    yield ",".join(HIGH_HEADER if has_high else HEADER)
-    for seconds, amounts, limits, highs in usage.samples:
+    kinds = [kind for kind in DEFAULTS if kind == "max" or groups_with(usage, kind)]
+    yield ",".join([*HEADER[:4], *kinds])
+    for seconds, amounts, settings in usage.samples:
         found = {**amounts, **({"/": amounts.get("/", (0, 0))} if usage.host else {})}
         for group, (anon, file) in sorted(found.items()):
-            limit = usage.host if group == "/" else limits.get(group)
-            bounds = [limit, highs.get(group)] if has_high else [limit]
-            yield ",".join([f"{seconds:.3f},{group},{anon},{file}", *("max" if one is None else str(one) for one in bounds)])
+            values = {kind: settings[kind].get(group, DEFAULTS[kind]) for kind in kinds}
+            values.update({"max": usage.host} if group == "/" else {})
+            yield ",".join([f"{seconds:.3f},{group},{anon},{file}", *map(setting_word, values.values())])
 
 
 def import_lines(options):

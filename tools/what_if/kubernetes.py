@@ -1,4 +1,4 @@
-"""Pods as `kubectl get pods -o json` writes them: their limits, memory.high, and the names that long ids stand for."""
+"""Pods as `kubectl get pods -o json` writes them: limits, what MemoryQoS sets, and the names that long ids stand for."""
 import decimal
 import json
 import re
@@ -10,8 +10,8 @@ from .files import read_json
 POWERS = {"": 1, "m": decimal.Decimal("0.001"), **{unit: 1000 ** power for power, unit in enumerate("kMGTPE", 1)},
           **{f"{unit}i": 1024 ** power for power, unit in enumerate("KMGTPE", 1)}}
 PAGE = 4096
-HIGH_HEAD = ("# memory.high in bytes by the formula of MemoryQoS in Kubernetes 1.27: request + 0.9 * (limit - request),"
-             f" rounded down to pages of {PAGE}")
+QOS_HEAD = ("# MemoryQoS of Kubernetes 1.27, in bytes: memory.min is the request, and memory.high request + 0.9 * "
+            f"(limit - request), rounded down to pages of {PAGE}")
 
 
 def quantity(word):
@@ -37,13 +37,24 @@ def memory_of(container, kind):
     return None if word is None else quantity(word)
 
 
-def pod_limit(spec):
-    """The limit of a pod's group: None unless each container has one. Containers run after those of init."""
-    limits = [memory_of(container, "limits") for container in spec["containers"]]
-    if None in limits:
+def request_of(container):
+    """A container's request. Kubernetes gives one that has a limit alone that limit as its request."""
+    request = memory_of(container, "requests")
+    return memory_of(container, "limits") if request is None else request
+
+
+def whole(spec, of):
+    """What a pod's group gets of what its containers have: None if one has None. Containers run after those of init."""
+    amounts = [of(container) for container in spec["containers"]]
+    if None in amounts:
         return None
-    init = [memory_of(container, "limits") or 0 for container in spec.get("initContainers", [])]
-    return max([sum(limits), *init]) + quantity(spec.get("overhead", {}).get("memory", "0"))
+    init = [of(container) or 0 for container in spec.get("initContainers", [])]
+    return max([sum(amounts), *init]) + quantity(spec.get("overhead", {}).get("memory", "0"))
+
+
+def min_lines(group, request):
+    """The line of a group's memory.min."""
+    return [f"{group} min {request}"] if request else []
 
 
 def high_lines(group, limit, request, node):
@@ -53,36 +64,38 @@ def high_lines(group, limit, request, node):
              "its request isn't below --node" if limit is None and request >= node else None)
     if lacks:
         return [f"# left out, since {lacks}: memory.high of {group}"]
-    # Kubernetes gives a container that has a limit alone that limit as its request.
-    request = limit if request is None else request
     limit = node if limit is None else limit
     high = (10 * request + 9 * (limit - request)) // (10 * PAGE) * PAGE
     return [f"{group} high {high}"] if high > request else []
 
 
-def limits_of(pod, has_high, node):
-    """The lines of limits.txt for the groups of a pod. What the program lacks is a comment."""
-    name, lacks = pod["metadata"]["name"], []
-    whole = pod_limit(pod["spec"])
-    if whole is not None:
-        yield f"/{name} {whole}"
-    for container in pod["spec"]["containers"]:
-        limit, request = (memory_of(container, kind) for kind in ("limits", "requests"))
-        yield f"/{name}/{container['name']} {'max' if limit is None else limit}"
-        yield from high_lines(f"/{name}/{container['name']}", limit, request, node) if has_high else []
-        lacks += [] if request is None else [f"{container['name']} {request}"]
-    if lacks:
-        yield f"# left out, since memcg has no memory.min: requests of /{name}: {', '.join(lacks)}"
+def limits_of(pod, has_qos, node):
+    """The lines of limits.txt for the groups of a pod. Without MemoryQoS requests set nothing, and are a comment."""
+    path, spec, left = f"/{pod['metadata']['name']}", pod["spec"], []
+    limit = whole(spec, lambda container: memory_of(container, "limits"))
+    if limit is not None:
+        yield f"{path} {limit}"
+    if has_qos:
+        yield from min_lines(path, whole(spec, lambda container: request_of(container) or 0))
+    for container in spec["containers"]:
+        group, limit, request = f"{path}/{container['name']}", memory_of(container, "limits"), request_of(container)
+        yield f"{group} {'max' if limit is None else limit}"
+        if has_qos:
+            yield from [*min_lines(group, request), *high_lines(group, limit, request, node)]
+        elif memory_of(container, "requests") is not None:
+            left.append(f"{container['name']} {request}")
+    if left:
+        yield f"# left out without --memory-qos: requests of {path}: {', '.join(left)}"
 
 
-def limit_lines(path, has_high, node):
-    """The lines of limits.txt for all pods, whose groups are /POD/CONTAINER; with memory.high if that is wanted."""
-    if node is not None and not has_high:
+def limit_lines(path, has_qos, node):
+    """The lines of limits.txt for all pods, whose groups are /POD/CONTAINER; with what MemoryQoS sets if that is wanted."""
+    if node is not None and not has_qos:
         raise Fault("--node goes with --memory-qos")
     node = None if node is None else read_amount(node)
     pods = pods_of(path, read_json(path))
     try:
-        return [HIGH_HEAD] * has_high + [line for pod in pods for line in limits_of(pod, has_high, node)]
+        return [QOS_HEAD] * has_qos + [line for pod in pods for line in limits_of(pod, has_qos, node)]
     except (KeyError, TypeError, AttributeError) as fault:
         raise Fault(f"{path}: a pod isn't as kubectl writes it: {fault}") from None
 

@@ -9,7 +9,7 @@ from .paths import path_up
 from .replay import Replay, start
 from .report import table
 from .systemd import drop_in_lines
-from .usage import greatest_wanted, only_below, with_limits
+from .usage import greatest_wanted, only_below, with_settings
 
 COLUMNS = ["group", "wanted", "survives", "keeps file"]
 
@@ -21,10 +21,10 @@ Least = namedtuple("Least", "group wanted survives few_kills keeps")
 Sought = namedtuple("Sought", "percent kills per restart")
 
 
-def played(memcg, usage, is_enough, restart=None):
+def played(memcg, usage, is_enough, restart=None, flags=()):
     """The replay of a usage, up to its end or to the first sample after which it isn't good enough."""
     with start(memcg, usage) as session:
-        replay = Replay(session, usage, restart=restart)
+        replay = Replay(session, usage, flags, restart=restart)
         for sample in usage.samples:
             replay.play(sample)
             if not is_enough(replay):
@@ -44,8 +44,8 @@ def reclaimed_share(replay, group):
 
 
 def needed(usage):
-    """Of each group the most anonymous frames below it, counted with the frame that is asked for: a limit reclaims all
-    else before it kills, so with one frame less something dies."""
+    """Of each group the most anonymous frames below it, counted with the frame that is asked for: without memory.min a
+    limit reclaims all else before it kills, so with one frame less something dies."""
     have, sums, most = {}, dict.fromkeys(usage.groups, 0), dict.fromkeys(usage.groups, 0)
     for sample in usage.samples:
         grown = []
@@ -63,6 +63,17 @@ def needed(usage):
                 sums[above] += more
                 most[above] = max(most[above], sums[above] + is_read)
     return most
+
+
+def bisect(too_little, enough, holds):
+    """The least amount that holds, between one that doesn't and one that does."""
+    while enough - too_little > 1:
+        middle = (enough + too_little) // 2
+        if holds(middle):
+            enough = middle
+        else:
+            too_little = middle
+    return enough
 
 
 class Search:
@@ -91,17 +102,7 @@ class Search:
     def holds(self, group, limit, is_enough, is_hopeful=survives):
         """Whether a usage is good enough to its end with a limit at one group."""
         usage = only_below(self.usage, group) if self.is_alone else self.usage
-        return is_enough(played(self.memcg, with_limits(usage, {group: limit}), is_hopeful, self.sought.restart))
-
-    def bisect(self, too_little, enough, holds):
-        """The least limit that holds, between one that doesn't and one that does."""
-        while enough - too_little > 1:
-            middle = (enough + too_little) // 2
-            if holds(middle):
-                enough = middle
-            else:
-                too_little = middle
-        return enough
+        return is_enough(played(self.memcg, with_settings(usage, {"max": {group: limit}}), is_hopeful, self.sought.restart))
 
     def survival(self, group):
         """The least limit with which nothing dies: what is needed, as two plays show, or else it is sought."""
@@ -110,8 +111,8 @@ class Search:
 
         guess = self.needed[group]
         if not holds(guess):
-            return self.bisect(guess, self.wanted[group], holds)
-        return guess if guess == 0 or not holds(guess - 1) else self.bisect(-1, guess - 1, holds)
+            return bisect(guess, self.wanted[group], holds)
+        return guess if guess == 0 or not holds(guess - 1) else bisect(-1, guess - 1, holds)
 
     def keeping(self, group, fewest):
         """The least limit that keeps the file pages too; None if there is none. Without a limit no usage was above the
@@ -123,13 +124,13 @@ class Search:
             return max(fewest, self.base.groups[group].peak)
         if not holds(self.wanted[group]):
             return None
-        return fewest if holds(fewest) else self.bisect(fewest, self.wanted[group], holds)
+        return fewest if holds(fewest) else bisect(fewest, self.wanted[group], holds)
 
     def least(self, group):
         """The least limits of a group, while no other has one."""
         fewest, few = self.survival(group), None
         if self.sought.kills is not None:
-            few = self.bisect(-1, fewest, lambda limit: self.holds(group, limit, self.has_few_kills, self.has_few_kills))
+            few = bisect(-1, fewest, lambda limit: self.holds(group, limit, self.has_few_kills, self.has_few_kills))
         return Least(group, self.wanted[group], fewest, few, self.keeping(group, fewest))
 
     def together(self, limits, is_kept):
@@ -140,7 +141,7 @@ class Search:
             return all(self.keeps(replay, group) for group in limits) if is_kept else hopeful(replay)
 
         while True:
-            replay = played(self.memcg, with_limits(self.usage, limits), hopeful, self.sought.restart)
+            replay = played(self.memcg, with_settings(self.usage, {"max": limits}), hopeful, self.sought.restart)
             short = [group for group in limits if replay.groups[group].times_without_room
                      and limits[group] < self.wanted[group]]
             if is_enough(replay) or not short:

@@ -1,12 +1,11 @@
-"""The file limits.txt: lines `GROUP VALUE`, `GROUP high VALUE` and `GROUP oom.group`, comments and empty lines."""
+"""The file limits.txt: lines `GROUP VALUE`, `GROUP high|low|min VALUE` and `GROUP oom.group`, comments and empty lines."""
 import difflib
 
 from .amounts import Fault, read_limit
 from .files import open_text
+from .usage import DEFAULTS, no_settings, setting_name
 
-# Files of a group of cgroup v2 that the program lacks.
-LACKS = ("memory.low", "memory.min")
-FORMS = "a line is GROUP VALUE, GROUP high VALUE or GROUP oom.group"
+FORMS = "a line is GROUP VALUE, GROUP high|low|min VALUE or GROUP oom.group"
 
 
 def unknown_group(group, groups):
@@ -17,43 +16,43 @@ def unknown_group(group, groups):
     return f"no group {group} was recorded{more}"
 
 
-def check_words(words):
-    """Refuses a line of another form."""
-    if len(words) == 3 and words[1] in LACKS:
-        raise Fault(f"{words[1]} isn't played: memcg has no memory.low or memory.min, so leave the line out")
-    if len(words) == 3 and words[1] in ("memory.max", "memory.high"):
-        raise Fault(f"{FORMS}: write '{words[0]}{' high' * (words[1] == 'memory.high')} {words[2]}'")
-    if len(words) != 2 and not (len(words) == 3 and words[1] == "high"):
+def kind_of(words):
+    """The setting that a line gives; refuses a line of another form."""
+    kind = words[1] if len(words) == 3 else "max"
+    file, _, name = kind.partition(".")
+    if file == "memory" and name in DEFAULTS:
+        raise Fault(f"{FORMS}: write '{words[0]}{'' if name == 'max' else f' {name}'} {words[2]}'")
+    if len(words) != 2 and (len(words) != 3 or kind not in DEFAULTS or kind == "max"):
         raise Fault(FORMS)
+    return kind
 
 
-def add_line(words, groups, limits, highs, flags):
-    """A line's limit, memory.high or flag."""
-    check_words(words)
-    group, value, bounds = words[0], words[-1], limits if len(words) == 2 else highs
+def add_line(words, groups, settings, flags):
+    """A line's setting or flag."""
+    group, value, kind = words[0], words[-1], kind_of(words)
     if group not in groups:
         raise Fault(unknown_group(group, groups))
-    if value == "oom.group" and len(words) == 2:
+    if value == "oom.group" and kind == "max":
         flags.add(group)
     elif group == "/":
-        raise Fault("the limit of / is the host's memory: --host SIZE" if len(words) == 2 else "/ has no memory.high")
-    elif group in bounds:
-        raise Fault(f"{group} has a second {'limit' if len(words) == 2 else 'memory.high'}")
+        raise Fault(f"/ has no {setting_name(kind)}" if kind != "max" else "the limit of / is the host's memory: --host SIZE")
+    elif group in settings[kind]:
+        raise Fault(f"{group} has a second {setting_name(kind)}")
     elif difflib.get_close_matches(value, ["oom.group", "memory.oom.group"], 1):
         raise Fault(f"'{value}' is no amount; did you mean oom.group?")
     else:
-        bounds[group] = read_limit(value)
+        settings[kind][group] = read_limit(value)
 
 
 def read_limits(path, groups):
-    """The limits and the memory.high in bytes by group, None for no limit, and the groups with oom.group."""
-    limits, highs, flags = {}, {}, set()
+    """Of each setting its values in bytes by group, None for `max`, and the groups with oom.group."""
+    settings, flags = no_settings(), set()
     with open_text(path) as lines:
         for number, line in enumerate(lines, 1):
             words = line.partition("#")[0].split()
             try:
                 if words:
-                    add_line(words, groups, limits, highs, flags)
+                    add_line(words, groups, settings, flags)
             except Fault as fault:
                 raise Fault(f"{path}: line {number}: {fault}") from None
-    return limits, highs, flags
+    return settings, flags

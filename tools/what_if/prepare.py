@@ -5,24 +5,25 @@ from .amounts import Fault, note, seconds_text
 from .files import open_text, read_json
 from .kubernetes import names_of
 from .paths import MOST_GROUPS, path_up
-from .usage import Sample, Usage
+from .usage import DEFAULTS, Sample, Usage, no_settings, settings_of
 
 
 def filled(usage, longest, remark=""):
     """The same with the last values of each group that lacks a row for at most so many seconds (None: for any time)."""
-    last, seen, limited, bounded, samples, gaps = {}, {}, {}, {}, [], []
+    last, seen, held, samples, gaps = {}, {}, no_settings(), [], []
     for sample in usage.samples:
         for group in sample.amounts:
             last[group] = sample.seconds
-    for seconds, amounts, limits, highs in usage.samples:
+    for seconds, amounts, settings in usage.samples:
         seen.update((group, (seconds, amount)) for group, amount in amounts.items())
-        limited.update(limits)
-        bounded.update(highs)
+        for kind, values in settings.items():
+            held[kind].update(values)
         lacking = {group: amount for group, (at, amount) in seen.items() if group not in amounts
                    and last[group] > seconds and (longest is None or seconds - at <= longest)}
         gaps += [(group, seconds) for group in sorted(lacking)]
-        samples.append(Sample(seconds, {**amounts, **lacking}, {**{group: limited.get(group) for group in lacking}, **limits},
-                              {**{group: bounded.get(group) for group in lacking}, **highs}))
+        samples.append(Sample(seconds, {**amounts, **lacking}, {
+            kind: {**{group: held[kind].get(group, default) for group in lacking}, **settings[kind]}
+            for kind, default in DEFAULTS.items()}))
     if gaps:
         note(f"{len(gaps)} rows are lacking, the first one of {gaps[0][0]} at {seconds_text(gaps[0][1])}: "
              f"the group keeps its last value{remark}")
@@ -73,27 +74,14 @@ def keep_greatest(usage, count, kept):
         more = kept | set(path_up(group))
         kept = more if len(more) - 1 <= count else kept
     samples = []
-    for seconds, amounts, *bounds in usage.samples:
+    for seconds, amounts, settings in usage.samples:
         sums = {}
         for group, (anon, file) in amounts.items():
             into = next(above for above in path_up(group) if above in kept)
             before = sums.get(into, (0, 0))
             sums[into] = (before[0] + anon, before[1] + file)
-        samples.append(Sample(seconds, sums, *({group: bound for group, bound in each.items() if group in kept}
-                                               for each in bounds)))
+        samples.append(Sample(seconds, sums, settings_of(settings, kept.__contains__)))
     return Usage(samples, sorted(kept), usage.host)
-
-
-def bounded_groups(recorded, given):
-    """The groups for which one of these limits holds, that were recorded or are given."""
-    found = {group for bounds in recorded for group, bound in bounds.items() if bound is not None and group not in given}
-    return found | {group for group, bound in given.items() if bound is not None}
-
-
-def limited_groups(usage, limits, highs, flags):
-    """The groups with any setting that holds: a limit or memory.high that was recorded or is given, or oom.group."""
-    return (bounded_groups((sample.limits for sample in usage.samples), limits)
-            | bounded_groups((sample.highs for sample in usage.samples), highs) | flags)
 
 
 def read_names(path):

@@ -7,7 +7,7 @@ import signal
 import time
 
 from .amounts import Fault, amount_text, note
-from .usage import HEADER, HIGH_HEADER
+from .usage import DEFAULTS, HEADER, LEAST, setting_word
 
 MOUNT = "/sys/fs/cgroup"
 
@@ -47,7 +47,7 @@ def check_folder(folder):
 class Groups:
     """The groups of cgroup v2 at some folders and below them."""
 
-    header = HIGH_HEADER
+    header = HEADER
 
     def __init__(self, folders):
         for folder in folders:
@@ -63,7 +63,7 @@ class Groups:
         return "/" if names == ["."] else "/" + "/".join(map(name_of, names))
 
     def sample(self):
-        """Of each group what it has of its own, (anon, file, limit, high)."""
+        """Of each group what it has of its own, (anon, file), and its settings."""
         rows = {}
         for folder in self.folders:
             whole = {}  # of each group with all below it
@@ -76,7 +76,8 @@ class Groups:
                 whole[place] = anon + shared, file - shared
                 below = [whole[f"{place}/{name}"] for name in names if f"{place}/{name}" in whole]
                 own = [max(0, of_all - sum(of)) for of_all, of in zip(whole[place], zip(*below, (0, 0)))]
-                rows[path] = (*own, *((text_of(f"{place}/memory.{name}") or "max").strip() for name in ("max", "high")))
+                rows[path] = (*own, *((text_of(f"{place}/memory.{kind}") or setting_word(default)).strip()
+                                      for kind, default in DEFAULTS.items()))
                 self.see(path, place)
             current = int(text_of(f"{folder}/memory.current") or 0)
             self.most_other = max(self.most_other, current - sum(whole.get(folder, (current,))))
@@ -93,15 +94,15 @@ class Groups:
             yield (f"at most {amount_text(self.most_other)} of memory.current was neither anon nor file, and isn't "
                    "recorded")
         for path, (first, last) in sorted(self.events.items()):
-            more = {key: last.get(key, 0) - first.get(key, 0) for key in ("high", "max", "oom_kill")}
+            more = {key: last.get(key, 0) - first.get(key, 0) for key in ("low", "high", "max", "oom_kill")}
             if any(more.values()):
-                yield f"{path}: high {more['high']}, max {more['max']}, oom_kill {more['oom_kill']} while it was recorded"
+                yield f"{path}: {', '.join(f'{key} {count}' for key, count in more.items())} while it was recorded"
 
 
 class Processes:
     """Processes and all that descend from them."""
 
-    header = HEADER
+    header = LEAST
 
     def __init__(self, pids):
         self.tops = {}
@@ -151,13 +152,14 @@ def rows_text(seconds, rows):
 
 def sample_until(source, file, every, last):
     """Writes samples until nothing is left, the time is over, or Ctrl-C. Returns their number, and the groups."""
-    bounds = numbers_of("/proc/meminfo")["MemTotal"] * 1024, *["max"] * (source.header == HIGH_HEADER)
+    of_root = {**DEFAULTS, "max": numbers_of("/proc/meminfo")["MemTotal"] * 1024}
+    settings = [setting_word(of_root[kind]) for kind in source.header[4:]]
     begin, count, groups = time.monotonic(), 0, set()
     try:
         rows = source.sample()
         while rows:
             seconds = time.monotonic() - begin
-            file.write(rows_text(seconds, {**rows, "/": (*rows.get("/", (0, 0))[:2], *bounds)}))
+            file.write(rows_text(seconds, {**rows, "/": (*rows.get("/", (0, 0))[:2], *settings)}))
             count += 1
             groups |= set(rows)
             if last is not None and seconds + every > last:

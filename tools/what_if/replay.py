@@ -4,9 +4,13 @@ from collections import namedtuple
 from .amounts import Fault, seconds_text
 from .paths import from_node, is_below, path_up, to_node
 from .session import Session
+from .usage import DEFAULTS
 
 # The zone has more frames than the limit of /node, so that a CPU's list never leaves it empty: that would kill nobody.
 SPARE = 16
+
+# The order in which a sample's settings are written: a limit that falls reclaims only what isn't protected by then.
+ORDER = ("min", "low", "max", "high")
 
 # When a group died, by which group's limit, which group then asked (None: a limit was written), and the explanation.
 Death = namedtuple("Death", "seconds group limit asker lines")
@@ -18,10 +22,11 @@ class Group:
     def __init__(self, path):
         self.path, self.node = path, to_node(path)
         self.anon, self.file = [], []
-        self.limit, self.high, self.death = None, None, None
+        self.settings, self.death = dict(DEFAULTS), None
         self.times_without_room, self.first_without_room = 0, None
         # How many charges would have exceeded memory.high, when first, and for how long the usage was above it.
         self.times_over, self.first_over, self.seconds_above = 0, None, 0.0
+        self.times_broken = 0  # rounds that took pages which memory.low protects
         self.kills = self.times_away = 0
         # Which file pages were touched last, and how often without a reclaim since.
         self.touched, self.touches = [], 0
@@ -31,7 +36,13 @@ class Group:
 
 def bounds_of(group):
     """The limit of a group and its memory.high, if it has them."""
-    return [bound for bound in (group.limit, group.high) if bound is not None]
+    return [bound for bound in (group.settings["max"], group.settings["high"]) if bound is not None]
+
+
+def line_of(group, kind):
+    """The line that writes a setting of a group."""
+    value = group.settings[kind]
+    return f"1 write {group.node} memory.{kind} {'max' if value is None else 4096 * value}"
 
 
 class Replay:
@@ -49,19 +60,18 @@ class Replay:
             if not (answer[0].startswith("group ") or answer[0] == "ok"):
                 raise Fault(f"{session.memcg} answered '{answer[0]}' to a new group: is that Tempolemon's memcg? "
                             "--memcg PATH names it")
-        self.set_limit(self.groups["/"], usage.host)
+        self.set(self.groups["/"], "max", usage.host)
 
     def play(self, sample):
-        """A sample: limits that changed, then what became less, then what became more, then what is used."""
+        """A sample: settings that changed, then what became less, then what became more, then what is used."""
         self.count_above(sample.seconds - self.seconds)
         self.seconds = sample.seconds
         self.session.comment(f"# {seconds_text(sample.seconds)}")
         if self.restart is not None:
             self.revive()
-        for path, limit in sorted(sample.limits.items()):
-            self.set_limit(self.groups[path], limit)
-        for path, high in sorted(sample.highs.items()):
-            self.set_high(self.groups[path], high)
+        for kind in ORDER:
+            for path, value in sorted(sample.settings[kind].items()):
+                self.set(self.groups[path], kind, value)
         wanted = [(group, *sample.amounts.get(group.path, (0, 0))) for group in self.groups.values()]
         for group, anon, file in wanted:
             if anon < len(group.anon):
@@ -86,6 +96,8 @@ class Replay:
                 limit, bound = self.groups[from_node(words[2])], "high"
                 if words[-1] != "0":
                     self.count_over(limit)
+            elif words[1] == "low":
+                self.groups[from_node(words[2])].times_broken += 1
             elif words[1] == "round":
                 for group in self.groups.values():
                     group.touches = 0
@@ -108,7 +120,7 @@ class Replay:
     def count_above(self, seconds):
         """The groups whose usage is above memory.high were so for so long."""
         for group in self.groups.values():
-            if group.high is not None and group.usage > group.high:
+            if group.settings["high"] is not None and group.usage > group.settings["high"]:
                 group.seconds_above += seconds
 
     def lose(self, frames, limit, bound):
@@ -153,8 +165,7 @@ class Replay:
         """The lines that make groups, and write what they have of settings."""
         return [*(f"1 mkdir {group.node}" for group in groups),
                 *(f"1 write {group.node} memory.oom.group 1" for group in groups if group.path in self.flags),
-                *(f"1 write {group.node} memory.max {4096 * group.limit}" for group in groups if group.limit is not None),
-                *(f"1 write {group.node} memory.high {4096 * group.high}" for group in groups if group.high is not None)]
+                *(line_of(group, kind) for kind in ORDER for group in groups if group.settings[kind] != DEFAULTS[kind])]
 
     def revive(self):
         """Killed groups whose time has come are made anew, each with all below it if nothing there lives."""
@@ -172,22 +183,11 @@ class Replay:
 
     # What a sample asks for
 
-    def set_limit(self, group, limit):
-        """A limit is written if it is another one."""
-        if limit != group.limit:
-            group.limit = limit
-            self.write(group, "memory.max", limit)
-
-    def set_high(self, group, high):
-        """A memory.high is written if it is another one."""
-        if high != group.high:
-            group.high = high
-            self.write(group, "memory.high", high)
-
-    def write(self, group, file, frames):
-        """A file of a group is written; None is no limit."""
-        value = "max" if frames is None else 4096 * frames
-        self.note(self.session.ask([f"1 write {group.node} {file} {value}"])[0], None)
+    def set(self, group, kind, value):
+        """A setting is written if it is another one."""
+        if value != group.settings[kind]:
+            group.settings[kind] = value
+            self.note(self.session.ask([line_of(group, kind)])[0], None)
 
     def fall(self, group, pages, wanted):
         """The newest pages are released, until no more are there than wanted."""

@@ -3,13 +3,15 @@ import json
 
 from .amounts import amount_text, limit_text, path_text, seconds_text
 from .paths import NODE
-from .usage import greatest_wanted
+from .usage import greatest_wanted, groups_with
 
-COLUMNS = ["group", "wanted", "usage", "limit", "no room", "reclaimed", "died"]
-# Those of a report in which some group has a memory.high, after "limit".
-HIGH_COLUMNS = ["high", "over", "above"]
+COLUMNS = ["group", "wanted", "usage", "no room", "reclaimed", "died"]
+# Those of each setting that some group has, after "usage". The limit's is there always.
+OF_SETTINGS = {"max": ["limit"], "high": ["high", "over", "above"], "low": ["low", "broken"], "min": ["min"]}
 # The words of an explanation after which the program's bytes stand, of which a frame has 4,096.
-AMOUNTS = ("usage", "need", "bytes")
+AMOUNTS = ("usage", "need", "bytes", "min", "low")
+# The number that means `max` there.
+MAX = 4096 * (2 ** 32 - 1)
 
 
 def table(rows):
@@ -35,18 +37,16 @@ def in_bytes(bound, size):
     return None if bound is None else bound * size
 
 
-def has_high(replay):
-    """Whether a group has or exceeded a memory.high."""
-    return any(group.high is not None or group.times_over for group in replay.groups.values())
-
-
-def group_row(group, wanted, size, death, is_high, is_restarted):
-    """A group's row."""
-    kills = [str(group.kills)] if is_restarted else []
-    highs = [limit_text(in_bytes(group.high, size)), str(group.times_over), seconds_text(group.seconds_above)] if is_high else []
+def group_row(group, wanted, size, death, kinds, is_restarted):
+    """A group's row, with these settings."""
+    settings = {kind: [limit_text(in_bytes(group.settings[kind], size))] for kind in kinds}
+    if "high" in kinds:
+        settings["high"] += [str(group.times_over), seconds_text(group.seconds_above)]
+    if "low" in kinds:
+        settings["low"] += [str(group.times_broken)]
     return [path_text(group.path), amount_text(wanted * size), amount_text(group.peak * size),
-            limit_text(in_bytes(group.limit, size)), *highs, str(group.times_without_room),
-            amount_text(group.reclaimed * size), *kills, death_text(death)]
+            *sum(settings.values(), []), str(group.times_without_room),
+            amount_text(group.reclaimed * size), *([str(group.kills)] if is_restarted else []), death_text(death)]
 
 
 def explanation(line, size):
@@ -55,7 +55,7 @@ def explanation(line, size):
     for at in range(2, len(words)):
         is_limit = words[1] in ("limit", "high") and at == 3
         if words[at].isdigit() and (is_limit or words[at - 1] in AMOUNTS):
-            words[at] = str(int(words[at]) // 4096 * size)
+            words[at] = "max" if int(words[at]) == MAX else str(int(words[at]) // 4096 * size)
         elif words[at] == NODE or words[at].startswith(NODE + "/"):
             words[at] = words[at][len(NODE):] or "/"
     return " ".join(words)
@@ -102,8 +102,8 @@ def away_lines(replay):
                    "lived: what it had of its own then isn't played")
 
 
-def last_line(replay, size):
-    """What came of it."""
+def last_line(replay, size, spared):
+    """What came of it. `spared` says which file pages reclaim couldn't take."""
     if not replay.deaths:
         reclaimed = amount_text(replay.groups["/"].reclaimed * size)
         return f"survived: no group died, and {reclaimed} of file pages were reclaimed"
@@ -113,7 +113,7 @@ def last_line(replay, size):
     after = ("; the dead stayed dead: --restart brings them back" if replay.restart is None else
              f"; {len(replay.deaths)} kills in all")
     return (f"died first: {first.group.path} at {seconds_text(first.seconds)}, by the limit of {limit.path}: "
-            f"{why}, and no file page below {limit.path} was left to reclaim{after}")
+            f"{why}, and no file page below {limit.path}{spared} was left to reclaim{after}")
 
 
 def head_line(name, usage, size):
@@ -127,27 +127,28 @@ def head_line(name, usage, size):
 def report(name, usage, size, replay):
     """The whole report, line by line."""
     wanted, deaths, is_restarted = greatest_wanted(usage), first_deaths(replay), replay.restart is not None
-    is_high = has_high(replay)
-    columns = [*COLUMNS[:4], *(HIGH_COLUMNS if is_high else []), *COLUMNS[4:-1], *(["kills"] if is_restarted else []),
-               COLUMNS[-1]]
+    kinds = [kind for kind in OF_SETTINGS if kind == "max" or groups_with(usage, kind)]
+    columns = [*COLUMNS[:3], *sum((OF_SETTINGS[kind] for kind in kinds), []), *COLUMNS[3:-1],
+               *(["kills"] if is_restarted else []), COLUMNS[-1]]
     yield head_line(name, usage, size)
     yield ""
-    yield from table([columns, *(group_row(group, wanted[path], size, deaths.get(path), is_high, is_restarted)
+    yield from table([columns, *(group_row(group, wanted[path], size, deaths.get(path), kinds, is_restarted)
                                  for path, group in replay.groups.items())])
     yield from room_lines(replay, size)
     yield from death_lines(replay.deaths, size)
     yield from away_lines(replay)
     yield ""
-    yield last_line(replay, size)
+    yield last_line(replay, size, " that memory.min doesn't protect" if groups_with(usage, "min") else "")
 
 
 def group_object(group, wanted, size, death):
     """A group as JSON has it."""
     return {"group": group.path, "wanted_bytes": wanted * size, "usage_bytes": group.peak * size,
-            "limit_bytes": in_bytes(group.limit, size), "times_without_room": group.times_without_room,
-            "first_without_room_seconds": group.first_without_room, "high_bytes": in_bytes(group.high, size),
+            "limit_bytes": in_bytes(group.settings["max"], size), "times_without_room": group.times_without_room,
+            "first_without_room_seconds": group.first_without_room,
+            **{f"{kind}_bytes": in_bytes(group.settings[kind], size) for kind in ("high", "low", "min")},
             "times_over_high": group.times_over, "first_over_high_seconds": group.first_over,
-            "seconds_above_high": group.seconds_above,
+            "seconds_above_high": group.seconds_above, "times_low_broken": group.times_broken,
             "reclaimed_bytes": group.reclaimed * size, "kills": group.kills, "samples_away": group.times_away,
             "died_first_seconds": death and death.seconds, "died_first_by": death and death.limit.path}
 

@@ -3,10 +3,10 @@ import csv
 
 from .amounts import NO_LIMIT, Fault
 from .files import open_text
-from .series import Series, read_number, read_time
+from .series import MAX, SETTINGS, Series, read_number, read_time
 
 COLUMNS = {"seconds": ("seconds", "time", "timestamp"), "group": ("group", "path", "pod", "name"), "rss": ("anon", "rss"),
-           "cache": ("file", "cache"), "limit": ("max", "limit"), "high": ("high",)}
+           "cache": ("file", "cache"), "limit": ("max", "limit"), "high": ("high",), "low": ("low",), "min": ("min",)}
 
 
 def alternatives(words):
@@ -28,14 +28,13 @@ def places_of(titles):
 def row_series(row, places):
     """The series of a row, each with one value."""
     seconds = read_time(row[places["seconds"]])
-    for kind in ("rss", "cache", "limit", "high"):
+    for kind in ("rss", "cache", *SETTINGS):
         word = row[places[kind]].strip() if kind in places else ""
-        number = read_number(word)
-        if number is None and not (kind in ("limit", "high") and word in ("", *NO_LIMIT)):
-            if kind in places:
-                raise Fault(f"'{word}' is no number of bytes")
-        if number is not None:
-            is_host = row[places["group"]] == "/" and kind == "limit"
+        number = MAX if kind in SETTINGS and word in NO_LIMIT else read_number(word)
+        if number is None and kind in places and not (kind in SETTINGS and word == ""):
+            raise Fault(f"'{word}' is no number of bytes")
+        is_host = row[places["group"]] == "/" and kind == "limit"
+        if number is not None and not (is_host and number == MAX):
             yield Series("host" if is_host else kind, {"path": row[places["group"]]}, [(seconds, number)])
 
 

@@ -6,7 +6,7 @@ from collections import Counter, namedtuple
 
 from .amounts import Fault, note
 from .paths import check_path
-from .usage import Sample, Usage, groups_of
+from .usage import DEFAULTS, Sample, Usage, groups_of, no_settings
 
 Series = namedtuple("Series", "kind labels values")
 # What cAdvisor, the kubelet and the node exporter call a kind.
@@ -16,6 +16,8 @@ KINDS = {"container_memory_rss": "rss", "container_memory_cache": "cache", "cont
          "container_memory_total_inactive_file_bytes": "inactive_file",
          "machine_memory_bytes": "host", "node_memory_MemTotal_bytes": "host"}
 KIND_NAMES = ["rss", "cache", "usage", "working_set", "limit", "active_file", "inactive_file", "shmem", "host"]
+# The kinds that are settings. From MAX on a number means `max`: version 1 writes such a limit if there is none.
+SETTINGS, MAX = {"limit": "max", "high": "high", "low": "low", "min": "min"}, 1 << 60
 UNITS = {"": 1, "B": 1,
          **{f"{unit}{end}": 1024 ** power for power, unit in enumerate("KMGTP", 1) for end in ("", "i", "iB")},
          **{f"{unit}B": 1000 ** power for power, unit in enumerate("kMGTP", 1)}}
@@ -111,19 +113,24 @@ def amount(kinds):
     return max(0, whole - max(0, in_files)), max(0, in_files)
 
 
+def setting(name, number):
+    """The setting that a number means. A limit of 0 is how cAdvisor writes that there is none."""
+    return None if number >= MAX or (name, number) == ("max", 0) else number
+
+
 def usage_of(series):
     """The usage that series make. A group has a row at a time if each of its kinds has a value then."""
     found = by_group(series)
     host = max(found.get("/", {}).pop("host", {0: 0}).values()) or None
     samples = {}
     for path, kinds in sorted(found.items()):
-        limits, highs, limit, high = kinds.pop("limit", {}), kinds.pop("high", {}), None, None
+        given, last = {name: kinds.pop(kind, {}) for kind, name in SETTINGS.items()}, dict(DEFAULTS)
         for seconds in sorted(set.intersection(*map(set, kinds.values())) if kinds else ()):
-            limit, high = limits.get(seconds, limit), highs.get(seconds, high)
-            sample = samples.setdefault(seconds, Sample(seconds, {}, {}, {}))
+            last.update((name, setting(name, values[seconds])) for name, values in given.items() if seconds in values)
+            sample = samples.setdefault(seconds, Sample(seconds, {}, no_settings()))
             sample.amounts[path] = amount({kind: values[seconds] for kind, values in kinds.items()})
-            sample.limits[path] = limit if limit and limit < 1 << 60 else None
-            sample.highs[path] = high
+            for name, value in last.items():
+                sample.settings[name][path] = value
     if not samples:
         raise Fault("there is no value of any group")
     samples = [samples[seconds] for seconds in sorted(samples)]

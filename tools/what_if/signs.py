@@ -1,6 +1,7 @@
 """Signs that a usage or a limit has another unit than bytes and seconds, or rows of another meaning."""
 from .amounts import amount_text, note
 from .prepare import nearest_above
+from .usage import DEFAULTS, setting_name
 
 MIB, DAY = 1 << 20, 86_400
 
@@ -32,13 +33,14 @@ def amounts(usage, host):
                "pages: are these KiB or MiB? anon and file are bytes")
 
 
-def small_limits(name, recorded, given, size):
-    """Limits of this name below one frame."""
-    recorded = {group: limit for limits in recorded for group, limit in limits.items()}
-    for group, limit in {**recorded, **given}.items():
-        if limit is not None and limit < size:
-            yield (f"the {name} of {group}, {amount_text(limit)}, is less than a frame of {amount_text(size)}: it counts as "
-                   "0; a smaller --frame or another unit (300M) may be meant")
+def small_settings(usage, size):
+    """Settings below one frame."""
+    for kind, default in DEFAULTS.items():
+        last = {group: value for sample in usage.samples for group, value in sample.settings[kind].items()}
+        for group, value in last.items():
+            if value not in (None, default) and value < size:
+                yield (f"the {setting_name(kind)} of {group}, {amount_text(value)}, is less than a frame of "
+                       f"{amount_text(size)}: it counts as 0; a smaller --frame or another unit (300M) may be meant")
 
 
 def cumulative(usage):
@@ -58,11 +60,9 @@ def cumulative(usage):
                "too, --cumulative is due")
 
 
-def show(usage, host, size, limits, highs, is_cumulative):
+def show(usage, host, size, is_cumulative):
     """Each sign as a line on standard error."""
-    for signs in (times(usage), amounts(usage, host),
-                  small_limits("limit", (sample.limits for sample in usage.samples), limits, size),
-                  small_limits("memory.high", (sample.highs for sample in usage.samples), highs, size),
+    for signs in (times(usage), amounts(usage, host), small_settings(usage, size),
                   () if is_cumulative else cumulative(usage)):
         for sign in signs:
             note(sign)

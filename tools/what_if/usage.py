@@ -6,18 +6,35 @@ from .amounts import Fault, seconds_text
 from .files import open_text
 from .paths import MOST_GROUPS, check_path, is_below, path_up
 
-HEADER = ["seconds", "group", "anon", "file", "max"]
-# The same with memory.high, of groups that have that file.
-HIGH_HEADER = [*HEADER, "high"]
+# The settings of a group, and what each is if nothing else was recorded; None is `max`.
+DEFAULTS = {"max": None, "high": None, "low": 0, "min": 0}
+# The columns of a record, and those that it must have.
+HEADER = ["seconds", "group", "anon", "file", *DEFAULTS]
+LEAST = HEADER[:5]
 # What to do about times and numbers in other forms.
 REMEDY = "'whatif import rows' also takes ISO times, units and exponents"
 # A zone has at most 1,048,576 frames, some of which are on the CPU's list.
 USUAL_FRAMES, MOST_FRAMES = 65_536, 1_048_000
 
-# At a time: of each group what it has of its own, (anon, file), its limit and its memory.high; None is no limit.
-Sample = namedtuple("Sample", "seconds amounts limits highs")
+# At a time: of each group what it has of its own, (anon, file), and of each setting the groups' values.
+Sample = namedtuple("Sample", "seconds amounts settings")
 # What was recorded, and the host's memory if that is known.
 Usage = namedtuple("Usage", "samples groups host")
+
+
+def no_settings():
+    """Of each setting no value."""
+    return {kind: {} for kind in DEFAULTS}
+
+
+def setting_word(value):
+    """A setting as a row has it."""
+    return "max" if value is None else str(value)
+
+
+def setting_name(kind):
+    """A setting as a sentence names it."""
+    return "limit" if kind == "max" else f"memory.{kind}"
 
 
 def whole_number(word, name):
@@ -29,10 +46,10 @@ def whole_number(word, name):
     return int(word)
 
 
-def read_bound(word, name):
-    """A limit or memory.high of a row, or None."""
+def read_setting(word, name):
+    """A setting of a row."""
     if word in ("", "-1", "unlimited"):
-        raise Fault(f"{name} is a whole number of bytes, or the word max if there is no limit, and not '{word}'")
+        raise Fault(f"{name} is a whole number of bytes, or the word max, and not '{word}'")
     return None if word == "max" else whole_number(word, name)
 
 
@@ -58,12 +75,12 @@ def add_row(row, header, samples, rename):
     group, anon, file = rename(row[1]), whole_number(row[2], "anon"), whole_number(row[3], "file")
     check_path(group)
     if not samples or seconds > samples[-1].seconds:
-        samples.append(Sample(seconds, {}, {}, {}))
+        samples.append(Sample(seconds, {}, no_settings()))
     if group in samples[-1].amounts:
         raise Fault(f"{group} has a second row at this time")
     samples[-1].amounts[group] = (anon, file)
-    samples[-1].limits[group] = read_bound(row[4], "max")
-    samples[-1].highs[group] = read_bound(row[5], "high") if header == HIGH_HEADER else None
+    for kind, word in zip(header[4:], row[4:]):
+        samples[-1].settings[kind][group] = read_setting(word, kind)
 
 
 def read_rows(lines, name, rename):
@@ -71,8 +88,8 @@ def read_rows(lines, name, rename):
     samples, rows = [], csv.reader(lines)
     try:
         header = next(rows, None)
-        if header not in (HEADER, HIGH_HEADER):
-            raise Fault(f"the header {','.join(HEADER)} is due; 'whatif import' makes such a file of other formats")
+        if header is None or header[:5] != LEAST or sorted(header) != sorted({*header} & {*HEADER}):
+            raise Fault(f"the header {','.join(LEAST)} is due; 'whatif import' makes such a file of other formats")
         for row in rows:
             add_row(row, header, samples, rename)
     except csv.Error as fault:
@@ -93,10 +110,10 @@ def read_usage(path, rename=str):
     """What a CSV file has, with the names of groups that `rename` gives them."""
     with open_text(path) as lines:
         samples = read_rows(lines, path, rename)
-    host = next((sample.limits["/"] for sample in samples if "/" in sample.limits), None)
+    host = next((sample.settings["max"]["/"] for sample in samples if "/" in sample.amounts), None)
     for sample in samples:
-        sample.limits.pop("/", None)
-        sample.highs.pop("/", None)
+        for values in sample.settings.values():
+            values.pop("/", None)
     return Usage(samples, groups_of(samples), host)
 
 
@@ -105,7 +122,7 @@ def check_count(usage, name):
     count = len(usage.groups) - 1
     if count > MOST_GROUPS:
         raise Fault(f"{name}: {count} groups with their ancestors, and at most {MOST_GROUPS} are possible: "
-                    f"--top {MOST_GROUPS} keeps the greatest, and each with a limit")
+                    f"--top {MOST_GROUPS} keeps the greatest, and each with a setting")
 
 
 def frame_size(host):
@@ -117,42 +134,50 @@ def frame_size(host):
 
 
 def in_frames(usage, size):
-    """The same in frames of this size: amounts are rounded up and limits down, so that no answer is too kind."""
+    """The same in frames of this size: amounts are rounded up and settings down, so that no answer is too kind."""
     samples = [Sample(seconds, {group: (-(-anon // size), -(-file // size)) for group, (anon, file) in amounts.items()},
-                      bounds_in_frames(limits, size), bounds_in_frames(highs, size))
-               for seconds, amounts, limits, highs in usage.samples]
+                      settings_in_frames(settings, size)) for seconds, amounts, settings in usage.samples]
     return Usage(samples, usage.groups, usage.host // size)
 
 
-def bounds_in_frames(bounds, size):
-    """Limits in whole frames of this size."""
-    return {group: None if bound is None else bound // size for group, bound in bounds.items()}
+def settings_in_frames(settings, size):
+    """Settings in whole frames of this size."""
+    return {kind: {group: None if value is None else value // size for group, value in values.items()}
+            for kind, values in settings.items()}
 
 
-def but_of(recorded, given):
-    """What was recorded of groups for which nothing is given."""
-    return {group: value for group, value in recorded.items() if group not in given}
+def settings_of(settings, is_kept):
+    """Those of the groups that are kept."""
+    return {kind: {group: value for group, value in values.items() if is_kept(group)} for kind, values in settings.items()}
 
 
-def with_limits(usage, limits, highs=()):
-    """The same with these limits and this memory.high from the beginning on, and only them at their groups."""
-    samples = [Sample(seconds, amounts, but_of(its_limits, limits), but_of(its_highs, highs))
-               for seconds, amounts, its_limits, its_highs in usage.samples]
-    samples[0].limits.update(limits)
-    samples[0].highs.update(highs)
-    return Usage(samples, usage.groups, usage.host)
+def with_settings(usage, given):
+    """The same with these settings from the beginning on, and only them at their groups."""
+    samples = [sample._replace(settings=dict(sample.settings)) for sample in usage.samples]
+    for kind, values in given.items():
+        for sample in samples:
+            sample.settings[kind] = {group: value for group, value in sample.settings[kind].items() if group not in values}
+        samples[0].settings[kind].update(values)
+    return usage._replace(samples=samples)
 
 
 def without_limits(usage):
     """The same without a limit but that of the host, and without memory.high."""
-    return Usage([sample._replace(limits={}, highs={}) for sample in usage.samples], usage.groups, usage.host)
+    return usage._replace(samples=[sample._replace(settings={**sample.settings, "max": {}, "high": {}})
+                                   for sample in usage.samples])
+
+
+def groups_with(usage, *kinds):
+    """The groups that have one of these settings at a time."""
+    return {group for sample in usage.samples for kind in kinds for group, value in sample.settings[kind].items()
+            if value != DEFAULTS[kind]}
 
 
 def only_below(usage, above):
     """The same of a group and those below it alone."""
-    return Usage([Sample(seconds, *({group: value for group, value in values.items() if is_below(group, above)}
-                                    for values in (amounts, limits, highs)))
-                  for seconds, amounts, limits, highs in usage.samples],
+    return Usage([Sample(seconds, {group: amount for group, amount in amounts.items() if is_below(group, above)},
+                         settings_of(settings, lambda group: is_below(group, above)))
+                  for seconds, amounts, settings in usage.samples],
                  [group for group in usage.groups if is_below(group, above) or group in path_up(above)], usage.host)
 
 

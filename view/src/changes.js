@@ -28,7 +28,8 @@ function changeWords(run, line) {
     }
     const counts = ["low", "high", "max", "oom", "kill", "group_kill"].filter(event => rows.has(`${event}_events`)).map(event => `${event} ${rows.get(`${event}_events`)} → ${run.row(group, `${event}_events`)}`);
     if (rows.has("max")) said.push(`The limit of ${path(group)}: ${limitText(rows.get("max"))} → ${limitText(run.row(group, "max"))}.`);
-    if (rows.has("high")) said.push(`memory.high of ${path(group)}: ${limitText(rows.get("high"), "none")} → ${limitText(run.row(group, "high"), "none")}.`);
+    for (const [row, none] of [["high", "none"], ["low", "max"], ["min", "max"]])
+      if (rows.has(row)) said.push(`memory.${row} of ${path(group)}: ${limitText(rows.get(row), none)} → ${limitText(run.row(group, row), none)}.`);
     if (rows.has("oom_group")) said.push(`memory.oom.group of ${path(group)}: ${rows.get("oom_group")} → ${run.row(group, "oom_group")}.`);
     if (rows.has("killed") && run.row(group, "killed")) said.push(`${path(group)} is killed.`);
     if (counts.length) said.push(`Events of ${path(group)} and below: ${counts.join(", ")}.`);

@@ -11,14 +11,17 @@ const REFUSALS = { 1: ["NoParent", "the parent group is not there"], 2: ["Exists
   20: ["NotKept", "the frame is not the head of a kept unit"], 21: ["NotPinned", "the CPU holds no reference on the frame"],
   22: ["WriteOnly", "the file cannot be read"] };
 // What the line that explains refusal 12 says beside the sentence.
-const VALUES = "memory.max, memory.high and memory.reclaim take whole bytes, with K M G T P E, the first two also max; memory.oom.group takes 0 or 1";
+const VALUES = "memory.max, memory.high, memory.low, memory.min and memory.reclaim take whole bytes, with K M G T P E, all but the last also max; memory.oom.group takes 0 or 1";
 const refused = (number, path = "") => `refused ${number} ${REFUSALS[number][0]}${path && ` ${path}`}`;
-const FILES = { "memory.current": "r", "memory.max": "rw", "memory.high": "rw", "memory.peak": "r", "memory.events": "r",
-  "memory.events.local": "r", "memory.oom.group": "rw", "memory.reclaim": "w" };
+const FILES = { "memory.current": "r", "memory.max": "rw", "memory.high": "rw", "memory.low": "rw", "memory.min": "rw", "memory.peak": "r",
+  "memory.events": "r", "memory.events.local": "r", "memory.oom.group": "rw", "memory.reclaim": "w", "memory.stat": "r" };
+// The files that are written without a step. A group has their value by the name's last word.
+const SETTINGS = ["memory.high", "memory.low", "memory.min"];
+const settingOf = file => file.slice("memory.".length);
 // The words of each command: p is a path, o an order, f a frame, g a group's number, n a file's name, v a value.
 const COMMANDS = { mkdir: "p", rmdir: "p", write: "pnv", read: "pn", alloc: "po", fast: "g", release: "f", get: "f", put: "f",
   settle: "", touch: "f", dirty: "f", clean: "f", owner: "f", blocks: "", show: "", stock: "", units: "p" };
-const MOST_ROUNDS = 16, MOST_RUNS = 1024;
+const MOST_ROUNDS = 16, MOST_DETAILS = 1024;
 const SECONDS = /^# ([0-9]+(?:\.[0-9]+)?) s$/; // a sample of `tools/whatif`
 const CUT = "the comment of this line is cut, so that nobody can say what it asks for";
 
@@ -99,6 +102,22 @@ function unitsOf(state, group) {
   }
   return lines.join("\n") || "none";
 }
+/** memory.stat: the bytes of the units that the group and those below it keep. */
+function statOf(state, group) {
+  const sums = { file: 0, file_dirty: 0, inactive_file: 0, active_file: 0 };
+  for (const below of state.subtree(group)) {
+    for (const name of ["inactive", "active"]) {
+      for (const head of state.listed(groupList(below, name === "active"))) {
+        const bytes = PAGE * 2 ** orderOf(state.place[head]);
+        sums.file += bytes;
+        sums[`${name}_file`] += bytes;
+        if (state.flags[head] & DIRTY) sums.file_dirty += bytes;
+        state.effort++;
+      }
+    }
+  }
+  return Object.entries(sums).map(([key, bytes]) => `${key} ${bytes}`).join("\n");
+}
 function readOf(group, file) {
   const keys = [["low", "low"], ["high", "high"], ["max", "max"], ["oom", "oom"], ["oom_kill", "kill"], ["oom_group_kill", "group_kill"]];
   const events = at => keys.map(([key, event]) => `${key} ${group[`${event}_${at}`]}`).join("\n");
@@ -108,9 +127,11 @@ function readOf(group, file) {
     case "memory.peak":
       return `${group.peak * PAGE}`;
     case "memory.max":
-    case "memory.high": {
-      const most = file === "memory.max" ? group.max : group.high;
-      return most < 0 ? "max" : `${most * PAGE}`;
+    case "memory.high":
+    case "memory.low":
+    case "memory.min": {
+      const pages = group[settingOf(file)];
+      return pages < 0 ? "max" : `${pages * PAGE}`;
     }
     case "memory.oom.group":
       return `${group.oom_group}`;

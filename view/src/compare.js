@@ -36,7 +36,7 @@ function* comparison(run, other) {
   const places = placesIn(run, other), otherLives = yield* livesHere(other, places), differs = yield* differences(run, other, otherLives);
   return { otherLives, otherMarks: marksOf(other, places), differs, warnings: yield* warningsOf(run, other), effect: effectOf(run, other, differs, otherLives) };
 }
-const GRAVER = ["drain", "reclaim", "high", "max", "lowered", "oom", "kill"];
+const GRAVER = ["drain", "reclaim", "low", "high", "max", "lowered", "oom", "kill"];
 /** Of each line with events in the second run the gravest kind, at these places. */
 function marksOf(other, places) {
   const gravest = new Map();
@@ -106,7 +106,7 @@ const killsOf = run => run.eventsAt(run.position).filter(({ kind }) => kind === 
 /** The events of each position: what is the same in two runs in which the same happened. */
 const happenedAt = run => run.happenedAt ??= run.events.reduce((words, { kind, position, life, name }) =>
   words.set(position, `${words.get(position) ?? ""}${kind} ${life?.path ?? name}, `), new Map());
-/** The positions of lines that the other run answered otherwise or with other events, and of those after which a group's usage, limit or memory.high is another one, and wasn't before. Kills are events. */
+/** The positions of lines that the other run answered otherwise or with other events, and of those after which a group's usage, limit, memory.high, memory.low or memory.min is another one, and wasn't before. Kills are events. */
 function* differences(run, other, otherLives) {
   const found = new Set(), [ours, theirs] = [run, other].map(happenedAt);
   for (let position = 1; position <= run.lines; position++) {
@@ -125,11 +125,12 @@ function* differences(run, other, otherLives) {
   }
   return [...found].sort((a, b) => a - b);
 }
+const COMPARED = Object.keys(CURVES).filter(curve => curve !== "peaks");
 const endOf = life => life.until ?? Infinity;
-/** Adds the positions from which on two lives of a path have another usage, limit or memory.high, while both are there. */
+/** Adds the positions from which on two lives of a path have another usage or setting, while both are there. */
 function addUnequal(found, life, its) {
   const from = Math.max(life.from, its.from), until = Math.min(endOf(life), endOf(its));
-  for (const what of ["series", "limits", "highs"]) {
+  for (const what of COMPARED) {
     const [ours, theirs] = [life[what], its[what]], nextOf = (pairs, at) => pairs[at + 1]?.[0] ?? Infinity;
     let one = indexAt(ours, from), two = indexAt(theirs, from), wasOther = false;
     for (let at = from; at < until; at = Math.min(nextOf(ours, one), nextOf(theirs, two))) {
@@ -155,7 +156,7 @@ function* livesHere(other, places) {
   const lives = new Map();
   const placed = pairs => pairs.map(([position, pages]) => [places[position], pages]);
   for (const [at, life] of other.lives.entries()) {
-    const its = { ...life, from: places[life.from], until: life.until === undefined ? undefined : places[life.until], series: placed(life.series), limits: placed(life.limits), highs: placed(life.highs) };
+    const its = { ...life, from: places[life.from], until: life.until === undefined ? undefined : places[life.until], ...Object.fromEntries(COMPARED.map(curve => [curve, placed(life[curve])])) };
     lives.has(life.path) ? lives.get(life.path).push(its) : lives.set(life.path, [its]);
     if (at % 256 === 0) yield at / other.lives.length;
   }

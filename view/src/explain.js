@@ -1,3 +1,8 @@
+/** How much of a usage is protected. */
+function protectedText(usage, ...those) {
+  const [min, low] = those.map(bytes => Number(bytes) < Number(usage) ? `${grouped(inPages(bytes))}` : "all");
+  return `of ${pagesText(inPages(usage))}, memory.min protects ${min} and memory.low ${low}`;
+}
 // The lines of an explanation, and what each says. Of a round that freed nothing, `dirty` says how many units are dirty.
 const EXPLAINED = [
   [/^# limit (\S+) (\d+) usage (\d+) need (\d+)$/, (path, max, usage, need) => Number(need) ?
@@ -10,6 +15,8 @@ const EXPLAINED = [
   [/^# asked (\S+) (\d+)$/, (path, bytes) => `${pagesText(inPages(bytes))} of ${path} and below are to be reclaimed.`],
   [/^# zone order (\d+)$/, order => Number(order) ? `The zone has no free block of ${2 ** order} frames. Reclaim from all groups.` :
     "The zone has no free frame. Reclaim from all groups."],
+  [/^# spared (\S+) usage (\d+) min (\d+) low (\d+)$/, (path, usage, min, low) => `Reclaim spares pages of ${path}: ${protectedText(usage, min, low)}.`],
+  [/^# low (\S+) usage (\d+) min (\d+) low (\d+)$/, (path, usage, min, low) => `▽ It found too little, so it takes what memory.low protects of ${path}: ${protectedText(usage, min, low)}.`],
   [/^# reclaimed (\d+) more frames$/, frames => `${plural(Number(frames), "more frame")} ${frames === "1" ? "was" : "were"} reclaimed.`],
   [/^# reclaimed (\S+) (\d+)(?:-(\d+))?$/, (path, first, last) => `${capital(framesText(Number(first), Number(last ?? first)))} of ${path} ${last ? "are" : "is"} freed: clean and without a pin.`],
   [/^# round (\d+) tried \d+ missed (\d+) returned (\d+) bytes (\d+) usage (\d+)$/, (round, missed, freed, bytes, usage, dirty) =>
@@ -36,6 +43,7 @@ function noteWords(note, dirty, spared = false) {
 const KINDS = {
   max: ["▲", "accent", "a limit had no room", "max"],
   high: ["△", "accent", "a charge would exceed memory.high", "max"],
+  low: ["▽", "green", "memory.low was broken", "reclaim"],
   lowered: ["▼", "accent", "a limit or memory.high was set below the usage", "max"],
   drain: ["○", "green", "stocks were drained", "reclaim"],
   reclaim: ["●", "green", "units were reclaimed", "reclaim"],
@@ -43,7 +51,7 @@ const KINDS = {
   kill: ["◆", "purple", "a group is killed", "kill"],
   refused: ["✕", "red", "refused", "refused"]
 };
-const LANES = { max: "max ▲△▼", reclaim: "reclaim ●○", oom: "oom ■", kill: "kill ◆", refused: "refused ✕" };
+const LANES = { max: "max ▲△▼", reclaim: "reclaim ●○▽", oom: "oom ■", kill: "kill ◆", refused: "refused ✕" };
 const notesUpTo = (run, { position, note }) => run.log.slice(run.behind.at(position), note).split("\n").slice(0, -1).filter(text => /^# (?!=|refused )/.test(text));
 const notesIndex = (run, event) => notesUpTo(run, event).length;
 /** The notes up to that of an event, from the limit or the wish that it is for. */
@@ -72,9 +80,10 @@ function reasonWords(run, event, line) {
   if (!text) return KINDS[kind][2];
   if (kind === "oom") return `reclaim wasn't enough${isSpared(line.notes, notesIndex(run, event)) ? ", and no group is left that may die" : ": a group has to die"}`;
   if (kind === "kill") return killWords(run, event, true) || KINDS.kill[2];
-  const [one, two, three] = numbers.slice(["max", "high", "lowered"].includes(kind) ? -3 : 0), isHigh = text.startsWith("# high ");
+  const [one, two, three] = numbers.slice(["max", "high", "lowered", "low"].includes(kind) ? -3 : 0), isHigh = text.startsWith("# high ");
   if (kind === "max") return `no room for ${pagesText(three / PAGE)}: usage ${grouped(two / PAGE)}, limit ${grouped(one / PAGE)}`;
   if (kind === "high") return `${pagesText(three / PAGE)} more would exceed memory.high: usage ${grouped(two / PAGE)}, memory.high ${grouped(one / PAGE)}`;
+  if (kind === "low") return `reclaim found too little elsewhere: ${protectedText(one, two, three)}`;
   if (kind === "lowered") return `new ${isHigh ? "memory.high" : "limit"} ${grouped(one / PAGE)} is below the usage ${grouped(two / PAGE)}`;
   const before = notesBefore(run, event), purpose = purposeWords(before, line.command);
   if (kind === "drain") return `${drainedText(run, event)} ${purpose}`;

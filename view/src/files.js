@@ -19,17 +19,17 @@ function download(end, type, parts) {
   setTimeout(() => URL.revokeObjectURL(link.href), 10000);
 }
 const csvOf = rows => [rows.map(row => row.map(cell => /[",\n]/.test(cell) ? `"${String(cell).replace(/"/g, '""')}"` : cell).join(",") + "\n").join("")];
-/** The lit groups, or all: a row for each line that changed a group's usage, limit, peak or memory.high, in pages. No limit is max. */
+/** The lit groups, or all: a row for each line that changed a group's usage, peak or settings, in pages. No limit is max. */
 function timeTable(run) {
   const rows = [];
   for (const life of litLives(run) ?? run.lives) {
-    const lists = [life.series, life.limits, life.peaks, life.highs], places = new Set(lists.flatMap(pairs => pairs.map(([position]) => position)));
+    const lists = ["series", "limits", "peaks", "highs", "lows", "mins"].map(curve => life[curve]), places = new Set(lists.flatMap(pairs => pairs.map(([position]) => position)));
     for (const position of places) {
-      const [usage, limit, peak, high] = lists.map(pairs => valueAt(pairs, position)), bound = pages => pages < 0 ? "max" : pages;
-      if (isThereAt(life, position)) rows.push([position, run.lineNumbers.at(position), life.path, usage, bound(limit), peak, bound(high)]);
+      const values = lists.map(pairs => valueAt(pairs, position)).map(pages => pages < 0 ? "max" : pages);
+      if (isThereAt(life, position)) rows.push([position, run.lineNumbers.at(position), life.path, ...values]);
     }
   }
-  return [["line", "group", "usage", "limit", "peak", "high"], ...rows.sort((a, b) => a[0] - b[0]).map(row => row.slice(1))];
+  return [["line", "group", "usage", "limit", "peak", "high", "low", "min"], ...rows.sort((a, b) => a[0] - b[0]).map(row => row.slice(1))];
 }
 /** The events that are shown. */
 const eventTable = run => [["line", "cpu", "group", "event", "refusal", "cause"], ...page.shown.map(event => [run.lineNumbers.at(event.position),

@@ -1,18 +1,21 @@
 const MOST_CHOICES = 20;
 /**
  * What makes a kill: the limit and the usage under it, how many pages have no room, and how many pages reclaim would free
- * besides, if the victim's units were clean, if all below the limit were, and if these had no pins either. To find these takes a look at each
- * unit, so it is done for the first kills only: those of the verdict.
+ * besides, if memory.min spared none, if the victim's units were clean, if all below the limit were, and if these had no pins either. To find
+ * these takes a look at each unit, so it is done for the first kills only: those of the verdict.
  */
 function choiceOf(state, limited, need, victim = -1) {
-  const { max, current, path } = state.groups[limited], choice = { path, victim: state.groups[victim]?.path, max, usage: current, need, its: 0, dirty: 0, pinned: 0 };
-  for (const list of victim < 0 ? [] : state.subtree(limited).flatMap(group => [groupList(group, false), groupList(group, true)])) {
+  const { max, current, path } = state.groups[limited], below = victim < 0 ? [] : state.subtree(limited);
+  const pages = new Map(below.map(group => [group, { clean: 0, dirty: 0, pinned: 0 }]));
+  for (const list of below.flatMap(group => [groupList(group, false), groupList(group, true)])) {
     for (const frame of state.listed(list)) {
-      const pages = 2 ** orderOf(state.place[frame]), isPinned = state.pinsOn(frame) > 0;
-      choice[isPinned ? "pinned" : "dirty"] += pages;
-      if (!isPinned && groupOf(state.place[frame]) === victim) choice.its += pages;
+      const kind = state.pinsOn(frame) > 0 ? "pinned" : state.flags[frame] & DIRTY ? "dirty" : "clean";
+      pages.get(groupOf(state.place[frame]))[kind] += 2 ** orderOf(state.place[frame]);
     }
   }
+  const freed = (kindsOf, isSparing = true) => state.freed(limited, below.map(group => [group, kindsOf(group).reduce((sum, kind) => sum + pages.get(group)[kind], 0)]), isSparing);
+  const choice = { path, victim: state.groups[victim]?.path, max, usage: current, need, spared: freed(() => ["clean"], false), its: freed(group => group === victim ?
+    ["clean", "dirty"] : ["clean"]), dirty: freed(() => ["clean", "dirty"]), pinned: freed(() => ["clean", "dirty", "pinned"]) };
   choice.full = [...state.up(limited)].filter(above => above.number !== limited && state.missing(above.number, need)).map(above => above.path);
   return choice;
 }
@@ -75,7 +78,7 @@ class Follower {
   /** Whether the command changes what no step shows. */
   get hidesState() {
     const { verb, words } = this.line;
-    return ["touch", "dirty", "clean"].includes(verb) || verb === "write" && words[1] === "memory.high";
+    return ["touch", "dirty", "clean"].includes(verb) || verb === "write" && SETTINGS.includes(words[1]);
   }
   /** Whether a refusal's sentence is due that isn't said: older logs have none, so the first refusal decides. */
   isUntold(text) {
@@ -97,7 +100,7 @@ class Follower {
   }
   begin(line) {
     const { state } = this;
-    Object.assign(this, { line, isEnd: !line, due: null, told: 0, notes: [], runs: 0, more: 0, wants: null, isOpen: false, locks: 0,
+    Object.assign(this, { line, isEnd: !line, due: null, told: 0, notes: [], details: 0, more: 0, wants: null, note: "", isOpen: false, locks: 0,
       steps: 0, blocked: 0, isBlock: false, behindUngrant: "", over: null, owed: null, drains: [], own: null, took: -1, placed: -1,
       made: -1, isRemoved: false, isSet: false, left: "", got: "", isListed: false, granted: 0, hand: 0, unlisted: 0, passed: 0,
       givenBack: 0, freed: 0, limited: -1, drainedFor: -1, isDraining: false, killing: null, dying: [], killedWhole: -1, pinsPut: 0 });
@@ -118,15 +121,15 @@ class Follower {
     return this.state.numbers.get(words[0]) ?? -1;
   }
   /**
-   * The pages that a write names. If the comment doesn't show its bytes, those of the explanation after the steps; of
-   * memory.high, if the answer is ok, those of the comment: then it hides spaces alone.
+   * The pages that a write names. If the comment doesn't show its bytes, those of the explanation after the steps; of a
+   * file without a step, if the answer is ok, those of the comment: then it hides spaces alone.
    */
   get amount() {
-    const { words: [, file, value], isVague } = this.line, isHigh = file === "memory.high";
-    if (!isVague) return pagesOf(value, isHigh);
+    const { words: [, file, value], isVague } = this.line, isSetting = SETTINGS.includes(file);
+    if (!isVague) return pagesOf(value, isSetting);
     const { log, start } = this.reader, next = log.indexOf("\n# line ", start), lines = log.slice(start, next < 0 ? log.length : next);
     const found = /^# asked \S+ ([0-9]+)$/m.exec(lines), isOk = /^# = ok$/m.test(lines);
-    if (isHigh) return isOk ? pagesOf(value.replaceAll("?", " "), true) : null;
+    if (isSetting) return isOk ? pagesOf(value.replaceAll("?", " "), true) : null;
     return found ? Number(BigInt(found[1]) / BigInt(PAGE)) : isOk ? 0 : null;
   }
 
@@ -143,18 +146,23 @@ class Follower {
   }
   /** A round yields each frame that is tried, and is sent how many pages that freed. */
   *round(top, want, number) {
-    const { state } = this, groups = state.subtree(top), told = { tried: 0, returned: 0, pages: 0 };
+    const { state } = this, told = { tried: 0, returned: 0, pages: 0 };
     let run = null;
-    const done = () => told.pages >= want;
     const close = () => {
-      if (run && this.runs++ < MOST_RUNS) this.notes.push(`# reclaimed ${run.path} ${run.first}${run.last > run.first ? `-${run.last}` : ""}`);
+      if (run && this.details++ < MOST_DETAILS) this.notes.push(`# reclaimed ${run.path} ${run.first}${run.last > run.first ? `-${run.last}` : ""}`);
       else if (run) this.more += run.last - run.first + 1;
       run = null;
+    };
+    const detail = note => {
+      if (this.details + (run ? 1 : 0) >= MOST_DETAILS) return;
+      close();
+      this.details++;
+      this.notes.push(note);
     };
     const attempt = function* (frame) {
       const path = state.path(groupOf(state.place[frame])), pages = yield frame;
       told.tried++;
-      if (!pages) return;
+      if (!pages) return 0;
       told.returned++;
       told.pages += pages;
       if (run?.path === path && run.last + 1 === frame) run.last += pages;
@@ -163,30 +171,37 @@ class Follower {
         close();
         run = { path, first: frame, last: frame + pages - 1 };
       }
+      return pages;
     };
-    for (const group of groups) {
-      const inactive = groupList(group, false), active = groupList(group, true);
-      if (done()) break;
-      while (state.length[active] > state.length[inactive]) this.move(state.first[active], false);
-      const last = state.last[inactive];
-      for (let frame = state.first[inactive], next; frame >= 0 && !done(); frame = next) {
-        next = frame === last ? -1 : state.next[frame];
-        state.effort++;
-        if (state.flags[frame] & DIRTY) continue;
-        if (state.flags[frame] & MARKED) this.move(frame, false);
-        else yield* attempt(frame);
-      }
-    }
-    for (const list of groups.flatMap(group => [groupList(group, false), groupList(group, true)])) {
-      for (let frame = state.first[list], next; frame >= 0 && !done(); frame = next) {
-        next = state.next[frame];
-        state.effort++;
-        if (!(state.flags[frame] & DIRTY)) yield* attempt(frame);
-      }
+    for (const pass of state.isProtecting ? [1, 2, 3] : [1, 2]) {
+      for (const group of state.subtree(top)) if (told.pages < want) yield* this.turn(top, group, pass, want - told.pages, attempt, detail);
     }
     close();
     this.notes.push(`# round ${number} tried ${told.tried} missed ${told.tried - told.returned} returned ${told.returned} bytes ${told.pages * PAGE} usage ${state.groups[top].current * PAGE}`);
     return told.pages;
+  }
+  /** A group's turn in a pass: it ends at what is protected. The third pass spares what memory.min protects, and notes if it took what memory.low does. */
+  *turn(top, group, pass, want, attempt, detail) {
+    const { state } = this, [inactive, active] = [groupList(group, false), groupList(group, true)], { current, path } = state.groups[group];
+    const [min, low] = ["min", "low"].map(key => state.protection(key, top, group)), spared = pass === 3 ? min : Math.max(min, low);
+    const most = spared ? Math.min(want, current - spared) : want, facts = `${path} usage ${current * PAGE} min ${min * PAGE} low ${low * PAGE}`;
+    let freed = 0;
+    if (pass === 1 && most < want && current) detail(`# spared ${facts}`);
+    if (most <= 0) return;
+    while (pass === 1 && state.length[active] > state.length[inactive]) this.move(state.first[active], false);
+    for (const list of pass === 1 ? [inactive] : [inactive, active]) {
+      const last = state.last[list];
+      for (let frame = state.first[list], next; frame >= 0 && freed < most; frame = next) {
+        next = frame === last ? -1 : state.next[frame];
+        state.effort++;
+        if (state.flags[frame] & DIRTY) continue;
+        if (pass === 1 && state.flags[frame] & MARKED) this.move(frame, false);
+        else freed += yield* attempt(frame);
+      }
+    }
+    if (pass !== 3 || !freed || low <= min) return;
+    yield `note-low ${group}`;
+    detail(`# low ${facts}`);
   }
   /** Rounds until nothing is missing. -1 is yielded between those for the zone, if it is asked again. */
   *rounds(top, missing, isZone) {
@@ -203,20 +218,21 @@ class Follower {
     this.plan = this.rounds(top, missing, isZone);
     this.go();
   }
-  /** The plan goes on: to the next frame that has to be frozen, or below -1, to the next group whose memory.high has no room. */
+  /** The plan goes on: to the next frame that has to be frozen, or to a note, which is the next step. */
   go(pages) {
-    const { value, done } = this.plan.next(pages);
+    const { value, done } = this.plan.next(pages), isNote = typeof value === "string";
     if (done) this.plan = null;
-    this.expected = done ? -1 : value;
-    if (this.expected < -1) this.owe("note-high", -1 - this.expected);
+    if (isNote) this.owed = value;
+    this.note = isNote ? value : "";
+    this.expected = isNote ? -2 : done ? -1 : value;
   }
-  /** Rounds for each memory.high that has no room for a charge, from the group up. -1 less its number is yielded before those of a group. */
+  /** Rounds for each memory.high that has no room for a charge, from the group up. The note of a group is yielded before its rounds. */
   *highs(group, pages) {
     const missing = number => this.state.missing(number, pages, "high");
     for (const { number } of this.state.up(group)) {
       if (!missing(number)) continue;
       this.noteBound("high", number, pages);
-      yield -1 - number;
+      yield `note-high ${number}`;
       yield* this.rounds(number, () => missing(number));
     }
   }
@@ -353,13 +369,13 @@ class Follower {
         this.drains = [cpu];
         this.wants = () => this.chargeFrame(group);
       }
-    } else if (verb === "write" && words[1] === "memory.high" && group > 0 && !isCut) {
-      const high = this.amount;
-      if (high === null || high === undefined) return;
-      it.high = high;
+    } else if (verb === "write" && SETTINGS.includes(words[1]) && group > 0 && !isCut) {
+      const pages = this.amount, setting = settingOf(words[1]);
+      if (pages === null || pages === undefined) return;
+      it[setting] = pages;
       state.touched.groups.add(group);
       this.isSet = true;
-      if (state.missing(group, 0, "high")) this.startsBound("high", group, 0);
+      if (setting === "high" && state.missing(group, 0, setting)) this.startsBound(setting, group, 0);
     } else if (verb === "write" && words[1] === "memory.reclaim" && group > 0) {
       const asked = this.amount, before = it.current;
       if (asked) this.notes.push(`# asked ${it.path} ${BigInt(asked) * BigInt(PAGE)}`);
@@ -423,9 +439,9 @@ class Follower {
       case "flag":
         return need(isWrite("memory.oom.group") && (isVague || `${b}` === words[2].replace(/^[ \t-\r]+|[ \t-\r]+$/g, "")), "it is another flag");
       case "note-low":
-        return need(false);
+        return need(this.note === `${action} ${a}`, "no memory.low was broken");
       case "note-high":
-        return need(this.plan && this.expected === -1 - a, "no memory.high is exceeded");
+        return need(this.note === `${action} ${a}`, "no memory.high is exceeded");
       case "note-max":
         return need(this.over && a === this.over.group, "no limit refused");
       case "note-oom":
@@ -524,6 +540,7 @@ class Follower {
           this.granted = b;
         }
         break;
+      case "note-low":
       case "note-high":
         this.go();
         break;
@@ -688,7 +705,8 @@ class Follower {
           group.current ? refused(8) : null;
       default:
         return own.group < 0 ? refused(6) : !Object.hasOwn(FILES, words[1]) || !own.group ? refused(10) : verb === "read" ?
-          words[1] === "memory.reclaim" ? refused(22) : readOf(group, words[1]) : this.written(group);
+          words[1] === "memory.reclaim" ? refused(22) : words[1] === "memory.stat" ? statOf(state, own.group) : readOf(group, words[1]) :
+          this.written(group);
     }
   }
   written(group) {

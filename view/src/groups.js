@@ -1,8 +1,11 @@
 // The groups, with those that were removed
 
+/** The events that the table counts. */
+const COUNTED = ["low", "high", "max", "oom", "kill"];
 /** Pages in the unit that is chosen. */
 const UNITS = [["pages", 1], ["KiB", 4], ["MiB", 1 / 256]];
 const amount = pages => grouped(pages * UNITS[page.unit][1]);
+const boundText = pages => pages < 0 ? "max" : amount(pages);
 /** The groups in the order that is chosen: as a tree, or those with the most, or nearest to their limit, first. */
 function sortedGroups(run) {
   const sort = byId("sort").value, usage = group => run.row(group, "current"), max = group => run.row(group, "max");
@@ -19,10 +22,10 @@ function treeOf(run) {
   }).map(([group]) => group);
 }
 
-/** The limit of a group, and after the sign of its events memory.high, if it has one. */
+/** The limit of a group, and if it has them, memory.high and memory.low after the signs of their events, and memory.min. */
 function boundsText(run, group) {
-  const [max, high] = ["max", "high"].map(row => run.row(group, row));
-  return `${max < 0 ? "max" : amount(max)}${high < 0 ? "" : ` △${amount(high)}`}`;
+  const [max, high, low, min] = ["max", "high", "low", "min"].map(row => run.row(group, row));
+  return `${boundText(max)}${high < 0 ? "" : ` △${boundText(high)}`}${low ? ` ▽${boundText(low)}` : ""}${min ? ` ≥${boundText(min)}` : ""}`;
 }
 function leastLimit(run, group) {
   let least = -1;
@@ -73,7 +76,7 @@ function groupRow(run, group) {
   const name = make("td", { className: "left" }, button, make("span", { className: "tag" })), canvas = more => make("td", { className: `picture ${more}` }, make("canvas", { "aria-hidden": "true" }));
   button.dataset.group = group;
   if (isTree) name.style.paddingLeft = `${4 + 8 * Math.max(0, depth - 1)}px`;
-  return make("tr", {}, canvas(""), name, canvas("bar-cell"), ...Array.from({ length: 9 }, () => make("td")));
+  return make("tr", {}, canvas(""), name, canvas("bar-cell"), ...Array.from({ length: 5 + COUNTED.length }, () => make("td")));
 }
 /** Sets words and class of an element, if they are others: the browser lays out again what is set. */
 function fill(element, text, className = "") {
@@ -89,8 +92,8 @@ function isOther(row, ...shows) {
 }
 
 function fillRow(run, group, row, prepaid, isChanged) {
-  const [usage, peak, killed, isWhole, ...counts] = ["current", "peak", "killed", "oom_group", "high_local", "high_events", "max_local", "max_events",
-    "oom_local", "oom_events", "kill_local", "kill_events"].map(each => run.row(group, each));
+  const [usage, peak, killed, isWhole, ...counts] = ["current", "peak", "killed", "oom_group", ...COUNTED.flatMap(event => [`${event}_local`, `${event}_events`])]
+    .map(each => run.row(group, each));
   const bounds = boundsText(run, group), limit = leastLimit(run, group), own = run.cells[run.OWN + group], isLit = page.life === run.life(group);
   if (!isOther(row, usage, bounds, peak, killed, isWhole, counts, limit, own, prepaid.by, isChanged, isLit, page.unit, styles[group], colors.theme)) return;
   const [swatch, name, bar, ...cells] = row.children, [button, tag] = name.children;
@@ -103,7 +106,7 @@ function fillRow(run, group, row, prepaid, isChanged) {
   fill(tag, words.join(", "), "tag");
   [amount(usage), amount(own), amount(prepaid.sum), bounds, amount(peak)].forEach((text, at) => fill(cells[at], text, !at && isChanged ? "changed" : text === "0" ? "zero" : ""));
   cells[2].title = prepaid.by.join(", ");
-  for (let at = 0; at < 4; at++) {
+  for (let at = 0; at < COUNTED.length; at++) {
     const [local, all] = counts.slice(2 * at);
     fill(cells[5 + at], local === all ? `${all}` : `${local}+${all - local}`, all ? "" : "zero");
     cells[5 + at].title = `${local} at the group itself, ${all - local} below it`;

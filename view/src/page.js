@@ -66,7 +66,8 @@ function begin(name, log, run) {
   byId("sizes").textContent = `${plural(run.frames, "frame")} · ${plural(run.cpus, "CPU")}` +
     (run.sizes ? ` · batch ${run.sizes.batch}, high ${run.sizes.high}, stock ${run.sizes.stock}` : " · steps without commands");
   byId("groups-table").classList.toggle("large", run.frames > 9999);
-  byId("groups-table").classList.toggle("no-high", !run.lives.some(life => life.highs.length > 1) && !run.events.some(({ kind }) => kind === "high"));
+  for (const kind of ["low", "high"])
+    byId("groups-table").classList.toggle(`no-${kind}`, !run.lives.some(life => life[`${kind}s`].length > 1) && !run.events.some(event => event.kind === kind));
   byId("save").disabled = byId("picture").disabled = false;
   byId("welcome").hidden = true;
   if (document.body.classList.contains("empty")) {

@@ -3,9 +3,11 @@
 const COL = Object.fromEntries(ROW.map((name, at) => [name, at]));
 const HELD_BY_ZONE = 4, IN_HAND = 8; // beside DIRTY and MARKED
 const AT_REST = [NOTHING, LISTED, FRESH, IN_USE, LAST_PUT];
+// Of each group's curves, which row of it they are.
+const CURVES = { series: "current", limits: "max", highs: "high", lows: "low", mins: "min", peaks: "peak" };
 const KILLS = 1, REFUSED = 2, LOCKED = 4;
 const TOTALS = ["puts", "freezes", "drops", "returns"];
-const EVENT_STEPS = { "note-high": "high", "note-max": "max", "note-oom": "oom", kill: "kill" };
+const EVENT_STEPS = { "note-low": "low", "note-high": "high", "note-max": "max", "note-oom": "oom", kill: "kill" };
 
 /** A list of numbers that grows. */
 class Numbers {
@@ -245,7 +247,7 @@ class Run {
       this.happened("drain", this.wanting, "", start);
       this.drained = true;
     } else if (what === "round" && / returned [1-9]/.test(text)) this.happened("reclaim", this.wanting, "", start);
-    else if (what === "oom") this.explain("oom", path, start);
+    else if (what === "low" || what === "oom") this.explain(what, path, start);
     else if (what === "killed") this.explain("kill", path, start);
   }
   /** The events of this position in the order in which one led to the next: that of the explanation, and the refusal last. */
@@ -304,16 +306,13 @@ class Run {
       if (!this.styles.has(group.path)) this.styles.set(group.path, this.styles.size);
       this.livesOf.set(group.path, (this.livesOf.get(group.path) ?? 0) + 1);
       this.lives.push({ number, path: group.path, nth: this.livesOf.get(group.path), from: this.position, index: this.lives.length, style: this.styles.get(group.path),
-        series: [[this.position, 0]], limits: [[this.position, -1]], highs: [[this.position, -1]], peaks: [[this.position, 0]] });
+        ...Object.fromEntries(Object.entries(CURVES).map(([curve, row]) => [curve, [[this.position, group[row]]]])) });
     }
     ROW.forEach((name, at) => this.set(this.ROWS + number * ROW.length + at, group[name]));
     this.set(this.OWN + number, group.frames);
     this.tighten(group, 0);
-    const { series, limits, highs, peaks } = this.life(number);
-    if (series.at(-1)[1] !== group.current) series.push([this.position, group.current]);
-    if (limits.at(-1)[1] !== group.max) limits.push([this.position, group.max]);
-    if (highs.at(-1)[1] !== group.high) highs.push([this.position, group.high]);
-    if (peaks.at(-1)[1] !== group.peak) peaks.push([this.position, group.peak]);
+    const now = this.life(number);
+    for (const [curve, row] of Object.entries(CURVES)) if (now[curve].at(-1)[1] !== group[row]) now[curve].push([this.position, group[row]]);
   }
 
   /** Keeps the moment at which a group's limit had least room: for pages that are needed, or after a line. */

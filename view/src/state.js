@@ -28,7 +28,7 @@ const [NOTHING, IN, LISTED, OUT, BARE, FRESH, FRESH_OUT, COLLECTED, IN_USE, LAST
 const DIRTY = 1, MARKED = 2;
 // The numbers of a group, as the page draws them.
 const ROW = ["number", "max", "current", "peak", "max_events", "oom_events", "kill_events", "max_local", "oom_local",
-  "kill_local", "killed", "oom_group", "group_kill_events", "group_kill_local", "high", "low_events", "low_local", "high_events", "high_local"];
+  "kill_local", "killed", "oom_group", "group_kill_events", "group_kill_local", "high", "low_events", "low_local", "high_events", "high_local", "low", "min"];
 
 /** The frames, CPUs and groups, as the steps made them. Nothing is written for the frames behind a unit's head. */
 class State {
@@ -187,6 +187,36 @@ class State {
   missing(group, pages, bound = "max") {
     const { [bound]: most, current } = this.groups[group];
     return most < 0 ? 0 : Math.max(0, current + pages - most);
+  }
+  /** What memory.low or memory.min sets of the group's usage: all of it, if that is max. */
+  claim(group, key) {
+    const { [key]: most, current } = this.groups[group];
+    return most < 0 ? current : Math.min(current, most);
+  }
+  /** How many of a group's pages `low` or `min` protects from a reclaim of the subtree of `top`, which has the group. */
+  protection(key, top, group) {
+    const { [key]: most, current, parent } = this.groups[group];
+    if (group === top) return 0;
+    if (parent === top) return most < 0 ? MOST_NUMBER : most;
+    const above = this.protection(key, top, parent), claim = this.claim(group, key);
+    const claims = this.groups.reduce((sum, each) => each?.parent === parent ? sum + this.claim(each.number, key) : sum, 0);
+    if (claims > above) return Math.floor(claim * above / claims);
+    const rest = claim < current ? Math.floor((above - claims) * (current - claim) / (this.groups[parent].current - claims)) : 0;
+    return Math.min(claim + rest, above);
+  }
+  /** How many pages reclaim frees below `top`, if it can free so many of each of its groups: it spares what memory.min protects, or nothing. */
+  freed(top, pages, isSparing) {
+    const usages = this.groups.map(group => group?.current), before = this.groups[top].current;
+    for (const [group, most] of pages) {
+      const count = Math.min(most, Math.max(0, this.groups[group].current - (isSparing ? this.protection("min", top, group) : 0)));
+      for (const above of this.up(group)) above.current -= count;
+    }
+    const freed = before - this.groups[top].current;
+    for (const group of this.groups) if (group) group.current = usages[group.number];
+    return freed;
+  }
+  get isProtecting() {
+    return this.groups.some(group => group && (group.low || group.min));
   }
   countEvent(group, event) {
     this.groups[group][`${event}_local`]++;

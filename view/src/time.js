@@ -60,8 +60,9 @@ function sayTime(run) {
     run.lives.filter(life => isThereAt(life, position));
   const there = all.filter(life => lit ? lit.has(life) : life.number || all.length === 1).map(life => [life, valueAt(life.series, position)]).sort((a, b) => b[1] - a[1]);
   const said = ([life, usage]) => {
-    const [limit, high, peak] = [life.limits, life.highs, life.peaks].map(pairs => valueAt(pairs, position));
-    return `${nameOf(run, life)} ${amount(usage)} (${limit < 0 ? "" : `limit ${amount(limit)}, `}${high < 0 ? "" : `high ${amount(high)}, `}peak ${amount(peak)})`;
+    const [limit, high, low, min, peak] = ["limits", "highs", "lows", "mins", "peaks"].map(curve => valueAt(life[curve], position));
+    const bounds = [limit < 0 ? "" : `limit ${amount(limit)}`, high < 0 ? "" : `high ${amount(high)}`, low ? `low ${boundText(low)}` : "", min ? `min ${boundText(min)}` : ""];
+    return `${nameOf(run, life)} ${amount(usage)} (${[...bounds, `peak ${amount(peak)}`].filter(Boolean).join(", ")})`;
   };
   const happened = page.shown.slice(indexIn(page.shownAt, position - 1) + 1, indexIn(page.shownAt, position) + 1)
     .map(({ kind, name, life }) => `${KINDS[kind][0]} ${kind} ${name || life?.path || ""}`.trim());

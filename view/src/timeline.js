@@ -40,7 +40,7 @@ function joinedLives(lives) {
   for (const life of lives) paths.has(life.path) ? paths.get(life.path).push(life) : paths.set(life.path, [life]);
   const joined = (same, what) => same.flatMap(life => life.until === undefined ? life[what] : [...life[what], [life.until, -1]]);
   return [...paths.values()].map(same => same.length === 1 ? same[0] :
-    { ...same[0], until: same.at(-1).until, ...Object.fromEntries(["series", "limits", "highs", "peaks"].map(what => [what, joined(same, what)])) });
+    { ...same[0], until: same.at(-1).until, ...Object.fromEntries(Object.keys(CURVES).map(what => [what, joined(same, what)])) });
 }
 /** Draws what of the time line doesn't depend on the line, and returns where a position is. */
 function drawTime(canvas, run, width, height, { view, lit, mode, events }) {
@@ -118,11 +118,11 @@ function mostIn(pairs, [from, until]) {
   if (from <= pairs[0]?.[0] && until >= pairs.at(-1)[0]) pairs.most = most;
   return most;
 }
-/** The greatest number of the scale: limits and memory.high are on it if they aren't far above the usages. */
+/** The greatest number of the scale: settings are on it if they aren't far above the usages. */
 function scaleOf(lives, view) {
   const mostOf = (name, bound) => lives.map(life => mostIn(life[name], view)).reduce((most, value) => value <= bound && value > most ? value : most, 1);
   const used = Math.max(mostOf("series", Infinity), mostOf("peaks", Infinity));
-  return Math.max(used, mostOf("limits", 3 * used), mostOf("highs", 3 * used));
+  return Math.max(used, ...Object.keys(BOUND_DASHES).map(curve => mostOf(curve, 3 * used)));
 }
 /** The usages one over another, and the limits and peaks of those that are lit, or of all if they are few. */
 function drawOver(pen, run, curves, lives, frame, view, x, lit) {
@@ -139,10 +139,13 @@ function drawOver(pen, run, curves, lives, frame, view, x, lit) {
     if (isThereAt(life, view[1]) || killed.has(life) && isInView(life, view)) ends.push([life, y(valueAt(life.series, Math.min(view[1], (life.until ?? Infinity) - 1))) + 4]);
   return ends;
 }
-/** A life's limit, dashed, its memory.high, dash-dot, and its peak, dotted: each as it was from line to line. */
+// How the settings are drawn: the limit dashed, memory.high with one dot a dash, memory.low with two, memory.min with three.
+const BOUND_DASHES = { limits: [5, 3], highs: [6, 2, 1, 2], lows: [6, 2, 1, 2, 1, 2], mins: [6, 2, 1, 2, 1, 2, 1, 2] };
+/** A life's settings, and its peak, dotted: each as it was from line to line. memory.low and memory.min of 0 are none. */
 function drawBounds(pen, life, view, x, y) {
-  drawSteps(pen, life, life.limits, view, x, y, { width: 1.5, dash: [5, 3] });
-  drawSteps(pen, life, life.highs, view, x, y, { width: 1.5, dash: [6, 2, 1, 2] });
+  const drawn = (curve, pairs) => drawSteps(pen, life, pairs, view, x, y, { width: 1.5, dash: BOUND_DASHES[curve] });
+  for (const curve of ["limits", "highs"]) drawn(curve, life[curve]);
+  for (const curve of ["lows", "mins"]) if (life[curve].length > 1) drawn(curve, life[curve].map(([position, pages]) => [position, pages || -1]));
   drawSteps(pen, life, life.peaks, view, x, y, { dash: [1, 3] });
 }
 const MOST_POINTS = 4000;

@@ -3,11 +3,12 @@
 const MOST_VERDICTS = 5;
 const memoryText = pages => pages >= 2560 ? `${grouped(pages / 256)} MiB` : `${grouped(pages * 4)} KiB`;
 /** The least changes after which a group wouldn't have been killed there: each by what was so when it was chosen. */
-function savedBy({ path, victim, max, usage, need, its, dirty, pinned, full }, name) {
+function savedBy({ path, victim, max, usage, need, spared, its, dirty, pinned, full }, name) {
   const lacking = usage + need - max, ways = [`memory.max of ${path} at ${memoryText(usage + need)}`];
+  if (lacking <= spared) ways.push(`memory.min of 0 below ${path}`);
   if (lacking <= its) ways.push(`${victim === name ? "its units" : `the units of ${victim}`} clean`);
   else if (lacking <= dirty) ways.push(`the units below ${path} clean`);
-  else if (lacking <= dirty + pinned) ways.push(`the units below ${path} clean and without pins`);
+  else if (lacking <= pinned) ways.push(`the units below ${path} clean and without pins`);
   const others = full.length ? `; ${listed(full)} ${full.length === 1 ? "has" : "have"} no room for it either` : "";
   return `It would have lived there with ${ways.join(", or with ")}${others}.`;
 }

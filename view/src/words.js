@@ -25,6 +25,8 @@ const FILE_WORDS = {
   "memory.current": "the usage",
   "memory.max": "the limit",
   "memory.high": "the usage above which charges reclaim, memory.high",
+  "memory.low": "the usage that reclaim spares while it finds pages elsewhere, memory.low",
+  "memory.min": "the usage that reclaim spares, memory.min",
   "memory.peak": "the greatest usage so far",
   "memory.events": "the events at and below",
   "memory.events.local": "the events at the group alone of",
@@ -44,7 +46,7 @@ function askedWords(command) {
     case "write":
       return second === "memory.max" ? (value.trim() === "max" ? `takes the limit off ${first}` :
           `sets the limit of ${first} to ${amountText(value)}`) :
-        second === "memory.high" ? `sets memory.high of ${first} to ${amountText(value)}` :
+        SETTINGS.includes(second) ? `sets ${second} of ${first} to ${amountText(value)}` :
         second === "memory.reclaim" ? `asks to reclaim ${amountText(value)} from ${first}` :
         second === "memory.oom.group" ? (value.trim() === "1" ?
           `wants ${first} to be killed as a whole, if a group in it has to die` : value.trim() === "0" ?

@@ -64,7 +64,7 @@ fn refusals_are_errors() {
     assert_eq!(cpu.mkdir("a"), Err(Error::BadName));
     assert_eq!(cpu.rmdir("/b"), Err(Error::NoGroup));
     assert_eq!(cpu.units("/b"), Err(Error::NoGroup));
-    assert_eq!(cpu.read("/a", "memory.low"), Err(Error::NoFile));
+    assert_eq!(cpu.read("/a", "memory.swap.max"), Err(Error::NoFile));
     assert_eq!(cpu.write("/a", "memory.max", "much"), Err(Error::BadLimit));
     cpu.write("/a", "memory.max", "4K").unwrap();
     assert_eq!(cpu.alloc(a, 1), Err(Error::OverLimit { group: a }));

@@ -81,8 +81,8 @@ const TEXTS: &str = "\
 
 // What the line that explains refusal 12 says beside the text.
 const VALUES: &str =
-    "; memory.max, memory.high and memory.reclaim take whole bytes, with K M G T P E, the first two also max; \
-    memory.oom.group takes 0 or 1";
+    "; memory.max, memory.high, memory.low, memory.min and memory.reclaim take whole bytes, with K M G T P E, \
+    all but the last also max; memory.oom.group takes 0 or 1";
 
 // The refusals, by their numbers.
 fn refusals(group: GroupId) -> [Fault; 22] {

@@ -5,11 +5,11 @@ use Rattle.std.specs.List.{find}
 use Rattle.std.specs.Str.{bytes_eq}
 use Rattle.std.proofs.lemmas.Slice.Eq.{bytes_eq-Decides}
 use Rattle.control_files.specs.declared.file.File.{File}
-use Rattle.control_files.specs.declared.file.File.TheVariants.{Current, Max, High, Peak, Events, EventsLocal, OomGroup, Reclaim}
+use Rattle.control_files.specs.declared.file.File.TheVariants.{Current, Max, High, Low, Min, Peak, Events, EventsLocal, OomGroup, Reclaim, Stat}
 use Rattle.control_files.specs.Files.{name_of_file}
 
 abbrev all_files : List File
-all_files = Current ∷ Max ∷ High ∷ Peak ∷ Events ∷ EventsLocal ∷ OomGroup ∷ Reclaim ∷ []
+all_files = Current ∷ Max ∷ High ∷ Low ∷ Min ∷ Peak ∷ Events ∷ EventsLocal ∷ OomGroup ∷ Reclaim ∷ Stat ∷ []
 
 passes_by : (p : File → Bool) (x : File) (xs : List File) (y : File) (b : Bool) → b ≡ p x → (find p xs ≡ Some y → p y ≡ true) →
     cond b (Some x) (find p xs) ≡ Some y → p y ≡ true
@@ -26,11 +26,14 @@ found_by_name : (file : File) → find (λ f. bytes_eq (name_of_file f) (name_of
 found_by_name Current = refl
 found_by_name Max = refl
 found_by_name High = refl
+found_by_name Low = refl
+found_by_name Min = refl
 found_by_name Peak = refl
 found_by_name Events = refl
 found_by_name EventsLocal = refl
 found_by_name OomGroup = refl
 found_by_name Reclaim = refl
+found_by_name Stat = refl
 
 pub found-name_of : (name : List ℕ) (file : File) → (find (λ f. bytes_eq (name_of_file f) name) all_files ≡ Some file) ↔ (name ≡ name_of_file file)
 found-name_of name file = (

@@ -25,6 +25,10 @@ pub enum File {
     Max,
     /// memory.high: how far that usage may rise before reclaim lowers it.
     High,
+    /// memory.low: how much of that usage reclaim spares while it finds pages elsewhere.
+    Low,
+    /// memory.min: how much of that usage reclaim spares.
+    Min,
     /// memory.peak: the greatest usage since the group was made.
     Peak,
     /// memory.events: how many events of each kind the group and those below it had.
@@ -35,18 +39,23 @@ pub enum File {
     OomGroup,
     /// memory.reclaim: an amount written to it is reclaimed from the group and those below it.
     Reclaim,
+    /// memory.stat: what the group and those below it keep, by kind.
+    Stat,
 }
 
 // All files.
-const FILES: [File; 8] = [
+const FILES: [File; 11] = [
     File::Current,
     File::Max,
     File::High,
+    File::Low,
+    File::Min,
     File::Peak,
     File::Events,
     File::EventsLocal,
     File::OomGroup,
     File::Reclaim,
+    File::Stat,
 ];
 
 impl File {
@@ -60,11 +69,14 @@ impl File {
             File::Current => ("memory.current", true, false),
             File::Max => ("memory.max", true, true),
             File::High => ("memory.high", true, true),
+            File::Low => ("memory.low", true, true),
+            File::Min => ("memory.min", true, true),
             File::Peak => ("memory.peak", true, false),
             File::Events => ("memory.events", true, false),
             File::EventsLocal => ("memory.events.local", true, false),
             File::OomGroup => ("memory.oom.group", true, true),
             File::Reclaim => ("memory.reclaim", false, true),
+            File::Stat => ("memory.stat", true, false),
         }
     }
 
@@ -90,8 +102,8 @@ impl File {
     }
 }
 
-/// The text of a file of a group that exists. `NoFile` for the root, which has no files; `WriteOnly` for
-/// memory.reclaim, which can't be read.
+/// The text of a file of a group that exists. `NoFile` for the root, which has no files, and for memory.stat, which the
+/// charges don't know: `stat_text` writes it. `WriteOnly` for memory.reclaim, which can't be read.
 pub fn file_text(charges: &Charges, group: GroupId, file: File) -> Result<ArrayText, Fault>
     requires { IsTrue (has_group charges.now.groups group) }
     ensures root { group ≡ 0 → result ≡ Err Fault.NoFile }
@@ -104,11 +116,14 @@ pub fn file_text(charges: &Charges, group: GroupId, file: File) -> Result<ArrayT
         File::Current => Ok(pages_text(charges.current(group))),
         File::Max => Ok(write_limit(charges.max(group))),
         File::High => Ok(write_limit(charges.settings(group).high)),
+        File::Low => Ok(write_limit(charges.settings(group).low)),
+        File::Min => Ok(write_limit(charges.settings(group).min)),
         File::Peak => Ok(pages_text(charges.peak(group))),
         File::Events => Ok(events_text(charges.events(group))),
         File::EventsLocal => Ok(events_text(charges.events_local(group))),
         File::OomGroup => Ok(write_flag(charges.is_oom_group(group))),
         File::Reclaim => Err(Fault::WriteOnly),
+        File::Stat => Err(Fault::NoFile),
     }
 }
 
@@ -124,8 +139,8 @@ fn events_text(counts: EventCounts) -> ArrayText
     text
 }
 
-// Writes the line of a key and its count.
-fn push_count(text: &mut ArrayText, key: &[u8], count: u64)
+/// Writes the line of a key and its count.
+pub(crate) fn push_count(text: &mut ArrayText, key: &[u8], count: u64)
     requires { length text.old + length key.now + 22 ≤ longest_text }
     ensures text { text.new ≡ text.old ++ count_line key.now count }
     ensures short { length text.new ≤ length text.old + length key.now + 22 }

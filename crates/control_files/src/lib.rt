@@ -5,5 +5,6 @@ pub mod file;
 pub mod flag;
 pub mod limit;
 pub mod number;
+pub mod stat;
 pub mod text;
 mod word;

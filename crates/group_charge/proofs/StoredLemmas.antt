@@ -109,10 +109,9 @@ stored_removed l usages g facts there empty are = record { size = are.size; sums
 -- ---- all that is kept
 -- what is kept for a ledger that is in order
 pub kept_as : (groups : List Group) (accounts : List Account) (usages : List ℕ) (settings : List Settings) (l : Ledger) → ledger_of groups accounts settings ≡ l →
-    AreCharges l → length accounts ≡ 64 → length settings ≡ 64 → AreUsages l usages → AreSoundCharges groups accounts usages settings
-kept_as groups accounts usages settings l e facts size settings_size are = record {
+    AreCharges l → length accounts ≡ 64 → AreUsages l usages → AreSoundCharges groups accounts usages settings
+kept_as groups accounts usages settings l e facts size are = record {
   charges = subst AreCharges (sym e) facts;
   size = size;
-  settings_size = settings_size;
   usages_are = subst (λ k. AreUsages k usages) (sym e) are;
 }

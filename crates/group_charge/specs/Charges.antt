@@ -1,8 +1,8 @@
 -- The charges of a tree of groups: for each group its own pages, its peak, its event counts and what is set for it.
-use Rattle.std.specs.Prelude.{All, ◌≡◌, ℕ, ◌+◌, ◌-◌, ◌^◌, ◌<◌, ◌≤◌, ◌==◌, Bool, not, Option, None, List, [], ◌∷◌}
+use Rattle.std.specs.Prelude.{All, ◌≡◌, ℕ, ◌+◌, ◌-◌, ◌^◌, ◌<◌, ◌≤◌, ◌==◌, ◌||◌, Bool, not, nat_eq, Option, None, Some, List, [], ◌∷◌}
 use Rattle.std.specs.Prelude.{◌++◌, filter, map, replicate, set, sum_by, if◌then◌else◌}
-use Rattle.std.specs.List.{find, slice_index_or}
-use Rattle.std.specs.Option.{option_map_or}
+use Rattle.std.specs.List.{find, list_any, slice_index_or}
+use Rattle.std.specs.Option.{option_eq, option_map_or}
 use Rattle.group_tree.specs.{most_groups, EventCounts, no_events, with_one_more, initial_groups, in_subtree, with_group, without_group, with_limit}
 use Rattle.group_tree.specs.{with_oom_group, AreGroups, at_group, on_path, peak_after}
 use Rattle.group_tree.specs.declared.group.Group.{Group}
@@ -10,7 +10,7 @@ use Rattle.group_tree.specs.declared.event.EventKey.TheVariants.{Max, Oom, OomKi
 use Rattle.group_tree.specs.declared.event.EventKey.{EventKey}
 -- an account has a group's number, its own pages, its peak and its event counts
 pub use Rattle.group_charge.specs.declared.account.Account.{Account}
--- memory.high, in pages, or None for `max`
+-- memory.high, memory.low and memory.min, in pages, or None for `max`
 pub use Rattle.group_charge.specs.declared.settings.Settings.{Settings}
 
 -- the groups of the tree, and an account for each, in the order in which the groups were made; by number, what is set
@@ -19,9 +19,17 @@ pub record Ledger : Type 0 where
   pub accounts : List Account
   pub settings : List Settings
 
--- the defaults: no memory.high
+-- the defaults: no memory.high, and nothing is protected
 abbrev pub no_settings : Settings
-no_settings = record { high = None }
+no_settings = record { high = None; low = Some 0; min = Some 0 }
+
+-- memory.low or memory.min is above 0
+abbrev pub is_protecting : Settings → Bool
+is_protecting settings = not (option_eq nat_eq settings.low (Some 0)) || not (option_eq nat_eq settings.min (Some 0))
+
+-- that of some group is
+abbrev pub are_protecting : List Settings → Bool
+are_protecting settings = list_any is_protecting settings
 
 -- the account of a new group: no page, peak 0 and all counts 0
 abbrev pub empty_account : ℕ → Account
@@ -140,12 +148,12 @@ with_new_group l n path = record {
   settings = set l.settings n no_settings;
 }
 
--- The ledger without the group and its account: the counts of its ancestors stay. What was set for it stays until a new
--- group has its number.
+-- the ledger without the group, its account and what was set for it: the counts of its ancestors stay
 abbrev pub with_group_removed : Ledger → ℕ → Ledger
-with_group_removed l g = record l {
+with_group_removed l g = record {
   groups = without_group l.groups g;
   accounts = filter (λ a. not (a.group == g)) l.accounts;
+  settings = set l.settings g no_settings;
 }
 
 -- the ledger with this limit of the group

@@ -38,7 +38,6 @@ pub record AreSoundCharges (groups : List Group) (accounts : List Account) (usag
     (settings : List Settings) : Type 0 where
   pub charges : AreCharges (ledger_of groups accounts settings)
   pub size : length accounts ≡ most_groups
-  pub settings_size : length settings ≡ most_groups
   pub usages_are : AreUsages (ledger_of groups accounts settings) usages
 
 -- ---- what a walk changes

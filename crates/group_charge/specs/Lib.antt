@@ -7,4 +7,4 @@ pub use Rattle.group_charge.specs.Charges.{initial_ledger, pages_of, settings_of
 pub use Rattle.group_charge.specs.Charges.{with_group_removed, with_kill_noted, with_max_noted, with_new_group, with_noted, with_oom_flag}
 pub use Rattle.group_charge.specs.Charges.{with_oom_noted, with_settings, with_uncharge}
 pub use Rattle.group_charge.specs.Kept.{account_by, accounts_of, ledger_of}
-pub use Rattle.group_charge.specs.Notes.{KnownNotes, forgotten, no_notes, noted, unit_noted}
+pub use Rattle.group_charge.specs.Notes.{KnownNotes, detail_noted, forgotten, no_notes, noted, unit_noted}

@@ -3,24 +3,24 @@ use Rattle.std.specs.Prelude.{ℕ, ◌+◌, ◌-◌, ◌==◌, ◌&&◌, min, Bo
 use Rattle.std.specs.Prelude.{length, count_by, nat_lt, slice_get, slice_set, if◌then◌else◌}
 use Rattle.group_tree.specs.Room.{max_count}
 use Rattle.group_charge.specs.declared.note.Note.{Note}
-use Rattle.group_charge.specs.declared.note.Note.TheVariants.{Reclaimed}
+use Rattle.group_charge.specs.declared.note.Note.TheVariants.{Reclaimed, Spared, Low}
 
 -- how many notes are kept
 abbrev pub most_notes : ℕ
 most_notes = 2112
 
--- how many of them may be spans of freed units
-abbrev pub most_spans : ℕ
-most_spans = 1024
+-- how many of them may be details
+abbrev pub most_details : ℕ
+most_details = 1024
 
 -- What contracts see of the notes: the list of them, the oldest first; how many freed frames no note tells of; and
--- whether freed units are noted.
+-- whether details are noted.
 pub record KnownNotes : Type 0 where
   pub list : List Note
   pub left_out : ℕ
   pub notes_units : Bool
 
--- nothing is noted, and freed units won't be
+-- nothing is noted, and details won't be
 abbrev pub no_notes : KnownNotes
 no_notes = record { list = []; left_out = 0; notes_units = false }
 
@@ -32,18 +32,25 @@ note_added list note = if nat_lt (length list) most_notes then list ++ note ∷ 
 abbrev pub noted : KnownNotes → Note → KnownNotes
 noted notes note = record notes { list = note_added notes.list note }
 
--- nothing is noted any more; whether freed units are noted stays
+-- nothing is noted any more; whether details are noted stays
 abbrev pub forgotten : KnownNotes → KnownNotes
 forgotten notes = record notes { list = []; left_out = 0 }
 
--- the note is a span of freed units
-abbrev pub is_span : Note → Bool
-is_span (Reclaimed group first last) = true
-is_span _ = false
+-- the note is a detail: a span of freed units, or what protected a group
+abbrev pub is_detail : Note → Bool
+is_detail (Reclaimed group first last) = true
+is_detail (Spared group usage of_min of_low) = true
+is_detail (Low group usage of_min of_low) = true
+is_detail _ = false
 
--- one more span may be noted
-abbrev pub has_room_for_span : List Note → Bool
-has_room_for_span list = nat_lt (count_by is_span list) most_spans && nat_lt (length list) most_notes
+-- one more detail may be noted
+abbrev pub has_room_for_detail : List Note → Bool
+has_room_for_detail list = nat_lt (count_by is_detail list) most_details && nat_lt (length list) most_notes
+
+-- the notes with this detail at the end, if details are noted and there is room for one more
+abbrev pub detail_noted : KnownNotes → Note → KnownNotes
+detail_noted notes note =
+    if notes.notes_units && has_room_for_detail notes.list then record notes { list = notes.list ++ note ∷ [] } else notes
 
 -- the last of a unit's frames, which are this many from `first` on
 abbrev pub last_frame : (first frames : ℕ) → ℕ
@@ -61,10 +68,10 @@ joined_span _ group first frames = None
 abbrev pub last_noted : KnownNotes → Option Note
 last_noted notes = if notes.left_out == 0 then slice_get notes.list (length notes.list - 1) else None
 
--- the notes with a new span, which is this unit; if there is no room for a span, its frames are left out
+-- the notes with a new span, which is this unit; if there is no room for one, its frames are left out
 abbrev pub with_new_span : KnownNotes → (group first frames : ℕ) → KnownNotes
 with_new_span notes group first frames =
-    if has_room_for_span notes.list
+    if has_room_for_detail notes.list
     then record notes { list = notes.list ++ Reclaimed group first (last_frame first frames) ∷ [] }
     else record notes { left_out = min (notes.left_out + frames) max_count }
 

@@ -7,14 +7,14 @@ ghost use Rattle.std.specs.Result.{result_err};
 ghost use Rattle.group_tree.specs.Groups.{IsLeastFreeNumber, has_child, has_group, is_oom_group, limit_of, make_fault};
 ghost use Rattle.group_tree.specs.Room.{IsLowestOver, PathHasRoom};
 ghost use Rattle.group_charge.specs.Charges.{AreCharges, CountsOnly, PagesRise, PeaksRise, SameEvents, SamePages};
-ghost use Rattle.group_charge.specs.Charges.{SamePeaks, UsageRises, account_at, current_of, empty_account};
+ghost use Rattle.group_charge.specs.Charges.{SamePeaks, UsageRises, account_at, are_protecting, current_of, empty_account};
 ghost use Rattle.group_charge.specs.Charges.{events_local_of, events_of, initial_ledger, pages_of, peak_of};
 ghost use Rattle.group_charge.specs.Charges.{settings_of, total_pages, with_charge, with_group_limit};
 ghost use Rattle.group_charge.specs.Charges.{with_group_removed, with_new_group, with_noted, with_oom_flag};
 ghost use Rattle.group_charge.specs.Charges.{with_settings, with_uncharge};
 
 use crate::account::Account;
-use crate::settings::Settings;
+use crate::settings::{Settings, SettingsTable};
 use crate::walks;
 use group_tree::event::{EventCounts, EventKey};
 use group_tree::fault::Fault;
@@ -40,7 +40,7 @@ pub struct Charges {
     // By number: the pages charged to each group and to all groups below it; 0 if no group has the number.
     usages: [u32; MAX_GROUPS],
     // By number: what is set for each group.
-    settings: [Settings; MAX_GROUPS],
+    settings: SettingsTable,
 }
 
 impl Model for Charges {
@@ -62,7 +62,7 @@ impl Charges {
         let tree = Tree::new(alloc)?;
         let accounts = [new_account(GroupId::root()); MAX_GROUPS];
         let usages = [0; MAX_GROUPS];
-        let settings = [Settings::none(); MAX_GROUPS];
+        let settings = SettingsTable::new();
         Ok(Charges {
             tree,
             accounts,
@@ -109,9 +109,8 @@ impl Charges {
         ensures kept { (m : ℕ) → IsTrue (has_group self.old.groups m) → IsTrue (has_group self.new.groups m) }
     {
         let group = self.tree.make(path)?;
-        let at = group.number() as usize;
-        self.accounts[at] = new_account(group);
-        self.settings[at] = Settings::none();
+        self.accounts[group.number() as usize] = new_account(group);
+        self.settings.set(group, Settings::none());
         Ok(group)
     }
 
@@ -137,12 +136,11 @@ impl Charges {
         self.tree.set_oom_group(group, oom_group);
     }
 
-    /// Sets memory.high of the group. Only later charges read it.
+    /// Sets memory.high, memory.low and memory.min of the group. Only later charges and reclaims read them.
     pub fn set_settings(&mut self, group: GroupId, settings: Settings)
         ensures { self.new ≡ with_settings self.old group settings }
     {
-        let at = group.number() as usize;
-        self.settings[at] = settings;
+        self.settings.set(group, settings);
     }
 
     /// Removes an existing group that isn't the root, has no group below it and no page charged.
@@ -155,6 +153,7 @@ impl Charges {
         ensures pages { SamePages self.old self.new }
     {
         self.tree.remove(group);
+        self.settings.set(group, Settings::none());
     }
 
     /// The usage of an existing group, in pages (memory.current): the pages charged to it and to all groups below it.
@@ -199,11 +198,18 @@ impl Charges {
         self.tree.is_oom_group(group)
     }
 
-    /// What is set for the group: memory.high.
+    /// What is set for the group: memory.high, memory.low and memory.min.
     pub fn settings(&self, group: GroupId) -> Settings
         ensures { result ≡ settings_of self.now group }
     {
-        self.settings[group.number() as usize]
+        self.settings.of(group)
+    }
+
+    /// Whether memory.low or memory.min of some group is above 0.
+    pub fn is_protecting(&self) -> bool
+        ensures { result ≡ are_protecting self.now.settings }
+    {
+        self.settings.is_protecting()
     }
 
     /// The events of the group and of all groups below it (memory.events).

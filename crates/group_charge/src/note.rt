@@ -53,6 +53,22 @@ pub enum Note {
         first: u64,
         last: u64,
     },
+    /// A turn of the group in the first pass of a reclaim was cut short or left out: of the `usage` pages charged in its
+    /// subtree, memory.min protected `min` and memory.low `low`.
+    Spared {
+        group: GroupId,
+        usage: u32,
+        min: u32,
+        low: u32,
+    },
+    /// The third pass freed pages that memory.low protected, so the group's events count one more `low`. When its turn
+    /// began, `usage` pages were charged in its subtree; memory.min protected `min` of them and memory.low `low`.
+    Low {
+        group: GroupId,
+        usage: u32,
+        min: u32,
+        low: u32,
+    },
     /// A round of reclaim ended; the first for a limit is number 1. It freed `returned` units, of `pages` pages in all,
     /// and tried `missed` more. Then `usage` pages are charged in the subtree.
     Round {

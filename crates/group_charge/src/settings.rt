@@ -1,20 +1,96 @@
-//! What is set for one group, beside its limit.
+//! What is set for each group, beside its limit.
 
-ghost use Rattle.std.specs.Prelude.{◌≡◌};
-ghost use Rattle.group_charge.specs.Charges.{no_settings};
+ghost use Rattle.std.specs.Prelude.{◌≡◌, replicate, set};
+ghost use Rattle.std.specs.List.{slice_index_or};
+ghost use Rattle.group_tree.specs.Bounds.{most_groups};
+ghost use Rattle.group_charge.specs.Charges.{are_protecting, is_protecting, no_settings};
+
+use group_tree::group::{GroupId, MAX_GROUPS};
+use std::marker::Model;
 
 /// What reclaim does for a group, in pages. None is `max`.
 #[derive(Clone, Copy, Debug, PartialEq, Eq)]
 pub struct Settings {
     /// memory.high: before a charge would exceed it, pages are reclaimed.
     pub high: Option<u32>,
+    /// memory.low: reclaim spares this much of the usage while it finds pages elsewhere.
+    pub low: Option<u32>,
+    /// memory.min: reclaim spares this much of the usage.
+    pub min: Option<u32>,
 }
 
 impl Settings {
-    /// The defaults: no memory.high.
+    /// The defaults: no memory.high, and nothing is protected.
     pub fn none() -> Settings
         ensures { result ≡ no_settings }
     {
-        Settings { high: None }
+        Settings {
+            high: None,
+            low: Some(0),
+            min: Some(0),
+        }
+    }
+
+    // Whether memory.low or memory.min is above 0.
+    fn is_protecting(&self) -> bool
+        ensures { result ≡ is_protecting self.now }
+    {
+        self.low != Some(0) || self.min != Some(0)
+    }
+}
+
+/// What is set for each group, by number.
+#[derive(Debug, Drop)]
+pub(crate) struct SettingsTable {
+    settings: [Settings; MAX_GROUPS],
+    // Whether some group's settings protect it. Kept so that a tree in which nothing is protected costs nothing.
+    is_protecting: bool,
+}
+
+impl Model for SettingsTable {
+    ghost use Rattle.std.specs.Prelude.{◌≡◌, List, length};
+    ghost use Rattle.group_tree.specs.Bounds.{most_groups};
+    ghost use Rattle.group_charge.specs.Charges.{Settings, are_protecting};
+
+    ghost Value = { List Settings };
+
+    ghost view = { λ t. t.settings };
+
+    ghost invariant = { λ t. (length t.settings ≡ most_groups) × (t.is_protecting ≡ are_protecting t.settings) };
+}
+
+impl SettingsTable {
+    /// Nothing is set for any group.
+    pub(crate) fn new() -> SettingsTable
+        ensures { result ≡ replicate most_groups no_settings }
+    {
+        SettingsTable {
+            settings: [Settings::none(); MAX_GROUPS],
+            is_protecting: false,
+        }
+    }
+
+    /// What is set for the group.
+    pub(crate) fn of(&self, group: GroupId) -> Settings
+        ensures { result ≡ slice_index_or self.now group no_settings }
+    {
+        self.settings[group.number() as usize]
+    }
+
+    /// Whether memory.low or memory.min of some group is above 0.
+    pub(crate) fn is_protecting(&self) -> bool
+        ensures { result ≡ are_protecting self.now }
+    {
+        self.is_protecting
+    }
+
+    /// Replaces what is set for the group.
+    pub(crate) fn set(&mut self, group: GroupId, settings: Settings)
+        ensures { self.new ≡ set self.old group settings }
+    {
+        self.settings[group.number() as usize] = settings;
+        if self.is_protecting || settings.is_protecting() {
+            self.is_protecting = self.settings.iter().any(|of_one| of_one.is_protecting());
+        }
     }
 }

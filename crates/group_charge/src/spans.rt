@@ -1,16 +1,19 @@
 //! Spans of freed units.
 
 ghost use Rattle.std.specs.Prelude.{◌≡◌, Some};
-ghost use Rattle.group_charge.specs.Notes.{is_span, joined_span, last_frame};
+ghost use Rattle.group_charge.specs.Notes.{is_detail, joined_span, last_frame};
 
 use crate::note::Note;
 use group_tree::group::GroupId;
 
-// Whether the note is a span of freed units.
-pub(crate) fn is_span(note: &Note) -> bool
-    ensures { result ≡ is_span note.now }
+// Whether the note is a span of freed units, or says what protected a group.
+pub(crate) fn is_detail(note: &Note) -> bool
+    ensures { result ≡ is_detail note.now }
 {
-    matches!(note, Note::Reclaimed { .. })
+    matches!(
+        note,
+        Note::Reclaimed { .. } | Note::Spared { .. } | Note::Low { .. }
+    )
 }
 
 // The last of `frames` frames from `first` on.

@@ -4,3 +4,4 @@ pub mod Spans
 pub mod UnitLines
 pub mod Owners
 mod Adding
+mod Counting

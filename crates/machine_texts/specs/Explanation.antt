@@ -5,7 +5,7 @@ use Rattle.std.specs.Option.{option_map}
 use Rattle.std.specs.Fmt.{decimal}
 use Rattle.group_tree.specs.declared.group.Group.{Group}
 use Rattle.group_charge.specs.declared.note.Note.{Note}
-use Rattle.group_charge.specs.declared.note.Note.TheVariants.{Limit, High, Zone, Asked, Stock, Reclaimed, Round, Oom, Victim, GroupKill, Kill}
+use Rattle.group_charge.specs.declared.note.Note.TheVariants.{Limit, High, Zone, Asked, Stock, Reclaimed, Spared, Low, Round, Oom, Victim, GroupKill, Kill}
 use Rattle.machine_texts.specs.Lines.{line_text}
 
 -- the note says that a stock was drained, that a round of reclaim was made, or that a group was killed
@@ -18,6 +18,8 @@ is_attempt (High g high usage need) = false
 is_attempt (Zone order) = false
 is_attempt (Asked g pages) = false
 is_attempt (Reclaimed g first last) = false
+is_attempt (Spared g usage of_min of_low) = false
+is_attempt (Low g usage of_min of_low) = false
 is_attempt (Oom g) = false
 is_attempt (Victim victim candidates next) = false
 is_attempt (GroupKill g number) = false
@@ -31,6 +33,8 @@ usage_after before (Stock cpu pages) = option_map (λ usage. usage - pages) befo
 usage_after before (Zone order) = None
 usage_after before (Asked g pages) = None
 usage_after before (Reclaimed g first last) = None
+usage_after before (Spared g usage of_min of_low) = None
+usage_after before (Low g usage of_min of_low) = None
 usage_after before (Round number returned missed pages usage) = None
 usage_after before (Oom g) = None
 usage_after before (Victim victim candidates next) = None

@@ -6,7 +6,7 @@ use Rattle.group_tree.specs.declared.group.Group.{Group}
 use Rattle.group_tree.specs.Groups.{path_of}
 use Rattle.group_charge.specs.declared.note.Candidate.{Candidate}
 use Rattle.group_charge.specs.declared.note.Note.{Note}
-use Rattle.group_charge.specs.declared.note.Note.TheVariants.{Limit, High, Zone, Asked, Stock, Reclaimed, Round, Oom, Victim, GroupKill, Kill}
+use Rattle.group_charge.specs.declared.note.Note.TheVariants.{Limit, High, Zone, Asked, Stock, Reclaimed, Spared, Low, Round, Oom, Victim, GroupKill, Kill}
 use Rattle.control_files.specs.Limit.{page_bytes}
 use Rattle.machine_texts.specs.Characters.{characters}
 
@@ -48,6 +48,11 @@ range_text first last = if first == last then decimal first else (decimal first 
 abbrev pub reclaimed_text : List Group → (gone : List ℕ) → ℕ → ℕ → ℕ → List ℕ
 reclaimed_text groups gone g first last =
     codes "# reclaimed " ++ group_text groups gone g ++ codes " " ++ range_text first last ++ codes "\n"
+
+-- after this word a group, its usage when its turn began, and how much of it memory.min and memory.low protected
+abbrev pub protected_line : (word : List ℕ) → List Group → (gone : List ℕ) → ℕ → ℕ → ℕ → ℕ → List ℕ
+protected_line word groups gone g usage of_min of_low = word ++ group_text groups gone g ++ codes " usage " ++ bytes_text usage
+    ++ codes " min " ++ bytes_text of_min ++ codes " low " ++ bytes_text of_low ++ codes "\n"
 
 -- A stock that was drained under a limit, and the usage under the limit afterwards, by the usage before. Nothing is
 -- written for a stock that was drained for another reason.
@@ -100,6 +105,9 @@ line_text groups gone _ (Zone order) = zone_line order
 line_text groups gone _ (Asked g pages) = asked_text groups gone g pages
 line_text groups gone usage (Stock cpu pages) = stock_line usage cpu pages
 line_text groups gone _ (Reclaimed g first last) = reclaimed_text groups gone g first last
+line_text groups gone _ (Spared g usage of_min of_low) =
+    protected_line (codes "# spared ") groups gone g usage of_min of_low
+line_text groups gone _ (Low g usage of_min of_low) = protected_line (codes "# low ") groups gone g usage of_min of_low
 line_text groups gone _ (Round number returned missed pages usage) = round_text number returned missed pages usage
 line_text groups gone _ (Oom g) = oom_text groups gone g
 line_text groups gone _ (Victim victim candidates next) = victim_text groups gone victim candidates next

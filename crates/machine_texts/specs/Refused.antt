@@ -34,8 +34,9 @@ sentence_of WriteOnly = codes "the file cannot be read"
 
 -- what the files take, if a text is no value of one
 abbrev pub values_of : Fault → List ℕ
-values_of BadLimit = codes "; memory.max, memory.high and memory.reclaim take whole bytes, with K M G T P E, the first two also "
-    ++ codes "max; memory.oom.group takes 0 or 1"
+values_of BadLimit =
+    codes "; memory.max, memory.high, memory.low, memory.min and memory.reclaim take whole bytes, with K M G T P E, "
+    ++ codes "all but the last also max; memory.oom.group takes 0 or 1"
 values_of fault = codes ""
 
 -- where the frame is that the refused command names, if it is lent to a CPU; nothing if it isn't

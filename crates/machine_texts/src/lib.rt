@@ -1,6 +1,6 @@
 //! The texts that show the machine: the places of the frames, what each group uses, the free blocks, the kept units of
-//! a group, and a CPU's stock. And those that explain an answer: why a command is refused, what was tried, which units
-//! were reclaimed, and who was killed.
+//! a group, and a CPU's stock; and what memory.stat shows. And those that explain an answer: why a command is refused,
+//! what was tried, which units were reclaimed, and who was killed.
 #![tactic(auto)]
 
 mod blocks;
@@ -11,6 +11,7 @@ mod parts;
 mod places;
 mod refused;
 mod show;
+mod stat;
 mod stock;
 mod units;
 
@@ -19,5 +20,6 @@ pub use characters::push_characters;
 pub use explanation::write_explanation;
 pub use refused::write_refused;
 pub use show::write_show;
+pub use stat::memory_stat;
 pub use stock::write_stock;
 pub use units::write_units;

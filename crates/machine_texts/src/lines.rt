@@ -2,7 +2,7 @@
 
 ghost use Rattle.control_files.specs.Strings.{AddsBytes};
 ghost use Rattle.machine_texts.specs.Lines.{asked_text, group_kill_text, killed_text, limit_line, line_text, oom_text};
-ghost use Rattle.machine_texts.specs.Lines.{reclaimed_text, round_text, stock_line, victim_text, zone_line};
+ghost use Rattle.machine_texts.specs.Lines.{protected_line, reclaimed_text, round_text, stock_line, victim_text, zone_line};
 
 use crate::parts::{
     push_bytes, push_candidate, push_count, push_ending, push_group, push_others, push_span,
@@ -42,6 +42,18 @@ pub(crate) fn write_line(
         Note::Reclaimed { group, first, last } => write_reclaimed(
             tree, gone, group, first, last, text,
         ),
+        Note::Spared {
+            group,
+            usage,
+            min,
+            low,
+        } => write_protected("# spared ", tree, gone, group, usage, min, low, text),
+        Note::Low {
+            group,
+            usage,
+            min,
+            low,
+        } => write_protected("# low ", tree, gone, group, usage, min, low, text),
         Note::Round {
             number,
             returned,
@@ -125,6 +137,26 @@ fn write_reclaimed(
 {
     push_group("# reclaimed ", tree, gone, group, text)?;
     push_span(" ", first, last, text)?;
+    text.push_str("\n")
+}
+
+// What was charged to a group when its turn began, and how much of that was protected.
+fn write_protected(
+    word: &str,
+    tree: &Tree,
+    gone: &[u8],
+    group: GroupId,
+    usage: u32,
+    min: u32,
+    low: u32,
+    text: &mut String,
+) -> Result<(), AllocError>
+    ensures { AddsBytes result text.old text.new (protected_line word.now tree.now gone.now group usage min low) }
+{
+    push_group(word, tree, gone, group, text)?;
+    push_bytes(" usage ", u64::from(usage), text)?;
+    push_bytes(" min ", u64::from(min), text)?;
+    push_bytes(" low ", u64::from(low), text)?;
     text.push_str("\n")
 }
 

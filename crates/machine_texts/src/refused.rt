@@ -28,8 +28,8 @@ fn values(fault: &Fault) -> &'static str
 {
     match fault {
         Fault::BadLimit => {
-            "; memory.max, memory.high and memory.reclaim take whole bytes, with K M G T P E, the first two \
-            also max; memory.oom.group takes 0 or 1"
+            "; memory.max, memory.high, memory.low, memory.min and memory.reclaim take whole bytes, with K M G \
+            T P E, all but the last also max; memory.oom.group takes 0 or 1"
         }
         _ => "",
     }

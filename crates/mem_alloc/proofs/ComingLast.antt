@@ -1,16 +1,20 @@
 -- Laws of kills and refills. Serves `laws`, and those of the commands.
-use Rattle.std.proofs.Common.{◌≡◌, ℕ, ◌+◌, ◌⊎◌, Bool, true, false, List, [], ◌∷◌, ◌++◌, Option, Some, None, length, refl, sym, ap, ◌∙◌, inl, inr, arith}
+use Rattle.std.proofs.Common.{◌≡◌, ℕ, ◌+◌, ◌≤◌, ◌⊎◌, Bool, true, false, List, [], ◌∷◌, ◌++◌, Option, Some, None, length, refl, sym, ap, ◌∙◌, inl, inr, arith}
 use Rattle.std.proofs.Common.{length-append}
 use Rattle.std.proofs.lemmas.Bool.{cases_lt, false≢true}
 use Rattle.std.proofs.lemmas.List.{append_assoc, append-nil}
 use Rattle.frame_word.specs.Seats.{KnownTable}
 use Rattle.group_tree.specs.declared.group.Group.{Group}
+use Rattle.group_charge.specs.declared.settings.Settings.{Settings}
+use Rattle.group_charge.specs.Charges.{Ledger}
+use Rattle.group_protection.specs.Protections.{min_key, setting}
 use Rattle.cpu_part.specs.Cpus.{KnownCpu}
 use Rattle.step_rules.specs.After.{Run}
 use Rattle.mem_machine.specs.{KnownMachine, is_killed, VisitState, LendsMany}
 use Rattle.mem_alloc.specs.{IsAlive, KillsUntilRoom, has_room_at, ChargesKillLast, KillsComeLast, KillsEndInTime, RefillsAreWhole, WasLast}
 use Rattle.mem_alloc.specs.{IsChargedBelow, MayKillAfter}
 use Rattle.mem_reclaim.specs.Victim.{IsVictim}
+use Rattle.mem_alloc.specs.Laws.{ChargesTryAllWithoutMin, TriesAllWithoutMin}
 
 -- the steps before the first kill of a set were the last to be tried
 abbrev pub was_last : (MayAsk : List Group → ℕ → ℕ → Type 0) (t : KnownTable) (start : KnownMachine) (before : Run) (g : ℕ) (rest : Run)
@@ -20,16 +24,20 @@ was_last MayAsk t start before g rest after = record {
   leads = after.leads;
   consistent = after.may.consistent;
   charges = after.may.charges;
+  settings = after.may.tied.settings;
   limited = after.may.limited;
   need = after.may.need;
   asked = after.may.asked;
   over = after.may.over;
   noted = after.may.noted;
   drained = after.may.drained;
-  frozen = λ f home below kept clean.
-      let rose = after.may.missed f home below kept clean in
-      let counted = after.may.tied.misses f in
-      omega (arith, rose, counted);
+  frozen = λ f home below kept clean. elim (after.may.missed home.owner below) [
+    | inl all ↦
+        let rose = all f home.list kept clean in
+        let counted = after.may.tied.misses f in
+        inl (omega (arith, rose, counted))
+    | inr spared ↦ inr spared
+  ];
   chosen = after.may.chosen;
   killed_root_is = after.may.killed_root_is;
 }
@@ -46,6 +54,23 @@ kills_come_last MayAsk t start steps before rest made g none is kills =
       last = was_last MayAsk t start before g rest after;
       set_is = after.set_is;
     }
+
+-- what is set for a group is so in each ledger with these settings
+same_min : (a b : Ledger) (g : ℕ) → a.settings ≡ b.settings → setting min_key a g ≡ setting min_key b g
+same_min a b g is = ap (λ (l : List Settings). setting min_key (record a { settings = l }) g) is
+
+pub tries_all_without_min : (MayAsk : List Group → ℕ → ℕ → Type 0) → TriesAllWithoutMin MayAsk
+tries_all_without_min MayAsk t start tried killed last none f home below kept clean = elim (last.frozen f home below kept clean) [
+  | inl frozen ↦ frozen
+  | inr spared ↦
+      let some = spared.some in
+      let same = same_min last.now.ledger start.ledger spared.top last.settings in
+      let z = none spared.top in
+      absurd (omega (arith, some, same, z))
+]
+
+pub charges_try_all_without_min : ChargesTryAllWithoutMin
+charges_try_all_without_min g pages = tries_all_without_min (IsChargedBelow g pages)
 
 pub charges_kill_last : ChargesKillLast
 charges_kill_last g pages = kills_come_last (IsChargedBelow g pages)

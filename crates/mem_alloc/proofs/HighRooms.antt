@@ -50,6 +50,7 @@ module _ (t : KnownTable) (g high need : ℕ) (m y x : KnownMachine) (told : y �
         stocks = λ p. parts_after t m first x high_runs held p refl;
         killed = ap (λ (k : KnownMachine). k.killed) high_noted;
         groups = ap (λ (k : KnownMachine). k.ledger.groups) high_noted;
+        settings = ap (λ (k : KnownMachine). k.ledger.settings) high_noted;
         hold = hold_after t m first x high_runs held refl;
         usage = λ h.
             let e : current_of x.ledger h ≡ current_of m.ledger h =

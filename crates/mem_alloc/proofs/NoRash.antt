@@ -8,8 +8,12 @@ use Rattle.std.proofs.lemmas.List.{append_assoc, append-nil}
 use Rattle.std.proofs.lemmas.List.Folds.{list_any-append}
 use Rattle.frame_word.specs.Seats.{KnownTable}
 use Rattle.boot_words.specs.Pasts.{IsHeld}
+use Rattle.group_tree.specs.declared.event.EventKey.TheVariants as event
 use Rattle.group_tree.specs.declared.group.Group.{Group}
 use Rattle.group_tree.specs.Groups.{in_subtree, is_oom_group}
+use Rattle.group_charge.specs.Charges.{current_of}
+use Rattle.group_charge.proofs.UsageLemmas.{usage-noted}
+use Rattle.group_protection.proofs.Topping.{kept_still}
 use Rattle.lru_lists.specs.declared.record.Link.{Link}
 use Rattle.lru_lists.specs.declared.record.Home.{Home}
 use Rattle.lru_lists.specs.{owner_of, link_at}
@@ -28,7 +32,7 @@ use Rattle.mem_reclaim.specs.{has_kill, is_kill, killed_by, kills_in, Keeps, Mis
 use Rattle.mem_reclaim.specs.{OnlyReleases, alive_in_subtree, group_kill_note, kill_set, victim_note}
 use Rattle.mem_reclaim.proofs.KillSets.{kills_both}
 use Rattle.mem_reclaim.proofs.Grown.{held_after, misses_after, parts_after}
-use Rattle.mem_reclaim.proofs.LettingGo.{drains_leave, quiet_drains}
+use Rattle.mem_reclaim.proofs.LettingGo.{drains_leave, quiet_drains, settings_stay}
 use Rattle.mem_alloc.specs.{KillsVictims, KillsForRoom, KillsOneVictim, KillsUntilRoom, has_room_at, with_oom_noted_at, AfterRoom, ClearsBelow}
 use Rattle.mem_alloc.specs.{IsRefusedAt, IsRefusedFor, IsRefusedAtSome, KillsForFewPages, MakesRoom, PreparesCharge, ReclaimsFor, RelievesLimit}
 use Rattle.mem_alloc.specs.{with_max_noted_at, MayKill, MayKillAfter, begins_with_kill, has_oom_note, is_oom_note}
@@ -121,14 +125,15 @@ set_first false t g killed m steps n h = inr (ap begins_with_kill h.kills.steps_
 
 -- ---- what steps leave of the machine
 
--- the steps lead there, and no unit came onto a list or changed its dirt
+-- the steps lead there, no unit came onto a list or changed its dirt, and settings stay
 pub record Passes (t : KnownTable) (m : KnownMachine) (steps : Run) (n : KnownMachine) : Type 0 where
   pub runs : Makes t m steps n
   pub owners : (f : ℕ) → HeadsKeptUnit n f → owner_of (home_of n.links f) ≡ owner_of (home_of m.links f)
   pub dirt : (f : ℕ) → HeadsKeptUnit n f → (link_at n.links f).is_dirty ≡ (link_at m.links f).is_dirty
+  pub settings : n.ledger.settings ≡ m.ledger.settings
 
 pub passes_none : (t : KnownTable) (m : KnownMachine) → Passes t m [] m
-passes_none t m = record { runs = makes_none t m; owners = λ f is. refl; dirt = λ f is. refl }
+passes_none t m = record { runs = makes_none t m; owners = λ f is. refl; dirt = λ f is. refl; settings = refl }
 
 owned : (o was : Option Home) → o ≢ None → owner_of o ≡ owner_of was → was ≢ None
 owned None was kept same none = kept refl
@@ -142,33 +147,38 @@ passes_both t m x n one two a b = record {
   runs = makes_both t one two m x n a.runs b.runs;
   owners = λ f is. b.owners f is ∙ a.owners f (was_kept t x n two b f is);
   dirt = λ f is. b.dirt f is ∙ a.dirt f (was_kept t x n two b f is);
+  settings = b.settings ∙ a.settings;
 }
 
 -- steps by which the lists stay
-pub passes_same : (t : KnownTable) (m n : KnownMachine) (steps : Run) → Makes t m steps n → n.links ≡ m.links → Passes t m steps n
-passes_same t m n steps runs links = record {
+pub passes_same : (t : KnownTable) (m n : KnownMachine) (steps : Run) → Makes t m steps n → n.links ≡ m.links
+    → n.ledger.settings ≡ m.ledger.settings → Passes t m steps n
+passes_same t m n steps runs links settings = record {
   runs = runs;
   owners = λ f is. ap (λ (l : List Link). owner_of (home_of l f)) links;
   dirt = λ f is. ap (λ (l : List Link). (link_at l f).is_dirty) links;
+  settings = settings;
 }
 
 -- ---- drains
 
--- the lists and the groups are the same
+-- the lists, the groups and their settings are the same
 pub record SameUnits (m n : KnownMachine) : Type 0 where
   pub links : n.links ≡ m.links
   pub groups : n.ledger.groups ≡ m.ledger.groups
+  pub settings : n.ledger.settings ≡ m.ledger.settings
 
 pub drain_same : (t : KnownTable) (m n : KnownMachine) (q k : ℕ) → Drains t q k m n → SameUnits m n
 drain_same t m n q k d = record {
   links = ap (λ (x : KnownMachine). x.links) d.machine;
   groups = ap (λ (x : KnownMachine). x.ledger.groups) d.machine ∙ groups_stay m.ledger (stock_group t m q) k;
+  settings = ap (λ (x : KnownMachine). x.ledger.settings) d.machine ∙ settings_stay m.ledger (stock_group t m q) k;
 }
 
 -- ---- rounds of reclaim
 
 pub keeps_pass : (t : KnownTable) (m n : KnownMachine) (steps : Run) → Makes t m steps n → Keeps t m n → Passes t m steps n
-keeps_pass t m n steps runs keeps = record { runs = runs; owners = keeps.owners; dirt = keeps.dirt }
+keeps_pass t m n steps runs keeps = record { runs = runs; owners = keeps.owners; dirt = keeps.dirt; settings = keeps.settings }
 
 -- ---- no kill too early, in a part of a call's steps
 
@@ -285,6 +295,7 @@ module _ (t : KnownTable) (MayAsk : List Group → ℕ → ℕ → Type 0) (s : 
         let there = is_kept (home_of n.links f) is in
         ap owner_of (there.1 ∙ sym (keeps.leaves f there.0 there.1));
     dirt = keeps.dirt;
+    settings = keeps.settings;
   }
 
   still_drained : (g : ℕ) (m n : KnownMachine) → n.ledger.groups ≡ m.ledger.groups → OnlyDrains t m n → AreDrained t g m → AreDrained t g n
@@ -293,12 +304,15 @@ module _ (t : KnownTable) (MayAsk : List Group → ℕ → ℕ → Type 0) (s : 
       (ap (λ (z : List Group × Option ℕ). of_subtree g z.0 z.1) (λ i. (sym groups i, sym (stocks.of q) i)) ∙ is))
 
   still_missed : (g : ℕ) (m n : KnownMachine) → OnlyReleases t m n → MissedAll g s m → MissedAll g s n
-  still_missed g m n keeps missed f h inside is clean =
-      let there = keeps.leaves f h is in
-      let kept : home_of n.links f ≢ None = λ none. none-some h (sym none ∙ is) in
-      let p = missed f h (ap (λ (l : List Group). in_subtree l g h.owner) (sym keeps.groups) ∙ inside) there (sym (keeps.dirt f kept) ∙ clean) in
-      let q = keeps.misses f in
-      omega (arith, p, q)
+  still_missed g m n keeps missed other inside = elim (missed other (ap (λ (l : List Group). in_subtree l g other) (sym keeps.groups) ∙ inside)) [
+    | inl all ↦ inl (λ f list is clean.
+        let there = keeps.leaves f (record { owner = other; list = list }) is in
+        let kept : home_of n.links f ≢ None = λ none. none-some (record { owner = other; list = list }) (sym none ∙ is) in
+        let p = all f list there (sym (keeps.dirt f kept) ∙ clean) in
+        let q = keeps.misses f in
+        omega (arith, p, q))
+    | inr spared ↦ inr (kept_still m.ledger n.ledger g other keeps.groups keeps.settings (keeps.usage other) spared)
+  ]
 
   ready_more : (r : Option ℕ) (g pages : ℕ) (killed : Killed) (made : Run) (m : KnownMachine) (steps : Run) (n : KnownMachine) → Ready g made m
       → (one : KillsOneVictim r g pages killed (transition t m steps n)) → Ready g (made ++ steps) n
@@ -329,6 +343,7 @@ module _ (t : KnownTable) (MayAsk : List Group → ℕ → ℕ → Type 0) (s : 
       misses = misses_after t s made m ready.since.runs held_there;
       owners = ready.since.owners;
       dirt = ready.since.dirt;
+      settings = ready.since.settings;
     };
   }
 
@@ -366,16 +381,21 @@ module _ (t : KnownTable) (MayAsk : List Group → ℕ → ℕ → Type 0) (s : 
       → Passes t s made m → AreDrained t g m → MissedAll g s m → KillsUntilRoom r g pages (transition t m steps n) → Tame made m steps n
   tame_victims r g pages made m steps n asked since drained missed h =
       let x = with_run (with_oom_noted_at m g) h.seen in
-      let note = passes_same t m x (note_oom_steps g) h.notes refl in
+      let note = passes_same t m x (note_oom_steps g) h.notes refl refl in
       let here = held_after t s made m since.runs held_there in
       let ready : Ready g (made ++ note_oom_steps g) x = record {
         since = passes_both t s m x made (note_oom_steps g) since note;
         noted = noted_last g made (note_oom_steps g) (or_left (g == g) false (eq-eqb g g refl));
         drained = drained_on g m x refl (λ q. parts_after t m (note_oom_steps g) x h.notes here q refl) drained;
-        missed = λ f home inside is clean.
-            let p = missed f home inside is clean in
-            let q = misses_after t m (note_oom_steps g) x h.notes here f in
-            omega (arith, p, q);
+        missed = λ other inside. elim (missed other inside) [
+          | inl all ↦ inl (λ f list is clean.
+              let p = all f list is clean in
+              let q = misses_after t m (note_oom_steps g) x h.notes here f in
+              omega (arith, p, q))
+          | inr spared ↦
+              let e : current_of x.ledger other ≡ current_of m.ledger other = usage-noted event.Oom m.ledger.groups m.ledger.accounts g other in
+              inr (kept_still m.ledger x.ledger g other refl refl (omega (arith, e)) spared)
+        ];
       } in
       subst (λ (k : Run). Tame made m k n) (sym h.steps_are) (tame_both made m x n (note_oom_steps g) h.killing
       (tame_quiet made m (note_oom_steps g) x note refl refl)
@@ -392,15 +412,18 @@ module _ (t : KnownTable) (MayAsk : List Group → ℕ → ℕ → Type 0) (s : 
   -- ---- a limit without room
 
   pub missed_since : (g : ℕ) (made : Run) (m n : KnownMachine) → Passes t s made m → MissedAll g m n → MissedAll g s n
-  missed_since g made m n since missed f h inside is clean =
-      let p = missed f h inside is clean in
-      let q = misses_after t s made m since.runs held_there f in
-      omega (arith, p, q)
+  missed_since g made m n since missed other inside = elim (missed other inside) [
+    | inl all ↦ inl (λ f list is clean.
+        let p = all f list is clean in
+        let q = misses_after t s made m since.runs held_there f in
+        omega (arith, p, q))
+    | inr spared ↦ inr spared
+  ]
 
   clears_tame : (g pages : ℕ) (made : Run) (m : KnownMachine) (steps : Run) (n : KnownMachine) → ClearsBelow g pages (transition t m steps n) → Tame made m steps n
   clears_tame g pages made m steps n h =
       let same = drains_leave t (of_subtree g) t.cpus (with_run (with_max_noted_at m g pages) h.seen) n h.drains h.all in
-      tame_quiet made m steps n (passes_same t m n steps h.runs same.links) same.groups (ap has_kill h.steps_are ∙ (quiet_drains h.drains).no_kill)
+      tame_quiet made m steps n (passes_same t m n steps h.runs same.links same.settings) same.groups (ap has_kill h.steps_are ∙ (quiet_drains h.drains).no_kill)
 
   reclaims_tame : (g pages : ℕ) (made : Run) (m : KnownMachine) (steps : Run) (n : KnownMachine) → ReclaimsFor g pages (transition t m steps n)
       → Tame made m steps n
@@ -442,7 +465,7 @@ module _ (t : KnownTable) (MayAsk : List Group → ℕ → ℕ → Type 0) (s : 
     refused_tame over answer made m steps n is since h =
         let first = over_steps g pages over in
         let x = with_run m h.seen in
-        let refused = passes_same t m x first h.refuses refl in
+        let refused = passes_same t m x first h.refuses refl refl in
         let here : in_subtree base over g ≡ true = ap (λ (l : List Group). in_subtree l over g) (sym is) ∙ h.lowest.on_path in
         let asked = λ (few : pages ≤ 8). subst (λ (l : List Group). MayAsk l over pages) (sym is) (asks over here few) in
         let relieved = relieves_tame g over pages (made ++ first) x h.relieving n asked (passes_both t s m x made first since refused) h.relieves in

@@ -36,7 +36,8 @@ module _ (t : KnownTable) (MayAsk : List Group → ℕ → ℕ → Type 0) (s : 
       subst (λ (z : Run × KnownMachine). Passes t x z.0 z.1 × (z.1.ledger.groups ≡ x.ledger.groups) × (has_kill z.0 ≡ false))
       (λ i. (sym h.1.steps_are i, sym h.1.machine i)) (passes_none t x, refl, refl)
   no_batch_passes sizes x steps y (inr h) = (
-    passes_same t x y steps (subst (λ (k : Run). Makes t x k y) (sym h.steps_are) h.refuses) (ap (λ (z : KnownMachine). z.links) h.machine),
+    passes_same t x y steps (subst (λ (k : Run). Makes t x k y) (sym h.steps_are) h.refuses) (ap (λ (z : KnownMachine). z.links) h.machine)
+        (ap (λ (z : KnownMachine). z.ledger.settings) h.machine),
     ap (λ (z : KnownMachine). z.ledger.groups) h.machine,
     ap has_kill h.steps_are,
   )
@@ -73,7 +74,7 @@ module _ (t : KnownTable) (MayAsk : List Group → ℕ → ℕ → Type 0) (s : 
         let h = all.does in
         let x = h.between in
         let same = drain_same t s x.machine c.number h.first.drained h.first.drains in
-        let passes = passes_same t s x.machine h.earlier h.first.runs same.links in
+        let passes = passes_same t s x.machine h.earlier h.first.runs same.links same.settings in
         let charges = subst (λ (y : KnownCpu). FillsDrainedStock sizes g answer (transition t (visit_state x.machine y) h.later n)) h.first.cpu h.second in
         subst (λ (k : Run). RashFree t MayAsk s [] k) (sym h.steps_are) (rash_both t MayAsk s held_there [] h.earlier h.later
         (rash_quiet t MayAsk s held_there [] h.earlier (drains_calm (transition t (visit_state s c) h.earlier x) h.first))

@@ -33,7 +33,7 @@ with_high_noted_at machine group high need = record machine {
 
 -- An event `high` is noted at the group, which the run notes. Then clean units of its subtree are freed in rounds,
 -- until its usage with this many more pages is at most `high`. If it is still more, each clean unit that the subtree
--- still keeps was tried and missed.
+-- still keeps was tried and missed, or memory.min keeps it.
 pub record ReclaimsToHigh (group need high : ℕ) (call : Transition KnownMachine) : Type 0 where
   pub over : high < current_of call.before.ledger group + need
   pub seen : KnownRun

@@ -4,6 +4,7 @@ use Rattle.frame_word.specs.Seats.{KnownTable}
 use Rattle.group_tree.specs.declared.group.Group.{Group}
 use Rattle.group_tree.specs.Groups.{in_subtree}
 use Rattle.group_charge.specs.Charges.{AreCharges}
+use Rattle.group_protection.specs.Protections.{IsKeptByMin, min_key, setting}
 use Rattle.lru_lists.specs.declared.record.Home.{Home}
 use Rattle.lru_lists.specs.Queue.{link_at}
 use Rattle.step_rules.specs.declared.step.Action.TheVariants.{Kill}
@@ -19,15 +20,16 @@ use Rattle.mem_alloc.specs.Kills.{IsAlive, KillsForRoom, has_room_at}
 use Rattle.mem_alloc.specs.NoRash.{IsChargedBelow, NoRashKill, has_oom_note}
 
 -- By these first steps of a call, everything else was tried for the limit of the group `limited`, which has no room.
--- The steps lead to a consistent machine. One of them notes `oom` there, and each stock of the subtree is drained. For
--- each clean unit that the subtree still keeps, one of these steps is a freeze that missed. `killed` is the victim for
--- this limit, with its killed root.
+-- The steps lead to a consistent machine, and each group keeps its memory.min. One of them notes `oom` there, and each stock of the subtree is drained. For
+-- each clean unit that the subtree still keeps and that memory.min doesn't, one of these steps is a freeze that missed.
+-- `killed` is the victim for this limit, with its killed root.
 pub record WasLast (MayAsk : List Group → ℕ → ℕ → Type 0) (table : KnownTable) (start : KnownMachine)
     (tried : Run) (killed : Killed) : Type 0 where
   pub now : KnownMachine
   pub leads : IsLocalRun (lock_holder start) (local_of table start) tried (local_of table now)
   pub consistent : IsConsistent table now
   pub charges : AreCharges now.ledger
+  pub settings : now.ledger.settings ≡ start.ledger.settings
   pub limited : ℕ
   pub need : ℕ
   pub asked : MayAsk now.ledger.groups limited need
@@ -35,7 +37,8 @@ pub record WasLast (MayAsk : List Group → ℕ → ℕ → Type 0) (table : Kno
   pub noted : has_oom_note limited tried ≡ true
   pub drained : AreDrained table limited now
   pub frozen : (frame : ℕ) (home : Home) → in_subtree now.ledger.groups limited home.owner ≡ true
-      → home_of now.links frame ≡ Some home → (link_at now.links frame).is_dirty ≡ false → 1 ≤ missed_in frame tried
+      → home_of now.links frame ≡ Some home → (link_at now.links frame).is_dirty ≡ false
+      → (1 ≤ missed_in frame tried) ⊎ IsKeptByMin now.ledger limited home.owner
   pub chosen : IsVictim now limited (Some killed.victim)
   pub killed_root_is : IsKilledRoot now.ledger.groups limited killed
 
@@ -61,6 +64,19 @@ KillsComeLast MayAsk =
 -- each kill of a charge comes last, for any group and any number of pages
 abbrev pub ChargesKillLast : Type 0
 ChargesKillLast = (group pages : ℕ) → KillsComeLast (IsChargedBelow group pages)
+
+-- if no group had memory.min when the call began, each clean unit that the subtree still keeps was tried before a kill
+abbrev pub TriesAllWithoutMin : (List Group → ℕ → ℕ → Type 0) → Type 0
+TriesAllWithoutMin MayAsk =
+    (table : KnownTable) (start : KnownMachine) (tried : Run) (killed : Killed)
+    (last : WasLast MayAsk table start tried killed) → ((other : ℕ) → setting min_key start.ledger other ≡ 0)
+    → (frame : ℕ) (home : Home) → in_subtree last.now.ledger.groups last.limited home.owner ≡ true
+    → home_of last.now.links frame ≡ Some home → (link_at last.now.links frame).is_dirty ≡ false
+    → 1 ≤ missed_in frame tried
+
+-- so it is before the kills of a charge, for any group and any number of pages
+abbrev pub ChargesTryAllWithoutMin : Type 0
+ChargesTryAllWithoutMin = (group pages : ℕ) → TriesAllWithoutMin (IsChargedBelow group pages)
 
 -- kills for a limit end when it has room for the pages, when the group that asks for them is killed, or when no victim
 -- is left

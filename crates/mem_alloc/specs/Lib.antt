@@ -21,5 +21,5 @@ pub use Rattle.mem_alloc.specs.Frames.{RefillsList}
 pub use Rattle.mem_alloc.specs.Blocks.{AllocatesBlock, ChargesBlock, FindsNoBlock, MakesTakeRounds, MayHaveBlock, RetriesBlock, TakesAfterDrain}
 pub use Rattle.mem_alloc.specs.Blocks.{TakesFreeBlock, TakesInRounds, TakesOrReclaims}
 pub use Rattle.mem_alloc.specs.NoRash.{IsChargedBelow, MayKill, MayKillAfter, NoRashKill, begins_with_kill, has_oom_note, is_oom_note}
-pub use Rattle.mem_alloc.specs.Laws.{ChargesKillLast, ComesLast, KillsComeLast, KillsEndInTime, RefillsAreWhole, WasLast}
+pub use Rattle.mem_alloc.specs.Laws.{ChargesKillLast, ComesLast, KillsComeLast, KillsEndInTime, RefillsAreWhole, TriesAllWithoutMin, WasLast}
 pub use Rattle.mem_alloc.specs.KillLaws.{ChargesKillOverLimits, ChargesKillWholeSets, DiesWithItsSet, GroupsDieWithTheirSets, IsOverLimit}

@@ -1,5 +1,5 @@
--- No group is killed for a limit before everything else was tried. This is read from a call's steps and from the
--- machine to which they lead.
+-- No group is killed for a limit before everything else was tried that memory.min doesn't keep. This is read from a
+-- call's steps and from the machine to which they lead.
 use Rattle.std.specs.Prelude.{◌≡◌, ℕ, ◌≤◌, ◌==◌, ◌⊎◌, Bool, true, false, Some, List, [], ◌∷◌, ◌++◌}
 use Rattle.std.specs.List.{list_any}
 use Rattle.frame_word.specs.Seats.{KnownTable}
@@ -30,13 +30,14 @@ has_oom_note group steps = list_any (λ entry. is_oom_note group entry.0.action)
 
 -- What these steps of a call say of the machine that they left. Each frame's misses are those from before the call and
 -- those among the steps. Each unit that is kept was kept for the same group when the call began, and is as dirty as it
--- was then.
+-- was then. Each group has the memory.min that it had then.
 pub record IsLeftBySteps (call : Transition KnownMachine) : Type 0 where
   pub misses : CountsMisses call
   pub owners : (frame : ℕ) → HeadsKeptUnit call.after frame
       → owner_of (home_of call.after.links frame) ≡ owner_of (home_of call.before.links frame)
   pub dirt : (frame : ℕ) → HeadsKeptUnit call.after frame
       → (link_at call.after.links frame).is_dirty ≡ (link_at call.before.links frame).is_dirty
+  pub settings : call.after.ledger.settings ≡ call.before.ledger.settings
 
 -- For which limit and need a call that charges `pages` pages to a group may kill. The limit is that of the group or of
 -- an ancestor, the need is these pages, and they are at most `most_killed_for`.
@@ -47,9 +48,9 @@ pub record IsChargedBelow (group pages : ℕ) (groups : List Group) (limited nee
 
 -- After these steps of a call, the victim and all groups that die with it may be killed for the limit of the group
 -- `limited`. The limit has no room for the needed pages, and a step noted `oom` there. Each stock of the subtree is
--- drained. Since the call began, a freeze of each clean unit that the subtree still keeps missed. `killed` is the
--- victim for this limit, with its killed root. The machine is consistent, its charges add up, and it is the one that
--- the steps left.
+-- drained. Since the call began, a freeze of each clean unit that the subtree still keeps missed, or memory.min keeps
+-- it. `killed` is the victim for this limit, with its killed root. The machine is consistent, its charges add up, and it
+-- is the one that the steps left.
 pub record MayKill (MayAsk : List Group → ℕ → ℕ → Type 0) (call : Transition KnownMachine)
     (killed : Killed) : Type 0 where
   pub limited : ℕ

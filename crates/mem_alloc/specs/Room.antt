@@ -51,7 +51,8 @@ ReclaimsBefore None limited pages = FreesNothing
 ReclaimsBefore (Some limit) limited pages = ReclaimsRounds limited (pages_missing limited pages limit) max_rounds
 
 -- Clean units of the group's subtree are freed in rounds, `freed` pages in all, until its limit has room for this many
--- pages. If it still has none, each clean unit that the subtree still keeps was tried and missed.
+-- pages. If it still has none, each clean unit that the subtree still keeps was tried and missed, or memory.min
+-- keeps it.
 pub record ReclaimsFor (limited pages : ℕ) (call : Transition KnownMachine) : Type 0 where
   pub freed : ℕ
   pub reclaims : ReclaimsBefore (limit_of call.before.ledger.groups limited) limited pages

@@ -6,8 +6,8 @@ use Rattle.mem_machine.specs.{KnownMachine, with_note, VisitState, visit_state, 
 use Rattle.mem_reclaim.specs.{progress, FreesPages, ReclaimsRound, max_rounds, Keeps, MissedAll}
 
 -- The round of this number: `want` pages are wanted from the root's subtree, which is all groups, and `freed` pages are
--- freed. The round is noted. If they are fewer than wanted, each clean unit that is still kept was tried and missed.
--- Then the call tries once more, even if no page was freed.
+-- freed. The round is noted. If they are fewer than wanted, each clean unit that is still kept was tried and missed, or
+-- memory.min keeps it. Then the call tries once more, even if no page was freed.
 pub record MakesRound (number want freed : ℕ) (Tries : Transition VisitState → Type 0)
     (call : Transition VisitState) : Type 0 where
   pub reclaimed : KnownMachine

@@ -1,11 +1,16 @@
 //! Laws of kills and of refills: what each function ensures holds of every call made as the definitions say.
 
 ghost use Rattle.mem_alloc.specs.KillLaws.{ChargesKillOverLimits, ChargesKillWholeSets};
-ghost use Rattle.mem_alloc.specs.Laws.{ChargesKillLast, KillsEndInTime, RefillsAreWhole};
+ghost use Rattle.mem_alloc.specs.Laws.{ChargesKillLast, ChargesTryAllWithoutMin, KillsEndInTime, RefillsAreWhole};
 
-/// A charge kills nobody before it tried everything else.
+/// A charge kills nobody before it tried everything else that memory.min doesn't keep.
 pub fn charges_kill_last()
     ensures { ChargesKillLast }
+{}
+
+/// In a tree without memory.min that is everything else.
+pub fn charges_try_all_without_min()
+    ensures { ChargesTryAllWithoutMin }
 {}
 
 /// A charge kills whole sets, each right after everything else was tried: all groups that die with a victim die before

@@ -10,7 +10,8 @@ use mem_machine::{Machine, prove_charges};
 use mem_reclaim::reclaim_round;
 
 // Makes the round of this number, from 1, in which `want` pages are wanted from the units of all groups, and returns
-// how many were freed. The round is noted. If they are fewer, each clean unit that is still kept was tried and missed.
+// how many were freed. The round is noted. If they are fewer, each clean unit that is still kept was tried and missed,
+// or memory.min protects it.
 pub(crate) fn reclaim_anywhere<N: BootName>(
     machine: &mut Machine<N>,
     tables: &Tables<N>,

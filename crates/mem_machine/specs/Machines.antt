@@ -4,7 +4,7 @@ use Rattle.std.specs.List.{slice_index_or}
 use Rattle.zone_blocks.specs.declared.block.Block.{Block}
 use Rattle.zone_blocks.specs.Areas.{AreMaximalBlocks}
 use Rattle.frame_word.specs.Seats.{KnownTable}
-use Rattle.group_charge.specs.{Ledger, pages_of, current_of, initial_ledger, with_new_group, KnownNotes, forgotten, no_notes, noted}
+use Rattle.group_charge.specs.{Ledger, pages_of, current_of, initial_ledger, with_new_group, KnownNotes, detail_noted, forgotten, no_notes, noted}
 use Rattle.group_tree.specs.{most_groups, IsLeastFreeNumber, IsLowestOver}
 use Rattle.lru_lists.specs.declared.record.Link.{Link}
 use Rattle.lru_lists.specs.declared.record.Home.{Home}
@@ -49,11 +49,15 @@ pub record KnownMachine : Type 0 where
 abbrev pub with_note : KnownMachine → Note → KnownMachine
 with_note machine note = record machine { notes = noted machine.notes note }
 
+-- the machine with one detail more, if details are noted
+abbrev pub with_detail : KnownMachine → Note → KnownMachine
+with_detail machine note = record machine { notes = detail_noted machine.notes note }
+
 -- the machine after all notes are forgotten
 abbrev pub without_notes : KnownMachine → KnownMachine
 without_notes machine = record machine { notes = forgotten machine.notes }
 
--- the machine with freed units noted from now on, or not
+-- the machine with details noted from now on, or not
 abbrev pub with_unit_notes : KnownMachine → (is_on : Bool) → KnownMachine
 with_unit_notes machine is_on = record machine { notes = record machine.notes { notes_units = is_on } }
 

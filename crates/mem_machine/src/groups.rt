@@ -164,7 +164,7 @@ impl<N: BootName> Machine<N> {
         });
     }
 
-    /// Sets memory.high of a group. This is no step: no rule reads it.
+    /// Sets memory.high, memory.low and memory.min of a group. This is no step: no rule reads them.
     pub fn set_settings(&mut self, group: GroupId, settings: Settings)
         ensures machine { self.new ≡ record self.old { ledger = with_settings self.old.ledger group settings } }
         ensures visit { StaysVisited N.frames self.old self.new }

@@ -1,7 +1,7 @@
 //! Notes of what was tried and reclaimed, for explanations.
 
 ghost use Rattle.std.specs.Prelude.{◌≡◌};
-ghost use Rattle.mem_machine.specs.Machines.{with_note, with_unit_notes, without_notes};
+ghost use Rattle.mem_machine.specs.Machines.{with_detail, with_note, with_unit_notes, without_notes};
 
 use crate::machine::Machine;
 use cpu_part::BootName;
@@ -9,8 +9,8 @@ use group_charge::note::Note;
 
 impl<N: BootName> Machine<N> {
     /// The notes since the last `forget_notes`, the oldest first: limits without room, what was tried there, which
-    /// units were reclaimed, and who was killed. If there were more than 2,112, only the first 2,112 are kept. At most
-    /// 1,024 of them are spans of reclaimed units.
+    /// units were reclaimed, what was protected, and who was killed. If there were more than 2,112, only the first 2,112
+    /// are kept. At most 1,024 of them are details: spans of reclaimed units, and what protected a group.
     pub fn notes(&self) -> &[Note]
         ensures { result.now ≡ self.now.notes.list }
     {
@@ -24,7 +24,7 @@ impl<N: BootName> Machine<N> {
         self.notes.left_out()
     }
 
-    /// Notes each reclaimed unit from now on, or no longer. Nothing else changes, and no step is made.
+    /// Notes details from now on, or no longer. Nothing else changes, and no step is made.
     pub fn set_unit_notes(&mut self, is_on: bool)
         ensures { self.new ≡ with_unit_notes self.old is_on }
     {
@@ -38,7 +38,15 @@ impl<N: BootName> Machine<N> {
         self.notes.note(note);
     }
 
-    /// Forgets all notes. Whether reclaimed units are noted stays. Nothing else changes, and no step is made.
+    /// Adds a detail, if `set_unit_notes` asked for details and there is room for one more. Nothing else changes, and no
+    /// step is made.
+    pub fn note_detail(&mut self, note: Note)
+        ensures { self.new ≡ with_detail self.old note }
+    {
+        self.notes.note_detail(note);
+    }
+
+    /// Forgets all notes. Whether details are noted stays. Nothing else changes, and no step is made.
     pub fn forget_notes(&mut self)
         ensures { self.new ≡ without_notes self.old }
     {

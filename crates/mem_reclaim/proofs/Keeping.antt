@@ -4,7 +4,7 @@ use Rattle.std.proofs.lemmas.Bool.{true≢false}
 use Rattle.std.proofs.lemmas.Option.{none-some}
 use Rattle.frame_word.specs.Seats.{KnownTable}
 use Rattle.group_tree.specs.Groups.{in_subtree}
-use Rattle.group_charge.specs.Charges.{current_of}
+use Rattle.group_charge.specs.{KnownNotes, current_of}
 use Rattle.lru_lists.specs.declared.record.Link.{Link}
 use Rattle.lru_lists.specs.declared.record.Home.{Home}
 use Rattle.lru_lists.specs.{link_at, SameOwners, owner_of}
@@ -22,6 +22,7 @@ keeps_none t m = record {
   stocks = λ p. refl;
   killed = refl;
   groups = refl;
+  settings = refl;
   hold = refl;
   usage = λ g. omega arith;
   visit = λ c v. v;
@@ -44,6 +45,7 @@ keeps_both t a b c p q = record {
   stocks = λ x. q.stocks x ∙ p.stocks x;
   killed = q.killed ∙ p.killed;
   groups = q.groups ∙ p.groups;
+  settings = q.settings ∙ p.settings;
   hold = q.hold ∙ p.hold;
   usage = λ g. let x = p.usage g in let y = q.usage g in omega (arith, x, y);
   visit = λ x v. q.visit x (p.visit x v);
@@ -51,6 +53,38 @@ keeps_both t a b c p q = record {
   owners = λ f kept. q.owners f kept ∙ p.owners f (kept_before t b c q f kept);
   dirt = λ f kept. q.dirt f kept ∙ p.dirt f (kept_before t b c q f kept);
   misses = λ f. let x = p.misses f in let y = q.misses f in omega (arith, x, y);
+}
+
+-- other notes change nothing that is kept
+pub keeps_noted : (t : KnownTable) (m n : KnownMachine) (notes : KnownNotes) → Keeps t m n → Keeps t m (record n { notes = notes })
+keeps_noted t m n notes k = record {
+  stocks = k.stocks;
+  killed = k.killed;
+  groups = k.groups;
+  settings = k.settings;
+  hold = k.hold;
+  usage = k.usage;
+  visit = λ c v. visit_same t n (record n { notes = notes }) c refl (k.visit c v);
+  dirty = λ f is. let x = k.dirty f is in record { kept = x.kept; dirty = x.dirty };
+  owners = k.owners;
+  dirt = k.dirt;
+  misses = k.misses;
+}
+
+-- nor do other notes before
+pub keeps_after_notes : (t : KnownTable) (m n : KnownMachine) (notes : KnownNotes) → Keeps t (record m { notes = notes }) n → Keeps t m n
+keeps_after_notes t m n notes k = record {
+  stocks = k.stocks;
+  killed = k.killed;
+  groups = k.groups;
+  settings = k.settings;
+  hold = k.hold;
+  usage = k.usage;
+  visit = λ c v. k.visit c (visit_same t m (record m { notes = notes }) c refl v);
+  dirty = λ f is. k.dirty f (record { kept = is.kept; dirty = is.dirty });
+  owners = k.owners;
+  dirt = k.dirt;
+  misses = k.misses;
 }
 
 pub only_both : (a b c : KnownMachine) → OnlyLeave a b → OnlyLeave b c → OnlyLeave a c
@@ -75,6 +109,7 @@ keeps_owners t m n is owners =
       stocks = λ p. ap (λ (r : KnownRun). (left_by t r.past).parts p) same;
       killed = ap (λ (x : KnownMachine). x.killed) is;
       groups = ap (λ (x : KnownMachine). x.ledger.groups) is;
+      settings = ap (λ (x : KnownMachine). x.ledger.settings) is;
       hold = ap (λ (r : KnownRun). (local_by_pasts t r.past).hold) same;
       usage = λ g. let e = ap (λ (x : KnownMachine). current_of x.ledger g) is in omega (arith, e);
       visit = λ c v. visit_same t m n c same v;
@@ -102,6 +137,7 @@ module _ (t : KnownTable) (m n : KnownMachine) (f : ℕ) (visit : (c : KnownCpu)
         stocks = λ p. parts_after t m (evict_steps f None) n runs held p refl;
         killed = ap (λ (x : KnownMachine). x.killed) is;
         groups = ap (λ (x : KnownMachine). x.ledger.groups) is;
+        settings = ap (λ (x : KnownMachine). x.ledger.settings) is;
         hold = hold_after t m (evict_steps f None) n runs held refl;
         usage = λ g. let e = ap (λ (x : KnownMachine). current_of x.ledger g) is in omega (arith, e);
         visit = visit;
@@ -119,6 +155,7 @@ module _ (t : KnownTable) (m n : KnownMachine) (f : ℕ) (visit : (c : KnownCpu)
         stocks = λ p. parts_after t m (evict_steps f (Some pages)) n runs held p refl;
         killed = ap (λ (x : KnownMachine). x.killed) is.machine;
         groups = ap (λ (x : KnownMachine). x.ledger.groups) is.machine;
+        settings = ap (λ (x : KnownMachine). x.ledger.settings) is.machine;
         hold = hold_after t m (evict_steps f (Some pages)) n runs held refl;
         usage = λ g. let e = is.usage g in let low = on_path_low (in_subtree n.ledger.groups g is.unit.group) (current_of n.ledger g) pages in omega (arith, e, low);
         visit = visit;

@@ -93,6 +93,7 @@ pub record KilledSo (t : KnownTable) (groups : List ℕ) (Kills : KnownMachine �
 pub lets_before_note : (t : KnownTable) (m b : KnownMachine) (last : Note) → OnlyReleases t m b → OnlyReleases t m (with_note b last)
 lets_before_note t m b last k = record {
   groups = k.groups;
+  settings = k.settings;
   hold = k.hold;
   usage = k.usage;
   visit = λ c v. visit_same t b (with_note b last) c refl (k.visit c v);
@@ -104,6 +105,7 @@ lets_before_note t m b last k = record {
 pub lets_after_note : (t : KnownTable) (m n : KnownMachine) (first : Note) → OnlyReleases t (with_note m first) n → OnlyReleases t m n
 lets_after_note t m n first k = record {
   groups = k.groups;
+  settings = k.settings;
   hold = k.hold;
   usage = k.usage;
   visit = λ c v. k.visit c (visit_same t m (with_note m first) c refl v);
@@ -308,7 +310,7 @@ subtree_killed t limited root m a b n noted so_a counted usage runs visit held =
           (λ k d lt. so.none_kept k d lt);
       keeps = only_lets_both t m b n (lets_after_note t m b note so.keeps)
           (only_lets_same t b (note_group_kill_steps root) n runs held_then
-          (ap (λ (x : KnownMachine). x.ledger.groups) counted) (λ g. let e = usage g in omega (arith, e))
+          (ap (λ (x : KnownMachine). x.ledger.groups) counted) (ap (λ (x : KnownMachine). x.ledger.settings) counted) (λ g. let e = usage g in omega (arith, e))
           (ap (λ (x : KnownMachine). x.links) counted) visit (λ s. refl) (λ f. refl));
     }
 

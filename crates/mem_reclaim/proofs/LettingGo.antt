@@ -26,7 +26,7 @@ use Rattle.std.specs.List.{fold}
 use Rattle.std.proofs.lemmas.List.Folds.{list_any-append}
 use Rattle.std.proofs.lemmas.List.Sums.{fold-append}
 use Rattle.mem_reclaim.proofs.Grown.{held_after, hold_after, misses_after, missed_append, parts_after}
-use Rattle.group_charge.specs.Charges.{current_of}
+use Rattle.group_charge.specs.Charges.{Ledger, current_of}
 use Rattle.step_rules.specs.declared.step.Step.{Step}
 use Rattle.step_rules.specs.declared.step.Answer.{Answer}
 use Rattle.mem_machine.proofs.DrainingAll.{below_owners, below_still}
@@ -42,6 +42,7 @@ use Rattle.mem_machine.proofs.Followed.{makes_both, makes_none}
 pub only_lets_none : (t : KnownTable) (m : KnownMachine) → OnlyReleases t m m
 only_lets_none t m = record {
   groups = refl;
+  settings = refl;
   hold = refl;
   usage = λ g. omega arith;
   visit = λ c v. v;
@@ -60,6 +61,7 @@ kept_was m n leaves f kept none = was (home_of n.links f) refl
 pub only_lets_both : (t : KnownTable) (a b c : KnownMachine) → OnlyReleases t a b → OnlyReleases t b c → OnlyReleases t a c
 only_lets_both t a b c p q = record {
   groups = q.groups ∙ p.groups;
+  settings = q.settings ∙ p.settings;
   hold = q.hold ∙ p.hold;
   usage = λ g. let x = p.usage g in let y = q.usage g in omega (arith, x, y);
   visit = λ x v. q.visit x (p.visit x v);
@@ -122,10 +124,11 @@ module _ (t : KnownTable) (m : KnownMachine) (steps : Run) (n : KnownMachine) (r
   quiet_misses none f = let a = misses_after t m steps n runs held f in let b = none f in omega (arith, a, b)
 
   -- the links stay
-  pub only_lets_same : n.ledger.groups ≡ m.ledger.groups → ((g : ℕ) → current_of n.ledger g ≤ current_of m.ledger g) → n.links ≡ m.links
+  pub only_lets_same : n.ledger.groups ≡ m.ledger.groups → n.ledger.settings ≡ m.ledger.settings → ((g : ℕ) → current_of n.ledger g ≤ current_of m.ledger g) → n.links ≡ m.links
       → StaysVisited t m n → ((s : State) → (fold after_made s steps).hold ≡ s.hold) → ((f : ℕ) → missed_in f steps ≡ 0) → OnlyReleases t m n
-  only_lets_same groups usage links visit hold misses = record {
+  only_lets_same groups settings usage links visit hold misses = record {
     groups = groups;
+    settings = settings;
     usage = usage;
     hold = quiet_hold hold;
     visit = visit;
@@ -136,13 +139,14 @@ module _ (t : KnownTable) (m : KnownMachine) (steps : Run) (n : KnownMachine) (r
 
 -- ---- one unit
 
-off_list : (t : KnownTable) (m n : KnownMachine) (f : ℕ) → LeavesList f (lists_of m) (lists_of n) → n.ledger.groups ≡ m.ledger.groups
+off_list : (t : KnownTable) (m n : KnownMachine) (f : ℕ) → LeavesList f (lists_of m) (lists_of n) → n.ledger.groups ≡ m.ledger.groups → n.ledger.settings ≡ m.ledger.settings
     → ((g : ℕ) → current_of n.ledger g ≤ current_of m.ledger g) → (local_of t n).hold ≡ (local_of t m).hold → ((g : ℕ) → misses_of n g ≡ misses_of m g)
     → StaysVisited t m n → OnlyReleases t m n
-off_list t m n f list groups usage hold misses visit =
+off_list t m n f list groups settings usage hold misses visit =
     let gone : home_of n.links f ≡ None = ap (λ (k : Link). k.home) list.forgotten in
     record {
       groups = groups;
+      settings = settings;
       usage = usage;
       hold = hold;
       visit = visit;
@@ -157,10 +161,12 @@ off_list t m n f list groups usage hold misses visit =
 module _ (t : KnownTable) (m n : KnownMachine) (f : ℕ) (held : IsHeld t m.run.past) where
   release_lets : (left : Released) → Releases f left m n → StaysVisited t m n → Makes t m (release_steps f left) n → OnlyReleases t m n
   release_lets (Left left) is visit runs = off_list t m n f is.list (ap (λ (x : KnownMachine). x.ledger.groups) is.machine)
+      (ap (λ (x : KnownMachine). x.ledger.settings) is.machine)
       (λ g. let e = ap (λ (x : KnownMachine). current_of x.ledger g) is.machine in omega (arith, e))
       (quiet_hold t m (release_steps f (Left left)) n runs held (quiet_release f (Left left)).hold)
       (quiet_misses t m (release_steps f (Left left)) n runs held (quiet_release f (Left left)).no_miss) visit
   release_lets Returned is visit runs = off_list t m n f is.list (ap (λ (x : KnownMachine). x.ledger.groups) is.machine)
+      (ap (λ (x : KnownMachine). x.ledger.settings) is.machine)
       (λ g.
       let e = ap (λ (x : KnownMachine). current_of x.ledger g) is.machine in
       let low = current_falls m.ledger (Some is.unit.group) (2 ^ is.unit.order) g in
@@ -296,9 +302,14 @@ let_go_done t g list m i now s all =
 
 -- ---- the stocks are drained
 
+pub settings_stay : (l : Ledger) (o : Option ℕ) (n : ℕ) → (uncharged l o n).settings ≡ l.settings
+settings_stay l None n = refl
+settings_stay l (Some g) n = refl
+
 -- what a drain leaves
 pub record LeavesUnits (t : KnownTable) (before after : KnownMachine) : Type 0 where
   pub groups : after.ledger.groups ≡ before.ledger.groups
+  pub settings : after.ledger.settings ≡ before.ledger.settings
   pub links : after.links ≡ before.links
   pub killed : after.killed ≡ before.killed
   pub counts : after.counts ≡ before.counts
@@ -308,6 +319,7 @@ pub record LeavesUnits (t : KnownTable) (before after : KnownMachine) : Type 0 w
 leaves_units_none : (t : KnownTable) (m : KnownMachine) → LeavesUnits t m m
 leaves_units_none t m = record {
   groups = refl;
+  settings = refl;
   links = refl;
   killed = refl;
   counts = refl;
@@ -318,6 +330,7 @@ leaves_units_none t m = record {
 leaves_units_both : (t : KnownTable) (a b c : KnownMachine) → LeavesUnits t a b → LeavesUnits t b c → LeavesUnits t a c
 leaves_units_both t a b c p q = record {
   groups = q.groups ∙ p.groups;
+  settings = q.settings ∙ p.settings;
   links = q.links ∙ p.links;
   killed = q.killed ∙ p.killed;
   counts = q.counts ∙ p.counts;
@@ -332,6 +345,7 @@ module _ (t : KnownTable) (test : StockTest) where
   drain_leaves : (m n : KnownMachine) (q pages : ℕ) → DrainsNoted t q pages m n → OnlyDrains t m n → LeavesUnits t m n
   drain_leaves m n q pages d stocks = record {
     groups = ap (λ (x : KnownMachine). x.ledger.groups) d.drains.machine ∙ groups_stay m.ledger (stock_group t m q) pages;
+    settings = ap (λ (x : KnownMachine). x.ledger.settings) d.drains.machine ∙ settings_stay m.ledger (stock_group t m q) pages;
     links = ap (λ (x : KnownMachine). x.links) d.drains.machine;
     killed = ap (λ (x : KnownMachine). x.killed) d.drains.machine;
     counts = ap (λ (x : KnownMachine). x.counts) d.drains.machine;
@@ -345,6 +359,7 @@ module _ (t : KnownTable) (test : StockTest) where
   one_leaves : (q : ℕ) (m n : KnownMachine) (drains : List Drain) → DrainsIf t test q drains m n → LeavesUnits t m n
   one_leaves q m n [] h = record {
     groups = ap (λ (x : KnownMachine). x.ledger.groups) h.1;
+    settings = ap (λ (x : KnownMachine). x.ledger.settings) h.1;
     links = ap (λ (x : KnownMachine). x.links) h.1;
     killed = ap (λ (x : KnownMachine). x.killed) h.1;
     counts = ap (λ (x : KnownMachine). x.counts) h.1;
@@ -409,10 +424,10 @@ all_killed t v fits m a d b n is usage killed visit_killed held pages drains dra
     let kept : (p : ℕ) → part_at t a p ≡ part_at t m p = λ p. parts_after t m (kill_steps v) a killed held p refl in
     let marks : (p : ℕ) → stock_group t a p ≡ stock_group t m p = λ p. ap (λ (x : Part). x.stock.group) (kept p) in
     let at_first : OnlyReleases t m a = only_lets_same t m (kill_steps v) a killed held (ap (λ (x : KnownMachine). x.ledger.groups) is)
-    (λ g. let e = usage g in omega (arith, e)) (ap (λ (x : KnownMachine). x.links) is) visit_killed (λ s. refl) (λ f. refl) in
+    (ap (λ (x : KnownMachine). x.ledger.settings) is) (λ g. let e = usage g in omega (arith, e)) (ap (λ (x : KnownMachine). x.links) is) visit_killed (λ s. refl) (λ f. refl) in
     let quiet_first = quiet_drains drains.drains in
     let at_drain : OnlyReleases t a d = only_lets_same t a (drain_stocks_steps drains.drains) d drains.steps (held_after t m (kill_steps v) a killed held)
-    unit.groups unit.usage unit.links visit_drained quiet_first.hold quiet_first.no_miss in
+    unit.groups unit.settings unit.usage unit.links visit_drained quiet_first.hold quiet_first.no_miss in
     let later : Run = drain_stocks_steps drains.drains ++ (first.steps ++ last.steps) in
     let quiet : AreQuiet later = quiet_both (drain_stocks_steps drains.drains) (first.steps ++ last.steps) (quiet_drains drains.drains)
     (quiet_both first.steps last.steps (quiet_units (entries_in d v Inactive) d first.steps b first.releases)

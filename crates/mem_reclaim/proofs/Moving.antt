@@ -14,6 +14,7 @@ use Rattle.step_rules.specs.declared.step.Answer.{Answer}
 use Rattle.step_rules.specs.declared.step.Answer.TheVariants.{Done, Missed}
 use Rattle.step_rules.specs.{at_stage, unit_of, Run, after, unit_size}
 use Rattle.step_rules.specs.State.{State}
+use Rattle.group_charge.specs.{KnownNotes}
 use Rattle.step_rules.proofs.Basics.{at_same}
 use Rattle.mem_machine.specs.declared.frame_state.FrameState.TheVariants.{Head}
 use Rattle.boot_words.specs.{hide_phase, hide_stage, IsHeld, own_past}
@@ -76,6 +77,32 @@ moves_both t a b c some more one two first second = record {
   missed =
       subst (λ (k : ℕ). Rises a.counts.misses k c.counts.misses) (sym (missed_both one two))
       (rises_both a.counts.misses b.counts.misses c.counts.misses (all_missed_in one) (all_missed_in two) first.missed second.missed);
+}
+
+-- ---- other notes
+
+-- the steps lead to the machine with other notes as well
+pub moves_noted : (t : KnownTable) (m n : KnownMachine) (freed : ℕ) (steps : Run) (notes : KnownNotes) → FreesPages t m freed steps n
+    → FreesPages t m freed steps (record n { notes = notes })
+moves_noted t m n freed steps notes k = record {
+  runs = let r = k.runs in record { holder = r.holder; leads = r.leads; follows = r.follows; counts = r.counts; noted = r.noted };
+  pages = k.pages;
+  no_kill = k.no_kill;
+  misses = k.misses;
+  returned = k.returned;
+  missed = k.missed;
+}
+
+-- and from one with other notes
+pub moves_after_notes : (t : KnownTable) (m n : KnownMachine) (freed : ℕ) (steps : Run) (notes : KnownNotes)
+    → FreesPages t (record m { notes = notes }) freed steps n → FreesPages t m freed steps n
+moves_after_notes t m n freed steps notes k = record {
+  runs = let r = k.runs in record { holder = r.holder; leads = r.leads; follows = r.follows; counts = r.counts; noted = r.noted };
+  pages = k.pages;
+  no_kill = k.no_kill;
+  misses = k.misses;
+  returned = k.returned;
+  missed = k.missed;
 }
 
 -- ---- one try

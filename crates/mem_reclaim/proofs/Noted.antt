@@ -1,10 +1,18 @@
 -- Laws of victims, of what was tried, and of notes. Serves `laws`.
-use Rattle.std.proofs.Common.{◌≡◌, ℕ, ◌-◌, ◌<◌, Bool, Some, None, refl, sym, ap, ◌∙◌, subst, inl, inr, arith}
+use Rattle.std.proofs.Common.{◌≡◌, ℕ, ◌-◌, ◌<◌, ◌≤◌, ◌==◌, Bool, Some, None, refl, sym, ap, ◌∙◌, subst, inl, inr, arith}
+use Rattle.std.specs.Prelude.{min}
+use Rattle.std.proofs.lemmas.Bool.{cond-false, ne_eqb}
 use Rattle.group_tree.specs.Room.{max_count}
 use Rattle.group_charge.specs.Charges.{current_of}
 use Rattle.group_charge.specs.declared.note.Note.TheVariants as note
 use Rattle.mem_machine.specs.Machines.{KnownMachine, with_note}
 use Rattle.mem_reclaim.specs.{KillsRootOrVictim, KillsGroupNoted, kept_units, LoneKillsAreNotedAsMade, MissedUnitsWereTried, RoundsAreNotedAsMade}
+use Rattle.group_protection.specs.Protections.{effective, low_key, min_key}
+use Rattle.mem_reclaim.specs.declared.passes.Pass.{Pass}
+use Rattle.mem_reclaim.specs.declared.passes.Pass.TheVariants.{First, Second, Third}
+use Rattle.mem_reclaim.specs.Laws.{ProtectedGroupsHaveNoTurn}
+use Rattle.mem_reclaim.specs.Passes.{notes_spared, spared_by, turn_want}
+use Rattle.mem_reclaim.proofs.Passing.{only_noted}
 use Rattle.mem_reclaim.specs.{TheVictimIsOne, Rises, all_missed_in, returned_in, own_frames, victim_note}
 
 pub the_victim_is_one : TheVictimIsOne
@@ -21,10 +29,38 @@ the_victim_is_one m g (Some v) (Some u) one two =
     ap Some number
 
 pub missed_units_were_tried : MissedUnitsWereTried
-missed_units_were_tried t before freed steps after g moves missed f home below is clean =
-    let rose = missed f home below is clean in
-    let counted = moves.misses f in
-    omega (arith, rose, counted)
+missed_units_were_tried t before freed steps after g moves missed f home below is clean = elim (missed home.owner below) [
+  | inl all ↦
+      let rose = all f home.list is clean in
+      let counted = moves.misses f in
+      inl (omega (arith, rose, counted))
+  | inr kept ↦ inr kept
+]
+
+-- each pass spares at least what memory.min protects
+spares_more : (pass : Pass) (of_min of_low : ℕ) → of_min ≤ spared_by pass of_min of_low
+spares_more First of_min of_low = omega arith
+spares_more Second of_min of_low = omega arith
+spares_more Third of_min of_low = omega arith
+
+pub protected_groups_have_no_turn : ProtectedGroupsHaveNoTurn
+protected_groups_have_no_turn pass target g want done (inl none) some low =
+    let of_min : ℕ = effective min_key done.before.ledger target g in
+    let of_low : ℕ = effective low_key done.before.ledger target g in
+    let usage : ℕ = current_of done.before.ledger g in
+    let is_noted = notes_spared pass usage want (turn_want want usage (spared_by pass of_min of_low)) in
+    record {
+      no_page = none.1.no_page;
+      machine = only_noted is_noted done.before done.after (note.Spared g usage of_min of_low) none.1.machine;
+      no_step = none.1.no_step;
+    }
+protected_groups_have_no_turn pass target g want done (inr (wants, does)) some low =
+    let of_min : ℕ = effective min_key done.before.ledger target g in
+    let of_low : ℕ = effective low_key done.before.ledger target g in
+    let spared : ℕ = spared_by pass of_min of_low in
+    let more = spares_more pass of_min of_low in
+    let e = cond-false (spared == 0) want (min want (current_of done.before.ledger g - spared)) (ne_eqb spared 0 (λ none. omega (arith, none, more, some))) in
+    absurd (omega (arith, wants, e, more, low))
 
 -- the difference of a count that rose by this many and isn't at its greatest is this many
 risen : (before more after : ℕ) → Rises before more after → after < max_count → after - before ≡ more

@@ -1,25 +1,49 @@
--- Passes over a group and over the groups of a subtree. Serves all of `passes` and `reclaim`.
-use Rattle.std.proofs.Common.{◌≡◌, ◌≢◌, ℕ, ◌+◌, ◌-◌, ◌^◌, ◌<◌, ◌≤◌, Bool, true, false, List, [], ◌∷◌, sym, ap, ◌∙◌, subst, inl, inr, arith, nat_lt}
+-- Passes over a group and over the groups of a subtree. Serves all of `passes` and `reclaiming`.
+use Rattle.std.proofs.Common.{◌≡◌, ◌≢◌, ℕ, ◌+◌, ◌-◌, ◌^◌, ◌<◌, ◌≤◌, ◌==◌, ◌&&◌, Bool, true, false, List, [], ◌∷◌, ◌++◌, cond}
+use Rattle.std.proofs.Common.{refl, sym, ap, ◌∙◌, subst, inl, inr, arith, nat_lt}
+use Rattle.std.specs.Prelude.{min}
 use Rattle.std.specs.Int.{bit_at}
-use Rattle.std.proofs.lemmas.Bool.{cases_eq, ltb-true}
+use Rattle.std.proofs.lemmas.Bool.{cases_eq, cases_lt, cond-false, cond-true, eq-eqb, false≢true, ne_eqb, not-true}
 use Rattle.std.proofs.lemmas.Nat.Bits.{bit_at-zero}
 use Rattle.frame_word.specs.Seats.{KnownTable}
+use Rattle.boot_words.specs.Pasts.{IsHeld}
+use Rattle.group_tree.specs.declared.event.EventKey.TheVariants as event
 use Rattle.group_tree.specs.declared.group.Group.{Group}
-use Rattle.group_tree.specs.Groups.{in_subtree}
-use Rattle.group_charge.specs.Charges.{current_of}
-use Rattle.lru_lists.specs.declared.record.Home.{Home}
+use Rattle.group_tree.specs.Groups.{AreGroups, in_subtree}
+use Rattle.group_tree.proofs.CallerLemmas.{in_subtree-below}
+use Rattle.group_charge.specs.declared.settings.Settings.{Settings}
+use Rattle.group_charge.specs.Charges.{Ledger, are_protecting, current_of, with_noted}
+use Rattle.group_charge.specs.declared.note.Note.{Note}
+use Rattle.group_charge.specs.declared.note.Note.TheVariants as note
+use Rattle.group_charge.proofs.KeptLemmas.{number_below}
+use Rattle.group_charge.proofs.UsageLemmas.{usage-noted}
+use Rattle.group_protection.specs.Protections.{effective, low_key, min_key}
+use Rattle.group_protection.proofs.Effective.{nothing_set}
+use Rattle.group_protection.proofs.Topping.{kept_by_min, kept_still}
 use Rattle.lru_lists.specs.declared.record.LruList.{LruList}
 use Rattle.lru_lists.specs.declared.record.LruList.TheVariants.{Inactive, Active}
-use Rattle.mem_machine.specs.{KnownMachine, IsConsistent, Makes, AgesGroup, IsSubtree}
-use Rattle.mem_machine.proofs.Dirties.{owner_bound}
-use Rattle.mem_reclaim.specs.{WhileWanted, FreesPages, FreesBySteps, ScansList, AgesAndScans, PassesGroup, ReclaimsPass, Keeps, OnlyLeave, IsMissed}
-use Rattle.mem_reclaim.specs.{MissedAll, MissedOfGroup, UsageFalls}
-use Rattle.mem_reclaim.specs.Passes.{subtree_of}
+use Rattle.step_rules.specs.declared.step.NoteKey.TheVariants as key
+use Rattle.step_rules.specs.After.{Run}
+use Rattle.mem_machine.specs.Machines.{KnownMachine, home_of, with_detail, with_run}
+use Rattle.mem_machine.specs.Local.{Makes, StaysVisited}
+use Rattle.mem_machine.specs.Noted.{KnownRun}
+use Rattle.mem_machine.specs.Ageing.{AgesGroup}
+use Rattle.mem_machine.specs.Steps.{note_steps}
+use Rattle.mem_machine.specs.Subtrees.{IsSubtree}
+use Rattle.mem_reclaim.specs.Wanted.{WhileWanted, progress}
+use Rattle.mem_reclaim.specs.Moves.{FreesPages, FreesBySteps}
+use Rattle.mem_reclaim.specs.Units.{ScansList}
+use Rattle.mem_reclaim.specs.declared.passes.Pass.{Pass}
+use Rattle.mem_reclaim.specs.declared.passes.Pass.TheVariants.{First, Second, Third}
+use Rattle.mem_reclaim.specs.Passes.{AgesAndScans, NotesLowIf, PassesGroup, Reclaims, ReclaimsGroup, ReclaimsPass, TakesTurn, TakesTurnOf, is_first, is_last}
+use Rattle.mem_reclaim.specs.Passes.{notes_spared, passes_of, spared_by, subtree_of, turn_want, with_detail_if}
+use Rattle.mem_reclaim.specs.Staying.{Keeps, OnlyLeave, IsMissed, MissedAll, MissedOfGroup, MissedOrKept, UsageFalls}
+use Rattle.mem_reclaim.proofs.Grown.{hold_after, misses_after, parts_after}
 use Rattle.mem_reclaim.proofs.Members.{first_taken, members, no_members, same_members}
 use Rattle.mem_reclaim.proofs.Wanting.{SoFar, so_far_none, so_far_more, so_far_done, so_far_enough}
-use Rattle.mem_reclaim.proofs.Moving.{moves_none, moves_both}
-use Rattle.mem_reclaim.proofs.Keeping.{keeps_none, keeps_both, keeps_owners, only_both, missed_still}
-use Rattle.mem_machine.proofs.Listing.{home_inside}
+use Rattle.mem_reclaim.proofs.Moving.{moves_after_notes, moves_both, moves_none, moves_noted, moves_rest}
+use Rattle.mem_reclaim.proofs.Rising.{rises_none}
+use Rattle.mem_reclaim.proofs.Keeping.{keeps_after_notes, keeps_both, keeps_none, keeps_noted, keeps_owners, missed_still, only_both}
 
 -- ---- a group's first pass
 
@@ -67,55 +91,281 @@ both_missed t m k n g first last only inactive active f Inactive =
 both_missed t m k n g first last only inactive active f Active =
     missed_still t m k n n first (keeps_none t n) (λ x h home. home) f (record { owner = g; list = Active }) (active f)
 
+-- ---- the event of a third pass
+
+-- the machine with one `low` more at the group, and this run
+abbrev pub low_noted : KnownMachine → ℕ → KnownRun → KnownMachine
+low_noted x g w = with_run (record x { ledger = with_noted event.Low x.ledger g }) w
+
+-- what the third pass over a group leaves
+pub record GroupGives (t : KnownTable) (of_min of_low used g want freed : ℕ) (m n : KnownMachine) : Type 0 where
+  pub passes : FreesBySteps t freed m n (ReclaimsGroup Third of_min of_low used g want)
+  pub keeps : Keeps t m n
+  pub usage : UsageFalls g freed m n
+  pub leaves : OnlyLeave m n
+  pub missed : freed < want → MissedOfGroup g m n
+
+module _ (t : KnownTable) (of_min of_low usage g want freed : ℕ) (m x : KnownMachine) (leads : FreesBySteps t freed m x (PassesGroup false g want)) where
+  abbrev detail : Note
+  detail = note.Low g usage of_min of_low
+
+  abbrev breaks : Bool
+  breaks = nat_lt of_min of_low && nat_lt 0 freed
+
+  -- memory.low isn't broken
+  pub low_holds : breaks ≡ false → FreesBySteps t freed m x (ReclaimsGroup Third of_min of_low usage g want)
+  low_holds off = record {
+    steps = leads.steps;
+    does = subst (λ (b : Bool). NotesLowIf b g detail (PassesGroup false g want) (progress freed m leads.steps x)) (sym off) leads.does;
+    moves = leads.moves;
+  }
+
+  module _ (w : KnownRun) (held : IsHeld t x.run.past) (runs : Makes t x (note_steps key.Low g) (low_noted x g w)) where
+    same_usage : (h : ℕ) → current_of (low_noted x g w).ledger h ≡ current_of x.ledger h
+    same_usage h = usage-noted event.Low x.ledger.groups x.ledger.accounts g h
+
+    low_moves : FreesPages t x 0 (note_steps key.Low g) (low_noted x g w)
+    low_moves = record {
+      runs = runs;
+      pages = refl;
+      no_kill = refl;
+      misses = misses_after t x (note_steps key.Low g) (low_noted x g w) runs held;
+      returned = rises_none x.counts.freezes x.counts.freezes refl;
+      missed = rises_none x.counts.misses x.counts.misses refl;
+    }
+
+    low_keeps : StaysVisited t x (low_noted x g w) → Keeps t x (low_noted x g w)
+    low_keeps visit = record {
+      stocks = λ p. parts_after t x (note_steps key.Low g) (low_noted x g w) runs held p refl;
+      killed = refl;
+      groups = refl;
+      settings = refl;
+      hold = hold_after t x (note_steps key.Low g) (low_noted x g w) runs held refl;
+      usage = λ h. let e = same_usage h in omega (arith, e);
+      visit = visit;
+      dirty = λ f is. record { kept = is.kept; dirty = is.dirty };
+      owners = λ f kept. refl;
+      dirt = λ f kept. refl;
+      misses = λ f. let e = misses_after t x (note_steps key.Low g) (low_noted x g w) runs held f in omega (arith, e);
+    }
+
+    low_gives : breaks ≡ true → StaysVisited t x (low_noted x g w) → Keeps t m x → UsageFalls g freed m x → OnlyLeave m x
+        → (freed < want → MissedOfGroup g m x) → GroupGives t of_min of_low usage g want freed m (with_detail (low_noted x g w) detail)
+    low_gives on visit keeps falls leaves missed =
+        let e : freed + 0 ≡ freed = omega arith in
+        let n = with_detail (low_noted x g w) detail in
+        let steps = leads.steps ++ note_steps key.Low g in
+        record {
+          passes = record {
+            steps = steps;
+            does = subst (λ (b : Bool). NotesLowIf b g detail (PassesGroup false g want) (progress freed m steps n)) (sym on)
+                (record { reclaimed = x; earlier = leads.steps; seen = w; does = leads.does; noted = refl; steps_are = refl });
+            moves = moves_noted t m (low_noted x g w) freed steps n.notes
+                (subst (λ (k : ℕ). FreesPages t m k steps (low_noted x g w)) e
+                (moves_both t m x (low_noted x g w) freed 0 leads.steps (note_steps key.Low g) leads.moves low_moves));
+          };
+          keeps = keeps_noted t m (low_noted x g w) n.notes (keeps_both t m x (low_noted x g w) keeps (low_keeps visit));
+          usage = λ h below. let a = same_usage h in let u = falls h below in omega (arith, a, u);
+          leaves = λ f h home. leaves f h home;
+          missed = λ less f list home clean.
+              let more = missed less f list home clean in
+              let e = misses_after t x (note_steps key.Low g) (low_noted x g w) runs held f in
+              omega (arith, more, e);
+        }
+
+-- memory.low was broken, and that is noted
+pub low_broken : (t : KnownTable) (of_min of_low usage g want freed : ℕ) (m x n last : KnownMachine) → FreesBySteps t freed m x (PassesGroup false g want) → IsHeld t x.run.past
+    → n ≡ low_noted x g n.run → Makes t x (note_steps key.Low g) n → StaysVisited t x n → last ≡ with_detail n (note.Low g usage of_min of_low)
+    → (nat_lt of_min of_low && nat_lt 0 freed) ≡ true → Keeps t m x → UsageFalls g freed m x → OnlyLeave m x
+    → (freed < want → MissedOfGroup g m x) → GroupGives t of_min of_low usage g want freed m last
+low_broken t of_min of_low usage g want freed m x n last leads held is runs visit detailed on keeps falls leaves missed =
+    subst (GroupGives t of_min of_low usage g want freed m) (sym (detailed ∙ ap (λ (k : KnownMachine). with_detail k (note.Low g usage of_min of_low)) is))
+    (low_gives t of_min of_low usage g want freed m x leads n.run held (subst (Makes t x (note_steps key.Low g)) is runs) on (subst (StaysVisited t x) is visit) keeps falls leaves missed)
+
+-- ---- a turn
+
+last_not_first : (pass : Pass) (settings : List Settings) → is_last pass settings ≡ true → is_first pass ≡ false
+last_not_first First settings last = absurd (false≢true last)
+last_not_first Second settings last = refl
+last_not_first Third settings last = refl
+
+-- a detail changes the notes alone
+pub only_noted : (b : Bool) (m x : KnownMachine) (detail : Note) → x ≡ with_detail_if b m detail → x ≡ record m { notes = x.notes }
+only_noted b m x detail is = subst (λ (k : KnownMachine). k ≡ record m { notes = k.notes }) (sym is) (at b)
+  where
+    at : (c : Bool) → with_detail_if c m detail ≡ record m { notes = (with_detail_if c m detail).notes }
+    at true = refl
+    at false = refl
+
+pub record TurnTaken (t : KnownTable) (pass : Pass) (target g want freed : ℕ) (m n : KnownMachine) : Type 0 where
+  pub turn : FreesBySteps t freed m n (TakesTurn pass target g want)
+  pub keeps : Keeps t m n
+  pub usage : UsageFalls g freed m n
+  pub few : freed < want + 2 ^ 32
+  pub leaves : is_first pass ≡ false → OnlyLeave m n
+  pub tried : is_last pass m.ledger.settings ≡ true → freed < want → MissedOrKept target g m n
+
+-- the turn begins with the machine `x`, in which what protects the group may be noted
+module _ (t : KnownTable) (pass : Pass) (target g want of_min of_low usage spared wanted : ℕ) (m x : KnownMachine) (l : Ledger) (same : l ≡ m.ledger)
+    (facts : AreGroups l.groups) (below : in_subtree m.ledger.groups target g ≡ true) (least : of_min ≡ effective min_key l target g)
+    (low : of_low ≡ effective low_key l target g) (uses : usage ≡ current_of l g) (spares : spared ≡ spared_by pass of_min of_low)
+    (wants : wanted ≡ turn_want want usage spared)
+    (begins : x ≡ with_detail_if (notes_spared pass usage want wanted) m (note.Spared g usage of_min of_low)) where
+  min_is : of_min ≡ effective min_key m.ledger target g
+  min_is = least ∙ ap (λ (k : Ledger). effective min_key k target g) same
+
+  low_is : of_low ≡ effective low_key m.ledger target g
+  low_is = low ∙ ap (λ (k : Ledger). effective low_key k target g) same
+
+  usage_is : usage ≡ current_of m.ledger g
+  usage_is = uses ∙ ap (λ (k : Ledger). current_of k g) same
+
+  is : wanted ≡ turn_want want usage (spared_by pass of_min of_low)
+  is = wants ∙ (λ i. turn_want want usage (spares i))
+
+  notes_alone : x ≡ record m { notes = x.notes }
+  notes_alone = only_noted (notes_spared pass usage want wanted) m x (note.Spared g usage of_min of_low) begins
+
+  begins_so : x ≡ with_detail_if (notes_spared pass usage want (turn_want want usage (spared_by pass of_min of_low))) m (note.Spared g usage of_min of_low)
+  begins_so = begins ∙ (λ i. with_detail_if (notes_spared pass usage want (is i)) m (note.Spared g usage of_min of_low))
+
+  as_turn : (freed : ℕ) (steps : Run) (n : KnownMachine) → TakesTurnOf pass of_min of_low usage g want (progress freed m steps n)
+      → TakesTurn pass target g want (progress freed m steps n)
+  as_turn freed steps n = subst (λ (v : ℕ × ℕ × ℕ). TakesTurnOf pass v.0 v.1 v.2 g want (progress freed m steps n)) (λ i. (min_is i, low_is i, usage_is i))
+
+  -- the last pass spares what memory.min protects
+  last_spares_min : (p : Pass) → is_last p m.ledger.settings ≡ true → spared_by p of_min of_low ≡ of_min
+  last_spares_min First last = absurd (false≢true last)
+  last_spares_min Second last =
+      let off = not-true (are_protecting m.ledger.settings) last in
+      let a : of_min ≡ 0 = min_is ∙ nothing_set min_key m.ledger target g off in
+      let b : of_low ≡ 0 = low_is ∙ nothing_set low_key m.ledger target g off in
+      omega (arith, a, b)
+  last_spares_min Third last = refl
+
+  kept : (n : KnownMachine) → Keeps t m n → is_last pass m.ledger.settings ≡ true → spared ≢ 0 → current_of n.ledger g ≤ spared → MissedOrKept target g m n
+  kept n keeps last some few =
+      let e = spares ∙ last_spares_min pass last in
+      inr (kept_by_min m.ledger n.ledger target g (subst (λ (k : Ledger). AreGroups k.groups) same facts) keeps.groups keeps.settings below
+      (λ none. some (e ∙ min_is ∙ none)) (omega (arith, few, e, min_is)))
+
+  wants_all : spared ≡ 0 → wanted ≡ want
+  wants_all none = wants ∙ cond-true (spared == 0) want (min want (usage - spared)) (eq-eqb spared 0 none)
+
+  wants_rest : spared ≢ 0 → wanted ≡ min want (usage - spared)
+  wants_rest some = wants ∙ cond-false (spared == 0) want (min want (usage - spared)) (ne_eqb spared 0 some)
+
+  -- nothing is wanted
+  pub turn_none : 0 < want → wanted ≡ 0 → TurnTaken t pass target g want 0 m x
+  turn_none some none =
+      let keeps : Keeps t m x = subst (Keeps t m) (sym notes_alone) (keeps_noted t m m x.notes (keeps_none t m)) in
+      let uses_same = ap (λ (k : KnownMachine). current_of k.ledger g) notes_alone in
+      record {
+        turn = record {
+          steps = [];
+          does = as_turn 0 [] x (inl (sym is ∙ none, record { no_page = refl; machine = begins_so; no_step = refl }));
+          moves = subst (FreesPages t m 0 []) (sym notes_alone) (moves_noted t m m 0 [] x.notes (moves_rest t m));
+        };
+        keeps = keeps;
+        usage = λ above inside. let e = ap (λ (k : KnownMachine). current_of k.ledger above) notes_alone in omega (arith, e);
+        few = omega (arith, some);
+        leaves = λ off f h home. sym (ap (λ (k : KnownMachine). home_of k.links f) notes_alone) ∙ home;
+        tried = λ last less. elim (cases_eq spared 0) [
+          | inl all ↦ let e = wants_all all in absurd (omega (arith, e, none, some))
+          | inr more ↦ let e = wants_rest more in kept x keeps last more (omega (arith, e, none, some, uses_same, usage_is))
+        ];
+      }
+
+  pub turn_some : wanted ≢ 0 → (freed : ℕ) (n : KnownMachine) → FreesBySteps t freed x n (ReclaimsGroup pass of_min of_low usage g wanted)
+      → Keeps t x n → in_subtree m.ledger.groups g g ≡ true → UsageFalls g freed x n → freed < wanted + 2 ^ 32
+      → (is_first pass ≡ false → OnlyLeave x n) → (is_first pass ≡ false → freed < wanted → MissedOfGroup g x n) → TurnTaken t pass target g want freed m n
+  turn_some some freed n leads keeps own falls few leaves missed =
+      let still : Keeps t m n = keeps_after_notes t m n x.notes (subst (λ (k : KnownMachine). Keeps t k n) notes_alone keeps) in
+      let fell : UsageFalls g freed m n = subst (λ (k : KnownMachine). UsageFalls g freed k n) notes_alone falls in
+      record {
+        turn = record {
+          steps = leads.steps;
+          does = as_turn freed leads.steps n (inr (
+            omega (arith, is, some),
+            subst (λ (v : ℕ × KnownMachine). ReclaimsGroup pass of_min of_low usage g v.0 (progress freed v.1 leads.steps n)) (λ i. (is i, begins_so i)) leads.does,
+          ));
+          moves = moves_after_notes t m n freed leads.steps x.notes (subst (λ (k : KnownMachine). FreesPages t k freed leads.steps n) notes_alone leads.moves);
+        };
+        keeps = still;
+        usage = fell;
+        few = elim (cases_eq spared 0) [
+          | inl all ↦ let e = wants_all all in omega (arith, e, few)
+          | inr more ↦ let e = wants_rest more in omega (arith, e, few)
+        ];
+        leaves = λ off. subst (λ (k : KnownMachine). OnlyLeave k n) notes_alone (leaves off);
+        tried = λ last less.
+            let clean : freed < wanted → MissedOfGroup g m n = λ fewer. subst (λ (k : KnownMachine). MissedOfGroup g k n) notes_alone (missed (last_not_first pass m.ledger.settings last) fewer) in
+            elim (cases_eq spared 0) [
+              | inl all ↦ let e = wants_all all in inl (clean (omega (arith, e, less)))
+              | inr more ↦ elim (cases_lt freed wanted) [
+                | inl fewer ↦ inl (clean fewer)
+                | inr enough ↦
+                    let e = wants_rest more in
+                    let u = fell g own in
+                    kept n still last more (omega (arith, e, u, less, enough, usage_is))
+              ]
+            ];
+      }
+
+-- what was tried stays tried, also counted from before
+tried_still : (t : KnownTable) (target other : ℕ) (a b c d : KnownMachine) → Keeps t a b → Keeps t c d → OnlyLeave c d → MissedOrKept target other b c → MissedOrKept target other a d
+tried_still t target other a b c d first last only (inl missed) = inl (λ f list. missed_still t a b c d first last only f (record { owner = other; list = list }) (missed f list))
+tried_still t target other a b c d first last only (inr kept) = inr (kept_still c.ledger d.ledger target other last.groups last.settings (last.usage other) kept)
+
 -- ---- a pass
 
 -- the groups before those that are left had their turn
-pub record PassSoFar (t : KnownTable) (first : Bool) (g want : ℕ) (m : KnownMachine) (rest freed : ℕ) (now : KnownMachine) : Type 0 where
-  pub so_far : SoFar t (PassesGroup first) (subtree_of m.ledger.groups g) want m (members rest 0 64) freed now
+pub record PassSoFar (t : KnownTable) (pass : Pass) (g want : ℕ) (m : KnownMachine) (rest freed : ℕ) (now : KnownMachine) : Type 0 where
+  pub so_far : SoFar t (TakesTurn pass g) (subtree_of m.ledger.groups g) want m (members rest 0 64) freed now
   pub left : (k : ℕ) → k < 64 → bit_at rest k ≡ 1 → in_subtree m.ledger.groups g k ≡ true
   pub keeps : Keeps t m now
   pub usage : current_of now.ledger g + freed ≡ current_of m.ledger g
   pub few : freed < want + 2 ^ 32
-  pub leaves : first ≡ false → OnlyLeave m now
-  pub missed : first ≡ false → freed < want → (f : ℕ) (h : Home) → h.owner < 64 → in_subtree m.ledger.groups g h.owner ≡ true → bit_at rest h.owner ≢ 1
-      → IsMissed m now f h
+  pub leaves : is_first pass ≡ false → OnlyLeave m now
+  pub tried : is_last pass m.ledger.settings ≡ true → freed < want → (other : ℕ) → other < 64 → in_subtree m.ledger.groups g other ≡ true → bit_at rest other ≢ 1
+      → MissedOrKept g other m now
 
-pub pass_none : (t : KnownTable) (first : Bool) (g want : ℕ) (m : KnownMachine) (groups : ℕ) → IsSubtree m.ledger.groups g groups → PassSoFar t first g want m groups 0 m
+pub pass_none : (t : KnownTable) (pass : Pass) (g want : ℕ) (m : KnownMachine) (groups : ℕ) → IsSubtree m.ledger.groups g groups → PassSoFar t pass g want m groups 0 m
 unfolding subtree_of
-pass_none t first g want m groups are = record {
-  so_far = subst (λ (l : List ℕ). SoFar t (PassesGroup first) l want m (members groups 0 64) 0 m)
-      (sym (same_members groups (in_subtree m.ledger.groups g) 0 64 (λ k from low. are k low))) (so_far_none t (PassesGroup first) (members groups 0 64) want m);
+pass_none t pass g want m groups are = record {
+  so_far = subst (λ (l : List ℕ). SoFar t (TakesTurn pass g) l want m (members groups 0 64) 0 m)
+      (sym (same_members groups (in_subtree m.ledger.groups g) 0 64 (λ k from low. are k low))) (so_far_none t (TakesTurn pass g) (members groups 0 64) want m);
   left = λ k low. (are k low).0;
   keeps = keeps_none t m;
   usage = omega arith;
   few = omega arith;
   leaves = λ off f h home. home;
-  missed = λ off less f h low inside other. absurd (other ((are h.owner low).1 inside));
+  tried = λ last less other low inside away. absurd (away ((are other low).1 inside));
 }
 
-pub record PassEnds (t : KnownTable) (first : Bool) (g want : ℕ) (m : KnownMachine) (freed : ℕ) (now : KnownMachine) : Type 0 where
-  pub passes : FreesBySteps t freed m now (ReclaimsPass g first want)
-  pub missed : first ≡ false → freed < want → MissedAll g m now
+pub record PassEnds (t : KnownTable) (pass : Pass) (g want : ℕ) (m : KnownMachine) (freed : ℕ) (now : KnownMachine) : Type 0 where
+  pub passes : FreesBySteps t freed m now (ReclaimsPass g pass want)
+  pub tried : is_last pass m.ledger.settings ≡ true → freed < want → MissedAll g m now
 
-as_pass : (t : KnownTable) (first : Bool) (g want freed : ℕ) (m now : KnownMachine) → FreesBySteps t freed m now (WhileWanted (PassesGroup first) (subtree_of m.ledger.groups g) want)
-    → FreesBySteps t freed m now (ReclaimsPass g first want)
-as_pass t first g want freed m now leads = record { steps = leads.steps; does = leads.does; moves = leads.moves }
+as_pass : (t : KnownTable) (pass : Pass) (g want freed : ℕ) (m now : KnownMachine) → FreesBySteps t freed m now (WhileWanted (TakesTurn pass g) (subtree_of m.ledger.groups g) want)
+    → FreesBySteps t freed m now (ReclaimsPass g pass want)
+as_pass t pass g want freed m now leads = record { steps = leads.steps; does = leads.does; moves = leads.moves }
 
-module _ (t : KnownTable) (first : Bool) (g want : ℕ) (m : KnownMachine) (rest freed : ℕ) (now : KnownMachine) (s : PassSoFar t first g want m rest freed now) where
+module _ (t : KnownTable) (pass : Pass) (g want : ℕ) (m : KnownMachine) (rest freed : ℕ) (now : KnownMachine) (s : PassSoFar t pass g want m rest freed now) where
   -- the next group is in the subtree
   pub turn_inside : (turn k : ℕ) → turn ≡ k → k < 64 → bit_at rest k ≡ 1 → in_subtree now.ledger.groups g turn ≡ true
   turn_inside turn k at low here = (λ i. in_subtree (s.keeps.groups i) g (at i)) ∙ s.left k low here
 
   pub pass_more : freed < want → (turn k : ℕ) → turn ≡ k → (k < 64) × (bit_at rest k ≡ 1) × ((i : ℕ) → i < k → bit_at rest i ≡ 0)
       → (left : ℕ) → (bit_at left k ≡ 0) × (left < rest) × ((i : ℕ) → i < 64 → i ≢ k → bit_at left i ≡ bit_at rest i)
-      → (some : ℕ) (then : KnownMachine) → FreesBySteps t some now then (PassesGroup first turn (want - freed))
-      → Keeps t now then → UsageFalls turn some now then → some < want - freed + 2 ^ 32 → (first ≡ false → OnlyLeave now then)
-      → (first ≡ false → some < want - freed → MissedOfGroup turn now then) → PassSoFar t first g want m left (freed + some) then
-  pass_more wanted turn k at found left taken some then leads keeps usage few leaves missed =
+      → (some : ℕ) (then : KnownMachine) → FreesBySteps t some now then (TakesTurn pass g turn (want - freed))
+      → Keeps t now then → UsageFalls turn some now then → some < want - freed + 2 ^ 32 → (is_first pass ≡ false → OnlyLeave now then)
+      → (is_last pass now.ledger.settings ≡ true → some < want - freed → MissedOrKept g turn now then) → PassSoFar t pass g want m left (freed + some) then
+  pass_more wanted turn k at found left taken some then leads keeps usage few leaves tried =
       let inside = turn_inside turn k at found.0 found.1 in
       record {
-        so_far = so_far_more t (PassesGroup first) (subtree_of m.ledger.groups g) want m turn (members left 0 64) freed now
-            (subst (λ (l : List ℕ). SoFar t (PassesGroup first) (subtree_of m.ledger.groups g) want m l freed now)
+        so_far = so_far_more t (TakesTurn pass g) (subtree_of m.ledger.groups g) want m turn (members left 0 64) freed now
+            (subst (λ (l : List ℕ). SoFar t (TakesTurn pass g) (subtree_of m.ledger.groups g) want m l freed now)
             (first_taken rest left k 0 64 (omega arith) found.0 (omega arith) found.1 found.2 taken.0 taken.2 ∙ ap (λ (x : ℕ). x ∷ members left 0 64) (sym at)) s.so_far) wanted some then leads;
         left = λ i low one. elim (cases_eq i k) [
           | inl e ↦ absurd (let zero_bit = taken.0 in let one' : bit_at left k ≡ 1 = ap (bit_at left) (sym e) ∙ one in omega (arith, zero_bit, one'))
@@ -125,43 +375,50 @@ module _ (t : KnownTable) (first : Bool) (g want : ℕ) (m : KnownMachine) (rest
         usage = let a = s.usage in let b = usage g inside in omega (arith, a, b);
         few = omega (arith, wanted, few);
         leaves = λ off. only_both m now then (s.leaves off) (leaves off);
-        missed = λ off less f h low below other. elim (cases_eq h.owner k) [
+        tried = λ last less other low below away. elim (cases_eq other k) [
           | inl e ↦
-              missed_still t m now then then s.keeps (keeps_none t then) (λ x y home. home) f h
-              (subst (λ (x : ℕ). IsMissed now then f (record { owner = x; list = h.list })) (at ∙ sym e) (missed off (omega (arith, less, wanted)) f h.list))
+              tried_still t g other m now then then s.keeps (keeps_none t then) (λ x y home. home)
+              (subst (λ (x : ℕ). MissedOrKept g x now then) (at ∙ sym e) (tried (ap (is_last pass) s.keeps.settings ∙ last) (omega (arith, less, wanted))))
           | inr ne ↦
-              missed_still t m m now then (keeps_none t m) keeps (leaves off) f h
-              (s.missed off (omega (arith, less)) f h low below (λ one. other (taken.2 h.owner low ne ∙ one)))
+              tried_still t g other m m now then (keeps_none t m) keeps (leaves (last_not_first pass m.ledger.settings last))
+              (s.tried last (omega (arith, less)) other low below (λ one. away (taken.2 other low ne ∙ one)))
         ];
       }
 
-  pub pass_enough : want ≤ freed → PassEnds t first g want m freed now
+  pub pass_enough : want ≤ freed → PassEnds t pass g want m freed now
   pass_enough enough = record {
-    passes = as_pass t first g want freed m now (so_far_enough t (PassesGroup first) (subtree_of m.ledger.groups g) want m (members rest 0 64) freed now s.so_far enough);
-    missed = λ off less. absurd (omega (arith, less, enough));
+    passes = as_pass t pass g want freed m now (so_far_enough t (TakesTurn pass g) (subtree_of m.ledger.groups g) want m (members rest 0 64) freed now s.so_far enough);
+    tried = λ last less. absurd (omega (arith, less, enough));
   }
 
-  pub pass_done : IsConsistent t now → rest ≡ 0 → PassEnds t first g want m freed now
-  pass_done ok all =
+  pub pass_done : AreGroups now.ledger.groups → rest ≡ 0 → PassEnds t pass g want m freed now
+  pass_done facts all =
       let none : (i : ℕ) → bit_at rest i ≡ 0 = λ i. ap (λ (x : ℕ). bit_at x i) all ∙ bit_at-zero i in
       record {
-        passes = as_pass t first g want freed m now (so_far_done t (PassesGroup first) (subtree_of m.ledger.groups g) want m freed now
-            (subst (λ (l : List ℕ). SoFar t (PassesGroup first) (subtree_of m.ledger.groups g) want m l freed now)
+        passes = as_pass t pass g want freed m now (so_far_done t (TakesTurn pass g) (subtree_of m.ledger.groups g) want m freed now
+            (subst (λ (l : List ℕ). SoFar t (TakesTurn pass g) (subtree_of m.ledger.groups g) want m l freed now)
             (no_members rest 0 64 none) s.so_far));
-        missed = λ off less f h inside home clean.
-            let fits : h.owner < 64 = owner_bound t now ok f h (home_inside t now ok f h home) home in
-            s.missed off less f h fits (ap (λ (l : List Group). in_subtree l g h.owner) (sym s.keeps.groups) ∙ inside)
-            (λ one. let zero_bit = none h.owner in absurd (omega (arith, one, zero_bit))) home clean;
+        tried = λ last less other inside.
+            let fits : other < 64 = number_below now.ledger.groups other facts (in_subtree-below now.ledger.groups g other inside) in
+            s.tried last less other fits (ap (λ (l : List Group). in_subtree l g other) (sym s.keeps.groups) ∙ inside)
+            (λ one. let zero_bit = none other in absurd (omega (arith, one, zero_bit)));
       }
 
--- what the second pass missed was missed in the whole
-pub all_missed : (t : KnownTable) (g : ℕ) (m k n : KnownMachine) → Keeps t m k → MissedAll g k n → MissedAll g m n
-all_missed t g m k n first missed f h inside =
-    missed_still t m k n n first (keeps_none t n) (λ x y home. home) f h (missed f h inside)
+-- ---- all passes
 
--- the second pass, after a first one that gave some, ended without enough pages
-pub missed_then : (t : KnownTable) (g want some more : ℕ) (m k n : KnownMachine) → Keeps t m k → (more < want - some → MissedAll g k n)
-    → nat_lt (some + more) want ≡ true → MissedAll g m n
-missed_then t g want some more m k n first missed less =
-    let short = ltb-true (some + more) want less in
-    all_missed t g m k n first (missed (omega (arith, short)))
+-- what the last pass missed was missed in the whole
+pub all_missed : (t : KnownTable) (g : ℕ) (m k n : KnownMachine) → Keeps t m k → MissedAll g k n → MissedAll g m n
+all_missed t g m k n first missed other inside = tried_still t g other m k n n first (keeps_none t n) (λ x y home. home) (missed other inside)
+
+-- these passes are the reclaim's
+pub as_reclaim : (t : KnownTable) (g want freed : ℕ) (m n : KnownMachine) (passes : List Pass) → passes_of m.ledger.settings ≡ passes
+    → FreesBySteps t freed m n (WhileWanted (ReclaimsPass g) passes want) → FreesBySteps t freed m n (Reclaims g want)
+as_reclaim t g want freed m n passes are leads = record {
+  steps = leads.steps;
+  does = subst (λ (l : List Pass). WhileWanted (ReclaimsPass g) l want (progress freed m leads.steps n)) (sym are) leads.does;
+  moves = leads.moves;
+}
+
+-- the third pass is made if something is protected
+pub with_third : (b : Bool) (settings : List Settings) → are_protecting settings ≡ b → passes_of settings ≡ First ∷ Second ∷ cond b (Third ∷ []) []
+with_third b settings is = ap (λ (x : Bool). First ∷ Second ∷ cond x (Third ∷ []) []) is

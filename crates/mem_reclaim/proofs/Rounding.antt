@@ -4,65 +4,26 @@ use Rattle.std.specs.Prelude.{nat_lt}
 use Rattle.std.proofs.lemmas.Bool.{lt-ltb}
 use Rattle.std.proofs.lemmas.List.{append_assoc, append-nil}
 use Rattle.frame_word.specs.Seats.{KnownTable}
-use Rattle.group_charge.specs.{current_of, noted}
+use Rattle.group_charge.specs.{current_of}
 use Rattle.step_rules.specs.After.{Run}
 use Rattle.group_charge.specs.declared.note.Note.{Note}
 use Rattle.group_charge.specs.declared.note.Note.TheVariants.{Asked}
 use Rattle.mem_machine.specs.Machines.{KnownMachine, with_note}
-use Rattle.mem_machine.proofs.Made.{visit_same}
 use Rattle.mem_reclaim.specs.{AfterNote, FreesNothing, Reclaiming, progress, FreesPages, FreesBySteps, Reclaims, ReclaimsAmount, ReclaimsPages}
 use Rattle.mem_reclaim.specs.{ReclaimsRound, ReclaimsRounds, pages_missing, round_note, Keeps, MissedAll}
 use Rattle.mem_reclaim.proofs.Wanting.{rested}
-use Rattle.mem_reclaim.proofs.Moving.{moves_rest, moves_both}
-use Rattle.mem_reclaim.proofs.Keeping.{keeps_none, keeps_both}
+use Rattle.mem_reclaim.proofs.Moving.{moves_after_notes, moves_both, moves_noted, moves_rest}
+use Rattle.mem_reclaim.proofs.Keeping.{keeps_after_notes, keeps_both, keeps_none, keeps_noted}
 use Rattle.mem_reclaim.proofs.Passing.{all_missed}
-
--- a note changes nothing that is kept
-pub keeps_noted : (t : KnownTable) (m n : KnownMachine) (note : Note) → Keeps t m n → Keeps t m (with_note n note)
-keeps_noted t m n note k = record {
-  stocks = k.stocks;
-  killed = k.killed;
-  groups = k.groups;
-  hold = k.hold;
-  usage = k.usage;
-  visit = λ c v. visit_same t n (with_note n note) c refl (k.visit c v);
-  dirty = λ f is. let x = k.dirty f is in record { kept = x.kept; dirty = x.dirty };
-  owners = k.owners;
-  dirt = k.dirt;
-  misses = k.misses;
-}
-
--- nor does one before
-pub keeps_after_note : (t : KnownTable) (m n : KnownMachine) (note : Note) → Keeps t (with_note m note) n → Keeps t m n
-keeps_after_note t m n note k = record {
-  stocks = k.stocks;
-  killed = k.killed;
-  groups = k.groups;
-  hold = k.hold;
-  usage = k.usage;
-  visit = λ c v. k.visit c (visit_same t m (with_note m note) c refl v);
-  dirty = λ f is. k.dirty f (record { kept = is.kept; dirty = is.dirty });
-  owners = k.owners;
-  dirt = k.dirt;
-  misses = k.misses;
-}
 
 -- what is done after a note is done, as seen from before it
 pub leads_after_note : (t : KnownTable) (freed : ℕ) (m n : KnownMachine) (note : Note) (Does : Reclaiming) → FreesBySteps t freed (with_note m note) n Does
     → FreesBySteps t freed m n (AfterNote note Does)
-leads_after_note t freed m n note Does leads =
-    let k = leads.moves in record {
-      steps = leads.steps;
-      does = leads.does;
-      moves = record {
-        runs = let r = k.runs in record { holder = r.holder; leads = r.leads; follows = r.follows; counts = r.counts; noted = r.noted };
-        pages = k.pages;
-        no_kill = k.no_kill;
-        misses = k.misses;
-        returned = k.returned;
-        missed = k.missed;
-      };
-    }
+leads_after_note t freed m n note Does leads = record {
+  steps = leads.steps;
+  does = leads.does;
+  moves = moves_after_notes t m n freed leads.steps (with_note m note).notes leads.moves;
+}
 
 -- what the reclaim of an amount left
 pub record AmountGives (t : KnownTable) (g asked : ℕ) (m : KnownMachine) (freed : ℕ) (n : KnownMachine) : Type 0 where
@@ -79,7 +40,7 @@ amount_noted t g asked freed m x n noted leads missed usage keeps =
     let here = subst (λ (y : KnownMachine). FreesBySteps t freed y n (ReclaimsPages g asked)) noted leads in
     record {
       rounds = leads_after_note t freed m n note (ReclaimsPages g asked) here;
-      keeps = keeps_after_note t m n note (subst (λ (y : KnownMachine). Keeps t y n) noted keeps);
+      keeps = keeps_after_notes t m n (with_note m note).notes (subst (λ (y : KnownMachine). Keeps t y n) noted keeps);
       usage = subst (λ (y : KnownMachine). current_of n.ledger g + freed ≡ current_of y.ledger g) noted usage;
       missed = λ few. subst (λ (y : KnownMachine). MissedAll g y n) noted (missed few);
     }
@@ -105,16 +66,9 @@ round_noted t g number want m freed x n leads keeps noted =
           returned = leads.moves.returned;
           missed = leads.moves.missed;
         };
-        moves = record {
-          runs = record { holder = leads.moves.runs.holder; leads = leads.moves.runs.leads; follows = leads.moves.runs.follows; counts = leads.moves.runs.counts; noted = leads.moves.runs.noted };
-          pages = leads.moves.pages;
-          no_kill = leads.moves.no_kill;
-          misses = leads.moves.misses;
-          returned = leads.moves.returned;
-          missed = leads.moves.missed;
-        };
+        moves = moves_noted t m x freed leads.steps (with_note x note).notes leads.moves;
       };
-      keeps = keeps_noted t m x note keeps;
+      keeps = keeps_noted t m x (with_note x note).notes keeps;
     })
 
 -- what rounds left: pages of the group's subtree were freed and, if they are too few, each clean unit was tried

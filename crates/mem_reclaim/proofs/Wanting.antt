@@ -81,26 +81,40 @@ module _ {A : Type 0} (t : KnownTable) (does : A → ℕ → Reclaiming) (all : 
       → FreesBySteps t freed m now (WhileWanted does all want)
   so_far_enough todo freed now so enough = ended todo freed now so (left_alone todo freed now enough)
 
--- ---- two things, one after the other
+-- ---- a first thing, a second and a third
 
-module _ {A : Type 0} (t : KnownTable) (does : A → ℕ → Reclaiming) (x y : A) (want : ℕ) (m : KnownMachine)
+module _ {A : Type 0} (t : KnownTable) (does : A → ℕ → Reclaiming) (x : A) (later : List A) (want : ℕ) (m : KnownMachine)
     (wanted : 0 < want) (some : ℕ) (k : KnownMachine) (first : FreesBySteps t some m k (does x want)) where
-  after_first : SoFar t does (x ∷ y ∷ []) want m (y ∷ []) (0 + some) k
-  after_first =
+  so_far_one : SoFar t does (x ∷ later) want m later some k
+  so_far_one =
       let e : want ≡ want - 0 = omega arith in
-      so_far_more t does (x ∷ y ∷ []) want m x (y ∷ []) 0 m (so_far_none t does (x ∷ y ∷ []) want m) wanted some k
-      (subst (λ (w : ℕ). FreesBySteps t some m k (does x w)) e first)
-
-  after_one : SoFar t does (x ∷ y ∷ []) want m (y ∷ []) some k
-  after_one = let e : 0 + some ≡ some = omega arith in subst (λ (w : ℕ). SoFar t does (x ∷ y ∷ []) want m (y ∷ []) w k) e after_first
+      let d : 0 + some ≡ some = omega arith in
+      subst (λ (w : ℕ). SoFar t does (x ∷ later) want m later w k) d
+      (so_far_more t does (x ∷ later) want m x later 0 m (so_far_none t does (x ∷ later) want m) wanted some k
+      (subst (λ (w : ℕ). FreesBySteps t some m k (does x w)) e first))
 
   -- the first gave enough
-  pub first_enough : want ≤ some → FreesBySteps t some m k (WhileWanted does (x ∷ y ∷ []) want)
-  first_enough enough = so_far_enough t does (x ∷ y ∷ []) want m (y ∷ []) some k after_one enough
+  pub first_enough : want ≤ some → FreesBySteps t some m k (WhileWanted does (x ∷ later) want)
+  first_enough enough = so_far_enough t does (x ∷ later) want m later some k so_far_one enough
 
-  -- both were done
-  pub both_done : some < want → (more : ℕ) (n : KnownMachine) → FreesBySteps t more k n (does y (want - some))
-      → FreesBySteps t (some + more) m n (WhileWanted does (x ∷ y ∷ []) want)
-  both_done less more n second =
-      so_far_done t does (x ∷ y ∷ []) want m (some + more) n
-      (so_far_more t does (x ∷ y ∷ []) want m y [] some k after_one less more n second)
+module _ {A : Type 0} (t : KnownTable) (does : A → ℕ → Reclaiming) (x y : A) (want : ℕ) (m : KnownMachine)
+    (wanted : 0 < want) (some : ℕ) (k : KnownMachine) (first : FreesBySteps t some m k (does x want))
+    (less : some < want) (more : ℕ) (n : KnownMachine) (second : FreesBySteps t more k n (does y (want - some))) where
+  so_far_two : (later : List A) → SoFar t does (x ∷ y ∷ later) want m later (some + more) n
+  so_far_two later =
+      so_far_more t does (x ∷ y ∷ later) want m y later some k (so_far_one t does x (y ∷ later) want m wanted some k first) less more n second
+
+  -- both together gave enough
+  pub both_enough : (later : List A) → want ≤ some + more → FreesBySteps t (some + more) m n (WhileWanted does (x ∷ y ∷ later) want)
+  both_enough later enough = so_far_enough t does (x ∷ y ∷ later) want m later (some + more) n (so_far_two later) enough
+
+  -- both were done, and there is no third
+  pub both_done : FreesBySteps t (some + more) m n (WhileWanted does (x ∷ y ∷ []) want)
+  both_done = so_far_done t does (x ∷ y ∷ []) want m (some + more) n (so_far_two [])
+
+  -- all three were done
+  pub three_done : (z : A) → some + more < want → (rest : ℕ) (o : KnownMachine) → FreesBySteps t rest n o (does z (want - (some + more)))
+      → FreesBySteps t (some + more + rest) m o (WhileWanted does (x ∷ y ∷ z ∷ []) want)
+  three_done z few rest o third =
+      so_far_done t does (x ∷ y ∷ z ∷ []) want m (some + more + rest) o
+      (so_far_more t does (x ∷ y ∷ z ∷ []) want m z [] (some + more) n (so_far_two (z ∷ [])) few rest o third)

@@ -192,6 +192,7 @@ with_all_killed marks groups = fold (λ (old : List Bool) (group : ℕ). slice_s
 -- noted.
 pub record OnlyReleases (table : KnownTable) (before after : KnownMachine) : Type 0 where
   pub groups : after.ledger.groups ≡ before.ledger.groups
+  pub settings : after.ledger.settings ≡ before.ledger.settings
   pub hold : (local_of table after).hold ≡ (local_of table before).hold
   pub usage : (group : ℕ) → current_of after.ledger group ≤ current_of before.ledger group
   pub visit : StaysVisited table before after

@@ -4,6 +4,7 @@ use Rattle.std.specs.Prelude.{◌≡◌, ℕ, ◌-◌, ◌<◌, ◌≤◌, ◌�
 use Rattle.frame_word.specs.Seats.{KnownTable}
 use Rattle.group_tree.specs.{AreGroups, in_subtree, is_oom_group, max_count}
 use Rattle.group_charge.specs.Charges.{current_of}
+use Rattle.group_protection.specs.Protections.{IsKeptByMin, effective, min_key}
 use Rattle.lru_lists.specs.declared.record.Home.{Home}
 use Rattle.lru_lists.specs.Queue.{link_at}
 use Rattle.step_rules.specs.After.{Run}
@@ -12,11 +13,13 @@ use Rattle.mem_machine.specs.Machines.{KnownMachine, home_of, with_note}
 use Rattle.mem_reclaim.specs.declared.sets.Killed.{Killed}
 use Rattle.mem_reclaim.specs.Killing.{IsKilledBy, kept_units}
 use Rattle.mem_reclaim.specs.Moves.{FreesPages, all_missed_in, missed_in, returned_in}
+use Rattle.mem_reclaim.specs.declared.passes.Pass.{Pass}
+use Rattle.mem_reclaim.specs.Passes.{TakesTurn}
 use Rattle.mem_reclaim.specs.Rounds.{ReclaimsRound}
 use Rattle.mem_reclaim.specs.Sets.{IsKilledRoot, kill_set}
 use Rattle.mem_reclaim.specs.Staying.{MissedAll}
 use Rattle.mem_reclaim.specs.Victim.{IsVictim, may_be_killed, own_frames}
-use Rattle.mem_reclaim.specs.Wanted.{Progress}
+use Rattle.mem_reclaim.specs.Wanted.{FreesNothing, Progress, progress}
 
 -- `killed` is the victim for the group `limited` in this machine, with its killed root
 pub record IsChosen (machine : KnownMachine) (limited : ℕ) (killed : Killed) : Type 0 where
@@ -55,13 +58,24 @@ TheVictimIsOne =
     (machine : KnownMachine) (group : ℕ) (one two : Option ℕ) → IsVictim machine group one → IsVictim machine group two
     → one ≡ two
 
--- if each clean unit that the subtree still keeps counts as missed, a freeze of each is among the steps
+-- if each clean unit that the subtree still keeps counts as missed, or memory.min keeps it, a freeze of each that
+-- memory.min doesn't keep is among the steps
 abbrev pub MissedUnitsWereTried : Type 0
 MissedUnitsWereTried =
     (table : KnownTable) (before : KnownMachine) (freed : ℕ) (steps : Run) (after : KnownMachine) (group : ℕ)
     → FreesPages table before freed steps after → MissedAll group before after
     → (frame : ℕ) (home : Home) → in_subtree after.ledger.groups group home.owner ≡ true
-    → home_of after.links frame ≡ Some home → (link_at after.links frame).is_dirty ≡ false → 1 ≤ missed_in frame steps
+    → home_of after.links frame ≡ Some home → (link_at after.links frame).is_dirty ≡ false
+    → (1 ≤ missed_in frame steps) ⊎ IsKeptByMin after.ledger group home.owner
+
+-- a group has no turn if its usage is no more than what memory.min protects: no pass takes a page of it, and nothing
+-- changes but what is noted
+abbrev pub ProtectedGroupsHaveNoTurn : Type 0
+ProtectedGroupsHaveNoTurn =
+    (pass : Pass) (target group want : ℕ) (done : Progress) → TakesTurn pass target group want done
+    → 1 ≤ effective min_key done.before.ledger target group
+    → current_of done.before.ledger group ≤ effective min_key done.before.ledger target group
+    → FreesNothing (progress done.freed (record done.before { notes = done.after.notes }) done.steps done.after)
 
 -- the last note is of a round of this number: it reports the units that the steps return, the freezes among them that
 -- missed, the pages, and the usage

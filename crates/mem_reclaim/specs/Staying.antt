@@ -1,8 +1,9 @@
 -- What each reclaim keeps, and what it tried.
-use Rattle.std.specs.Prelude.{◌≡◌, ◌≢◌, ℕ, ◌+◌, ◌<◌, ◌≤◌, true, false, Some, None, List}
+use Rattle.std.specs.Prelude.{◌≡◌, ◌≢◌, ℕ, ◌+◌, ◌<◌, ◌≤◌, ◌⊎◌, true, false, Some, None, List}
 use Rattle.frame_word.specs.Seats.{KnownTable}
 use Rattle.group_tree.specs.Groups.{in_subtree}
 use Rattle.group_charge.specs.Charges.{current_of}
+use Rattle.group_protection.specs.Protections.{IsKeptByMin}
 use Rattle.lru_lists.specs.declared.record.Link.{Link}
 use Rattle.lru_lists.specs.declared.record.Home.{Home}
 use Rattle.lru_lists.specs.declared.record.LruList.{LruList}
@@ -15,13 +16,14 @@ pub record IsDirtyUnit (links : List Link) (frame : ℕ) : Type 0 where
   pub kept : home_of links frame ≢ None
   pub dirty : (link_at links frame).is_dirty ≡ true
 
--- What a reclaim keeps. Stocks, killed groups, groups with their limits, and each visit stay; no visit is opened or
--- shut. No usage rises. No dirty unit is freed. Each unit that is kept was kept for the same group, and is as dirty as
--- before. No miss is forgotten.
+-- What a reclaim keeps. Stocks, killed groups, groups with their limits and settings, and each visit stay; no visit is
+-- opened or shut. No usage rises. No dirty unit is freed. Each unit that is kept was kept for the same group, and is as
+-- dirty as before. No miss is forgotten.
 pub record Keeps (table : KnownTable) (before after : KnownMachine) : Type 0 where
   pub stocks : (cpu : ℕ) → part_at table after cpu ≡ part_at table before cpu
   pub killed : after.killed ≡ before.killed
   pub groups : after.ledger.groups ≡ before.ledger.groups
+  pub settings : after.ledger.settings ≡ before.ledger.settings
   pub hold : (local_of table after).hold ≡ (local_of table before).hold
   pub usage : (group : ℕ) → current_of after.ledger group ≤ current_of before.ledger group
   pub visit : StaysVisited table before after
@@ -59,8 +61,12 @@ abbrev pub MissedOfGroup : ℕ → KnownMachine → KnownMachine → Type 0
 MissedOfGroup group before after =
     (frame : ℕ) (list : LruList) → IsMissed before after frame (record { owner = group; list = list })
 
--- a freeze of each clean unit that the subtree still keeps missed in between
+-- a freeze of each clean unit that the group still keeps missed in between, or memory.min keeps its pages from a
+-- reclaim for `limited`
+abbrev pub MissedOrKept : (limited group : ℕ) → KnownMachine → KnownMachine → Type 0
+MissedOrKept limited group before after = MissedOfGroup group before after ⊎ IsKeptByMin after.ledger limited group
+
+-- this holds of each group of the subtree
 abbrev pub MissedAll : ℕ → KnownMachine → KnownMachine → Type 0
 MissedAll group before after =
-    (frame : ℕ) (home : Home) → in_subtree after.ledger.groups group home.owner ≡ true
-    → IsMissed before after frame home
+    (other : ℕ) → in_subtree after.ledger.groups group other ≡ true → MissedOrKept group other before after

@@ -46,7 +46,7 @@ fn make_reclaim_rounds<N: BootName>(
 /// Reclaims `asked` pages from the subtree of `group`, in at most 16 rounds. That they are asked for is noted first.
 /// Each round wants what is still missing and is noted; a round that freed nothing is the last. Returns how many pages
 /// were freed. They are more than asked for if a block had more, and fewer only if each clean unit that the subtree
-/// still keeps was tried and missed. Stocks stay, no event is counted, and nobody is killed.
+/// still keeps was tried and missed, or memory.min protects it. Stocks stay, and nobody is killed.
 pub fn reclaim_amount<N: BootName>(
     machine: &mut Machine<N>,
     tables: &Tables<N>,

@@ -2,7 +2,8 @@
 //! every unit that was tried, and of every note.
 
 ghost use Rattle.mem_reclaim.specs.Laws.{FlaggedGroupsDieWhole, LoneKillsAreNotedAsMade, MissedUnitsWereTried};
-ghost use Rattle.mem_reclaim.specs.Laws.{OnlyTheLivingDie, RoundsAreNotedAsMade, TheVictimIsOne, VictimsDie};
+ghost use Rattle.mem_reclaim.specs.Laws.{OnlyTheLivingDie, ProtectedGroupsHaveNoTurn, RoundsAreNotedAsMade};
+ghost use Rattle.mem_reclaim.specs.Laws.{TheVictimIsOne, VictimsDie};
 
 /// If a group in the subtree of the limited group has memory.oom.group on, it is killed as a whole, or no group of its
 /// subtree is killed.
@@ -23,6 +24,11 @@ pub fn only_the_living_die()
 /// A group has at most one victim: two answers to the question are always the same.
 pub fn the_victim_is_one()
     ensures { TheVictimIsOne }
+{}
+
+/// No pass takes a page of a group whose usage, when its turn begins, is no more than memory.min protects.
+pub fn protected_groups_have_no_turn()
+    ensures { ProtectedGroupsHaveNoTurn }
 {}
 
 /// A unit counts as missed only if a freeze of it missed.

@@ -1,4 +1,4 @@
-//! Reclaim: units on which only the zone has a reference are frozen and freed, the oldest first, in two passes over the
+//! Reclaim: units on which only the zone has a reference are frozen and freed, the oldest first, in passes over the
 //! groups of a subtree. Modelled on the shrinking of a group's lists in Linux (cgroup-v2.rst, memory.max; Gorman,
 //! "Understanding the Linux Virtual Memory Manager", chapter 10).
 //!
@@ -19,6 +19,7 @@ mod victims;
 
 pub use amounts::reclaim_amount;
 pub use kills::kill;
+pub use passes::Pass;
 pub use reclaiming::{Reclaimed, reclaim};
 pub use rounds::{MAX_ROUNDS, reclaim_round, reclaim_to_limit};
 pub use sets::Killed;

@@ -1,19 +1,55 @@
-//! The two passes over the groups of a subtree, by ascending number.
+//! The passes over the groups of a subtree, by ascending number.
 
-ghost use Rattle.std.specs.Prelude.{◌≡◌, ◌<◌, ◌+◌, ◌^◌, true, false, IsTrue};
-ghost use Rattle.group_tree.specs.Groups.{has_group};
+ghost use Rattle.std.specs.Prelude.{◌≡◌, ◌<◌, ◌+◌, ◌^◌, ◌&&◌, true, false, nat_lt, IsTrue};
+ghost use Rattle.group_tree.specs.Groups.{has_group, in_subtree};
 ghost use Rattle.group_charge.specs.Charges.{current_of};
+ghost use Rattle.group_charge.specs.declared.note.Note.TheVariants.{Spared};
 ghost use Rattle.boot_words.specs.Pasts.{IsHeld};
 ghost use Rattle.mem_machine.specs.Subtrees.{IsSubtree};
 ghost use Rattle.mem_reclaim.specs.Moves.{FreesBySteps};
-ghost use Rattle.mem_reclaim.specs.Passes.{PassesGroup, ReclaimsPass};
-ghost use Rattle.mem_reclaim.specs.Staying.{Keeps, MissedAll, MissedOfGroup, OnlyLeave, UsageFalls};
+ghost use Rattle.mem_reclaim.specs.Passes.{PassesGroup, ReclaimsGroup, ReclaimsPass, TakesTurn, is_first, is_last};
+ghost use Rattle.mem_reclaim.specs.Passes.{notes_spared, spared_by, third_pass, turn_want, with_detail_if};
+ghost use Rattle.mem_reclaim.specs.Staying.{Keeps, MissedAll, MissedOfGroup, MissedOrKept, OnlyLeave, UsageFalls};
 
 use crate::scan::scan;
 use cpu_part::{BootName, Tables};
+use group_charge::note::Note;
+use group_protection::protecting::{Protection, protection_of};
 use group_tree::group::GroupId;
 use lru_lists::record::LruList;
-use mem_machine::{Machine, bit_set};
+use mem_machine::{Machine, bit_set, prove_charges};
+use step_rules::step::NoteKey;
+
+/// A pass over the groups of a subtree.
+#[derive(Clone, Copy, Debug, PartialEq, Eq)]
+pub enum Pass {
+    /// It ages lists. It spares marked units, and what memory.min or memory.low protects.
+    First,
+    /// It tries all clean units, and spares what memory.min or memory.low protects.
+    Second,
+    /// It tries all clean units, and spares only what memory.min protects.
+    Third,
+}
+
+// How much of its usage the pass spares a group that is protected so.
+fn spared_by(pass: Pass, protection: Protection) -> u32
+    ensures { result ≡ spared_by pass protection.min protection.low }
+{
+    match pass {
+        Pass::First | Pass::Second => protection.min.max(protection.low),
+        Pass::Third => protection.min,
+    }
+}
+
+// How many pages a turn wants of a group of whose usage the pass spares this much.
+fn turn_want(want: u64, usage: u32, spared: u32) -> u64
+    ensures { result ≡ turn_want want usage spared }
+{
+    if spared == 0 {
+        return want;
+    }
+    want.min(u64::from(usage.saturating_sub(spared)))
+}
 
 // The first pass over a group: its lists are aged, and then its inactive units are scanned; marked ones are spared.
 fn age_and_scan<N: BootName>(
@@ -66,52 +102,161 @@ fn scan_both<N: BootName>(
     inactive + active
 }
 
-// The turn of a group in a pass.
+// Whether an event `low` is due to a turn of the third pass that freed this many pages.
+fn is_low_event(protection: Protection, freed: u64) -> bool
+    ensures { result ≡ (nat_lt protection.min protection.low && nat_lt 0 freed) }
+{
+    protection.min < protection.low && freed > 0
+}
+
+// The third pass over a group is as the second. If it took what memory.low alone may protect, an event `low` is noted,
+// and what was protected when the turn began.
+fn scan_and_note<N: BootName>(
+    machine: &mut Machine<N>,
+    tables: &Tables<N>,
+    group: GroupId,
+    want: u64,
+    usage: u32,
+    protection: Protection,
+) -> u64
+    requires there { IsTrue (has_group machine.old.ledger.groups group) }
+    requires wanted { 0 < want }
+    requires held { IsHeld N.frames machine.old.run.past }
+    ensures passes { FreesBySteps N.frames result machine.old machine.new
+        (ReclaimsGroup third_pass protection.min protection.low usage group want) }
+    ensures keeps { Keeps N.frames machine.old machine.new }
+    ensures usage { UsageFalls group result machine.old machine.new }
+    ensures few { result < want + 2 ^ 32 }
+    ensures leaves { OnlyLeave machine.old machine.new }
+    ensures missed { result < want → MissedOfGroup group machine.old machine.new }
+{
+    let freed = scan_both(machine, tables, group, want);
+    if is_low_event(protection, freed) {
+        machine.note_event(tables, NoteKey::Low, group);
+        let Protection { min, low } = protection;
+        machine.note_detail(Note::Low {
+            group,
+            usage,
+            min,
+            low,
+        });
+    }
+    freed
+}
+
+// What the pass does with a group.
 fn reclaim_group<N: BootName>(
     machine: &mut Machine<N>,
     tables: &Tables<N>,
     group: GroupId,
     want: u64,
-    is_first: bool,
+    pass: Pass,
+    usage: u32,
+    protection: Protection,
 ) -> u64
     requires there { IsTrue (has_group machine.old.ledger.groups group) }
     requires wanted { 0 < want }
     requires held { IsHeld N.frames machine.old.run.past }
-    ensures passes { FreesBySteps N.frames result machine.old machine.new (PassesGroup is_first group want) }
+    ensures passes { FreesBySteps N.frames result machine.old machine.new
+        (ReclaimsGroup pass protection.min protection.low usage group want) }
     ensures keeps { Keeps N.frames machine.old machine.new }
     ensures usage { UsageFalls group result machine.old machine.new }
     ensures few { result < want + 2 ^ 32 }
-    ensures leaves { is_first ≡ false → OnlyLeave machine.old machine.new }
-    ensures missed { is_first ≡ false → result < want → MissedOfGroup group machine.old machine.new }
+    ensures leaves { is_first pass ≡ false → OnlyLeave machine.old machine.new }
+    ensures missed { is_first pass ≡ false → result < want → MissedOfGroup group machine.old machine.new }
 {
-    if is_first {
-        age_and_scan(machine, tables, group, want)
-    } else {
-        scan_both(machine, tables, group, want)
+    match pass {
+        Pass::First => age_and_scan(machine, tables, group, want),
+        Pass::Second => scan_both(machine, tables, group, want),
+        Pass::Third => scan_and_note(machine, tables, group, want, usage, protection),
     }
 }
 
-/// One pass over `groups`, those of the subtree of `group`, by ascending number, as long as pages are wanted. Returns
+// Whether this is the first pass, which wants fewer pages of a group than are wanted, though the group has some.
+fn notes_spared(pass: Pass, usage: u32, want: u64, wanted: u64) -> bool
+    ensures { result ≡ notes_spared pass usage want wanted }
+{
+    wanted < want && usage > 0 && matches!(pass, Pass::First)
+}
+
+// Notes what protects the group, if the pass notes that.
+fn note_spared<N: BootName>(
+    machine: &mut Machine<N>,
+    group: GroupId,
+    want: u64,
+    wanted: u64,
+    pass: Pass,
+    usage: u32,
+    protection: Protection,
+)
+    ensures { machine.new ≡ with_detail_if (notes_spared pass usage want wanted) machine.old
+        (Spared group usage protection.min protection.low) }
+{
+    if notes_spared(pass, usage, want, wanted) {
+        let Protection { min, low } = protection;
+        machine.note_detail(Note::Spared {
+            group,
+            usage,
+            min,
+            low,
+        });
+    }
+}
+
+// The turn of a group in a pass. What protects the group is found now, since earlier turns changed what its parents use.
+fn take_turn<N: BootName>(
+    machine: &mut Machine<N>,
+    tables: &Tables<N>,
+    target: GroupId,
+    group: GroupId,
+    want: u64,
+    pass: Pass,
+) -> u64
+    requires there { IsTrue (has_group machine.old.ledger.groups group) }
+    requires inside { in_subtree machine.old.ledger.groups target group ≡ true }
+    requires wanted { 0 < want }
+    requires held { IsHeld N.frames machine.old.run.past }
+    ensures turn { FreesBySteps N.frames result machine.old machine.new (TakesTurn pass target group want) }
+    ensures keeps { Keeps N.frames machine.old machine.new }
+    ensures usage { UsageFalls group result machine.old machine.new }
+    ensures few { result < want + 2 ^ 32 }
+    ensures leaves { is_first pass ≡ false → OnlyLeave machine.old machine.new }
+    ensures tried { is_last pass machine.old.ledger.settings ≡ true → result < want
+        → MissedOrKept target group machine.old machine.new }
+{
+    let charges = machine.charges();
+    prove_charges(charges);
+    let protection = protection_of(charges, target, group);
+    let usage = charges.current(group);
+    let wanted = turn_want(want, usage, spared_by(pass, protection));
+    note_spared(machine, group, want, wanted, pass, usage, protection);
+    if wanted == 0 {
+        return 0;
+    }
+    reclaim_group(machine, tables, group, wanted, pass, usage, protection)
+}
+
+/// One pass over `groups`, those of the subtree of `target`, by ascending number, as long as pages are wanted. Returns
 /// how many pages were freed.
 pub(crate) fn reclaim_pass<N: BootName>(
     machine: &mut Machine<N>,
     tables: &Tables<N>,
-    group: GroupId,
+    target: GroupId,
     groups: u64,
     want: u64,
-    is_first: bool,
+    pass: Pass,
 ) -> u64
-    requires there { IsTrue (has_group machine.old.ledger.groups group) }
-    requires subtree { IsSubtree machine.old.ledger.groups group groups }
+    requires there { IsTrue (has_group machine.old.ledger.groups target) }
+    requires subtree { IsSubtree machine.old.ledger.groups target groups }
     requires held { IsHeld N.frames machine.old.run.past }
-    ensures passes { FreesBySteps N.frames result machine.old machine.new (ReclaimsPass group is_first want) }
+    ensures passes { FreesBySteps N.frames result machine.old machine.new (ReclaimsPass target pass want) }
     ensures keeps { Keeps N.frames machine.old machine.new }
-    ensures usage { current_of machine.new.ledger group + result ≡ current_of machine.old.ledger group }
+    ensures usage { current_of machine.new.ledger target + result ≡ current_of machine.old.ledger target }
     ensures few { result < want + 2 ^ 32 }
-    ensures leaves { is_first ≡ false → OnlyLeave machine.old machine.new }
-    ensures missed { is_first ≡ false → result < want → MissedAll group machine.old machine.new }
+    ensures tried { is_last pass machine.old.ledger.settings ≡ true → result < want
+        → MissedAll target machine.old machine.new }
 {
-    machine.prove_usage(group); // At most this many pages are freed.
+    machine.prove_usage(target); // At most this many pages are freed.
     let mut rest = groups;
     let mut freed = 0;
     while let Some(number) = bit_set::take_first(&mut rest) {
@@ -121,8 +266,8 @@ pub(crate) fn reclaim_pass<N: BootName>(
         let Some(turn) = GroupId::of(number) else {
             unreachable!()
         };
-        freed += reclaim_group(machine, tables, turn, want - freed, is_first);
+        freed += take_turn(machine, tables, target, turn, want - freed, pass);
     }
-    machine.prove_consistent();
+    prove_charges(machine.charges());
     freed
 }

@@ -4,11 +4,12 @@ ghost use Rattle.std.specs.Prelude.{◌≡◌, ◌<◌, ◌+◌, ◌^◌, IsTrue
 ghost use Rattle.group_tree.specs.Groups.{has_group};
 ghost use Rattle.group_charge.specs.Charges.{current_of};
 ghost use Rattle.boot_words.specs.Pasts.{IsHeld};
+ghost use Rattle.mem_machine.specs.Subtrees.{IsSubtree};
 ghost use Rattle.mem_reclaim.specs.Moves.{FreesBySteps};
 ghost use Rattle.mem_reclaim.specs.Passes.{Reclaims};
 ghost use Rattle.mem_reclaim.specs.Staying.{Keeps, MissedAll};
 
-use crate::passes::reclaim_pass;
+use crate::passes::{Pass, reclaim_pass};
 use cpu_part::{BootName, Tables};
 use group_tree::group::GroupId;
 use mem_machine::{Machine, subtree};
@@ -18,16 +19,50 @@ use mem_machine::{Machine, subtree};
 pub struct Reclaimed {
     /// How many pages were freed. A block may have more than were still wanted.
     pub pages: u64,
-    /// Whether the second pass ended without enough pages: each clean unit that the subtree still keeps was tried and
-    /// missed.
+    /// Whether the last pass ended without enough pages: each clean unit that the subtree still keeps was tried and
+    /// missed, or memory.min protects it.
     pub tried_all: bool,
 }
 
-/// Frees units that the subtree of `group` keeps, until at least `want` pages are freed or every clean unit was tried.
-/// A unit is freed if only the zone has a reference on it; a dirty unit never is. The first pass ages each group's
-/// lists, tries its inactive units and gives marked ones a second chance. The second pass tries all clean units. Each
-/// pass goes over the groups by ascending number, and over a list from the oldest unit to the newest. With `want` 0
-/// nothing is done.
+// The passes of a reclaim of `want` pages from `groups`, those of the subtree of `group`. If no group of the tree has
+// memory.low or memory.min, the third pass would only repeat the second.
+fn make_passes<N: BootName>(
+    machine: &mut Machine<N>,
+    tables: &Tables<N>,
+    group: GroupId,
+    groups: u64,
+    want: u64,
+) -> u64
+    requires there { IsTrue (has_group machine.old.ledger.groups group) }
+    requires wanted { 0 < want }
+    requires subtree { IsSubtree machine.old.ledger.groups group groups }
+    requires held { IsHeld N.frames machine.old.run.past }
+    ensures reclaims { FreesBySteps N.frames result machine.old machine.new (Reclaims group want) }
+    ensures missed { result < want → MissedAll group machine.old machine.new }
+    ensures usage { current_of machine.new.ledger group + result ≡ current_of machine.old.ledger group }
+    ensures keeps { Keeps N.frames machine.old machine.new }
+{
+    machine.prove_usage(group); // At most this many pages are freed.
+    let first = reclaim_pass(machine, tables, group, groups, want, Pass::First);
+    if want <= first {
+        return first;
+    }
+    let both = first + reclaim_pass(machine, tables, group, groups, want - first, Pass::Second);
+    if want <= both {
+        return both;
+    }
+    if !machine.charges().is_protecting() {
+        return both;
+    }
+    both + reclaim_pass(machine, tables, group, groups, want - both, Pass::Third)
+}
+
+/// Frees units that the subtree of `group` keeps, until at least `want` pages are freed or every clean unit that
+/// memory.min doesn't protect was tried. A unit is freed if only the zone has a reference on it; a dirty unit never is.
+/// The first pass ages each group's lists, tries its inactive units and gives marked ones a second chance. The second
+/// pass tries all clean units. If some group of the tree has memory.low or memory.min, these passes spare what one of
+/// them protects, and a third spares only what memory.min protects. Each pass goes over the groups by ascending number, and over a list
+/// from the oldest unit to the newest. With `want` 0 nothing is done.
 pub fn reclaim<N: BootName>(
     machine: &mut Machine<N>,
     tables: &Tables<N>,
@@ -48,16 +83,8 @@ pub fn reclaim<N: BootName>(
             tried_all: false,
         };
     }
-    machine.prove_usage(group); // At most this many pages are freed.
     let groups = subtree(machine.charges().tree(), group);
-    let first = reclaim_pass(machine, tables, group, groups, want, true);
-    if want <= first {
-        return Reclaimed {
-            pages: first,
-            tried_all: false,
-        };
-    }
-    let pages = first + reclaim_pass(machine, tables, group, groups, want - first, false);
+    let pages = make_passes(machine, tables, group, groups, want);
     Reclaimed {
         pages,
         tried_all: pages < want,

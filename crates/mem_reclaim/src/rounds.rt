@@ -30,7 +30,7 @@ fn missing(charges: &Charges, group: GroupId, need: u32, limit: u32) -> u64
 
 /// Makes the round of this number, from 1, for a group, in which `want` pages are wanted. It is noted with what it
 /// tried, after the units that it freed, if these are noted. If it frees fewer pages, each clean unit that the subtree
-/// still keeps was tried and missed.
+/// still keeps was tried and missed, or memory.min protects it.
 pub fn reclaim_round<N: BootName>(
     machine: &mut Machine<N>,
     tables: &Tables<N>,
@@ -63,7 +63,7 @@ pub fn reclaim_round<N: BootName>(
 /// Reclaims from the subtree of `group` until its usage with `need` more pages is at most `limit`. It makes at most 16
 /// rounds. Each round wants the pages that are missing when it begins, and is noted; one that freed none is the last.
 /// Returns how many pages were freed. If they weren't enough, each clean unit that the subtree still keeps was tried
-/// and missed.
+/// and missed, or memory.min protects it.
 pub fn reclaim_to_limit<N: BootName>(
     machine: &mut Machine<N>,
     tables: &Tables<N>,

@@ -12,7 +12,7 @@ use Rattle.group_tree.proofs.CallerLemmas.{limit_of-limited}
 use Rattle.group_charge.specs.Charges.{current_of}
 use Rattle.zone_blocks.specs.declared.config.Config.{Config}
 use Rattle.control_files.specs.declared.file.File.{File}
-use Rattle.control_files.specs.declared.file.File.TheVariants.{Max, High, OomGroup, Reclaim}
+use Rattle.control_files.specs.declared.file.File.TheVariants.{Max, High, Low, Min, OomGroup, Reclaim}
 use Rattle.cpu_part.specs.Cpus.{KnownCpu}
 use Rattle.step_rules.specs.After.{Run}
 use Rattle.mem_machine.specs.declared.releasing.Released.TheVariants as released
@@ -91,6 +91,7 @@ passes_told t g m n steps p = record {
   runs = record { holder = p.runs.holder; leads = p.runs.leads; follows = p.runs.follows; counts = p.runs.counts; noted = p.runs.noted };
   owners = p.owners;
   dirt = p.dirt;
+  settings = p.settings;
 }
 
 module _ (t : KnownTable) (MayAsk : List Group → ℕ → ℕ → Type 0) (s : KnownMachine) (held : IsHeld t s.run.past) where
@@ -110,7 +111,7 @@ module _ (t : KnownTable) (MayAsk : List Group → ℕ → ℕ → Type 0) (s : 
       let first = drain_stocks_steps low.drains in
       let told = with_limit_noted m g 0 in
       let same = drains_leave t (of_subtree g) t.cpus told y low.drains low.drains_all in
-      let drains = passes_told t g m y first (passes_same t told y first low.drain_runs same.links) in
+      let drains = passes_told t g m y first (passes_same t told y first low.drain_runs same.links same.settings) in
       let after_drains = passes_both t s m y made first since drains in
       let rounds = keeps_pass t y x low.reclaims.steps low.reclaims.moves.runs low.keeps in
       let lowering = subst (λ (k : Run). Passes t m k x) (sym low.steps_are) (passes_both t m y x first low.reclaims.steps drains rounds) in
@@ -144,7 +145,7 @@ module _ (t : KnownTable) (MayAsk : List Group → ℕ → ℕ → Type 0) (s : 
   sets_rash path g of steps n found asked h =
       let x = with_run (with_limit_of s g of) h.seen in
       let first = set_max_steps g of in
-      let set = passes_same t s x first h.sets refl in
+      let set = passes_same t s x first h.sets refl refl in
       subst (λ (k : Run). RashFree t MayAsk s [] k) (sym h.steps_are) (rash_both t MayAsk s held [] first h.lowering
       (rash_quiet t MayAsk s held [] first refl)
       (keeps_rash g of first x h.lowering n (limit_of-limited s.ledger.groups g of (found_there s.ledger.groups path g found)) asked set h.keeps))
@@ -157,6 +158,8 @@ module _ (t : KnownTable) (MayAsk : List Group → ℕ → ℕ → Type 0) (s : 
     set_no_rash g Max steps n is h =
         sets_rash path g h.limit steps n is.number (asks g h.limit (record { file = is; reads = h.reads })) h.sets
     set_no_rash g High steps n is h = quiet steps (high_quiet g h.limit (transition t (with_high_of s g h.limit) steps n) h.lowers)
+    set_no_rash g Low steps n is h = quiet steps (ap has_kill h.steps_are)
+    set_no_rash g Min steps n is h = quiet steps (ap has_kill h.steps_are)
     set_no_rash g OomGroup steps n is h = quiet steps (ap has_kill h.sets.steps_are)
     set_no_rash g Reclaim steps n is h = quiet steps (ap has_kill h.steps_are ∙ h.reclaims.moves.no_kill)
     set_no_rash g file steps n is h = absurd h

@@ -3,7 +3,7 @@ use Rattle.std.proofs.Common.{◌≡◌, ◌≢◌, ◌⊎◌, ℕ, false, ◌+�
 use Rattle.group_tree.specs.declared.fault.Fault.{Fault}
 use Rattle.group_tree.specs.declared.fault.Fault.TheVariants.{Again, BadLimit, BadNumber}
 use Rattle.control_files.specs.declared.file.File.{File}
-use Rattle.control_files.specs.declared.file.File.TheVariants.{Current, Max, High, Peak, Events, EventsLocal, OomGroup, Reclaim}
+use Rattle.control_files.specs.declared.file.File.TheVariants.{Current, Max, High, Low, Min, Peak, Events, EventsLocal, OomGroup, Reclaim, Stat}
 use Rattle.control_files.specs.{is_writable, IsNoFlagText, ReadsAmount, ReadsAs, IsNoAmountText, IsNoLimitText, IsTooGreat}
 use Rattle.frame_word.specs.Seats.{KnownTable}
 use Rattle.mem_machine.specs.{KnownMachine, Makes, BySteps, Transition, transition}
@@ -12,7 +12,7 @@ use Rattle.group_charge.specs.Charges.{current_of}
 use Rattle.mem_reclaim.specs.{FreesBySteps, ReclaimsAmount, Keeps, MissedAll}
 use Rattle.mem_system.specs.declared.command.ReplyWithText.{ReplyWithText}
 use Rattle.mem_system.specs.declared.command.ReplyWithText.TheVariants.{Done, Refused}
-use Rattle.mem_system.specs.{IsFileOf, RefusesValue, Writes, WritesTo, with_high_of, LowersToHigh}
+use Rattle.mem_system.specs.{IsFileOf, RefusesValue, Writes, WritesTo, with_high_of, with_low_of, with_min_of, LowersToHigh}
 
 pub refused_limit : (value : List ℕ) (fault : Fault) → (fault ≡ BadNumber) ⊎ (fault ≡ BadLimit) → (fault ≡ BadNumber → IsTooGreat value)
     → (fault ≡ BadLimit → IsNoLimitText value) → RefusesValue Max value fault
@@ -23,6 +23,16 @@ pub refused_high : (value : List ℕ) (fault : Fault) → (fault ≡ BadNumber) 
     → (fault ≡ BadLimit → IsNoLimitText value) → RefusesValue High value fault
 refused_high value fault (inl number) great none = subst (λ (f : Fault). RefusesValue High value f) (sym number) (great number)
 refused_high value fault (inr limit) great none = subst (λ (f : Fault). RefusesValue High value f) (sym limit) (none limit)
+
+pub refused_low : (value : List ℕ) (fault : Fault) → (fault ≡ BadNumber) ⊎ (fault ≡ BadLimit) → (fault ≡ BadNumber → IsTooGreat value)
+    → (fault ≡ BadLimit → IsNoLimitText value) → RefusesValue Low value fault
+refused_low value fault (inl number) great none = subst (λ (f : Fault). RefusesValue Low value f) (sym number) (great number)
+refused_low value fault (inr limit) great none = subst (λ (f : Fault). RefusesValue Low value f) (sym limit) (none limit)
+
+pub refused_min : (value : List ℕ) (fault : Fault) → (fault ≡ BadNumber) ⊎ (fault ≡ BadLimit) → (fault ≡ BadNumber → IsTooGreat value)
+    → (fault ≡ BadLimit → IsNoLimitText value) → RefusesValue Min value fault
+refused_min value fault (inl number) great none = subst (λ (f : Fault). RefusesValue Min value f) (sym number) (great number)
+refused_min value fault (inr limit) great none = subst (λ (f : Fault). RefusesValue Min value f) (sym limit) (none limit)
 
 pub refused_flag : (value : List ℕ) (fault : Fault) → fault ≡ BadLimit → (fault ≡ BadLimit → IsNoFlagText value) → RefusesValue OomGroup value fault
 refused_flag value fault limit none = subst (λ (f : Fault). RefusesValue OomGroup value f) (sym limit) (none limit)
@@ -44,6 +54,15 @@ high_written t value g of m x n reads set first last = record {
   };
   makes = makes_both t [] last.steps m x n first last.makes;
 }
+
+-- memory.low and memory.min are set by no step, and nothing is done for them
+pub low_written : (t : KnownTable) (value : List ℕ) (g : ℕ) (of : Option ℕ) (m n : KnownMachine) → ReadsAs value of → n ≡ with_low_of m g of → Makes t m [] n
+    → BySteps Makes t (WritesTo Low value g Done) m n
+low_written t value g of m n reads set makes = record { steps = []; does = record { limit = of; reads = reads; machine = set; steps_are = refl }; makes = makes }
+
+pub min_written : (t : KnownTable) (value : List ℕ) (g : ℕ) (of : Option ℕ) (m n : KnownMachine) → ReadsAs value of → n ≡ with_min_of m g of → Makes t m [] n
+    → BySteps Makes t (WritesTo Min value g Done) m n
+min_written t value g of m n reads set makes = record { steps = []; does = record { limit = of; reads = reads; machine = set; steps_are = refl }; makes = makes }
 
 -- the file is there, and nothing changes
 pub refused_by : (t : KnownTable) (file : File) (value : List ℕ) (g : ℕ) (fault : Fault) (m : KnownMachine) → RefusesValue file value fault
@@ -82,16 +101,19 @@ written_at t path name value g file m n reply is made = record {
   makes = made.makes;
 }
 
--- what isn't one of these four files isn't written
-pub read_only : (file : File) → file ≢ Max → file ≢ High → file ≢ OomGroup → file ≢ Reclaim → is_writable file ≡ false
-read_only Current a b c d = refl
-read_only Max a b c d = absurd (a refl)
-read_only High a b c d = absurd (b refl)
-read_only Peak a b c d = refl
-read_only Events a b c d = refl
-read_only EventsLocal a b c d = refl
-read_only OomGroup a b c d = absurd (c refl)
-read_only Reclaim a b c d = absurd (d refl)
+-- what isn't one of these six files isn't written
+pub read_only : (file : File) → file ≢ Max → file ≢ High → file ≢ Low → file ≢ Min → file ≢ OomGroup → file ≢ Reclaim → is_writable file ≡ false
+read_only Current a b c d e f = refl
+read_only Max a b c d e f = absurd (a refl)
+read_only High a b c d e f = absurd (b refl)
+read_only Low a b c d e f = absurd (c refl)
+read_only Min a b c d e f = absurd (d refl)
+read_only Peak a b c d e f = refl
+read_only Events a b c d e f = refl
+read_only EventsLocal a b c d e f = refl
+read_only OomGroup a b c d e f = absurd (e refl)
+read_only Reclaim a b c d e f = absurd (f refl)
+read_only Stat a b c d e f = refl
 
 module _ (t : KnownTable) (value : List ℕ) (g asked freed : ℕ) (m n : KnownMachine) (reads : ReadsAmount value asked)
     (leads : FreesBySteps t freed m n (ReclaimsAmount g asked)) (missed : freed < asked → MissedAll g m n)

@@ -47,7 +47,7 @@ abbrev pub Executes : Config → LockedCommand → ReplyWithText → Transition 
 Executes sizes (Mkdir path) reply call = OfMachineAlone (MakesGroup path.now reply) call
 Executes sizes (Rmdir path) reply call = OfMachineAlone (Removes path.now reply) call
 Executes sizes (Write path file value) reply call = OfMachineAlone (Writes path.now file.now value.now reply) call
-Executes sizes (Read path file) reply call = Reads call.before.machine.ledger path.now file.now reply × Stays call
+Executes sizes (Read path file) reply call = Reads call.before.machine path.now file.now reply × Stays call
 Executes sizes Settle reply call = (reply ≡ Done) × Stays call
 Executes sizes (Owner frame) reply call = ReportsPlace call.before.machine frame reply × Stays call
 Executes sizes (Touch frame) reply call = OfMachineAlone (MakesNoStep (TouchesFrame frame reply)) call

@@ -1,15 +1,16 @@
 -- The files of the groups: how they are found, what a read returns, and what a write does.
-use Rattle.std.specs.Prelude.{◌≡◌, ◌≢◌, ◌⊎◌, ℕ, ◌+◌, ◌<◌, ◌≤◌, Bool, false, Option, Some, None, Result, Ok, Err, List, ◌++◌}
+use Rattle.std.specs.Prelude.{◌≡◌, ◌≢◌, ◌⊎◌, ℕ, ◌+◌, ◌<◌, ◌≤◌, Bool, false, Option, Some, None, Result, Ok, Err, List, [], ◌++◌}
 use Rattle.group_tree.specs.declared.group.Group.{Group}
 use Rattle.group_tree.specs.Groups.{number_at}
 use Rattle.group_tree.specs.declared.fault.Fault.{Fault}
 use Rattle.group_tree.specs.declared.fault.Fault.TheVariants.{NoGroup, NoFile, ReadOnly, BadLimit, BadNumber, Again}
-use Rattle.group_charge.specs.Charges.{Ledger, current_of, with_group_limit, with_oom_flag, with_settings}
+use Rattle.group_charge.specs.Charges.{Ledger, current_of, settings_of, with_group_limit, with_oom_flag, with_settings}
 use Rattle.control_files.specs.declared.file.File.{File}
-use Rattle.control_files.specs.declared.file.File.TheVariants.{Max, High, OomGroup, Reclaim}
+use Rattle.control_files.specs.declared.file.File.TheVariants.{Max, High, Low, Min, OomGroup, Reclaim, Stat}
 use Rattle.control_files.specs.{name_of_file, file_text, is_writable, IsFlagText, IsNoFlagText, ReadsAmount, ReadsAs, IsTooGreat, IsNoAmountText}
-use Rattle.control_files.specs.{IsNoLimitText}
+use Rattle.control_files.specs.{IsNoLimitText, stat_text}
 use Rattle.step_rules.specs.After.{Run}
+use Rattle.machine_texts.specs.{memory_stat}
 use Rattle.mem_machine.specs.{KnownMachine, with_run, Makes, KnownRun, set_max_steps, set_oom_group_steps, Transition, MachineStays, transition}
 use Rattle.mem_reclaim.specs.{FreesBySteps, ReclaimsAmount, Keeps, MissedAll}
 use Rattle.mem_system.specs.declared.command.ReplyWithText.{ReplyWithText}
@@ -34,19 +35,24 @@ HasNoFile groups path name NoGroup = number_at groups path ≡ None
 HasNoFile groups path name NoFile = HasNoFileNamed groups path name
 HasNoFile groups path name fault = ⊥
 
+-- what a file of the group shows: memory.stat what the machine keeps, each other file what the ledger says
+abbrev pub shown_text : KnownMachine → ℕ → File → Result (List ℕ) Fault
+shown_text machine group Stat = Ok (stat_text (memory_stat machine group))
+shown_text machine group file = file_text machine.ledger group file
+
 -- the answer of a file that exists: its text, or why it can't be read
-pub record ReadsFile (ledger : Ledger) (path name : List ℕ) (answer : Result (List ℕ) Fault) : Type 0 where
+pub record ReadsFile (machine : KnownMachine) (path name : List ℕ) (answer : Result (List ℕ) Fault) : Type 0 where
   pub group : ℕ
   pub file : File
-  pub is_file : IsFileOf ledger.groups path name group file
-  pub answer_is : answer ≡ file_text ledger group file
+  pub is_file : IsFileOf machine.ledger.groups path name group file
+  pub answer_is : answer ≡ shown_text machine group file
 
--- Read: the text of the file, by the ledger; or there is no such file, or it can't be read
-abbrev pub Reads : Ledger → (path name : List ℕ) → ReplyWithText → Type 0
-Reads ledger path name (Text text) = ReadsFile ledger path name (Ok text)
-Reads ledger path name (Refused fault) =
-    HasNoFile ledger.groups path name fault ⊎ ReadsFile ledger path name (Err fault)
-Reads ledger path name other = ⊥
+-- Read: the text of the file; or there is no such file, or it can't be read
+abbrev pub Reads : KnownMachine → (path name : List ℕ) → ReplyWithText → Type 0
+Reads machine path name (Text text) = ReadsFile machine path name (Ok text)
+Reads machine path name (Refused fault) =
+    HasNoFile machine.ledger.groups path name fault ⊎ ReadsFile machine path name (Err fault)
+Reads machine path name other = ⊥
 
 -- the machine with another limit of the group
 abbrev pub with_limit_of : KnownMachine → (group : ℕ) → Option ℕ → KnownMachine
@@ -71,7 +77,19 @@ pub record WritesLimit (value : List ℕ) (group : ℕ) (call : Transition Known
 -- the machine with another memory.high of the group; no step sets it, since no rule reads it
 abbrev pub with_high_of : KnownMachine → (group : ℕ) → Option ℕ → KnownMachine
 with_high_of machine group limit = record machine {
-  ledger = with_settings machine.ledger group (record { high = limit });
+  ledger = with_settings machine.ledger group (record (settings_of machine.ledger group) { high = limit });
+}
+
+-- the same with another memory.low
+abbrev pub with_low_of : KnownMachine → (group : ℕ) → Option ℕ → KnownMachine
+with_low_of machine group limit = record machine {
+  ledger = with_settings machine.ledger group (record (settings_of machine.ledger group) { low = limit });
+}
+
+-- and with another memory.min
+abbrev pub with_min_of : KnownMachine → (group : ℕ) → Option ℕ → KnownMachine
+with_min_of machine group limit = record machine {
+  ledger = with_settings machine.ledger group (record (settings_of machine.ledger group) { min = limit });
 }
 
 -- the value is the text of a limit, which becomes the group's memory.high, and then its usage is lowered to it
@@ -80,6 +98,13 @@ pub record WritesHigh (value : List ℕ) (group : ℕ) (call : Transition KnownM
   pub reads : ReadsAs value limit
   pub lowers : LowersToHigh group limit
       (transition call.table (with_high_of call.before group limit) call.steps call.after)
+
+-- the value is the text of a limit, and `Sets` says which machine that leaves; no step is made
+pub record WritesSetting (Sets : Option ℕ → KnownMachine) (value : List ℕ) (call : Transition KnownMachine) : Type 0 where
+  pub limit : Option ℕ
+  pub reads : ReadsAs value limit
+  pub machine : call.after ≡ Sets limit
+  pub steps_are : call.steps ≡ []
 
 -- the machine with another flag of the group: whether it is killed as a whole
 abbrev pub with_flag_of : KnownMachine → (group : ℕ) → Bool → KnownMachine
@@ -98,7 +123,7 @@ pub record WritesFlag (value : List ℕ) (group : ℕ) (call : Transition KnownM
 
 -- The value is the text of an amount, and this many pages of the group's subtree are reclaimed, by these steps alone.
 -- Stocks and killed groups stay, and no dirty unit is freed. If fewer pages are freed than asked for, each clean unit
--- that the subtree still keeps was tried and missed.
+-- that the subtree still keeps was tried and missed, or memory.min keeps it.
 pub record WritesAmount (value : List ℕ) (group : ℕ) (Ends : (asked freed : ℕ) → Type 0)
     (call : Transition KnownMachine) : Type 0 where
   pub asked : ℕ
@@ -115,6 +140,8 @@ pub record WritesAmount (value : List ℕ) (group : ℕ) (Ends : (asked freed : 
 abbrev pub SetsFile : File → (value : List ℕ) → (group : ℕ) → Transition KnownMachine → Type 0
 SetsFile Max value group call = WritesLimit value group call
 SetsFile High value group call = WritesHigh value group call
+SetsFile Low value group call = WritesSetting (with_low_of call.before group) value call
+SetsFile Min value group call = WritesSetting (with_min_of call.before group) value call
 SetsFile OomGroup value group call = WritesFlag value group call
 SetsFile Reclaim value group call = WritesAmount value group (λ asked freed. asked ≤ freed) call
 SetsFile read_only value group call = ⊥
@@ -126,6 +153,10 @@ RefusesValue Max value BadLimit = IsNoLimitText value
 RefusesValue Max value BadNumber = IsTooGreat value
 RefusesValue High value BadLimit = IsNoLimitText value
 RefusesValue High value BadNumber = IsTooGreat value
+RefusesValue Low value BadLimit = IsNoLimitText value
+RefusesValue Low value BadNumber = IsTooGreat value
+RefusesValue Min value BadLimit = IsNoLimitText value
+RefusesValue Min value BadNumber = IsTooGreat value
 RefusesValue OomGroup value BadLimit = IsNoFlagText value
 RefusesValue Reclaim value BadLimit = IsNoAmountText value
 RefusesValue Reclaim value BadNumber = IsTooGreat value

@@ -36,7 +36,7 @@ pub use Rattle.mem_system.specs.Ending.{EndsCpu, HasEnded, PutsAndEnds}
 pub use Rattle.mem_system.specs.Ends.{AreLastWords, Closes, Empties, ForEachCpu, HasNoPage, IsAuditOf, IsClosed, IsEmptied, IsSettledUnpinned}
 pub use Rattle.mem_system.specs.Ends.{KnownEmptiedBoot, LendsAndFillsNone, MachineAndCpu, MakesLastVisits, SettlesInVisit, VisitsUnderLock, drops_of}
 pub use Rattle.mem_system.specs.Ends.{machine_and_cpu, pins_of_all, steps_of_visits}
-pub use Rattle.mem_system.specs.Files.{HasNoFile, IsFileOf, IsLimitFor, Reads, RefusesValue, SetsFile, SetsLimit, Writes, WritesTo, with_high_of}
+pub use Rattle.mem_system.specs.Files.{HasNoFile, IsFileOf, IsLimitFor, Reads, RefusesValue, SetsFile, SetsLimit, Writes, WritesTo, with_high_of, with_low_of, with_min_of}
 pub use Rattle.mem_system.specs.Files.{with_limit_of}
 pub use Rattle.mem_system.specs.Groups.{MakesGroup, Removes}
 pub use Rattle.mem_system.specs.Leaves.{HasNoLeaf, IsLeafAt}

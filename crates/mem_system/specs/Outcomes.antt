@@ -4,6 +4,7 @@ use Rattle.group_tree.specs.Groups.{has_group, path_of}
 use Rattle.group_tree.specs.declared.fault.Fault.{Fault}
 use Rattle.group_charge.specs.Charges.{Ledger}
 use Rattle.control_files.specs.Files.{file_text}
+use Rattle.control_files.specs.Stat.{stat_text}
 use Rattle.frame_word.specs.Seats.{KnownTable}
 use Rattle.cpu_part.specs.Cpus.{KnownCpu}
 use Rattle.mem_machine.specs.{KnownMachine, Makes, VisitDoes, VisitState, Transition, BySteps}
@@ -29,6 +30,7 @@ reply_of ledger (outcome.Group group) = Group group
 reply_of ledger (outcome.Frame frame) = Frame frame
 reply_of ledger outcome.Done = Done
 reply_of ledger (outcome.Text group file) = text_reply (file_text ledger group file)
+reply_of ledger (outcome.Stat stat) = Text (stat_text stat)
 reply_of ledger outcome.Free = Free
 reply_of ledger (outcome.Lent cpu) = Lent cpu
 reply_of ledger (outcome.Charged group) = Charged group (path_or_empty (path_of ledger.groups group))

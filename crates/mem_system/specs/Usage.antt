@@ -10,7 +10,7 @@ use Rattle.mem_alloc.specs.{with_limit_noted, KillsForRoom}
 
 -- The stocks of the group's subtree are drained. Then its units are reclaimed, in at most 16 rounds, while its usage is
 -- above the limit. If the usage is above the limit even after that, each clean unit that the subtree still keeps was
--- tried and missed.
+-- tried and missed, or memory.min keeps it.
 pub record LowersUsage (group limit : ℕ) (call : Transition KnownMachine) : Type 0 where
   pub drains : List Drain
   pub drained : KnownMachine

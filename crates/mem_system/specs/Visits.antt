@@ -50,8 +50,8 @@ visit_steps table before inner =
     open_steps before.cpu.number ++ (settle_steps table before ++ (inner ++ shut_steps before.cpu.number))
 
 -- A command under the lock. Earlier notes are forgotten, the caller's visit is opened, the caller is settled, the
--- command is executed, and the visit is shut. The command kills a group only after it tried everything else, and only
--- its own steps kill. The misses that are noted are those among its steps.
+-- command is executed, and the visit is shut. The command kills a group only after it tried everything else that
+-- memory.min doesn't keep, and only its own steps kill. The misses that are noted are those among its steps.
 pub record Serves (cmd : LockedCommand) (reply : ReplyWithText) (call : Transition LockedState) : Type 0 where
   pub settled : VisitState
   pub seen : KnownRun

@@ -127,7 +127,7 @@ pub(crate) fn execute<N: BootName>(
         LockedCommand::Write { path, file, value } => write_file(
             machine, tables, path, file, value,
         ),
-        LockedCommand::Read { path, file } => read_file(machine.charges(), path, file),
+        LockedCommand::Read { path, file } => read_file(machine, path, file),
         LockedCommand::Settle => Outcome::Done,
         LockedCommand::Owner { frame } => report_place(machine, tables, *frame),
         LockedCommand::Touch { frame } => touch_frame(machine, tables, *frame),

@@ -19,6 +19,7 @@ use group_charge::charges::Charges;
 use group_charge::settings::Settings;
 use group_tree::fault::Fault;
 use group_tree::group::GroupId;
+use machine_texts::memory_stat;
 use mem_machine::Machine;
 use mem_reclaim::reclaim_amount;
 
@@ -37,13 +38,17 @@ fn find_file(charges: &Charges, path: &[u8], name: &[u8]) -> Result<(GroupId, Fi
 }
 
 // Reads a control file: refused for the first cause that holds, no group or no such file.
-pub(crate) fn read_file(charges: &Charges, path: &[u8], name: &[u8]) -> Outcome
-    ensures read { Reads charges.now path.now name.now (reply_of charges.now result) }
-    ensures groups { HasItsGroups charges.now result }
+pub(crate) fn read_file<N: BootName>(machine: &Machine<N>, path: &[u8], name: &[u8]) -> Outcome
+    ensures read { Reads machine.now path.now name.now (reply_of machine.now.ledger result) }
+    ensures groups { HasItsGroups machine.now.ledger result }
 {
-    match find_file(charges, path, name) {
-        Ok(found) => Outcome::Text(found.0, found.1),
-        Err(fault) => Outcome::Refused(fault),
+    let (group, file) = match find_file(machine.charges(), path, name) {
+        Ok(found) => found,
+        Err(fault) => return Outcome::Refused(fault),
+    };
+    match file {
+        File::Stat => Outcome::Stat(memory_stat(machine, group)),
+        _ => Outcome::Text(group, file),
     }
 }
 
@@ -105,8 +110,41 @@ fn write_high<N: BootName>(
 {
     match read_limit(value) {
         Ok(high) => {
-            machine.set_settings(group, Settings { high });
+            let settings = machine.charges().settings(group);
+            machine.set_settings(group, Settings { high, ..settings });
             lower_to_high(machine, tables, group, high);
+            Outcome::Done
+        }
+        Err(fault) => Outcome::Refused(fault),
+    }
+}
+
+// Gives the group the memory.low that the value writes. The value is refused if it is no limit.
+fn write_low<N: BootName>(machine: &mut Machine<N>, group: GroupId, value: &[u8]) -> Outcome
+    ensures written { ComesToAlone N.frames result (WritesTo File.Low value.now group) machine.old machine.new }
+    ensures groups { HasItsGroups machine.new.ledger result }
+    ensures visit { StaysVisited N.frames machine.old machine.new }
+{
+    match read_limit(value) {
+        Ok(low) => {
+            let settings = machine.charges().settings(group);
+            machine.set_settings(group, Settings { low, ..settings });
+            Outcome::Done
+        }
+        Err(fault) => Outcome::Refused(fault),
+    }
+}
+
+// The same for memory.min.
+fn write_min<N: BootName>(machine: &mut Machine<N>, group: GroupId, value: &[u8]) -> Outcome
+    ensures written { ComesToAlone N.frames result (WritesTo File.Min value.now group) machine.old machine.new }
+    ensures groups { HasItsGroups machine.new.ledger result }
+    ensures visit { StaysVisited N.frames machine.old machine.new }
+{
+    match read_limit(value) {
+        Ok(min) => {
+            let settings = machine.charges().settings(group);
+            machine.set_settings(group, Settings { min, ..settings });
             Outcome::Done
         }
         Err(fault) => Outcome::Refused(fault),
@@ -196,6 +234,8 @@ pub(crate) fn write_file<N: BootName>(
     match file {
         File::Max => write_limit(machine, tables, group, value),
         File::High => write_high(machine, tables, group, value),
+        File::Low => write_low(machine, group, value),
+        File::Min => write_min(machine, group, value),
         File::OomGroup => write_flag(machine, tables, group, value),
         File::Reclaim => write_reclaim(machine, tables, group, value),
         _ => Outcome::Refused(Fault::ReadOnly),

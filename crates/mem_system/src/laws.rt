@@ -4,12 +4,17 @@ ghost use Rattle.mem_system.specs.CommandLaws.{EndsLeaveEmptyWords, OnlyCommands
 ghost use Rattle.mem_system.specs.CommandLaws.{ReleasesCutLists};
 ghost use Rattle.mem_system.specs.Counted.{VisitsFindCounts};
 ghost use Rattle.mem_system.specs.KillLaws.{CommandsKillOverLimits, CommandsKillWholeSets};
-ghost use Rattle.mem_system.specs.Laws.{CommandsKillLast};
+ghost use Rattle.mem_system.specs.Laws.{CommandsKillLast, CommandsTryAllWithoutMin};
 ghost use Rattle.mem_system.specs.Lost.{ConsistentMachinesLoseNoUnit};
 
-/// A command kills nobody before it tried everything else.
+/// A command kills nobody before it tried everything else that memory.min doesn't keep.
 pub fn commands_kill_last()
     ensures { CommandsKillLast }
+{}
+
+/// In a tree without memory.min that is everything else.
+pub fn commands_try_all_without_min()
+    ensures { CommandsTryAllWithoutMin }
 {}
 
 /// A command kills whole sets, each right after everything else was tried: all groups that die with a victim die before

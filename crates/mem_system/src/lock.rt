@@ -97,7 +97,7 @@ impl<N: BootName> Locked<N> {
         self.machine.charges()
     }
 
-    /// Notes each unit that is reclaimed from now on, or no longer. Nothing else changes.
+    /// Notes details from now on, or no longer. Nothing else changes.
     pub fn set_unit_notes(&mut self, is_on: bool)
         ensures { self.new ≡ record self.old { machine = with_unit_notes self.old.machine is_on } }
     {

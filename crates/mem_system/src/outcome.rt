@@ -5,6 +5,7 @@ ghost use Rattle.mem_system.specs.Outcomes.{HasItsGroups, reply_of};
 
 use crate::command::ReplyWithText;
 use control_files::file::{File, file_text};
+use control_files::stat::{MemoryStat, stat_text};
 use group_charge::charges::Charges;
 use group_tree::fault::Fault;
 use group_tree::group::GroupId;
@@ -21,6 +22,8 @@ pub enum Outcome {
     Done,
     /// The text of this file of the group.
     Text(GroupId, File),
+    /// The text of memory.stat, with these sums. The charges don't give them, so they are carried.
+    Stat(MemoryStat),
     /// The frame is free.
     Free,
     /// The frame is lent to this CPU.
@@ -56,6 +59,7 @@ pub(crate) fn set_reply(charges: &Charges, outcome: Outcome, reply: &mut ReplyWi
             Ok(text) => *reply = ReplyWithText::Text(text),
             Err(fault) => *reply = ReplyWithText::Refused(fault),
         },
+        Outcome::Stat(stat) => *reply = ReplyWithText::Text(stat_text(stat)),
         Outcome::Free => *reply = ReplyWithText::Free,
         Outcome::Lent(cpu) => *reply = ReplyWithText::Lent(cpu),
         Outcome::Charged(group) => {

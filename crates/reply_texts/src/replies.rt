@@ -2,6 +2,8 @@
 
 ghost use Rattle.std.specs.Prelude.{◌≡◌, ◌++◌, IfOk};
 ghost use Rattle.std.specs.String.{string_bytes};
+ghost use Rattle.control_files.specs.Stat.{stat_text};
+ghost use Rattle.machine_texts.specs.Characters.{characters};
 ghost use Rattle.mem_system.specs.declared.outcome.Outcome.TheVariants.{Text};
 ghost use Rattle.mem_system.specs.Outcomes.{HasItsGroups, reply_of};
 ghost use Rattle.reply_texts.specs.Replies.{path_text, reply_text};
@@ -9,6 +11,7 @@ ghost use Rattle.reply_texts.specs.Replies.{path_text, reply_text};
 use crate::numbers::write_number;
 use crate::refusals::{write_over_limit, write_refusal};
 use control_files::file::{File, file_text};
+use control_files::stat::{MemoryStat, stat_text};
 use group_charge::charges::Charges;
 use group_tree::group::GroupId;
 use group_tree::path::PathText;
@@ -56,6 +59,7 @@ pub fn write_outcome(
         Outcome::Frame(number) => write_number("frame ", u64::from(number), text),
         Outcome::Done => text.push_str("ok\n"),
         Outcome::Text(group, file) => write_file(charges, group, file, text),
+        Outcome::Stat(stat) => write_stat(stat, text),
         Outcome::Free => text.push_str("free\n"),
         Outcome::Lent(cpu) => write_number("cpu ", u64::from(cpu), text),
         Outcome::Charged(group) => write_path(charges.tree().path_of(group), text),
@@ -86,6 +90,14 @@ fn write_file(
         Ok(told) => push_characters(told.as_bytes(), text),
         Err(fault) => write_refusal(&fault, text),
     }
+}
+
+// The text of memory.stat.
+#[inline(never)]
+fn write_stat(stat: MemoryStat, text: &mut String) -> Result<(), AllocError>
+    ensures { IfOk result (λ _. string_bytes text.new ≡ string_bytes text.old ++ characters (stat_text stat)) }
+{
+    push_characters(stat_text(stat).as_bytes(), text)
 }
 
 // A line with a path.

@@ -12,6 +12,7 @@ use Rattle.script_lint.specs.declared.refusal.Refusal.TheVariants.{LessThanPage}
 abbrev pub takes_bytes : List ℕ → Bool
 takes_bytes name =
     bytes_eq name (codes "memory.max") || bytes_eq name (codes "memory.high")
+    || bytes_eq name (codes "memory.low") || bytes_eq name (codes "memory.min")
     || bytes_eq name (codes "memory.reclaim")
 
 -- the value is a number below that of a page's bytes, and isn't 0

@@ -5,7 +5,7 @@ use Rattle.std.specs.Str.{bytes_eq}
 use Rattle.zone_blocks.specs.declared.config.Config.{Config}
 use Rattle.control_files.specs.{is_readable, is_writable, name_of_file, IsNoFlagText, IsNoAmountText, IsNoLimitText, IsTooGreat}
 use Rattle.control_files.specs.declared.file.File.{File}
-use Rattle.control_files.specs.declared.file.File.TheVariants.{Max, High, OomGroup, Reclaim}
+use Rattle.control_files.specs.declared.file.File.TheVariants.{Max, High, Low, Min, OomGroup, Reclaim}
 use Rattle.group_tree.specs.{most_names, depth_of, is_root, is_well_formed}
 use Rattle.script_lines.specs.Script.{IsRequestText, longest_line}
 use Rattle.script_lines.specs.declared.line.Command.{Command}
@@ -16,15 +16,10 @@ use Rattle.script_lint.specs.declared.refusal.Refusal.{Refusal}
 use Rattle.script_lint.specs.declared.refusal.Refusal.TheVariants.{OrderTooGreat, NotModelled, NoFile, FileOfRoot, WriteOnly, BadPath, PathTooDeep}
 use Rattle.script_lint.specs.declared.refusal.Refusal.TheVariants.{RootToChange, ReadOnly, NoLimit, NoAmount, NoFlag, TooGreat}
 
--- what protects memory from reclaim
-abbrev pub is_protection : List ℕ → Bool
-is_protection name = bytes_eq name (codes "memory.low") || bytes_eq name (codes "memory.min")
-
 -- what only shows how memory is used
 abbrev pub is_statistic : List ℕ → Bool
 is_statistic name =
-    bytes_eq name (codes "memory.stat") || bytes_eq name (codes "memory.numa_stat")
-    || bytes_eq name (codes "memory.pressure")
+    bytes_eq name (codes "memory.numa_stat") || bytes_eq name (codes "memory.pressure")
 
 -- a name as that of a file about swap
 abbrev pub is_of_swap : List ℕ → Bool
@@ -32,7 +27,7 @@ is_of_swap name = starts_with nat_eq name (codes "memory.swap.") || starts_with 
 
 -- cgroup v2 has a file of this name, and no group has it here
 abbrev pub is_unmodelled : List ℕ → Bool
-is_unmodelled name = is_protection name || is_statistic name || is_of_swap name
+is_unmodelled name = is_statistic name || is_of_swap name
 
 -- no group has a file of this name
 abbrev pub IsNoFileName : List ℕ → Type 0
@@ -77,6 +72,8 @@ CantWrite file other = ⊥
 abbrev pub NeverTakesValue : File → (value : List ℕ) → Refusal → Type 0
 NeverTakesValue Max value why = LacksLimit value why
 NeverTakesValue High value why = LacksLimit value why
+NeverTakesValue Low value why = LacksLimit value why
+NeverTakesValue Min value why = LacksLimit value why
 NeverTakesValue Reclaim value why = LacksAmount value why
 NeverTakesValue OomGroup value why = LacksFlag value why
 NeverTakesValue read_only value why = CantWrite read_only why

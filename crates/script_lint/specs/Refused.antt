@@ -35,8 +35,8 @@ pub record AreRefused (sizes : Config) (script : List ℕ) (refused : List Refus
 
 -- the files that each group has
 abbrev pub files_text : List ℕ
-files_text = codes "the files are memory.current, memory.max, memory.high, memory.peak, memory.events, "
-    ++ codes "memory.events.local, memory.oom.group, memory.reclaim"
+files_text = codes "the files are memory.current, memory.max, memory.high, memory.low, memory.min, memory.peak, "
+    ++ codes "memory.events, memory.events.local, memory.oom.group, memory.reclaim, memory.stat"
 
 -- why a command is refused
 abbrev pub sentence : Refusal → List ℕ
@@ -50,8 +50,10 @@ sentence NotModelled = codes "this file isn't modelled; " ++ files_text
 sentence NoFile = codes "no such file; " ++ files_text
 sentence FileOfRoot = codes "/ has no files"
 sentence WriteOnly = codes "memory.reclaim can't be read"
-sentence ReadOnly = codes "only memory.max, memory.high, memory.oom.group and memory.reclaim can be written"
-sentence NoLimit = codes "memory.max and memory.high take a whole number of bytes, with K M G T P E, or max"
+sentence ReadOnly =
+    codes "only memory.max, memory.high, memory.low, memory.min, memory.oom.group and memory.reclaim can be written"
+sentence NoLimit =
+    codes "memory.max, memory.high, memory.low and memory.min take a whole number of bytes, with K M G T P E, or max"
 sentence NoAmount = codes "memory.reclaim takes a whole number of bytes, with K M G T P E"
 sentence NoFlag = codes "memory.oom.group takes 0 or 1"
 sentence LessThanPage = codes "the value is in bytes, and is rounded up to a page of 4096"

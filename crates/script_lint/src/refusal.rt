@@ -6,7 +6,7 @@ ghost use Rattle.group_tree.specs.Path.{is_root};
 ghost use Rattle.script_lint.specs.Refusals.{CantChange, HasFile, IsJudged, IsNoFileName, IsNoPath, IsRefused, LacksFile, RefusesOrder};
 ghost use Rattle.script_lint.specs.Refusals.{RefusesRead, RefusesReadOf, NeverTakesValue, RefusesWriteOf};
 ghost use Rattle.script_lint.specs.Refusals.{is_unmodelled};
-ghost use Rattle.script_lint.specs.Refusals.{LacksAmount, LacksFlag, LacksLimit, is_of_swap, is_protection, is_statistic};
+ghost use Rattle.script_lint.specs.Refusals.{LacksAmount, LacksFlag, LacksLimit, is_of_swap, is_statistic};
 ghost use Rattle.script_lint.specs.Doubts.{IsDoubtful, IsFewBytes, takes_bytes};
 ghost use Rattle.script_lint.specs.Refused.{sentence, verdict};
 ghost use Rattle.script_lint.specs.declared.refusal.Refusal.{Refusal};
@@ -46,7 +46,7 @@ pub enum Refusal {
     WriteOnly,
     /// The file can't be written.
     ReadOnly,
-    /// memory.max or memory.high doesn't take this value.
+    /// memory.max, memory.high, memory.low or memory.min doesn't take this value.
     NoLimit,
     /// memory.reclaim doesn't take this value.
     NoAmount,
@@ -83,20 +83,24 @@ impl Refusal {
             Refusal::RootToChange => "/ can't be made or removed",
             Refusal::NeverMade => "no line before makes this group",
             Refusal::NotModelled => {
-                "this file isn't modelled; the files are memory.current, memory.max, memory.high, \
-                memory.peak, memory.events, memory.events.local, memory.oom.group, memory.reclaim"
+                "this file isn't modelled; the files are memory.current, memory.max, memory.high, memory.low, \
+                memory.min, memory.peak, memory.events, memory.events.local, memory.oom.group, memory.reclaim, \
+                memory.stat"
             }
             Refusal::NoFile => {
-                "no such file; the files are memory.current, memory.max, memory.high, \
-                memory.peak, memory.events, memory.events.local, memory.oom.group, memory.reclaim"
+                "no such file; the files are memory.current, memory.max, memory.high, memory.low, \
+                memory.min, memory.peak, memory.events, memory.events.local, memory.oom.group, memory.reclaim, \
+                memory.stat"
             }
             Refusal::FileOfRoot => "/ has no files",
             Refusal::WriteOnly => "memory.reclaim can't be read",
             Refusal::ReadOnly => {
-                "only memory.max, memory.high, memory.oom.group and memory.reclaim can be written"
+                "only memory.max, memory.high, memory.low, memory.min, memory.oom.group and memory.reclaim \
+                can be written"
             }
             Refusal::NoLimit => {
-                "memory.max and memory.high take a whole number of bytes, with K M G T P E, or max"
+                "memory.max, memory.high, memory.low and memory.min take a whole number of bytes, with K M G T \
+                P E, or max"
             }
             Refusal::NoAmount => "memory.reclaim takes a whole number of bytes, with K M G T P E",
             Refusal::NoFlag => "memory.oom.group takes 0 or 1",
@@ -143,6 +147,8 @@ fn takes_bytes(name: &[u8]) -> bool
 {
     name == b"memory.max".as_slice()
         || name == b"memory.high".as_slice()
+        || name == b"memory.low".as_slice()
+        || name == b"memory.min".as_slice()
         || name == b"memory.reclaim".as_slice()
 }
 
@@ -259,21 +265,13 @@ fn no_file(name: &[u8]) -> Refusal
 fn is_unmodelled(name: &[u8]) -> bool
     ensures { result ≡ is_unmodelled name.now }
 {
-    is_protection(name) || is_statistic(name) || is_of_swap(name)
-}
-
-fn is_protection(name: &[u8]) -> bool
-    ensures { result ≡ is_protection name.now }
-{
-    name == b"memory.low".as_slice() || name == b"memory.min".as_slice()
+    is_statistic(name) || is_of_swap(name)
 }
 
 fn is_statistic(name: &[u8]) -> bool
     ensures { result ≡ is_statistic name.now }
 {
-    name == b"memory.stat".as_slice()
-        || name == b"memory.numa_stat".as_slice()
-        || name == b"memory.pressure".as_slice()
+    name == b"memory.numa_stat".as_slice() || name == b"memory.pressure".as_slice()
 }
 
 fn is_of_swap(name: &[u8]) -> bool
@@ -287,10 +285,12 @@ fn value_refusal(file: File, value: &[u8]) -> Option<Refusal>
     ensures { IsJudged (NeverTakesValue file value.now) result }
 {
     match file {
-        File::Max | File::High => limit_refusal(value),
+        File::Max | File::High | File::Low | File::Min => limit_refusal(value),
         File::Reclaim => amount_refusal(value),
         File::OomGroup => flag_refusal(value),
-        File::Current | File::Peak | File::Events | File::EventsLocal => Some(Refusal::ReadOnly),
+        File::Current | File::Peak | File::Events | File::EventsLocal | File::Stat => {
+            Some(Refusal::ReadOnly)
+        }
     }
 }
 

@@ -59,7 +59,7 @@ locked_with_watch locked watch = record locked { machine = with_watch locked.mac
 abbrev pub locked_with_run : KnownLocked → KnownRun → KnownLocked
 locked_with_run locked run = record locked { machine = with_run locked.machine run }
 
--- the same behind the lock, with reclaimed units noted from now on, or not
+-- the same behind the lock, with details noted from now on, or not
 abbrev pub locked_with_unit_notes : KnownLocked → (is_on : Bool) → KnownLocked
 locked_with_unit_notes locked is_on = record locked { machine = with_unit_notes locked.machine is_on }
 

@@ -36,7 +36,7 @@ fn watch_lock<N: BootName>(locked: &mut Locked<N>, cpu: u32)
     locked.take_step(cpu, Action::Lock, Answer::Done);
 }
 
-// This CPU takes the lock for a command. Reclaimed units are noted from now on exactly if the command is explained.
+// This CPU takes the lock for a command. Details are noted from now on exactly if the command is explained.
 #[inline(always)]
 fn begin_command<N: BootName>(locked: &mut Locked<N>, cpu: u32, is_explained: bool)
     ensures watched { OnlyWatched (cpu_makes cpu Lock Done ∷ []) (locked_with_unit_notes locked.old is_explained)

@@ -3,7 +3,10 @@ use Rattle.std.proofs.Common.{◌≡◌, ◌∙◌, ℕ, ◌≤◌, Some, None, 
 use Rattle.std.specs.Prelude.{IfSome, IsSomeAnd, Option}
 use Rattle.std.proofs.lemmas.Option.{none-some}
 use Rattle.control_files.specs.declared.file.File.{File}
+use Rattle.control_files.specs.declared.stat.MemoryStat.{MemoryStat}
+use Rattle.control_files.specs.Stat.{stat_text}
 use Rattle.mem_system.specs.declared.command.ReplyWithText.{ReplyWithText}
+use Rattle.mem_system.specs.declared.command.ReplyWithText.TheVariants as reply
 use Rattle.mem_system.specs.declared.outcome.Outcome.TheVariants as outcome
 use Rattle.group_charge.specs.Charges.{Ledger}
 use Rattle.reply_texts.specs.LineAnswer.{LineAnswer}
@@ -30,6 +33,13 @@ plain_result (Some boot) value status out buffer status_is out_is no_text = let 
   out_is = out_is ledger;
   buffer = no_text ledger buffer;
 }
+
+-- nor does the text of memory.stat
+pub stat_result : (boot : Option LiveBoot) (stat : MemoryStat) (status : ℕ) (out : TypedResult) (old new : List ℕ)
+    → ReturnsAnswer (answer.Served (reply.Text (stat_text stat))) status out old new
+    → IfSome boot (ReturnsValue (Served (outcome.Stat stat)) status out old new)
+stat_result None stat status out old new so = tt
+stat_result (Some boot) stat status out old new so = so
 
 module _ (group : ℕ) (file : File) (shown : FileText) (before after : Option LiveBoot)
     (on : OnBoot (λ frames from to. ShowsFile group file from to shown) before after) where

@@ -42,6 +42,7 @@ AnswersBehind cpu asked before after answer =
 -- the outcome isn't a text
 abbrev pub IsPlainOutcome : Outcome → Type 0
 IsPlainOutcome (outcome.Text group file) = ⊥
+IsPlainOutcome (outcome.Stat stat) = ⊥
 IsPlainOutcome other = Unit {0}
 
 -- the answer isn't a text

@@ -1,16 +1,22 @@
 //! How a typed call is served.
 
 ghost use Rattle.std.specs.Prelude.{◌≡◌, IfSome, IsSomeAnd};
+ghost use Rattle.control_files.specs.Stat.{stat_text};
+ghost use Rattle.mem_system.specs.declared.command.ReplyWithText.TheVariants as reply;
 ghost use Rattle.mem_system.specs.declared.outcome.Outcome.TheVariants.{Text};
+ghost use Rattle.reply_texts.specs.LineAnswer as answer;
 ghost use Rattle.script_replay.specs.declared.answer_value.AnswerValue.TheVariants.{Served};
 ghost use Rattle.tempolemon_c.specs.Behind.{behind};
 ghost use Rattle.tempolemon_c.specs.HandleCalls.{IsTypedCall};
-ghost use Rattle.tempolemon_c.specs.Calls.{CallsBehind, CallsInto, HasFileBehind, HasGroupsBehind, ReturnsValue};
+ghost use Rattle.tempolemon_c.specs.Calls.{CallsBehind, CallsInto, HasFileBehind, HasGroupsBehind, ReturnsAnswer};
+ghost use Rattle.tempolemon_c.specs.Calls.{ReturnsValue};
 
 use crate::calls::{Call, CallAnswer, FileText};
 use crate::handle::Handle;
 use crate::typed_result::typed_answer_of;
 use control_files::file::File;
+use control_files::stat::{MemoryStat, stat_text};
+use control_files::text::ArrayText;
 use group_tree::group::GroupId;
 use host_memory::buffers::copy_answers;
 use host_memory::kinds::{NOTHING, REFUSED, TEXT};
@@ -69,7 +75,7 @@ pub(crate) fn serve_into(
 // Writes the answer, and the text of a file into the buffer, if that has room for it. The fields are written
 // one by one: a whole `TypedResult` is copied with the bytes between its fields, which the CPU has to wait for.
 #[inline(always)]
-#[tactic(auto, using(crate::proofs::Showing::plain_result))]
+#[tactic(auto, using(crate::proofs::Showing::plain_result, crate::proofs::Showing::stat_result))]
 fn write_value(
     alloc: Global,
     handle: &mut Handle,
@@ -85,6 +91,7 @@ fn write_value(
         AnswerValue::Served(Outcome::Text(group, file)) => {
             write_file(alloc, handle, group, file, buffer, out)
         }
+        AnswerValue::Served(Outcome::Stat(stat)) => write_stat(stat, buffer, out),
         _ => {
             let answered = typed_answer_of(value);
             out.number = answered.typed.number;
@@ -94,8 +101,8 @@ fn write_value(
     }
 }
 
-// Writes the kind of what a file shows, and its text into the buffer, if that has room for it. Here alone there is room
-// for a text, so that no other call clears that room.
+// Writes the kind of what a file shows, and its text into the buffer, if that has room for it. Here and in `write_stat`
+// alone there is room for a text, so that no other call clears that room.
 #[inline(never)]
 #[tactic(auto, using(host_memory::proofs::Numbers::number_low, crate::proofs::Showing::stays, crate::proofs::Showing::tells))]
 fn write_file(
@@ -112,15 +119,7 @@ fn write_file(
         (ReturnsValue (Served (Text group file)) result out.new buffer.old buffer.new) }
 {
     match handle.show(alloc, group, file) {
-        FileText::Text(text) => {
-            let text = text.as_bytes();
-            let _fits = copy_answers(text, buffer);
-            *out = TypedResult {
-                number: text.len() as u64,
-                kind: TEXT,
-            };
-            DONE
-        }
+        FileText::Text(text) => write_text(&text, buffer, out),
         FileText::Refused(fault) => {
             *out = TypedResult {
                 number: 0,
@@ -129,4 +128,25 @@ fn write_file(
             fault.number() as u8
         }
     }
+}
+
+// Writes the text of memory.stat into the buffer, if that has room for it.
+#[inline(never)]
+fn write_stat(stat: MemoryStat, buffer: &mut [u8], out: &mut TypedResult) -> u8
+    ensures { ReturnsAnswer (answer.Served (reply.Text (stat_text stat))) result out.new buffer.old buffer.new }
+{
+    write_text(&stat_text(stat), buffer, out)
+}
+
+// Writes a text into the buffer, if that has room for it.
+fn write_text(text: &ArrayText, buffer: &mut [u8], out: &mut TypedResult) -> u8
+    ensures { ReturnsAnswer (answer.Served (reply.Text text.now)) result out.new buffer.old buffer.new }
+{
+    let text = text.as_bytes();
+    let _fits = copy_answers(text, buffer);
+    *out = TypedResult {
+        number: text.len() as u64,
+        kind: TEXT,
+    };
+    DONE
 }

@@ -77,6 +77,7 @@ fn answer_of_outcome(outcome: &Outcome) -> TypedAnswer
         Outcome::Frame(frame) => with_number(DONE, FRAME, u64::from(frame)),
         Outcome::Done => with_number(DONE, OK, 0),
         Outcome::Text(..) => unreachable!(),
+        Outcome::Stat(..) => unreachable!(),
         Outcome::Free => with_number(DONE, FREE, 0),
         Outcome::Lent(cpu) => with_number(DONE, CPU, u64::from(cpu)),
         Outcome::Charged(group) => with_number(DONE, CHARGED, u64::from(group.number())),

@@ -17,6 +17,7 @@ outcome_result outcome.Done = result_with 1 0
 outcome_result (outcome.Group group) = result_with 2 group
 outcome_result (outcome.Frame frame) = result_with 3 frame
 outcome_result (outcome.Text group file) = result_with 4 0
+outcome_result (outcome.Stat stat) = result_with 4 0
 outcome_result outcome.Free = result_with 5 0
 outcome_result (outcome.Lent cpu) = result_with 6 cpu
 outcome_result (outcome.Charged group) = result_with 7 group

@@ -48,6 +48,7 @@ pub(crate) fn answer_of_outcome(outcome: Outcome) -> TypedAnswer
         Outcome::Frame(frame) => with_number(DONE, FRAME, u64::from(frame)),
         Outcome::Done => with_number(DONE, OK, 0),
         Outcome::Text(..) => with_number(DONE, TEXT, 0),
+        Outcome::Stat(..) => with_number(DONE, TEXT, 0),
         Outcome::Free => with_number(DONE, FREE, 0),
         Outcome::Lent(cpu) => with_number(DONE, CPU, u64::from(cpu)),
         Outcome::Charged(group) => with_number(DONE, CHARGED, u64::from(group.number())),

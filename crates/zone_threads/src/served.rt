@@ -10,6 +10,7 @@ use crate::behind::Behind;
 use crate::calls::{CallAnswer, GroupPages, ReadAnswer, ReadCall};
 use control_files::file::{File, file_text};
 use control_files::limit::{Limit, write_limit};
+use control_files::stat::stat_text;
 use cpu_part::{BootName, Tables};
 use group_charge::charges::Charges;
 use group_tree::group::GroupId;
@@ -134,7 +135,8 @@ impl<N: BootName> Behind<N> {
         group: u32,
         which: GroupPages,
     ) -> CallAnswer
-        ensures { ReadsPages N.frames group which result cpu.old cpu.new }
+        ensures says { SaysPages self.old.locked.machine.ledger group which result }
+        ensures reads { ReadsPages N.frames group which result cpu.old cpu.new }
     {
         self.locked.prove_quiet();
         let answer = pages_read(self.locked.charges(), group, which);
@@ -199,6 +201,9 @@ impl<N: BootName> Behind<N> {
         self.locked.prove_quiet();
         if let Outcome::Refused(fault) = outcome {
             return ReadAnswer::Refused(fault);
+        }
+        if let Outcome::Stat(stat) = outcome {
+            return ReadAnswer::Text(stat_text(stat));
         }
         let Outcome::Text(group, file) = outcome else {
             unreachable!()

@@ -1,39 +1,47 @@
-use Rattle.std.proofs.Common.{rules}
+use Rattle.std.proofs.Common.{rules, subst}
+use Rattle.group_tree.specs.Groups.{AreGroups}
 use Rattle.group_tree.proofs.CallerLemmas.{in_subtree-below}
+use Rattle.group_charge.specs.Charges.{Ledger}
 use Rattle.mem_reclaim.proofs.Passing.{pass_none, pass_more, pass_enough, pass_done, turn_inside}
 use Rattle.mem_reclaim.proofs.Grown.{held_after}
 use Rattle.mem_reclaim.proofs.passes.reclaim_pass.Goals as goal
 
 pub loop-number-init : goal.loop-number-init
-loop-number-init g c = pass_none g.N.BootName.frames c.args.is_first c.args.group c.args.want c.args.machine.now c.args.groups c.requires.subtree
+loop-number-init g c = pass_none g.N.BootName.frames c.args.pass c.args.target c.args.want c.args.machine.now c.args.groups c.requires.subtree
 
 pub returns-then-want-freed-clause-passes : goal.returns-then-want-freed-clause-passes
 returns-then-want-freed-clause-passes g c = (pass_enough _ _ _ _ _ _ _ _ c.loop-number.invariant c.if-want-freed.true).passes
 
-pub reclaim_group-freed-requires-clause-there : goal.reclaim_group-freed-requires-clause-there
-reclaim_group-freed-requires-clause-there g c =
+pub take_turn-freed-requires-clause-inside : goal.take_turn-freed-requires-clause-inside
+take_turn-freed-requires-clause-inside g c =
     let found = c.in-Some.ensures.first in
-    in_subtree-below c.loop-number.machine.ledger.groups c.args.group c.in-Some-of.turn
+    turn_inside _ _ _ _ _ _ _ _ c.loop-number.invariant c.in-Some-of.turn c.in-Some.number c.in-Some-of.ensures.1 found.0 found.1
+
+pub take_turn-freed-requires-clause-there : goal.take_turn-freed-requires-clause-there
+take_turn-freed-requires-clause-there g c =
+    let found = c.in-Some.ensures.first in
+    in_subtree-below c.loop-number.machine.ledger.groups c.args.target c.in-Some-of.turn
     (turn_inside _ _ _ _ _ _ _ _ c.loop-number.invariant c.in-Some-of.turn c.in-Some.number c.in-Some-of.ensures.1 found.0 found.1)
 
-pub reclaim_group-freed-requires-clause-held : goal.reclaim_group-freed-requires-clause-held
-reclaim_group-freed-requires-clause-held g c =
+pub take_turn-freed-requires-clause-held : goal.take_turn-freed-requires-clause-held
+take_turn-freed-requires-clause-held g c =
     let so = c.loop-number.invariant.so_far in
     held_after g.N.BootName.frames c.args.machine.now so.steps c.loop-number.machine so.moves.runs c.requires.held
 
 pub loop-number-preserved : goal.loop-number-preserved
 loop-number-preserved g c =
-    let e = c.reclaim_group-freed.ensures in
+    let e = c.take_turn-freed.ensures in
     pass_more _ _ _ _ _ _ _ _ c.loop-number.invariant c.if-want-freed.false c.in-Some-of.turn c.in-Some.number c.in-Some-of.ensures.1 c.in-Some.ensures.first
-    c.take_first.new.word c.in-Some.ensures.taken c.reclaim_group-freed.result c.reclaim_group-freed.new.machine e.passes e.keeps e.usage e.few e.leaves e.missed
+    c.take_first.new.word c.in-Some.ensures.taken c.take_turn-freed.result c.take_turn-freed.new.machine e.turn e.keeps e.usage e.few e.leaves e.tried
 
 pub returns : goal.returns
 returns g c =
-    let all = pass_done _ _ _ _ _ _ _ _ c.loop-number.invariant c.prove_consistent.ensures c.in_default.ensures.first in
-    record { passes = all.passes; keeps = search rules; usage = search rules; few = search rules; leaves = search rules; missed = all.missed }
+    let facts : AreGroups c.loop-number.machine.ledger.groups = subst (λ (l : Ledger). AreGroups l.groups) c.charges.ensures c.prove_charges.ensures.legal.groups in
+    let all = pass_done _ _ _ _ _ _ _ _ c.loop-number.invariant facts c.in_default.ensures.first in
+    record { passes = all.passes; keeps = search rules; usage = search rules; few = search rules; tried = all.tried }
 
 pub returns-then-want-freed-clause-few : goal.returns-then-want-freed-clause-few
 returns-then-want-freed-clause-few g c = search rules
 
-pub returns-then-want-freed-clause-missed : goal.returns-then-want-freed-clause-missed
-returns-then-want-freed-clause-missed g c = search rules
+pub returns-then-want-freed-clause-tried : goal.returns-then-want-freed-clause-tried
+returns-then-want-freed-clause-tried g c = search rules

@@ -1,4 +1,4 @@
-use Rattle.std.proofs.Common.{◌≡◌, true, List, rules, false, refl, ap, ◌∙◌, arith}
+use Rattle.std.proofs.Common.{◌≡◌, true, List, [], ◌∷◌, rules, false, refl, ap, ◌∙◌, arith}
 use Rattle.group_tree.specs.declared.group.Group.{Group}
 use Rattle.group_tree.specs.Groups.{in_subtree}
 use Rattle.group_tree.proofs.CallerLemmas.{in_subtree-refl}
@@ -12,7 +12,7 @@ use Rattle.mem_reclaim.proofs.passes.scan_both.Goals as goal
 
 pub returns-then-want-inactive-clause-passes : goal.returns-then-want-inactive-clause-passes
 returns-then-want-inactive-clause-passes g c =
-    first_enough g.N.BootName.frames (ScansList false c.args.group) Inactive Active c.args.want c.args.machine.now c.requires.wanted c.scan-inactive.result
+    first_enough g.N.BootName.frames (ScansList false c.args.group) Inactive (Active ∷ []) c.args.want c.args.machine.now c.requires.wanted c.scan-inactive.result
     c.scan-inactive.new.machine c.scan-inactive.ensures.scans c.if-want-inactive.true
 
 pub scan-active-requires-clause-held : goal.scan-active-requires-clause-held

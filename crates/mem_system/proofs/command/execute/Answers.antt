@@ -1,10 +1,9 @@
 -- Serves the contract of `execute`: what each command did, in the words of the command that it is.
 use Rattle.std.proofs.Common.{◌≡◌, ◌∙◌, [], ap, arith, length, refl, subst}
 use Rattle.zone_blocks.specs.declared.config.Config.{Config}
-use Rattle.group_charge.specs.Charges.{Ledger}
 use Rattle.cpu_part.specs.Cpus.{KnownCpu}
 use Rattle.mem_machine.proofs.Followed.{makes_none}
-use Rattle.mem_system.specs.{ListAndFreshStayWithin, NamesFrameBelow, Reads, HasItsGroups, reply_of}
+use Rattle.mem_system.specs.{ListAndFreshStayWithin, NamesFrameBelow}
 use Rattle.mem_machine.proofs.Made.{visit_same}
 use Rattle.mem_system.proofs.Keeping.{keeps_visit}
 use Rattle.mem_system.proofs.command.execute.Goals as goal
@@ -134,14 +133,13 @@ returns-in-Alloc g c =
 
 pub returns-in-Read : goal.returns-in-Read
 returns-in-Read g c =
-    let read = subst (λ (l : Ledger). Reads l c.in-Read.path.now c.in-Read.file.now (reply_of l c.read_file.result)) c.charges.ensures c.read_file.ensures.read in
     rw c.in-Read.is (record {
       executed = record {
         steps = [];
-        does = (read, record { machine = refl; cpu = refl; steps_are = refl });
+        does = (c.read_file.ensures.read, record { machine = refl; cpu = refl; steps_are = refl });
         makes = makes_none g.N.BootName.frames c.args.machine.now;
       };
-      groups = subst (λ (l : Ledger). HasItsGroups l c.read_file.result) c.charges.ensures c.read_file.ensures.groups;
+      groups = c.read_file.ensures.groups;
       stays = keeps_visit g.N.BootName.frames c.args.machine.now c.args.machine.now c.args.cpu.now c.requires.visit.visit;
       fresh = c.requires.visit.settled.0;
       at_most_high = none_fresh c.args.sizes c.args.cpu.now c.requires.visit.settled.0;

@@ -1,7 +1,7 @@
 use Rattle.std.proofs.Common.{subst}
 use Rattle.group_tree.specs.declared.fault.Fault.TheVariants.{ReadOnly}
 use Rattle.control_files.specs.declared.file.File.{File}
-use Rattle.control_files.specs.declared.file.File.TheVariants.{Max, High, OomGroup, Reclaim}
+use Rattle.control_files.specs.declared.file.File.TheVariants.{Max, High, Low, Min, OomGroup, Reclaim}
 use Rattle.group_charge.specs.Charges.{Ledger}
 use Rattle.mem_system.specs.Files.{HasNoFile, IsFileOf}
 use Rattle.mem_system.proofs.Found.{found_there}
@@ -39,7 +39,7 @@ returns-in_default g c =
     c.charges.ensures c.in-Ok.ensures.found in
     record {
       written = refused_at g.N.BootName.frames c.args.path.now c.args.name.now c.args.value.now c.in-Ok.found.0 c.in-Ok.found.1
-          ReadOnly c.args.machine.now is (read_only c.in-Ok.found.1 c.in_default.not-Max c.in_default.not-High c.in_default.not-OomGroup c.in_default.not-Reclaim);
+          ReadOnly c.args.machine.now is (read_only c.in-Ok.found.1 c.in_default.not-Max c.in_default.not-High c.in_default.not-Low c.in_default.not-Min c.in_default.not-OomGroup c.in_default.not-Reclaim);
       groups = tt;
       visit = λ y v. v;
     }
@@ -64,6 +64,22 @@ returns-in-High-clause-written g c =
     written_at g.N.BootName.frames c.args.path.now c.args.name.now c.args.value.now c.in-Ok.found.0 High c.args.machine.now _ _
     (subst (λ (f : File). IsFileOf c.args.machine.now.ledger.groups c.args.path.now c.args.name.now c.in-Ok.found.0 f) c.in-High.is is)
     c.write_high.ensures.written
+
+pub returns-in-Low-clause-written : goal.returns-in-Low-clause-written
+returns-in-Low-clause-written g c =
+    let is = subst (λ (l : Ledger). IsFileOf l.groups c.args.path.now c.args.name.now c.in-Ok.found.0 c.in-Ok.found.1)
+    c.charges.ensures c.in-Ok.ensures.found in
+    written_at g.N.BootName.frames c.args.path.now c.args.name.now c.args.value.now c.in-Ok.found.0 Low c.args.machine.now _ _
+    (subst (λ (f : File). IsFileOf c.args.machine.now.ledger.groups c.args.path.now c.args.name.now c.in-Ok.found.0 f) c.in-Low.is is)
+    c.write_low.ensures.written
+
+pub returns-in-Min-clause-written : goal.returns-in-Min-clause-written
+returns-in-Min-clause-written g c =
+    let is = subst (λ (l : Ledger). IsFileOf l.groups c.args.path.now c.args.name.now c.in-Ok.found.0 c.in-Ok.found.1)
+    c.charges.ensures c.in-Ok.ensures.found in
+    written_at g.N.BootName.frames c.args.path.now c.args.name.now c.args.value.now c.in-Ok.found.0 Min c.args.machine.now _ _
+    (subst (λ (f : File). IsFileOf c.args.machine.now.ledger.groups c.args.path.now c.args.name.now c.in-Ok.found.0 f) c.in-Min.is is)
+    c.write_min.ensures.written
 
 pub returns-in-OomGroup-clause-written : goal.returns-in-OomGroup-clause-written
 returns-in-OomGroup-clause-written g c =

@@ -14,13 +14,14 @@ returns-clause-made c =
     let groups = c.self.inside.tree in
     let old = c.self.inside.accounts in
     let settings = c.self.inside.settings in
-    let at = c.number-at.result in
+    let at = c.number.result in
     let g = c.in_ok-group.group in
     let rows = with_group groups g c.args.path.now in
     let free = c.in_ok-group.ensures.least.free in
-    let within : g < length old = omega (arith, c.self.invariant.size, c.number-at.ensures.below, c.number-at.ensures.value) in
-    ap (λ r. ledger_of r (set old at c.new_account.result) (set settings at c.none.result)) c.in_ok-group.ensures.made
-    ∙ ap (λ n. ledger_of rows (set old n c.new_account.result) (set settings n c.none.result)) c.number-at.ensures.value
+    let within : g < length old = omega (arith, c.self.invariant.size, c.number.ensures.below, c.number.ensures.value) in
+    ap (λ r. ledger_of r (set old at c.new_account.result) c.set.new.self) c.in_ok-group.ensures.made
+    ∙ ap (λ s. ledger_of rows (set old at c.new_account.result) s) c.set.ensures
+    ∙ ap (λ n. ledger_of rows (set old n c.new_account.result) (set settings g c.none.result)) c.number.ensures.value
     ∙ ap (λ a. ledger_of rows (set old g a) (set settings g c.none.result)) c.new_account.ensures
     ∙ ap (λ s. ledger_of rows (set old g (empty_account g)) (set settings g s)) c.none.ensures
     ∙ same_ledger _ _ _ _ (kept_new groups old g c.args.path.now free within)
@@ -31,10 +32,9 @@ invariant_of-self-2 c =
     let l = ledger_of c.self.inside.tree c.self.inside.accounts c.self.inside.settings in
     let g = c.in_ok-group.group in
     let can = can_make c.self.inside.tree c.args.path.now (sym c.in_ok-group.ensures.refused) in
-    let size = length-set c.self.inside.accounts c.number-at.result c.new_account.result ∙ c.self.invariant.size in
-    let settings_size = length-set c.self.inside.settings c.number-at.result c.none.result ∙ c.self.invariant.settings_size in
+    let size = length-set c.self.inside.accounts c.number.result c.new_account.result ∙ c.self.invariant.size in
     kept_as _ _ _ _ (with_new_group l g c.args.path.now) (returns-clause-made c ∙ ap (λ k. with_new_group k g c.args.path.now) (sym c.self.view_is))
-    (AreCharges-new l g c.args.path.now c.self.invariant.charges can c.in_ok-group.ensures.least) size settings_size
+    (AreCharges-new l g c.args.path.now c.self.invariant.charges can c.in_ok-group.ensures.least) size
     (stored_new l c.self.inside.usages g c.args.path.now c.self.invariant.charges can c.in_ok-group.ensures.least.free c.self.invariant.usages_are)
 
 pub returns-clause-pages : goal.returns-clause-pages

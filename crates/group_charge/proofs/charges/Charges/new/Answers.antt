@@ -8,9 +8,9 @@ use Rattle.group_charge.proofs.charges.Charges.new.Goals as goal
 pub invariant_of-result : goal.invariant_of-result
 invariant_of-result c =
     let account = c.new_account-accounts.ensures ∙ ap empty_account c.root.ensures in
-    let settings = replicate 64 c.none-settings.result in
+    let settings = c.new-settings.result in
     kept_as _ _ _ _ initial_ledger
     (ap (λ rows. ledger_of rows (replicate 64 c.new_account-accounts.result) settings) c.in_ok-tree.ensures
     ∙ ap (λ a. ledger_of initial_ledger.groups (replicate 64 a) settings) account
-    ∙ ap (λ s. ledger_of initial_ledger.groups initial_ledger.accounts (replicate 64 s)) c.none-settings.ensures)
-    AreCharges-initial (length-replicate 64 c.new_account-accounts.result) (length-replicate 64 c.none-settings.result) stored_initial
+    ∙ ap (ledger_of initial_ledger.groups initial_ledger.accounts) c.new-settings.ensures)
+    AreCharges-initial (length-replicate 64 c.new_account-accounts.result) stored_initial

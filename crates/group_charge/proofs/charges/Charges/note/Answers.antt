@@ -27,7 +27,7 @@ invariant_of-self c =
     let size = ap length c.count_local_event.ensures.counted ∙ length-set mid c.args.group (record a { events_local = with_one_more c.args.key a.events_local })
     ∙ c.count_event.ensures.size in
     kept_as _ _ _ _ (with_noted c.args.key l c.args.group) (returns-clause-noted c ∙ ap (λ k. with_noted c.args.key k c.args.group) (sym c.self.view_is))
-    (AreCharges-noted c.args.key l c.args.group c.self.invariant.charges) size c.self.invariant.settings_size
+    (AreCharges-noted c.args.key l c.args.group c.self.invariant.charges) size
     (stored_noted c.args.key l c.self.inside.usages c.args.group c.self.invariant.usages_are)
 
 pub returns-clause-only : goal.returns-clause-only

@@ -19,7 +19,7 @@ invariant_of-self c =
     let l = ledger_of c.self.inside.tree c.self.inside.accounts c.self.inside.settings in
     kept_as _ _ _ _ (with_group_limit l c.args.group c.args.limit) (returns-clause-limited c
     ∙ ap (λ k. with_group_limit k c.args.group c.args.limit) (sym c.self.view_is))
-    (AreCharges-limited l c.args.group c.args.limit c.self.invariant.charges) c.self.invariant.size c.self.invariant.settings_size
+    (AreCharges-limited l c.args.group c.args.limit c.self.invariant.charges) c.self.invariant.size
     (stored_limited l c.self.inside.usages c.args.group c.args.limit c.self.invariant.usages_are)
 
 pub returns-clause-pages : goal.returns-clause-pages

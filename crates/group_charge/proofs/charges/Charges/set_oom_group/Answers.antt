@@ -19,7 +19,7 @@ invariant_of-self c =
     let l = ledger_of c.self.inside.tree c.self.inside.accounts c.self.inside.settings in
     kept_as _ _ _ _ (with_oom_flag l c.args.group c.args.oom_group) (returns-clause-flagged c
     ∙ ap (λ k. with_oom_flag k c.args.group c.args.oom_group) (sym c.self.view_is))
-    (AreCharges-flagged l c.args.group c.args.oom_group c.self.invariant.charges c.requires.below_root) c.self.invariant.size c.self.invariant.settings_size
+    (AreCharges-flagged l c.args.group c.args.oom_group c.self.invariant.charges c.requires.below_root) c.self.invariant.size
     (stored_flagged l c.self.inside.usages c.args.group c.args.oom_group c.self.invariant.usages_are)
 
 pub returns-clause-pages : goal.returns-clause-pages

@@ -65,7 +65,7 @@ invariant_of-self-2 c =
     let none : c.add_until_over.result ≡ None = c.in_default.is in
     let added = subst (λ o. UsagesPassed groups c.args.group o (λ pages. pages + c.args.pages) c.self.inside.usages c.add_until_over.new.usages) none c.add_until_over.ensures.added in
     kept_as _ _ _ _ (with_charge l c.args.group c.args.pages) (returns-clause-charged c ∙ ap (λ k. with_charge k c.args.group c.args.pages) (sym c.self.view_is))
-    (AreCharges-charged l c.args.group c.args.pages c.self.invariant.charges there fits) c.raise_peaks.ensures.size c.self.invariant.settings_size
+    (AreCharges-charged l c.args.group c.args.pages c.self.invariant.charges there fits) c.raise_peaks.ensures.size
     (stored_charged l c.self.inside.usages c.add_until_over.new.usages c.args.group c.args.pages c.self.invariant.charges there c.self.invariant.usages_are
     c.add_until_over.ensures.size added)
 

@@ -51,7 +51,6 @@ invariant_of-self c =
     let charged : c.args.pages ≤ pages_of l c.args.group = subst (λ k. c.args.pages ≤ pages_of k c.args.group) (sym c.self.view_is) c.requires.charged in
     kept_as _ _ _ _ (with_uncharge l c.args.group c.args.pages) (returns-clause-uncharged c ∙ ap (λ k. with_uncharge k c.args.group c.args.pages) (sym c.self.view_is))
     (AreCharges-taken l c.args.group c.args.pages c.self.invariant.charges) (length-set c.self.inside.accounts c.number.result _ ∙ c.self.invariant.size)
-    c.self.invariant.settings_size
     (stored_taken l c.self.inside.usages c.subtract_until.new.usages c.args.group c.args.pages c.self.invariant.charges there charged c.self.invariant.usages_are
     c.subtract_until.ensures.size c.subtract_until.ensures.taken)
 

@@ -43,6 +43,20 @@ returns-in-Refused g c =
     })
     (ap (reply_of c.serve_outcome-outcome.new.locked.machine.ledger) c.in-Refused.is)
 
+pub returns-in-Stat : goal.returns-in-Stat
+returns-in-Stat g c =
+    replied g.N.BootName.frames c.args.self.now.locked.sizes (cmd.Read c.args.asked.now.path c.args.asked.now.file) c.serve_outcome-outcome.result
+    (reply.Text c.stat_text.result) c.args.cpu.now c.serve_outcome-outcome.new.cpu
+    (record {
+      found = c.self.inside.locked;
+      left = c.serve_outcome-outcome.new.locked;
+      sizes_are = ap (λ (b : KnownBehind). b.locked.sizes) c.self.view_is;
+      sound_before = record { quiet = c.prove_quiet.ensures.quiet; consistent = c.prove_quiet.ensures.consistent; charges = c.prove_quiet.ensures.charges };
+      served = c.serve_outcome-outcome.ensures.served;
+      sound_after = record { quiet = c.prove_quiet-2.ensures.quiet; consistent = c.prove_quiet-2.ensures.consistent; charges = c.prove_quiet-2.ensures.charges };
+    })
+    (ap (reply_of c.serve_outcome-outcome.new.locked.machine.ledger) c.in-Stat.is ∙ ap reply.Text (sym c.stat_text.ensures))
+
 pub returns : goal.returns
 returns g c =
     let t = g.N.BootName.frames in

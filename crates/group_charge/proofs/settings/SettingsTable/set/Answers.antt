@@ -1,0 +1,38 @@
+use Rattle.std.proofs.Common.{◌≡◌, ℕ, zero, suc, ◌||◌, Bool, true, false, List, [], ◌∷◌, set, refl, sym, ap, ◌∙◌, rules, tests}
+use Rattle.std.proofs.lemmas.Iterator.{YieldsList-from_slice}
+use Rattle.std.proofs.lemmas.Iterator.Search.{any_from_yields_List}
+use Rattle.std.proofs.lemmas.Bool.{true≢false}
+use Rattle.std.proofs.lemmas.List.{length-set}
+use Rattle.group_charge.specs.Charges.{Settings, are_protecting, is_protecting}
+use Rattle.group_charge.proofs.settings.SettingsTable.set.Goals as goal
+
+-- a write of what doesn't pass, over what didn't
+set_none : (settings : List Settings) (at : ℕ) (one : Settings) → are_protecting settings ≡ false → is_protecting one ≡ false
+    → are_protecting (set settings at one) ≡ false
+set_none [] at one none off = refl
+set_none (s ∷ settings) zero one none off = by_case (is_protecting s) none
+  where
+    by_case : (b : Bool) → (b || are_protecting settings) ≡ false → (is_protecting one || are_protecting settings) ≡ false
+    by_case false is = ap (λ (x : Bool). x || are_protecting settings) off ∙ is
+    by_case true is = absurd (true≢false is)
+set_none (s ∷ settings) (suc at) one none off = by_case (is_protecting s) none (λ is. set_none settings at one is off)
+  where
+    by_case : (b : Bool) → (b || are_protecting settings) ≡ false → (are_protecting settings ≡ false → are_protecting (set settings at one) ≡ false)
+        → (b || are_protecting (set settings at one)) ≡ false
+    by_case false is rest = rest is
+    by_case true is rest = absurd (true≢false is)
+
+pub invariant_of-self : goal.invariant_of-self
+invariant_of-self c = (
+  length-set c.self.inside.settings c.number.result c.args.settings ∙ c.self.invariant.0,
+  c.if-self.false ∙ sym (set_none c.self.inside.settings c.number.result c.args.settings (sym c.self.invariant.1 ∙ c.if-self.false)
+      (sym c.is_protecting.ensures ∙ c.if-is_protecting.false)),
+)
+
+pub invariant_of-self-then-self : goal.invariant_of-self-then-self
+invariant_of-self-then-self c = (
+  length-set c.self.inside.settings c.number.result c.args.settings ∙ c.self.invariant.0,
+  any_from_yields_List is_protecting _ _ _ c.any-self-inside.ensures.ran
+      (YieldsList-from_slice (set c.self.inside.settings c.number.result c.args.settings) cc)
+      (λ x b q k. search (rules, tests)),
+)

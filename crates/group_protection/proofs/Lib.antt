@@ -1,0 +1,3 @@
+mod Claiming
+pub mod Effective
+pub mod Topping

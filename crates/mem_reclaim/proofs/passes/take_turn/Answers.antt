@@ -1,0 +1,27 @@
+use Rattle.group_tree.proofs.CallerLemmas.{in_subtree-refl}
+use Rattle.mem_reclaim.proofs.Passing.{turn_none, turn_some}
+use Rattle.mem_reclaim.proofs.passes.take_turn.Goals as goal
+
+pub returns-then-wanted-eq0 : goal.returns-then-wanted-eq0
+returns-then-wanted-eq0 g c =
+    let m = c.args.machine.now in
+    let p = c.protection_of-protection in
+    let taken =
+    turn_none g.N.BootName.frames c.args.pass c.args.target c.args.group c.args.want p.result.min p.result.low c.current-usage.result c.spared_by.result
+    c.turn_want-wanted.result m c.note_spared.new.machine c.charges-charges.result.now c.charges-charges.ensures c.prove_charges.ensures.legal.groups
+    c.requires.inside p.ensures.min p.ensures.low c.current-usage.ensures c.spared_by.ensures c.turn_want-wanted.ensures
+    c.note_spared.ensures c.requires.wanted c.if-wanted-eq0.true in
+    record { turn = taken.turn; keeps = taken.keeps; usage = taken.usage; few = taken.few; leaves = taken.leaves; tried = taken.tried }
+
+pub returns : goal.returns
+returns g c =
+    let m = c.args.machine.now in
+    let p = c.protection_of-protection in
+    let e = c.reclaim_group.ensures in
+    let taken =
+    turn_some g.N.BootName.frames c.args.pass c.args.target c.args.group c.args.want p.result.min p.result.low c.current-usage.result c.spared_by.result
+    c.turn_want-wanted.result m c.note_spared.new.machine c.charges-charges.result.now c.charges-charges.ensures c.prove_charges.ensures.legal.groups
+    c.requires.inside p.ensures.min p.ensures.low c.current-usage.ensures c.spared_by.ensures c.turn_want-wanted.ensures
+    c.note_spared.ensures c.if-wanted-eq0.false c.reclaim_group.result c.reclaim_group.new.machine
+    e.passes e.keeps (in_subtree-refl m.ledger.groups c.args.group c.requires.there) e.usage e.few e.leaves e.missed in
+    record { turn = taken.turn; keeps = taken.keeps; usage = taken.usage; few = taken.few; leaves = taken.leaves; tried = taken.tried }
