@@ -1,7 +1,7 @@
 -- A CPU that saw no group last has no fresh frame.
 use Rattle.std.proofs.Common.{[], ◌≡◌, ℕ, ◌≤◌, Bool, true, false, None, List, ◌∷◌, refl, ap, sym, ◌∙◌, subst, arith, inl, inr, eq-eqb}
-use Rattle.frame_word.specs.Seats.{KnownTable}
-use Rattle.stock_word.specs.declared.view.Stock.TheVariants.{NoGroup}
+use Rattle.frame_word.specs.Tables.{KnownTable}
+use Rattle.stock_word.specs.declared.stock.Stock.TheVariants.{NoGroup}
 use Rattle.stock_word.specs.Stock.{drained_of, group_of}
 use Rattle.step_rules.specs.declared.step.Action.TheVariants.{Credit}
 use Rattle.step_rules.specs.Invariant.{PhasePaid, groups_in}

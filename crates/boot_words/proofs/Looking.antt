@@ -2,8 +2,8 @@
 use Rattle.std.proofs.Common.{[], ◌≡◌, ℕ, ◌+◌, ◌<◌, ◌≤◌, true, List, ◌∷◌, refl, ap, sym, ◌∙◌, subst, arith}
 use Rattle.std.specs.Prelude.{slice_index, IfSome}
 use Rattle.frame_word.specs.{most_references, KnownTable}
-use Rattle.stock_word.specs.declared.view.Stock.{Stock}
-use Rattle.stock_word.specs.declared.view.Stock.TheVariants.{DrainedOf, HeldBy, NoGroup}
+use Rattle.stock_word.specs.declared.stock.Stock.{Stock}
+use Rattle.stock_word.specs.declared.stock.Stock.TheVariants.{DrainedOf, HeldBy, NoGroup}
 use Rattle.stock_word.specs.{HasWord, group_of, word_of, stock_index}
 use Rattle.step_rules.specs.{is_live_phase, Zone, live_references, state_of}
 use Rattle.step_rules.specs.State.{State}

@@ -1,7 +1,7 @@
 -- A load makes any step that changes no word.
 use Rattle.std.proofs.Common.{[], List, ◌∷◌, refl, sym, subst, rules}
 use Rattle.atomic_table.specs.Table.{keeps}
-use Rattle.frame_word.specs.Seats.{KnownTable}
+use Rattle.frame_word.specs.Tables.{KnownTable}
 use Rattle.step_rules.specs.declared.step.Step.{Step}
 use Rattle.step_rules.specs.declared.step.Action.{Action}
 use Rattle.step_rules.specs.declared.step.Action.TheVariants.{Lock}

@@ -7,8 +7,8 @@ use lib.ListN.{get_elem?}
 use prog.Atomic.{either}
 use Rattle.atomic_table.specs.Table.{State as Board}
 use Rattle.atomic_table.proofs.Lists.{exchanged}
-use Rattle.stock_word.specs.declared.view.Stock.{Stock}
-use Rattle.stock_word.specs.declared.view.Stock.TheVariants.{NoGroup, HeldBy, DrainedOf}
+use Rattle.stock_word.specs.declared.stock.Stock.{Stock}
+use Rattle.stock_word.specs.declared.stock.Stock.TheVariants.{NoGroup, HeldBy, DrainedOf}
 use Rattle.stock_word.specs.{HasWord, drained_of, word_of, stock_index}
 use Rattle.stock_word.proofs.Stocks.{held_word}
 use Rattle.step_rules.specs.declared.step.Action.{Action}
@@ -27,7 +27,7 @@ use Rattle.boot_words.specs.declared.past.Past.{Past}
 use Rattle.boot_words.proofs.Away.{away_stays}
 use Rattle.boot_words.proofs.StockSteps.{stock_is_at, stock_low, stock_words_set}
 use Rattle.boot_words.specs.declared.word.Word.TheVariants.{StockOf}
-use Rattle.frame_word.specs.Seats.{KnownTable}
+use Rattle.frame_word.specs.Tables.{KnownTable}
 use Rattle.boot_words.proofs.Calling.{made}
 use Rattle.boot_words.proofs.Fast.{Leaves, Made, legal_still, makes_on, past_begins}
 use Rattle.boot_words.proofs.Booking.{AreSmall}

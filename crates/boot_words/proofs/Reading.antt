@@ -3,7 +3,7 @@ use Rattle.std.proofs.Common.{◌≡◌, ℕ, ◌+◌, ◌≤◌, List, sym, ◌
 use Rattle.std.specs.Prelude.{slice_index}
 use mathlib.Core.Option.{some}
 use lib.ListN.{get_elem?}
-use Rattle.frame_word.specs.Seats.{KnownWords}
+use Rattle.frame_word.specs.Tables.{KnownWords}
 use Rattle.frame_word.proofs.Notes.{read_at}
 use Rattle.stock_word.specs.StockRule.{report_index, stock_index}
 use Rattle.boot_words.specs.{frame_base, closed_words}

@@ -8,7 +8,7 @@ use mathlib.Core.Logic.{dite}
 use native.Mathlib.Decide.{ℕ_discrete}
 use Rattle.frame_word.specs.declared.view.FrameNote.{FrameNote}
 use Rattle.frame_word.specs.declared.view.FrameView.{FrameView}
-use Rattle.frame_word.specs.ReferenceRule.{FrameRule, HandOverRule, IsInOneHand, IsPassing, IsReferenced, ReferenceRule, VisitRule, begun_in, borrowed_in, ended_in, hands_in, lent_in, lent_number, mark, mark_count, only, opened_in, references_in, visit_index}
+use Rattle.frame_word.specs.Word.{FrameRule, HandOverRule, IsInOneHand, IsPassing, IsReferenced, ReferenceRule, VisitRule, begun_in, borrowed_in, ended_in, hands_in, lent_in, lent_number, mark, mark_count, only, opened_in, references_in, visit_index}
 use Rattle.frame_word.specs.Totals.{sum_over, total_over}
 use Rattle.frame_word.specs.Views.{blank, in_hands, lent_count, note_of}
 use Rattle.frame_word.proofs.Consequences.{OneCase}

@@ -7,7 +7,7 @@ use mathlib.Core.Option.{some}
 use lib.ListN.{get_elem?}
 use prog.Atomic.{either}
 use Rattle.atomic_table.proofs.Lists.{exchanged}
-use Rattle.frame_word.specs.ReferenceRule.{most_references}
+use Rattle.frame_word.specs.Word.{most_references}
 use Rattle.step_rules.specs.declared.step.Action.{Action}
 use Rattle.step_rules.specs.declared.step.Action.TheVariants.{Get, Put}
 use Rattle.step_rules.specs.declared.step.Answer.{Answer}

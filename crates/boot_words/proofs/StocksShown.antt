@@ -5,9 +5,9 @@ use Rattle.std.specs.List.{slice_index_or}
 use Rattle.std.proofs.lemmas.List.{length-take-le}
 use Rattle.std.proofs.lemmas.List.FromFn.{get_or-map-range_with_len, length-map-range_with_len}
 use Rattle.frame_word.specs.Totals.{sum_over}
-use Rattle.stock_word.specs.declared.view.Stock.{Stock}
-use Rattle.stock_word.specs.declared.view.Stock.TheVariants.{DrainedOf, HeldBy, NoGroup}
-use Rattle.stock_word.specs.declared.view.StockAccount.{StockAccount}
+use Rattle.stock_word.specs.declared.stock.Stock.{Stock}
+use Rattle.stock_word.specs.declared.stock.Stock.TheVariants.{DrainedOf, HeldBy, NoGroup}
+use Rattle.stock_word.specs.declared.stock.StockAccount.{StockAccount}
 use Rattle.stock_word.specs.Stock.{HasWord, account_of, drained_of, is_held, no_account, stock_account_at, stock_pages_of}
 use Rattle.stock_word.specs.StockRule.{IsOnly, IsStock, StockRule, at_seat, report_index, stock_index}
 use Rattle.step_rules.specs.{Part, Zone, one_if, state_of, other_part_seen}

@@ -2,7 +2,7 @@
 use Rattle.std.proofs.Common.{◌≡◌, ℕ, ◌+◌, ◌-◌, ◌%◌, ◌^◌, ◌<◌, ◌≤◌, true, List, set, refl, ap, sym, ◌∙◌, subst, arith, inl, inr}
 use Rattle.std.specs.Prelude.{slice_index}
 use Rattle.frame_word.specs.{mark, visit_index, KnownTable}
-use Rattle.stock_word.specs.declared.view.Stock.TheVariants.{HeldBy}
+use Rattle.stock_word.specs.declared.stock.Stock.TheVariants.{HeldBy}
 use Rattle.stock_word.specs.{HasWord, word_of, stock_index}
 use Rattle.step_rules.specs.declared.step.Action.TheVariants.{Collect, Consume, OpenVisit, PassBack, ShutVisit}
 use Rattle.step_rules.specs.declared.step.Answer.TheVariants.{Done, Took}

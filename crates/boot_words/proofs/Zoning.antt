@@ -5,8 +5,8 @@ use Rattle.std.proofs.lemmas.Bool.{cond-false, cond-true, ne_eqb}
 use Rattle.std.proofs.lemmas.List.{set-get_or}
 use prog.Atomic.{either}
 use Rattle.atomic_table.proofs.Lists.{exchanged}
-use Rattle.frame_word.specs.Seats.{KnownTable}
-use Rattle.stock_word.specs.declared.view.Stock.TheVariants.{HeldBy}
+use Rattle.frame_word.specs.Tables.{KnownTable}
+use Rattle.stock_word.specs.declared.stock.Stock.TheVariants.{HeldBy}
 use Rattle.stock_word.specs.{HasWord, word_of, stock_index}
 use Rattle.step_rules.specs.declared.step.Action.TheVariants.{Fill, Freeze, Unfreeze}
 use Rattle.step_rules.specs.declared.step.Answer.TheVariants.{Done, Missed}

@@ -1,6 +1,6 @@
 -- Several steps of the run that one atomic step makes under the lock: the table of these lists, and what each leaves.
 use Rattle.std.specs.Prelude.{[], ◌≡◌, ℕ, true, ◌∷◌}
-use Rattle.frame_word.specs.Seats.{KnownTable}
+use Rattle.frame_word.specs.Tables.{KnownTable}
 use Rattle.step_rules.specs.declared.step.Step.{Step}
 use Rattle.step_rules.specs.declared.step.Action.{Action}
 use Rattle.step_rules.specs.declared.step.Action.TheVariants.{PassOut, TakeIn, Absorb, Collect, PassBack, Report}

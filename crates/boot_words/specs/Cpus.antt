@@ -1,12 +1,12 @@
 -- The seat of a CPU in contracts, and its calls on its own stock.
 use Rattle.std.specs.Prelude.{◌≡◌, ◌≢◌, ◌⊎◌, ℕ, ◌+◌, false, Some, MatchBool}
-use Rattle.frame_word.specs.Seats.{KnownTable}
-use Rattle.stock_word.specs.declared.view.Stock.{Stock}
-use Rattle.stock_word.specs.declared.view.Stock.TheVariants.{HeldBy}
-use Rattle.stock_word.specs.declared.words.Consume.{Consume}
-use Rattle.stock_word.specs.declared.words.Consume.TheVariants as consumes
-use Rattle.stock_word.specs.declared.words.Credit.{Credit}
-use Rattle.stock_word.specs.declared.words.Credit.TheVariants as credits
+use Rattle.frame_word.specs.Tables.{KnownTable}
+use Rattle.stock_word.specs.declared.stock.Stock.{Stock}
+use Rattle.stock_word.specs.declared.stock.Stock.TheVariants.{HeldBy}
+use Rattle.stock_word.specs.declared.answers.Consume.{Consume}
+use Rattle.stock_word.specs.declared.answers.Consume.TheVariants as consumes
+use Rattle.stock_word.specs.declared.answers.Credit.{Credit}
+use Rattle.stock_word.specs.declared.answers.Credit.TheVariants as credits
 use Rattle.stock_word.specs.Stock.{HasWord, drained_of, group_of, is_held}
 use Rattle.step_rules.specs.declared.step.Action.{Action}
 use Rattle.step_rules.specs.declared.step.Action.TheVariants as step

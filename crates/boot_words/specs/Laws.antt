@@ -1,8 +1,8 @@
 -- The reference rule and the stock rule, as laws.
 use Rattle.std.specs.Prelude.{[], ◌≡◌, ℕ, List}
-use Rattle.frame_word.specs.ReferenceRule.{ReferenceRule}
-use Rattle.frame_word.specs.Seats.{KnownTable}
-use Rattle.stock_word.specs.declared.view.Stock.TheVariants.{NoGroup}
+use Rattle.frame_word.specs.Word.{ReferenceRule}
+use Rattle.frame_word.specs.Tables.{KnownTable}
+use Rattle.stock_word.specs.declared.stock.Stock.TheVariants.{NoGroup}
 use Rattle.stock_word.specs.StockRule.{StockRule}
 use Rattle.step_rules.specs.declared.step.Action.TheVariants.{Get}
 use Rattle.step_rules.specs.declared.step.Answer.TheVariants.{Zero}

@@ -1,7 +1,7 @@
 -- The seats of a new table.
 use Rattle.std.specs.Prelude.{[], ℕ, zero, suc, ◌+◌, List, ◌∷◌}
 use Rattle.atomic_table.specs.Seated.{TableId}
-use Rattle.stock_word.specs.declared.view.Stock.TheVariants.{NoGroup}
+use Rattle.stock_word.specs.declared.stock.Stock.TheVariants.{NoGroup}
 use Rattle.boot_words.specs.Pasts.{KnownPasts}
 use Rattle.boot_words.specs.Runs.{no_past}
 use Rattle.boot_words.specs.Cpus.{KnownCpuSeat}

@@ -5,11 +5,11 @@ use Rattle.frame_word.specs.declared.answers.Get.{Get}
 use Rattle.frame_word.specs.declared.answers.Get.TheVariants as gets
 use Rattle.frame_word.specs.declared.answers.Put.{Put}
 use Rattle.frame_word.specs.declared.answers.Put.TheVariants as puts
-use Rattle.frame_word.specs.Seats.{KnownTable}
-use Rattle.stock_word.specs.declared.words.Consume.{Consume}
-use Rattle.stock_word.specs.declared.words.Consume.TheVariants as consumes
-use Rattle.stock_word.specs.declared.words.Credit.{Credit}
-use Rattle.stock_word.specs.declared.words.Credit.TheVariants as credits
+use Rattle.frame_word.specs.Tables.{KnownTable}
+use Rattle.stock_word.specs.declared.answers.Consume.{Consume}
+use Rattle.stock_word.specs.declared.answers.Consume.TheVariants as consumes
+use Rattle.stock_word.specs.declared.answers.Credit.{Credit}
+use Rattle.stock_word.specs.declared.answers.Credit.TheVariants as credits
 use Rattle.step_rules.specs.declared.phase.Hold.TheVariants.{HeldBy, Unheld}
 use Rattle.step_rules.specs.declared.step.Action.{Action}
 use Rattle.step_rules.specs.declared.step.Action.TheVariants.{Lock, Unlock}

@@ -3,8 +3,8 @@ use Rattle.std.specs.Prelude.{[], ℕ, ◌+◌, ◌==◌, ◌&&◌, Bool, true, 
 use Rattle.std.specs.List.{range_with_len}
 use Rattle.frame_word.specs.declared.view.FrameNote.{FrameNote}
 use Rattle.frame_word.specs.declared.view.FrameView.{FrameView}
-use Rattle.stock_word.specs.declared.view.StockAccount.{StockAccount}
-use Rattle.stock_word.specs.declared.view.StockView.{StockView}
+use Rattle.stock_word.specs.declared.stock.StockAccount.{StockAccount}
+use Rattle.stock_word.specs.declared.stock.StockView.{StockView}
 use Rattle.stock_word.specs.Stock.{is_held}
 use Rattle.step_rules.specs.declared.phase.Stage.{Stage}
 use Rattle.step_rules.specs.declared.phase.Stage.TheVariants.{AwaitsReturn, Bare, Collected, FreshAt, FreshPassing}

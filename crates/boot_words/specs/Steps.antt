@@ -1,8 +1,8 @@
 -- How each step with its answer changes the words, by the word that it finds. What isn't named here is unchanged.
 use Rattle.std.specs.Prelude.{[], ◌≡◌, ◌≢◌, ℕ, ◌+◌, ◌*◌, ◌<◌, ◌≤◌, true, Some, length, slice_index}
-use Rattle.frame_word.specs.ReferenceRule.{mark, most_references}
-use Rattle.stock_word.specs.declared.view.Stock.{Stock}
-use Rattle.stock_word.specs.declared.view.Stock.TheVariants.{NoGroup, HeldBy, DrainedOf}
+use Rattle.frame_word.specs.Word.{mark, most_references}
+use Rattle.stock_word.specs.declared.stock.Stock.{Stock}
+use Rattle.stock_word.specs.declared.stock.Stock.TheVariants.{NoGroup, HeldBy, DrainedOf}
 use Rattle.stock_word.specs.{word_of, HasWord, stock_pages_of, group_of, stock_index, report_index}
 use Rattle.step_rules.specs.declared.step.Step.{Step}
 use Rattle.step_rules.specs.declared.step.Action.{Action}

@@ -1,7 +1,7 @@
 //! The end of a table.
 ghost use Rattle.std.specs.Prelude.{◌≡◌, ◌+◌, ◌*◌, ◌<◌, ◌≤◌, ◌++◌, length, slice_index};
-ghost use Rattle.frame_word.specs.ReferenceRule.{visit_index};
-ghost use Rattle.stock_word.specs.declared.view.Stock.{Stock as AStock};
+ghost use Rattle.frame_word.specs.Word.{visit_index};
+ghost use Rattle.stock_word.specs.declared.stock.Stock.{Stock as AStock};
 ghost use Rattle.stock_word.specs.{word_of, HasWord, report_index, stock_index};
 ghost use Rattle.boot_words.specs.Closed.{closed_words, pasts_of_cpus, HasCpuPast, IsClosedRun};
 ghost use Rattle.boot_words.specs.Pasts.{IsZonePast};
@@ -26,7 +26,7 @@ pub struct ClosedWords {
 impl Model for ClosedWords {
     ghost use Rattle.std.specs.Prelude.{◌≡◌};
     ghost use Rattle.std.specs.Mem.Slots.{slots_items, slots_len, IsFull};
-    ghost use Rattle.frame_word.specs.Seats.{KnownWords};
+    ghost use Rattle.frame_word.specs.Tables.{KnownWords};
     ghost use Rattle.boot_words.specs.Rule.{word_count};
 
     ghost Value = { KnownWords };

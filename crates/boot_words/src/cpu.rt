@@ -1,7 +1,7 @@
 //! The seats of CPUs. Without the lock a CPU changes its stock by one exchange.
 ghost use Rattle.std.specs.Prelude.{◌≡◌, ◌+◌, ◌<◌, ◌≤◌, ◌==◌};
 ghost use prog.Atomic.{either};
-ghost use Rattle.stock_word.specs.declared.view.Stock.TheVariants.{HeldBy};
+ghost use Rattle.stock_word.specs.declared.stock.Stock.TheVariants.{HeldBy};
 ghost use Rattle.stock_word.specs.Stock.{word_of, HasWord};
 ghost use Rattle.step_rules.specs.declared.step.Action.TheVariants as step;
 ghost use Rattle.boot_words.specs.Pasts.{MayDo};

@@ -1,6 +1,6 @@
 //! Loads that are no step.
 ghost use Rattle.std.specs.Prelude.{◌≡◌, ◌<◌, ◌≤◌, IfSome};
-ghost use Rattle.frame_word.specs.ReferenceRule.{most_references};
+ghost use Rattle.frame_word.specs.Word.{most_references};
 ghost use Rattle.stock_word.specs.Stock.{HasWord};
 ghost use Rattle.step_rules.specs.After.{state_of};
 ghost use Rattle.boot_words.specs.Locks.{LeavesFree};

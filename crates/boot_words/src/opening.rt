@@ -1,6 +1,6 @@
 //! A new table.
 ghost use Rattle.std.specs.Prelude.{◌≡◌, ◌≤◌, IfOk};
-ghost use Rattle.stock_word.specs.declared.view.Stock.TheVariants.{NoGroup};
+ghost use Rattle.stock_word.specs.declared.stock.Stock.TheVariants.{NoGroup};
 ghost use Rattle.boot_words.specs.Rule.{AllOf};
 ghost use Rattle.boot_words.specs.Cpus.{IsAwayCpu};
 ghost use Rattle.boot_words.specs.Opening.{cpus_at_first, seat_at_first};

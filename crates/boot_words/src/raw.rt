@@ -93,7 +93,7 @@ pub struct BootWords {
 }
 
 impl Model for BootWords {
-    ghost use Rattle.frame_word.specs.Seats.{KnownTable};
+    ghost use Rattle.frame_word.specs.Tables.{KnownTable};
 
     ghost Value = { KnownTable };
 

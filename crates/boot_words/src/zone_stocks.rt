@@ -1,6 +1,6 @@
 //! Steps under the lock on the words of stocks. The seat has the zone's past and that of the lock's holder.
 ghost use Rattle.std.specs.Prelude.{◌≡◌, ◌+◌, ◌-◌, ◌%◌, ◌^◌, ◌≤◌};
-ghost use Rattle.stock_word.specs.declared.view.Stock.TheVariants.{DrainedOf, HeldBy};
+ghost use Rattle.stock_word.specs.declared.stock.Stock.TheVariants.{DrainedOf, HeldBy};
 ghost use Rattle.stock_word.specs.Stock.{word_of, HasWord};
 ghost use Rattle.step_rules.specs.Legal.{IsAnswer};
 ghost use Rattle.step_rules.specs.declared.step.Action.TheVariants as step;

@@ -1,6 +1,6 @@
 -- For callers: steps that one atomic step made, as steps made one after the other.
 use Rattle.std.proofs.Common.{[], ◌∷◌, ◌∙◌, refl, sym}
-use Rattle.frame_word.specs.Seats.{KnownTable}
+use Rattle.frame_word.specs.Tables.{KnownTable}
 use Rattle.step_rules.specs.After.{Run}
 use Rattle.boot_words.specs.{GrewInTurn, MakesInTurn, KnownPasts, IsHeld, cpu_past, own_past, zone_of_boot}
 use Rattle.cpu_part.specs.Made.{MakesAll}

@@ -5,8 +5,8 @@ use Rattle.std.proofs.lemmas.Bool.{le-leb}
 use Rattle.std.specs.Prelude.{IsPermutation, MatchBool, remove}
 use Rattle.frame_word.specs.declared.answers.Get as gets
 use Rattle.frame_word.specs.declared.answers.Get.TheVariants as get
-use Rattle.frame_word.specs.Seats.{KnownTable}
-use Rattle.stock_word.specs.declared.view.Stock.TheVariants.{HeldBy}
+use Rattle.frame_word.specs.Tables.{KnownTable}
+use Rattle.stock_word.specs.declared.stock.Stock.TheVariants.{HeldBy}
 use Rattle.stock_word.specs.Stock.{drained_of, is_held}
 use Rattle.step_rules.specs.declared.step.Action.{Action}
 use Rattle.step_rules.specs.declared.step.Action.TheVariants.{Get, Put, Consume, Credit}
@@ -19,14 +19,14 @@ use Rattle.step_rules.proofs.Runs.{sound_run}
 use Rattle.boot_words.specs.{IsFast, HasSameLists, MayDo, own_past, zone_of_boot, CpuMakes, GetsReference, Exchanges, IsAwayCpu, KnownCpuSeat}
 use Rattle.boot_words.specs.{state_left}
 use Rattle.boot_words.proofs.OwnParts.{own_part_follows}
-use Rattle.cpu_part.specs.{KnownCpu, HasOwn, KnowsItsPart}
+use Rattle.cpu_part.specs.{KnownCpuLists, HasOwn, KnowsItsPart}
 use Rattle.cpu_part.proofs.Legal.{fresh_once, legal_consume, legal_credit, legal_get, legal_put, list_inside, listed_once, pin_inside}
 use Rattle.cpu_part.proofs.Owning.{own_credited, own_last, own_left, own_pinned, own_same, own_took}
 
 not_zone : (q : ℕ) → 1 ≤ q → q ≢ 0
 not_zone q low e = absurd (omega (arith, low, e))
 
-module _ (t : KnownTable) (k : KnownCpuSeat) (c : KnownCpu) (knows : KnowsItsPart t k c) where
+module _ (t : KnownTable) (k : KnownCpuSeat) (c : KnownCpuLists) (knows : KnowsItsPart t k c) where
   sound : KeepsInvariant (state_left t k)
   sound = sound_run (zone_of_boot t) (own_past k.seat).seen knows.is.past.legal
 
@@ -76,7 +76,7 @@ module _ (t : KnownTable) (k : KnownCpuSeat) (c : KnownCpu) (knows : KnowsItsPar
   -- ---- what it knows after each step
 
   -- it made the step, and its lists are what the step makes of them, whatever others did before
-  knows_after : (l : KnownCpuSeat) (d : KnownCpu) (action : Action) (answer : Answer) → IsFast action → IsAwayCpu t l → l.number ≡ k.number
+  knows_after : (l : KnownCpuSeat) (d : KnownCpuLists) (action : Action) (answer : Answer) → IsFast action → IsAwayCpu t l → l.number ≡ k.number
       → d.number ≡ c.number → CpuMakes t k.seat action answer l.seat → HasOwn (after (state_left t k) c.number action answer) d → KnowsItsPart t l d
   knows_after l d action answer fast is number same makes own =
       let q = (own_past k.seat).number in

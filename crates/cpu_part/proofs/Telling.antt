@@ -3,16 +3,16 @@ use Rattle.std.proofs.Common.{◌≡◌, ◌≢◌, ℕ, Bool, true, false, [], 
 use Rattle.std.specs.Prelude.{MatchBool, Result, Err, Ok, if◌then◌else◌}
 use Rattle.frame_word.specs.declared.answers.Get as gets
 use Rattle.frame_word.specs.declared.answers.Get.TheVariants as get
-use Rattle.frame_word.specs.Seats.{KnownTable}
+use Rattle.frame_word.specs.Tables.{KnownTable}
 use Rattle.group_tree.specs.declared.fault.Fault.{Fault}
 use Rattle.stock_word.specs.Stock.{drained_of, is_held}
 use Rattle.step_rules.specs.declared.step.Action.{Action}
 use Rattle.step_rules.specs.declared.step.Answer.{Answer}
 use Rattle.step_rules.specs.declared.step.Answer.TheVariants.{Drained}
 use Rattle.boot_words.specs.{GrewBy, GrewByAll, KnownPasts, own_past, zone_of_boot, CpuMakes, GetsReference, RacesAt, Exchanges, KnownCpuSeat}
-use Rattle.cpu_part.specs.{IfRaced, PinAnswers, KnownCpu, KnowsItsPart, one_step, steps_of_get}
+use Rattle.cpu_part.specs.{IfRaced, PinAnswers, KnownCpuLists, KnowsItsPart, one_step, steps_of_get}
 
-module _ (t : KnownTable) (k : KnownCpuSeat) (c : KnownCpu) (knows : KnowsItsPart t k c) where
+module _ (t : KnownTable) (k : KnownCpuSeat) (c : KnownCpuLists) (knows : KnowsItsPart t k c) where
   pub told_one : (action : Action) (answer : Answer) (s : KnownPasts) → CpuMakes t k.seat action answer s
       → GrewByAll (own_past k.seat) (one_step c.number action answer) (own_past s)
   told_one action answer s made = (

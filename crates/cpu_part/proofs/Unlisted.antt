@@ -3,7 +3,7 @@ use Rattle.std.proofs.Common.{◌≡◌, ◌≢◌, ℕ, zero, suc, ◌+◌, ◌
 use Rattle.std.proofs.lemmas.Bool.{cases_Bool}
 use Rattle.frame_word.specs.declared.answers.Get as gets
 use Rattle.frame_word.specs.declared.answers.Get.TheVariants as get
-use Rattle.frame_word.specs.Seats.{KnownTable}
+use Rattle.frame_word.specs.Tables.{KnownTable}
 use Rattle.step_rules.specs.declared.phase.ChargedUnit.{ChargedUnit}
 use Rattle.step_rules.specs.declared.phase.Phase.{Phase}
 use Rattle.step_rules.specs.declared.phase.Phase.TheVariants as phase
@@ -28,7 +28,7 @@ use Rattle.boot_words.specs.{state_left}
 use Rattle.boot_words.proofs.Holding.{allowed_at, take_length}
 use Rattle.boot_words.proofs.Owning.{lists_are_own}
 use Rattle.boot_words.proofs.Counts.{never_zero}
-use Rattle.cpu_part.specs.{IsUnlisted, KnownCpu, KnowsItsPart}
+use Rattle.cpu_part.specs.{IsUnlisted, KnownCpuLists, KnowsItsPart}
 use Rattle.cpu_part.proofs.Knowing.{not_the_zone}
 
 -- ---- words of live frames
@@ -74,7 +74,7 @@ word_lives s f is low high = elim (cases_Bool (is_live_phase (s.phases f))) [
 
 -- ---- the frame of a get or a put
 
-module _ (t : KnownTable) (k : KnownCpuSeat) (c : KnownCpu) (knows : KnowsItsPart t k c) (f : ℕ) where
+module _ (t : KnownTable) (k : KnownCpuSeat) (c : KnownCpuLists) (knows : KnowsItsPart t k c) (f : ℕ) where
   -- a frame that is live after others' steps
   unlisted_at : (run : Run) → IsLegalRun (zone_of_boot t) run → OthersFollow (own_past k.seat).number (own_past k.seat).seen run
       → is_live_phase ((state_of (zone_of_boot t) run).phases f) ≡ true → IsUnlisted f c

@@ -9,7 +9,7 @@ no_table = record { words = 0; slots = 0; views_name = 0; atom = 0; block = 0; o
 
 -- A CPU's part: its number, its listed, fresh and back frames, its pins (an entry for each), and how often a fresh frame
 -- was dropped to its list.
-pub record KnownCpu : Type 0 where
+pub record KnownCpuLists : Type 0 where
   pub number : ℕ
   pub list : List ℕ
   pub fresh : List ℕ
@@ -43,13 +43,13 @@ pub record HasRoom (list fresh back pins : ℕ) : Type 0 where
   pub pin_room : most_pins ≤ pins
 
 -- the part of a CPU that did nothing yet
-abbrev pub first_cpu : ℕ → KnownCpu
+abbrev pub first_cpu : ℕ → KnownCpuLists
 first_cpu number = record { number = number; list = []; fresh = []; back = []; pins = []; drops = 0 }
 
 -- there is no frame on the lists and no pin
-abbrev pub IsIdle : KnownCpu → Type 0
+abbrev pub IsIdle : KnownCpuLists → Type 0
 IsIdle c = (c.list ≡ []) × (c.fresh ≡ []) × (c.back ≡ []) × (c.pins ≡ [])
 
 -- the frame is on none of the CPU's lists
-abbrev pub IsUnlisted : ℕ → KnownCpu → Type 0
+abbrev pub IsUnlisted : ℕ → KnownCpuLists → Type 0
 IsUnlisted f c = (times f c.list ≡ 0) × (times f c.fresh ≡ 0) × (times f c.back ≡ 0)

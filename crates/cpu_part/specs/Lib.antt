@@ -4,7 +4,7 @@ pub mod Known
 pub mod Made
 pub mod Told
 -- what other crates and the proofs import by one name, `Rattle.cpu_part.specs`
-pub use Rattle.cpu_part.specs.Cpus.{IsIdle, IsUnlisted, KnownCpu, first_cpu, most_pins}
+pub use Rattle.cpu_part.specs.Cpus.{IsIdle, IsUnlisted, KnownCpuLists, first_cpu, most_pins}
 pub use Rattle.cpu_part.specs.Calls.{DropAnswers, FastAnswers, IfRaced, PassesBackUnit, PassesFresh, PassesFront, PinAnswers, StaysSo, TakesFront}
 pub use Rattle.cpu_part.specs.Calls.{UnpinAnswers}
 pub use Rattle.cpu_part.specs.Known.{HasOwn, KnowsItsPart}

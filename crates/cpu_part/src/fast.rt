@@ -8,7 +8,7 @@ ghost use Rattle.cpu_part.specs.Told.{steps_of_fast, steps_of_drop};
 
 use crate::answers::{Dropped, Fast};
 use crate::boot_name::{BootName, Tables};
-use crate::cpu::{CpuLists, MAX_FRESH};
+use crate::cpu_lists::{CpuLists, MAX_FRESH};
 use crate::moves::{freshen, relist};
 use boot_words::CpuSeat;
 use frame_word::Frame;

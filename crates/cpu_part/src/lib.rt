@@ -5,7 +5,7 @@
 
 mod answers;
 mod boot_name;
-mod cpu;
+mod cpu_lists;
 mod fast;
 mod moves;
 mod pins;
@@ -15,4 +15,4 @@ mod visit;
 
 pub use answers::{Dropped, Fast};
 pub use boot_name::{BootName, Tables};
-pub use cpu::{CpuLists, MAX_FRESH, MAX_LISTED, MAX_PINS};
+pub use cpu_lists::{CpuLists, MAX_FRESH, MAX_LISTED, MAX_PINS};

@@ -10,7 +10,7 @@ ghost use Rattle.cpu_part.specs.Known.{KnowsItsPart};
 ghost use Rattle.cpu_part.specs.Told.{steps_of_get, steps_of_put};
 
 use crate::boot_name::{BootName, Tables};
-use crate::cpu::{CpuLists, MAX_PINS};
+use crate::cpu_lists::{CpuLists, MAX_PINS};
 use crate::moves::unpin;
 use boot_words::CpuSeat;
 use frame_word::{Frame, Get, Put};

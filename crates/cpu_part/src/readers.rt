@@ -4,7 +4,7 @@ ghost use Rattle.step_rules.specs.State.{times};
 ghost use Rattle.cpu_part.specs.Cpus.{AreWithin, IsIdle, most_fresh, most_listed, most_pins};
 
 use crate::boot_name::BootName;
-use crate::cpu::CpuLists;
+use crate::cpu_lists::CpuLists;
 use crate::search::place_of;
 use frame_word::Frame;
 

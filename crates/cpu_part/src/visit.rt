@@ -10,7 +10,7 @@ ghost use Rattle.cpu_part.specs.Cpus.{most_listed};
 ghost use Rattle.cpu_part.specs.Known.{HasOwn};
 
 use crate::boot_name::{BootName, Tables};
-use crate::cpu::CpuLists;
+use crate::cpu_lists::CpuLists;
 use crate::moves::freshen;
 use boot_words::PastSeat;
 use frame_word::Frame;

@@ -6,7 +6,7 @@ use Rattle.frame_word.specs.{total_over, note_of, in_hands, lent_count, IsRefere
 use Rattle.frame_word.specs.{OwnHandIsNotLent, WordsCountReferences}
 use Rattle.frame_word.proofs.Totals.{total_view, total_below, total_plus}
 use Rattle.frame_word.specs.declared.view.FrameView.{FrameView}
-use Rattle.frame_word.specs.ReferenceRule.{hands_in, lent_in, lent_number, borrowed_in}
+use Rattle.frame_word.specs.Word.{hands_in, lent_in, lent_number, borrowed_in}
 use Rattle.frame_word.proofs.Notes.{only_here, only_else, marked_else, lent_yes}
 
 -- what the rule says of a word, its references and its hands

@@ -5,7 +5,7 @@ use lib.ListN.{get_elem?}
 use Rattle.frame_word.specs.Totals.{total_over}
 use Rattle.frame_word.specs.declared.view.FrameView.{FrameView}
 use Rattle.frame_word.specs.Views.{note_of, in_hands}
-use Rattle.frame_word.specs.ReferenceRule.{most_references, references_in, ReferenceRule}
+use Rattle.frame_word.specs.Word.{most_references, references_in, ReferenceRule}
 
 -- the view is one of those of the seats
 abbrev pub IsViewOf : List (List FrameView) → FrameView → Type 0

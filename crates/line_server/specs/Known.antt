@@ -1,6 +1,6 @@
 -- What contracts see of a server.
 use Rattle.std.specs.Prelude.{◌≡◌}
-use Rattle.frame_word.specs.Seats.{KnownTable}
+use Rattle.frame_word.specs.Tables.{KnownTable}
 use Rattle.zone_blocks.specs.declared.config.Config.{Config}
 use Rattle.script_replay.specs.Lines.{SystemState}
 use Rattle.line_server.specs.declared.form.SessionForm.{SessionForm}

@@ -25,7 +25,7 @@ use Rattle.boot_words.specs.{GrewByAll, hide, own_past, HasNoStepOf, IsFast}
 use Rattle.boot_words.specs.declared.past.Past.{Past}
 use Rattle.boot_words.proofs.Hiding.{fast_is_hidden}
 use Rattle.boot_words.proofs.Holding.{allowed_at, append_none}
-use Rattle.frame_word.specs.Seats.{KnownTable}
+use Rattle.frame_word.specs.Tables.{KnownTable}
 use Rattle.mem_machine.specs.{zone_of, KnownMachine, IsShownBy}
 use Rattle.mem_machine.specs.Steps.{cpu_makes}
 use Rattle.mem_system.specs.{between_locks, IsSound, KnownLocked}

@@ -2,7 +2,7 @@
 use Rattle.std.specs.Prelude.{◌≡◌, ℕ, Bool, true, false, List, [], ◌∷◌, ◌++◌, codes, ◌==◌, if◌then◌else◌}
 use Rattle.std.specs.Fmt.{decimal}
 use Rattle.frame_word.specs.declared.answers.Put.{Put}
-use Rattle.frame_word.specs.Seats.{KnownTable}
+use Rattle.frame_word.specs.Tables.{KnownTable}
 use Rattle.boot_words.specs.{own_past, words_in, zone_of_boot, IsRunOf, GainsSteps, IsRunSoFar}
 use Rattle.boot_words.specs.Words.{Words}
 use Rattle.cpu_part.specs.Calls.{UnpinAnswers}

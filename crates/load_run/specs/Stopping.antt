@@ -1,6 +1,6 @@
 -- Why a boot whose steps are checked gives no answers.
 use Rattle.std.specs.Prelude.{◌≡◌, ℕ, Bool, true, false, List, ⊤}
-use Rattle.frame_word.specs.Seats.{KnownTable}
+use Rattle.frame_word.specs.Tables.{KnownTable}
 use Rattle.zone_blocks.specs.declared.config.Config.{Config}
 use Rattle.step_watch.specs.Watched.{IsNewWatch, has_legal_steps}
 use Rattle.mem_machine.specs.Interleaving.{zone_of}

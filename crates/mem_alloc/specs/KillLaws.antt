@@ -1,6 +1,6 @@
 -- What holds of each kill beside that it comes last: all groups of its set die with it, and the limit has no room.
 use Rattle.std.specs.Prelude.{◌≡◌, ℕ, ◌+◌, ◌<◌, ◌≤◌, true, Some, List, ◌∷◌, ◌++◌}
-use Rattle.frame_word.specs.Seats.{KnownTable}
+use Rattle.frame_word.specs.Tables.{KnownTable}
 use Rattle.group_tree.specs.declared.group.Group.{Group}
 use Rattle.group_tree.specs.Groups.{in_subtree, limit_of}
 use Rattle.group_charge.specs.Charges.{Ledger, current_of}

@@ -2,7 +2,7 @@
 -- call's steps and from the machine to which they lead.
 use Rattle.std.specs.Prelude.{◌≡◌, ℕ, ◌≤◌, ◌==◌, ◌⊎◌, Bool, true, false, Some, List, [], ◌∷◌, ◌++◌}
 use Rattle.std.specs.List.{list_any}
-use Rattle.frame_word.specs.Seats.{KnownTable}
+use Rattle.frame_word.specs.Tables.{KnownTable}
 use Rattle.group_tree.specs.declared.group.Group.{Group}
 use Rattle.group_tree.specs.Groups.{in_subtree}
 use Rattle.group_charge.specs.Charges.{AreCharges}

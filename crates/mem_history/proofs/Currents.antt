@@ -1,8 +1,8 @@
 -- The ledger's number for a group is its usage by the run. Serves `current_is_kept`, `the_whole_is_promised`.
 use Rattle.std.proofs.Common.{◌≡◌, ℕ, ◌+◌, List, sym, ◌∙◌, ap, arith}
-use Rattle.frame_word.specs.Seats.{KnownTable}
+use Rattle.frame_word.specs.Tables.{KnownTable}
 use Rattle.group_charge.specs.Charges.{AreCharges, current_of}
-use Rattle.cpu_part.specs.Cpus.{KnownCpu}
+use Rattle.cpu_part.specs.Cpus.{KnownCpuLists}
 use Rattle.step_rules.specs.{KeepsInvariant, told_pages, frames_kept, pages_prepaid, usage_of, Run, state_of}
 use Rattle.step_rules.specs.State.{State}
 use Rattle.step_rules.proofs.CoverUsage.{usage_seen}
@@ -14,7 +14,7 @@ use Rattle.mem_machine.proofs.Usage.{usage_hidden, usage_left}
 use Rattle.mem_history.specs.{ShowsAll, CurrentIsKept}
 
 -- the ledger's number is the usage by the run
-pub current_is : (t : KnownTable) (run : Run) (m : KnownMachine) (cpus : List KnownCpu) → ShowsAll t run m cpus → IsConsistent t m → AreCharges m.ledger
+pub current_is : (t : KnownTable) (run : Run) (m : KnownMachine) (cpus : List KnownCpuLists) → ShowsAll t run m cpus → IsConsistent t m → AreCharges m.ledger
     → (g : ℕ) → current_of m.ledger g ≡ usage_of (state_of (zone_of t) run) g
 current_is t run m cpus shows ok charges g =
     let whole = state_of (zone_of t) run in

@@ -1,10 +1,10 @@
 -- A fast call that changes a list or a reference is one step of its CPU. Serves `fast_calls_lead`.
 use Rattle.std.proofs.Common.{◌≡◌, ℕ, ◌+◌, ◌^◌, ◌-◌, List, [], ◌∷◌, ◌++◌, refl, sym, ◌∙◌, ap, subst}
 use Rattle.std.specs.Prelude.{min, remove}
-use Rattle.frame_word.specs.Seats.{KnownTable}
+use Rattle.frame_word.specs.Tables.{KnownTable}
 use Rattle.frame_word.specs.declared.answers.Put.{Put as Putted}
 use Rattle.frame_word.specs.declared.answers.Put.TheVariants as put
-use Rattle.cpu_part.specs.{UnpinAnswers, KnownCpu, HasOwn}
+use Rattle.cpu_part.specs.{UnpinAnswers, KnownCpuLists, HasOwn}
 use Rattle.cpu_part.proofs.Legal.{fresh_once, listed_once}
 use Rattle.cpu_part.proofs.Owning.{own_credited, own_last, own_left, own_pinned, own_took}
 use Rattle.step_rules.specs.declared.step.Action.{Action}
@@ -19,12 +19,12 @@ use Rattle.mem_history.specs.{IsOwnStep, FastCallsLead, IsPart, put_answer}
 use Rattle.mem_history.proofs.Wholes.{not_zone}
 
 -- the part that the step makes is the later one
-makes_part : (s : State) (c d e : KnownCpu) (action : Action) (answer : Answer) → e.number ≡ c.number → d ≡ e
+makes_part : (s : State) (c d e : KnownCpuLists) (action : Action) (answer : Answer) → e.number ≡ c.number → d ≡ e
     → HasOwn (after s c.number action answer) e → IsOwnStep s c action answer d
 makes_part s c d e action answer number is own =
-    record { number = ap (λ (x : KnownCpu). x.number) is ∙ number; own = subst (HasOwn (after s c.number action answer)) (sym is) own }
+    record { number = ap (λ (x : KnownCpuLists). x.number) is ∙ number; own = subst (HasOwn (after s c.number action answer)) (sym is) own }
 
-module _ (t : KnownTable) (run : Run) (m : KnownMachine) (cpus : List KnownCpu) (k : ℕ) (c d : KnownCpu) (part : IsPart t run m cpus k c) where
+module _ (t : KnownTable) (run : Run) (m : KnownMachine) (cpus : List KnownCpuLists) (k : ℕ) (c d : KnownCpuLists) (part : IsPart t run m cpus k c) where
   abbrev whole : State
   whole = state_of (zone_of t) run
 

@@ -5,10 +5,10 @@ use Rattle.std.specs.List.{range_with_len, slice_get, slice_index_or}
 use Rattle.std.specs.Option.{option_map_or}
 use Rattle.std.proofs.lemmas.Bool.{cases_lt, cases_Bool, true≢false, and_from, and_left, and_right, le-leb, leb-true, cond-true, cond-false}
 use Rattle.std.proofs.lemmas.Option.{slice_get_past}
-use Rattle.frame_word.specs.Seats.{KnownTable}
+use Rattle.frame_word.specs.Tables.{KnownTable}
 use Rattle.group_charge.specs.Charges.{AreCharges}
 use Rattle.zone_blocks.specs.Areas.{AreMaximalBlocks}
-use Rattle.cpu_part.specs.Cpus.{KnownCpu}
+use Rattle.cpu_part.specs.Cpus.{KnownCpuLists}
 use Rattle.step_rules.specs.declared.phase.ChargedUnit.{ChargedUnit}
 use Rattle.step_rules.specs.declared.phase.Stage.{Stage}
 use Rattle.step_rules.specs.declared.phase.Way.{Way}
@@ -95,7 +95,7 @@ any_head_plain (Lent r) u stage e = cc
 any_head_plain (Head unit) u stage e = cc
 any_head_plain (Tail g) u stage e = cc
 
-module _ (t : KnownTable) (run : Run) (m : KnownMachine) (cpus : List KnownCpu) (shows : ShowsAll t run m cpus)
+module _ (t : KnownTable) (run : Run) (m : KnownMachine) (cpus : List KnownCpuLists) (shows : ShowsAll t run m cpus)
     (is : IsConsistent t m) (charges : AreCharges m.ledger) where
   abbrev zone : Zone
   zone = zone_of t
@@ -141,9 +141,9 @@ module _ (t : KnownTable) (run : Run) (m : KnownMachine) (cpus : List KnownCpu) 
   list_is (suc k) = elim (cases_lt k (length cpus)) [
     | inl inside ↦
         let part = there cpus k inside in
-        ap (λ o. option_map_or (λ (c : KnownCpu). c.list) o []) part.1 ∙ sym (shows.each k part.0 part.1).own.list
+        ap (λ o. option_map_or (λ (c : KnownCpuLists). c.list) o []) part.1 ∙ sym (shows.each k part.0 part.1).own.list
         ∙ ap (λ (q : ℕ). (whole.parts q).list) (shows.each k part.0 part.1).number
-    | inr past ↦ ap (λ o. option_map_or (λ (c : KnownCpu). c.list) o []) (slice_get_past cpus k past) ∙ sym (nobody_listed (suc k) (past_no k past))
+    | inr past ↦ ap (λ o. option_map_or (λ (c : KnownCpuLists). c.list) o []) (slice_get_past cpus k past) ∙ sym (nobody_listed (suc k) (past_no k past))
   ]
 
   fresh_is_by : (p : ℕ) → fresh_frames_by cpus p ≡ (whole.parts p).fresh
@@ -151,9 +151,9 @@ module _ (t : KnownTable) (run : Run) (m : KnownMachine) (cpus : List KnownCpu) 
   fresh_is_by (suc k) = elim (cases_lt k (length cpus)) [
     | inl inside ↦
         let part = there cpus k inside in
-        ap (λ o. option_map_or (λ (c : KnownCpu). c.fresh) o []) part.1 ∙ sym (shows.each k part.0 part.1).own.fresh
+        ap (λ o. option_map_or (λ (c : KnownCpuLists). c.fresh) o []) part.1 ∙ sym (shows.each k part.0 part.1).own.fresh
         ∙ ap (λ (q : ℕ). (whole.parts q).fresh) (shows.each k part.0 part.1).number
-    | inr past ↦ ap (λ o. option_map_or (λ (c : KnownCpu). c.fresh) o []) (slice_get_past cpus k past) ∙ sym (nobody_fresh (suc k) (past_no k past))
+    | inr past ↦ ap (λ o. option_map_or (λ (c : KnownCpuLists). c.fresh) o []) (slice_get_past cpus k past) ∙ sym (nobody_fresh (suc k) (past_no k past))
   ]
 
   part_left : (p : ℕ) → (left_by t m.run.past).parts p ≡ other_part_seen (whole.parts p)

@@ -1,7 +1,7 @@
 -- What the CPU that has taken the lock sees is what the run shows it. Serves `the_holder_is_shown`, `lines_follow`.
 use Rattle.std.proofs.Common.{◌≡◌, ℕ, ◌+◌, List, length, sym, ◌∙◌, ap, subst, arith}
-use Rattle.frame_word.specs.Seats.{KnownTable}
-use Rattle.cpu_part.specs.{KnownCpu, HasOwn}
+use Rattle.frame_word.specs.Tables.{KnownTable}
+use Rattle.cpu_part.specs.{KnownCpuLists, HasOwn}
 use Rattle.cpu_part.proofs.Owning.{own_unseen}
 use Rattle.step_rules.specs.declared.phase.Hold.{Hold}
 use Rattle.step_rules.specs.declared.phase.Hold.TheVariants.{HeldBy}
@@ -29,7 +29,7 @@ part_same x y same list fresh back =
     }
 
 -- after two legal runs a CPU sees the same if it has the same, and all else is the same
-pub sees_same : (zone : Zone) (run other : Run) (c : KnownCpu) → IsLegalRun zone run → IsLegalRun zone other
+pub sees_same : (zone : Zone) (run other : Run) (c : KnownCpuLists) → IsLegalRun zone run → IsLegalRun zone other
     → hide (state_of zone run) ≡ hide (state_of zone other) → HasOwn (state_of zone run) c → HasOwn (state_of zone other) c
     → seen_by c.number (state_of zone run) ≡ seen_by c.number (state_of zone other)
 sees_same zone run other c legal legal_other same own own_other =
@@ -43,12 +43,12 @@ sees_same zone run other c legal legal_other same own own_other =
 pub leaves : (t : KnownTable) (m : KnownMachine) (s : State) (hold : Hold) → left_by t m.run.past ≡ hide s → LeavesState t m (record s { hold = hold })
 leaves t m s hold left = ap (λ (x : State). record x { hold = (left_by t m.run.past).hold }) left
 
-module _ (t : KnownTable) (run : Run) (cpus : List KnownCpu) (k : ℕ) (now : VisitState) (taken : HasTakenLock t cpus k now)
+module _ (t : KnownTable) (run : Run) (cpus : List KnownCpuLists) (k : ℕ) (now : VisitState) (taken : HasTakenLock t cpus k now)
     (legal : IsLegalRun (zone_of t) run) where
   abbrev m : KnownMachine
   m = now.machine
 
-  abbrev c : KnownCpu
+  abbrev c : KnownCpuLists
   c = now.cpu
 
   -- what the holder's past left, whole

@@ -5,8 +5,8 @@ use Rattle.std.specs.List.{slice_get}
 use Rattle.std.proofs.lemmas.Bool.{cases_eq, and_from, le-leb}
 use Rattle.std.proofs.lemmas.List.{append_assoc, length-set, get_or-set_same, get_or-set_other}
 use Rattle.std.proofs.lemmas.Option.{slice_get_within, get_or_from_slice_get, slice_get-get_or}
-use Rattle.frame_word.specs.Seats.{KnownTable}
-use Rattle.cpu_part.specs.{KnownCpu, HasOwn}
+use Rattle.frame_word.specs.Tables.{KnownTable}
+use Rattle.cpu_part.specs.{KnownCpuLists, HasOwn}
 use Rattle.cpu_part.proofs.Owning.{own_same, own_unseen}
 use Rattle.step_rules.specs.declared.phase.Hold.TheVariants.{Unheld, HeldBy}
 use Rattle.step_rules.specs.declared.step.Step.{Step}
@@ -43,7 +43,7 @@ set_else xs k j x y ne e =
 
 -- ---- the whole, by one part
 
-module _ (t : KnownTable) (run : Run) (m : KnownMachine) (cpus : List KnownCpu) (k : ℕ) (c : KnownCpu) (shows : ShowsAll t run m cpus)
+module _ (t : KnownTable) (run : Run) (m : KnownMachine) (cpus : List KnownCpuLists) (k : ℕ) (c : KnownCpuLists) (shows : ShowsAll t run m cpus)
     (is_part : slice_get cpus k ≡ Some c) where
   abbrev zone : Zone
   zone = zone_of t
@@ -65,7 +65,7 @@ module _ (t : KnownTable) (run : Run) (m : KnownMachine) (cpus : List KnownCpu) 
   not_zone e = let named = part_number in absurd (omega arith)
 
   -- each has its lists and pins
-  pub has_own : (j : ℕ) (d : KnownCpu) → slice_get cpus j ≡ Some d → HasOwn whole d
+  pub has_own : (j : ℕ) (d : KnownCpuLists) → slice_get cpus j ≡ Some d → HasOwn whole d
   has_own j d at = (shows.each j d at).own
 
   abbrev pub locked : Run
@@ -75,7 +75,7 @@ module _ (t : KnownTable) (run : Run) (m : KnownMachine) (cpus : List KnownCpu) 
   locked_is = state_more zone run (record { seat = c.number; action = Lock }) Done
 
   -- others' parts are what they were after steps that are none of theirs
-  pub others_keep : (rest : Run) → ((q : ℕ) → (q ≡ 0 → ⊥) → (q ≡ c.number → ⊥) → HasNoStepOf q rest) → (j : ℕ) (e : KnownCpu)
+  pub others_keep : (rest : Run) → ((q : ℕ) → (q ≡ 0 → ⊥) → (q ≡ c.number → ⊥) → HasNoStepOf q rest) → (j : ℕ) (e : KnownCpuLists)
       → slice_get cpus j ≡ Some e → (j ≡ k → ⊥) → IsPartAt (state_of zone (run ++ rest)) j e
   others_keep rest none j e at ne =
       let was = shows.each j e at in
@@ -87,7 +87,7 @@ module _ (t : KnownTable) (run : Run) (m : KnownMachine) (cpus : List KnownCpu) 
 
 -- ---- the lock is taken
 
-module _ (t : KnownTable) (run : Run) (cpus : List KnownCpu) (k : ℕ) (now : VisitState) (shows : ShowsAll t run now.machine cpus)
+module _ (t : KnownTable) (run : Run) (cpus : List KnownCpuLists) (k : ℕ) (now : VisitState) (shows : ShowsAll t run now.machine cpus)
     (taken : HasTakenLock t cpus k now) where
   -- the CPU sees what the run shows it
   pub takes : ShowsLocal (zone_of t) (locked t run now.machine cpus k now.cpu shows taken.is_part) now.cpu.number (local_of t now.machine)
@@ -140,13 +140,13 @@ none_of p a (e ∷ steps) b leads q some far = (
 )
 
 -- all parts after the part at index k became d
-pub parts_after : (s : State) (cpus : List KnownCpu) (k : ℕ) (c d : KnownCpu) → slice_get cpus k ≡ Some c → d.number ≡ suc k → HasOwn s d
-    → ((j : ℕ) (e : KnownCpu) → slice_get cpus j ≡ Some e → (j ≡ k → ⊥) → IsPartAt s j e)
-    → (j : ℕ) (e : KnownCpu) → slice_get (slice_set cpus k d) j ≡ Some e → IsPartAt s j e
+pub parts_after : (s : State) (cpus : List KnownCpuLists) (k : ℕ) (c d : KnownCpuLists) → slice_get cpus k ≡ Some c → d.number ≡ suc k → HasOwn s d
+    → ((j : ℕ) (e : KnownCpuLists) → slice_get cpus j ≡ Some e → (j ≡ k → ⊥) → IsPartAt s j e)
+    → (j : ℕ) (e : KnownCpuLists) → slice_get (slice_set cpus k d) j ≡ Some e → IsPartAt s j e
 parts_after s cpus k c d is_part number own others j e at = elim (cases_eq j k) [
   | inl here ↦
       let is : e ≡ d = set_here cpus k d e (slice_get_within cpus k c is_part) (subst (λ (i : ℕ). slice_get (slice_set cpus k d) i ≡ Some e) here at) in
-      subst (λ (x : KnownCpu). IsPartAt s j x) (sym is) (record { number = number ∙ ap suc (sym here); own = own })
+      subst (λ (x : KnownCpuLists). IsPartAt s j x) (sym is) (record { number = number ∙ ap suc (sym here); own = own })
   | inr ne ↦ others j e (set_else cpus k j d e ne at) ne
 ]
 

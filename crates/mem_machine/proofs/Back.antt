@@ -3,11 +3,11 @@ use Rattle.std.proofs.Common.{true, false, ◌≡◌, ℕ, ◌^◌, ◌<◌, ◌
 use Rattle.std.proofs.lemmas.List.{get_or_default}
 use Rattle.zone_blocks.specs.declared.block.Block.{Block}
 use Rattle.zone_blocks.specs.{AreMaximalBlocks, GivesFrames}
-use Rattle.frame_word.specs.Seats.{KnownTable}
+use Rattle.frame_word.specs.Tables.{KnownTable}
 use Rattle.group_charge.specs.Charges.{Ledger, with_uncharge}
 use Rattle.group_charge.proofs.CallerLemmas.{uncharge_peaks, uncharge_events}
 use Rattle.boot_words.specs.{hide, hide_phase, IsHeld, IsHolder, MakesStep, MayMake}
-use Rattle.cpu_part.specs.{PassesBackUnit, KnownCpu}
+use Rattle.cpu_part.specs.{PassesBackUnit, KnownCpuLists}
 use Rattle.step_rules.specs.declared.phase.ChargedUnit.{ChargedUnit}
 use Rattle.step_rules.specs.declared.phase.Stage.TheVariants.{AwaitsReturn, BackAt}
 use Rattle.step_rules.specs.declared.phase.Phase.TheVariants as phase
@@ -36,7 +36,7 @@ use Rattle.mem_machine.proofs.Noted.{notes_both, notes_one, run_steps}
 use Rattle.mem_machine.proofs.OwnFrames.{HasFrame}
 use Rattle.mem_machine.proofs.Sight.{left_seen, shown_seen}
 
-module _ (t : KnownTable) (m : KnownMachine) (c : KnownCpu) (ok : IsConsistent t m) (visit : Visits t m c) (f : ℕ) (rest : List ℕ) (front : c.back ≡ f ∷ rest) where
+module _ (t : KnownTable) (m : KnownMachine) (c : KnownCpuLists) (ok : IsConsistent t m) (visit : Visits t m c) (f : ℕ) (rest : List ℕ) (front : c.back ≡ f ∷ rest) where
   shown : IsShownBy t m (hide (local_of t m))
   shown = shown_seen t m ok visit.held
 
@@ -55,7 +55,7 @@ module _ (t : KnownTable) (m : KnownMachine) (c : KnownCpu) (ok : IsConsistent t
       omega (arith, low, same, sized)
 
   module _ (unit : ChargedUnit) (heads : frame_state_at m.frame_states f ≡ Head unit) where
-    abbrev d : KnownCpu
+    abbrev d : KnownCpuLists
     d = record c { back = rest }
 
     mine : HasFrame (local_of t m) c.number (phase.Head unit (BackAt c.number)) f
@@ -149,7 +149,7 @@ module _ (t : KnownTable) (m : KnownMachine) (c : KnownCpu) (ok : IsConsistent t
 
 -- ---- of the machine as it was seen before
 
-module _ (t : KnownTable) (m now : KnownMachine) (same : m ≡ now) (c : KnownCpu) (visit_now : Visits t now c) (ok : IsConsistent t m) where
+module _ (t : KnownTable) (m now : KnownMachine) (same : m ≡ now) (c : KnownCpuLists) (visit_now : Visits t now c) (ok : IsConsistent t m) where
   visit : Visits t m c
   visit = visits_here t m now same c visit_now
 
@@ -209,7 +209,7 @@ module _ (t : KnownTable) (m now : KnownMachine) (same : m ≡ now) (c : KnownCp
             notes_both t m.run (cpu_makes c.number (PassBack f) Done ∷ zone_makes (Collect f c.number) Done ∷ []) later (zone_makes (Return f) Done ∷ []) last taken
             (subst (λ (x : ℕ). Notes t later (zone_makes (Return x) Done ∷ []) last) index returned)
 
-  pub return_all : (f : ℕ) (h : KnownCpu) → PassesBackUnit f c h → (free now_free : List Bool) (sums : List ℕ) (owners : List (Option ℕ)) → free ≡ free_of m.frame_states
+  pub return_all : (f : ℕ) (h : KnownCpuLists) → PassesBackUnit f c h → (free now_free : List Bool) (sums : List ℕ) (owners : List (Option ℕ)) → free ≡ free_of m.frame_states
       → AreBooked t.cpus (left_by t m.run.past).parts sums → AreOwners t.cpus (left_by t m.run.past).parts owners → (i : ℕ) → i ≡ f
       → (unit : ChargedUnit) → frame_state_at m.frame_states i ≡ Head unit → (new : List FrameState) → FreesFrames i (2 ^ unit.order) m.frame_states new
       → (blocks : List Block) → GivesFrames free (record { at = i; order = unit.order }) now_free → AreMaximalBlocks now_free blocks
@@ -225,7 +225,7 @@ module _ (t : KnownTable) (m now : KnownMachine) (same : m ≡ now) (c : KnownCp
       let free_is : now_free ≡ free_of new =
       free_block_given free now_free m.frame_states new f unit.order (ok.units.heads f unit heads).block.inside was gives frees in
       let areas_now : AreMaximalBlocks (free_of new) blocks = subst (λ (l : List Bool). AreMaximalBlocks l blocks) free_is areas in
-      subst (λ (x : KnownMachine × KnownMachine × KnownCpu). AllMoved t x.0 c (ReturnsBack f) (return_steps c.number f) x.1 x.2 now_free sums owners)
+      subst (λ (x : KnownMachine × KnownMachine × KnownCpuLists). AllMoved t x.0 c (ReturnsBack f) (return_steps c.number f) x.1 x.2 now_free sums owners)
       (λ j. (
         same j,
         record m { blocks = blocks; frame_states = new; ledger = sym uncharges j; counts = counts; run = run },

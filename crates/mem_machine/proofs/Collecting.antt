@@ -1,8 +1,8 @@
 -- The steps by which the zone takes over a fresh frame. Serves `collect_fresh`.
 use Rattle.std.proofs.Common.{◌≡◌, ℕ, List, ◌∷◌, sym, ap, ◌∙◌, subst}
-use Rattle.frame_word.specs.Seats.{KnownTable}
+use Rattle.frame_word.specs.Tables.{KnownTable}
 use Rattle.boot_words.specs.{MakesInTurn, take_back_run, KnownPasts, IsHeld}
-use Rattle.cpu_part.specs.{PassesFresh, KnownCpu}
+use Rattle.cpu_part.specs.{PassesFresh, KnownCpuLists}
 use Rattle.cpu_part.proofs.CallerLemmas.{makes_each}
 use Rattle.step_watch.specs.Watched.{KnownWatch, Watches}
 use Rattle.mem_machine.specs.{KnownRun, Notes, HandsOver, collect_steps}
@@ -17,9 +17,9 @@ collect_notes t run p f i q index number later watch held made saw = record {
   watched = subst (λ (x : ℕ × ℕ). Watches run.watch (collect_steps x.0 x.1) watch) (λ j. (number j, index j)) saw;
 }
 
-pub hands_over : (f : ℕ) (c d : KnownCpu) → PassesFresh f c d → HandsOver f c d
+pub hands_over : (f : ℕ) (c d : KnownCpuLists) → PassesFresh f c d → HandsOver f c d
 hands_over f c d passes =
-    let rest : d.fresh ≡ passes.0 = ap (λ (x : KnownCpu). x.fresh) passes.2 in record {
+    let rest : d.fresh ≡ passes.0 = ap (λ (x : KnownCpuLists). x.fresh) passes.2 in record {
       front = passes.1 ∙ ap (λ (l : List ℕ). f ∷ l) (sym rest);
       cpu = passes.2 ∙ ap (λ (l : List ℕ). record c { fresh = l }) (sym rest);
     }

@@ -3,7 +3,7 @@ use Rattle.std.proofs.Common.{◌≡◌, ◌≢◌, ℕ, ◌^◌, ◌<◌, Bool,
 use Rattle.std.specs.Prelude.{IfSome}
 use Rattle.zone_blocks.specs.declared.block.Block.{Block}
 use Rattle.zone_blocks.specs.{AreMaximalBlocks, GivesFrames}
-use Rattle.frame_word.specs.Seats.{KnownTable}
+use Rattle.frame_word.specs.Tables.{KnownTable}
 use Rattle.group_charge.specs.{Ledger, UsageRises, with_uncharge, KnownNotes, unit_noted}
 use Rattle.group_charge.proofs.CallerLemmas.{uncharge_events, uncharge_peaks}
 use Rattle.lru_lists.specs.declared.record.Link.{Link}

@@ -5,7 +5,7 @@ use Rattle.std.proofs.lemmas.Bool.{cases_lt, cases_eq, ne_eqb}
 use Rattle.std.proofs.lemmas.List.{get_or-replicate, length-replicate, length_push, get_or_append_left, get_or_push}
 use Rattle.zone_blocks.specs.Areas.{AreMaximalBlocks}
 use Rattle.std.specs.Prelude.{is_some}
-use Rattle.frame_word.specs.Seats.{KnownTable}
+use Rattle.frame_word.specs.Tables.{KnownTable}
 use Rattle.group_charge.specs.Charges.{Ledger, initial_ledger, pages_of, account_at}
 use Rattle.group_charge.specs.Notes.{no_notes}
 use Rattle.lru_lists.specs.declared.record.Link.{Link}

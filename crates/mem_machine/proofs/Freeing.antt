@@ -9,7 +9,7 @@ use Rattle.std.proofs.lemmas.Option.{none-some}
 use Rattle.std.proofs.lemmas.Nat.{pow_pos}
 use Rattle.std.proofs.lemmas.List.{get_or-set_same, get_or-set_other, length-set, ext_get_or}
 use Rattle.zone_blocks.specs.{IsBlock, GivesFrames, IsInUse}
-use Rattle.frame_word.specs.Seats.{KnownTable}
+use Rattle.frame_word.specs.Tables.{KnownTable}
 use Rattle.group_charge.specs.Charges.{pages_of, with_uncharge}
 use Rattle.group_charge.proofs.CallerLemmas.{uncharge_pages}
 use Rattle.lru_lists.specs.declared.record.Link.{Link}

@@ -6,7 +6,7 @@ use Rattle.std.proofs.lemmas.Bool.{cases_eq, ne_eqb, false≢true}
 use Rattle.std.proofs.lemmas.List.{get_or-set_same, get_or-set_other, length-set, ext_get_or}
 use Rattle.zone_blocks.specs.declared.block.Block.{Block}
 use Rattle.zone_blocks.specs.{IsBlock, AreMaximalBlocks, GivesFrames, IsInUse}
-use Rattle.frame_word.specs.Seats.{KnownTable}
+use Rattle.frame_word.specs.Tables.{KnownTable}
 use Rattle.group_charge.specs.Charges.{Ledger, pages_of, with_uncharge}
 use Rattle.group_charge.proofs.CallerLemmas.{uncharge_pages, uncharge_peaks, uncharge_events}
 use Rattle.group_tree.specs.Bounds.{most_groups}
@@ -14,7 +14,7 @@ use Rattle.lru_lists.specs.declared.record.Home.{Home}
 use Rattle.lru_lists.specs.declared.record.Link.{Link}
 use Rattle.lru_lists.specs.declared.lru.Lru.{Lru}
 use Rattle.boot_words.specs.{AreLegal, hide, hide_phase, MakesStep, MayMake}
-use Rattle.cpu_part.specs.Cpus.{KnownCpu}
+use Rattle.cpu_part.specs.Cpus.{KnownCpuLists}
 use Rattle.step_rules.specs.declared.phase.ChargedUnit.{ChargedUnit}
 use Rattle.step_rules.specs.declared.phase.Stage.TheVariants.{FreshAt, Collected, Live}
 use Rattle.step_rules.specs.declared.phase.Phase.TheVariants as phase
@@ -88,7 +88,7 @@ frees_one frame_states new f inside frees =
           ∙ sym (get_or-set_other frame_states f g Free Free ne)
     ])
 
-module _ (t : KnownTable) (m : KnownMachine) (c : KnownCpu) (ok : IsConsistent t m) (visit : Visits t m c)
+module _ (t : KnownTable) (m : KnownMachine) (c : KnownCpuLists) (ok : IsConsistent t m) (visit : Visits t m c)
     (f g : ℕ) (rest : List ℕ) (front : c.fresh ≡ f ∷ rest) (of : stock_group t m c.number ≡ Some g) where
   abbrev s : State
   s = local_of t m
@@ -96,7 +96,7 @@ module _ (t : KnownTable) (m : KnownMachine) (c : KnownCpu) (ok : IsConsistent t
   abbrev unit : ChargedUnit
   unit = record { group = g; order = 0 }
 
-  abbrev d : KnownCpu
+  abbrev d : KnownCpuLists
   d = record c { fresh = rest }
 
   shown : IsShownBy t m (hide (local_of t m))
@@ -384,7 +384,7 @@ pub front_of_some : (xs : List ℕ) → xs ≢ [] → (f : ℕ) × (rest : List 
 front_of_some [] some = absurd (some refl)
 front_of_some (x ∷ xs) some = (x, xs, refl)
 
-module _ (t : KnownTable) (m now : KnownMachine) (same : m ≡ now) (c : KnownCpu) (visit_now : Visits t now c) (ok : IsConsistent t m)
+module _ (t : KnownTable) (m now : KnownMachine) (same : m ≡ now) (c : KnownCpuLists) (visit_now : Visits t now c) (ok : IsConsistent t m)
     (g : ℕ) (of_now : stock_group t now c.number ≡ Some g) where
   visit : Visits t m c
   visit = visits_here t m now same c visit_now
@@ -455,7 +455,7 @@ module _ (t : KnownTable) (m now : KnownMachine) (same : m ≡ now) (c : KnownCp
     -- all of it, if it is kept
     pub keep_all : (free : List Bool) (sums sums' : List ℕ) (owners : List (Option ℕ)) → free ≡ free_of m.frame_states
         → AreBooked t.cpus (left_by t m.run.past).parts sums → AreOwners t.cpus (left_by t m.run.past).parts owners → g < most_groups
-        → (h : KnownCpu) → HandsOver f c h → sums' ≡ slice_set sums g (get_or sums g 0 - 1) → (i k : ℕ) → i ≡ f → k ≡ 0
+        → (h : KnownCpuLists) → HandsOver f c h → sums' ≡ slice_set sums g (get_or sums g 0 - 1) → (i k : ℕ) → i ≡ f → k ≡ 0
         → (links : List Link) (lists : List Lru) → AllJoin m.links m.lists g i links lists → (run : KnownRun) → Notes t m.run (keep_steps c.number f) run
         → AllMoved t now c (KeepsFresh g f) (keep_steps c.number f)
         (record m { frame_states = slice_set m.frame_states i (Head (record { group = g; order = k })); links = links; lists = lists; run = run }) h free sums' owners
@@ -463,7 +463,7 @@ module _ (t : KnownTable) (m now : KnownMachine) (same : m ≡ now) (c : KnownCp
         let joined : AllJoin m.links m.lists g f links lists = subst (λ (j : ℕ). AllJoin m.links m.lists g j links lists) index joined_i in
         let last : h.fresh ≡ rest = tail_same f h.fresh rest (sym hands.front ∙ front) in
         let cpu : h ≡ record c { fresh = rest } = hands.cpu ∙ ap (λ (l : List ℕ). record c { fresh = l }) last in
-        subst (λ (x : KnownMachine × KnownMachine × KnownCpu × List ℕ). AllMoved t x.0 c (KeepsFresh g f) (keep_steps c.number f) x.1 x.2 free x.3 owners)
+        subst (λ (x : KnownMachine × KnownMachine × KnownCpuLists × List ℕ). AllMoved t x.0 c (KeepsFresh g f) (keep_steps c.number f) x.1 x.2 free x.3 owners)
         (λ j. (
           same j,
           record m { frame_states = slice_set m.frame_states (sym index j) (Head (record { group = g; order = sym zero_is j })); links = links; lists = lists; run = run },
@@ -474,7 +474,7 @@ module _ (t : KnownTable) (m now : KnownMachine) (same : m ≡ now) (c : KnownCp
     -- all of it, if it is dropped
     pub drop_all : (free now_free : List Bool) (sums sums' : List ℕ) (owners : List (Option ℕ)) → free ≡ free_of m.frame_states
         → AreBooked t.cpus (left_by t m.run.past).parts sums → AreOwners t.cpus (left_by t m.run.past).parts owners → g < most_groups
-        → is_killed now.killed g ≡ true → (h : KnownCpu) → HandsOver f c h → sums' ≡ slice_set sums g (get_or sums g 0 - 1) → (i k : ℕ) → i ≡ f → k ≡ 0
+        → is_killed now.killed g ≡ true → (h : KnownCpuLists) → HandsOver f c h → sums' ≡ slice_set sums g (get_or sums g 0 - 1) → (i k : ℕ) → i ≡ f → k ≡ 0
         → (new : List FrameState) → FreesFrames i (2 ^ k) m.frame_states new → (blocks : List Block) → GivesFrames free (record { at = i; order = k }) now_free
         → AreMaximalBlocks now_free blocks → (ledger : Ledger) → ledger ≡ with_uncharge m.ledger g (2 ^ k)
         → (counts : Counts) → counts ≡ with_killed_fresh m.counts → (run : KnownRun) → Notes t m.run (drop_steps c.number f) run
@@ -491,7 +491,7 @@ module _ (t : KnownTable) (m now : KnownMachine) (same : m ≡ now) (c : KnownCp
         let last : h.fresh ≡ rest = tail_same f h.fresh rest (sym hands.front ∙ front) in
         let cpu : h ≡ record c { fresh = rest } = hands.cpu ∙ ap (λ (l : List ℕ). record c { fresh = l }) last in
         let one : ledger ≡ with_uncharge m.ledger g 1 = uncharges ∙ ap (λ (j : ℕ). with_uncharge m.ledger g (2 ^ j)) zero_is in
-        subst (λ (x : KnownMachine × KnownMachine × KnownCpu × List ℕ). AllMoved t x.0 c (DropsFresh g f) (drop_steps c.number f) x.1 x.2 now_free x.3 owners)
+        subst (λ (x : KnownMachine × KnownMachine × KnownCpuLists × List ℕ). AllMoved t x.0 c (DropsFresh g f) (drop_steps c.number f) x.1 x.2 now_free x.3 owners)
         (λ j. (
           same j,
           record m { blocks = blocks; frame_states = new; ledger = sym one j; counts = counts; run = run },

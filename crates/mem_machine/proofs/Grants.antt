@@ -9,7 +9,7 @@ use Rattle.zone_blocks.specs.declared.block.Block.{Block}
 use Rattle.zone_blocks.specs.{IsBlock, Covers, IsFreeBlock, HasNoneFrom}
 use Rattle.zone_blocks.proofs.Nested.{greater_denied}
 use Rattle.zone_blocks.proofs.Unique.{in_maximal}
-use Rattle.frame_word.specs.Seats.{KnownTable}
+use Rattle.frame_word.specs.Tables.{KnownTable}
 use Rattle.group_tree.specs.declared.group.Group.{Group}
 use Rattle.group_tree.specs.Groups.{has_group, limit_of}
 use Rattle.group_tree.specs.Room as room

@@ -12,7 +12,7 @@ use Rattle.group_tree.specs.{most_groups, has_child, has_group, make_fault, IsLe
 use Rattle.group_charge.specs.declared.settings.Settings.{Settings}
 use Rattle.group_charge.specs.Charges.{Ledger, AreCharges, CountsEvent, SamePages, SamePeaks, account_at, current_of, pages_of, with_settings}
 use Rattle.group_charge.specs.Charges.{with_new_group, with_group_removed, with_group_limit, with_oom_flag}
-use Rattle.frame_word.specs.Seats.{KnownTable}
+use Rattle.frame_word.specs.Tables.{KnownTable}
 use Rattle.step_rules.specs.declared.step.Step.{Step}
 use Rattle.step_rules.specs.declared.step.NoteKey.{NoteKey}
 use Rattle.step_rules.specs.declared.step.Action.{Action}

@@ -8,7 +8,7 @@ use Rattle.std.proofs.lemmas.List.{get_or-set_other, get_or-set_same, length-set
 use Rattle.std.proofs.lemmas.Option.{none-some}
 use Rattle.zone_blocks.specs.declared.block.Block.{Block}
 use Rattle.zone_blocks.specs.{AreMaximalBlocks, HasNoneFrom, IsFree, IsFrontOfSmallest, TakesFrames}
-use Rattle.frame_word.specs.Seats.{KnownTable}
+use Rattle.frame_word.specs.Tables.{KnownTable}
 use Rattle.lru_lists.specs.declared.record.Home.{Home}
 use Rattle.step_rules.specs.declared.phase.Way.TheVariants.{OnList, PassingOut}
 use Rattle.step_rules.specs.declared.phase.Phase.{Phase}
@@ -20,7 +20,7 @@ use Rattle.step_rules.specs.{told_pages, Part, Zone, is_frame, with_at, is_legal
 use Rattle.step_rules.specs.State.{State}
 use Rattle.step_rules.proofs.Basics.{at_other, at_same}
 use Rattle.boot_words.specs.{AreLegal, MakesInTurn, hide, hide_phase, KnownPasts, IsHeld}
-use Rattle.cpu_part.specs.Cpus.{KnownCpu}
+use Rattle.cpu_part.specs.Cpus.{KnownCpuLists}
 use Rattle.cpu_part.proofs.CallerLemmas.{makes_each}
 use Rattle.step_watch.specs.Watched.{KnownWatch, Watches}
 use Rattle.mem_machine.specs.declared.frame_state.FrameState.{FrameState}
@@ -51,7 +51,7 @@ unheaded (Lent q) is = refl
 unheaded (Head unit) is = is
 unheaded (Tail g) is = refl
 
-module _ (t : KnownTable) (m : KnownMachine) (c : KnownCpu) (ok : IsConsistent t m) (visit : Visits t m c) (f : ℕ) (inside : f < t.frames)
+module _ (t : KnownTable) (m : KnownMachine) (c : KnownCpuLists) (ok : IsConsistent t m) (visit : Visits t m c) (f : ℕ) (inside : f < t.frames)
     (r : FrameState) (was : frame_state_group (frame_state_at m.frame_states f) ≡ None) (now : frame_state_group r ≡ None)
     (ph : ℕ → Phase) (phases_are : (y : ℕ) → hide_phase (ph y) ≡ phase_hidden (frame_state_at (slice_set m.frame_states f r) y))
     (part : Part) (told : told_pages part ≡ told_pages ((local_of t m).parts c.number)) (book : part.book ≡ ((local_of t m).parts c.number).book)
@@ -69,7 +69,7 @@ module _ (t : KnownTable) (m : KnownMachine) (c : KnownCpu) (ok : IsConsistent t
   abbrev n : KnownMachine
   n = record m { blocks = blocks; frame_states = slice_set m.frame_states f r; run = run }
 
-  abbrev d : KnownCpu
+  abbrev d : KnownCpuLists
   d = record c { list = list; fresh = c.fresh; back = c.back }
 
   within : f < length m.frame_states
@@ -129,7 +129,7 @@ module _ (t : KnownTable) (m : KnownMachine) (c : KnownCpu) (ok : IsConsistent t
 abbrev lend_state : State → ℕ → ℕ → State
 lend_state s p f = fold after_made s (lend_steps p f)
 
-module _ (t : KnownTable) (m : KnownMachine) (c : KnownCpu) (ok : IsConsistent t m) (visit : Visits t m c) (f : ℕ) (inside : f < t.frames)
+module _ (t : KnownTable) (m : KnownMachine) (c : KnownCpuLists) (ok : IsConsistent t m) (visit : Visits t m c) (f : ℕ) (inside : f < t.frames)
     (free : frame_state_at m.frame_states f ≡ Free) where
   framed : is_frame (local_of t m).zone f ≡ true
   framed = ap (λ (z : Zone). is_frame z f) (zone_seen t m.run.past) ∙ lt-ltb f t.frames inside
@@ -180,7 +180,7 @@ module _ (t : KnownTable) (m : KnownMachine) (c : KnownCpu) (ok : IsConsistent t
 
 -- ---- of the machine as it was seen before
 
-module _ (t : KnownTable) (m now : KnownMachine) (same : m ≡ now) (c : KnownCpu) (visit : Visits t now c) (ok : IsConsistent t m) (f : ℕ) (inside : f < t.frames)
+module _ (t : KnownTable) (m now : KnownMachine) (same : m ≡ now) (c : KnownCpuLists) (visit : Visits t now c) (ok : IsConsistent t m) (f : ℕ) (inside : f < t.frames)
     (free_now : frame_state_at now.frame_states f ≡ Free) where
   free_here : frame_state_at m.frame_states f ≡ Free
   free_here = ap (λ (x : KnownMachine). frame_state_at x.frame_states f) same ∙ free_now
@@ -188,7 +188,7 @@ module _ (t : KnownTable) (m now : KnownMachine) (same : m ≡ now) (c : KnownCp
   pub may_lend : AreLegal (local_of t m) (lend_steps c.number f)
   may_lend = lend_legal t m c ok (visits_here t m now same c visit) f inside free_here
 
-  pub lent_all : (d : KnownCpu) (before free : List Bool) (blocks : List Block) (i q : ℕ) (sums : List ℕ) (owners : List (Option ℕ)) → before ≡ free_of m.frame_states
+  pub lent_all : (d : KnownCpuLists) (before free : List Bool) (blocks : List Block) (i q : ℕ) (sums : List ℕ) (owners : List (Option ℕ)) → before ≡ free_of m.frame_states
       → AreBooked t.cpus (left_by t m.run.past).parts sums → AreOwners t.cpus (left_by t m.run.past).parts owners
       → TakesFrames before (record { at = i; order = 0 }) free → AreMaximalBlocks free blocks → i ≡ f → q ≡ c.number → d ≡ record c { list = c.list ++ f ∷ [] }
       → (run : KnownRun) → Notes t m.run (lend_steps c.number f) run
@@ -200,7 +200,7 @@ module _ (t : KnownTable) (m now : KnownMachine) (same : m ≡ now) (c : KnownCp
       let free_is : free ≡ free_of (slice_set m.frame_states f (Lent c.number)) = free_taken before free m.frame_states f (Lent c.number) below was takes_f refl in
       let areas_f : AreMaximalBlocks (free_of (slice_set m.frame_states f (Lent c.number))) blocks = subst (λ (l : List Bool). AreMaximalBlocks l blocks) free_is areas in
       let all = lent_moved t m c ok (visits_here t m now same c visit) f inside free_here blocks areas_f run noted sums owners are own in
-      subst (λ (x : KnownMachine × KnownMachine × KnownCpu × List Bool). AllMoved t x.0 c (LendsFrame f) (lend_steps c.number f) x.1 x.2 x.3 sums owners)
+      subst (λ (x : KnownMachine × KnownMachine × KnownCpuLists × List Bool). AllMoved t x.0 c (LendsFrame f) (lend_steps c.number f) x.1 x.2 x.3 sums owners)
       (λ j. (same j, record m { blocks = blocks; frame_states = slice_set m.frame_states (sym index j) (Lent (sym number j)); run = run }, sym cpu j, sym free_is j)) all
 
   -- the zone's areas have the frame
@@ -211,7 +211,7 @@ module _ (t : KnownTable) (m now : KnownMachine) (same : m ≡ now) (c : KnownCp
       ap (λ (x : ℕ). get_or before x false) index ∙ ap (λ (l : List Bool). get_or l f false) was ∙ free_at m.frame_states f below ∙ ap is_free_state free_here
 
 -- the number of a visited CPU fits a byte
-pub number_low : (t : KnownTable) (m now : KnownMachine) → m ≡ now → (c : KnownCpu) → Visits t now c → c.number ≤ t.cpus
+pub number_low : (t : KnownTable) (m now : KnownMachine) → m ≡ now → (c : KnownCpuLists) → Visits t now c → c.number ≤ t.cpus
 number_low t m now same c visit = (number_range t m c (visits_here t m now same c visit)).1
 
 -- the steps were made, and the watch took them
@@ -226,7 +226,7 @@ lent_notes t run p f i q index number later watch held turn saw = record {
 -- ---- the first of the free frames
 
 -- there is no free frame
-pub lent_to_none : (m now : KnownMachine) → m ≡ now → (c : KnownCpu) (blocks : List Block) (k : ℕ) → k ≡ 0 → HasNoneFrom m.blocks k → blocks ≡ m.blocks
+pub lent_to_none : (m now : KnownMachine) → m ≡ now → (c : KnownCpuLists) (blocks : List Block) (k : ℕ) → k ≡ 0 → HasNoneFrom m.blocks k → blocks ≡ m.blocks
     → LendsNone (visit_state now c) (visit_state (record m { blocks = blocks }) c)
 lent_to_none m now same c blocks k zero_is none is = record {
   none = subst (λ (x : KnownMachine × ℕ). HasNoneFrom x.0.blocks x.1) (λ j. (same j, zero_is j)) none;
@@ -250,7 +250,7 @@ block_inside frame_states blocks before free k b was zero_is taken takes =
     taken_free before free frame_states b.at was (subst (λ (x : Block). TakesFrames before x free) (front_is k b blocks taken zero_is) takes)
 
 -- that frame is lent
-module _ (t : KnownTable) (m now : KnownMachine) (same : m ≡ now) (c : KnownCpu) (visit : Visits t now c) (ok : IsConsistent t m)
+module _ (t : KnownTable) (m now : KnownMachine) (same : m ≡ now) (c : KnownCpuLists) (visit : Visits t now c) (ok : IsConsistent t m)
     (before free : List Bool) (k : ℕ) (b : Block) (f : ℕ) (was : before ≡ free_of m.frame_states) (zero_is : k ≡ 0)
     (taken : IsFrontOfSmallest m.blocks k b) (takes : TakesFrames before b free) (at : f ≡ b.at) where
   block : b ≡ record { at = f; order = 0 }
@@ -268,7 +268,7 @@ module _ (t : KnownTable) (m now : KnownMachine) (same : m ≡ now) (c : KnownCp
   pub may_lend_first : AreLegal (local_of t m) (lend_steps c.number f)
   may_lend_first = may_lend t m now same c visit ok f first_inside first_free
 
-  pub first_lent : (d : KnownCpu) (blocks : List Block) (i q : ℕ) (sums : List ℕ) (owners : List (Option ℕ)) → AreBooked t.cpus (left_by t m.run.past).parts sums
+  pub first_lent : (d : KnownCpuLists) (blocks : List Block) (i q : ℕ) (sums : List ℕ) (owners : List (Option ℕ)) → AreBooked t.cpus (left_by t m.run.past).parts sums
       → AreOwners t.cpus (left_by t m.run.past).parts owners → AreMaximalBlocks free blocks → i ≡ f → q ≡ c.number → d ≡ record c { list = c.list ++ f ∷ [] }
       → (run : KnownRun) → Notes t m.run (lend_steps c.number f) run
       → AllMoved t now c (LendsOne f) (lend_steps c.number f) (record m { blocks = blocks; frame_states = slice_set m.frame_states i (Lent q); run = run }) d free sums owners

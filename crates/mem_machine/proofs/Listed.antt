@@ -3,7 +3,7 @@
 use Rattle.std.proofs.Common.{◌≡◌, ◌≢◌, ℕ, ◌<◌, ◌==◌, ◌||◌, ◌⊎◌, Bool, true, false, Option, Some, None, List, [], ◌∷◌, ◌++◌, length, map, refl, sym, ap, ◌∙◌}
 use Rattle.std.proofs.Common.{subst, inl, inr, eq-eqb, cond, get_or, arith}
 use Rattle.mem_machine.specs.FrameStates.{frame_state_at}
-use Rattle.frame_word.specs.Seats.{KnownTable}
+use Rattle.frame_word.specs.Tables.{KnownTable}
 use Rattle.std.specs.Prelude.{is_some, option_map, slice_set}
 use Rattle.step_rules.specs.State.{one_if}
 use Rattle.std.proofs.lemmas.List.{get_or-set_other}

@@ -8,7 +8,7 @@ use Rattle.std.proofs.lemmas.Nat.{pow_pos}
 use Rattle.std.proofs.lemmas.Option.{none-some}
 use Rattle.std.proofs.lemmas.List.{get_or-set_same, get_or-set_other}
 use Rattle.zone_blocks.specs.Zone.{IsInUse}
-use Rattle.frame_word.specs.Seats.{KnownTable}
+use Rattle.frame_word.specs.Tables.{KnownTable}
 use Rattle.group_charge.specs.Charges.{pages_of}
 use Rattle.group_tree.specs.Bounds.{most_groups}
 use Rattle.lru_lists.specs.declared.record.Home.{Home}
@@ -29,7 +29,7 @@ use Rattle.step_rules.proofs.Placing.{within_cases}
 use Rattle.step_rules.proofs.Sums.{sum_change}
 use Rattle.step_rules.proofs.SoundSteps.{cpu_range}
 use Rattle.boot_words.specs.{hide, hide_phase, IsHeld, cpu_past, local_by_pasts, zone_of_boot}
-use Rattle.cpu_part.specs.{KnownCpu, HasOwn}
+use Rattle.cpu_part.specs.{KnownCpuLists, HasOwn}
 use Rattle.mem_machine.specs.declared.frame_state.FrameState.{FrameState}
 use Rattle.mem_machine.specs.declared.frame_state.FrameState.TheVariants.{Free, Lent, Head, Tail}
 use Rattle.mem_machine.specs.{frame_state_at, free_of, is_free_state, one_if_is, phase_hidden, AreBooked, AreOwners, counts_along, FollowsSteps}
@@ -209,7 +209,7 @@ module _ (t : KnownTable) (m n : KnownMachine) (s : State) (shown : IsShownBy t 
   }
 
 -- the CPU's lists are those of its part
-pub own_moved : (s : State) (c : KnownCpu) → HasOwn s c → (part : Part) (ph : ℕ → Phase) (references : ℕ → ℕ → ℕ) (list fresh back : List ℕ)
+pub own_moved : (s : State) (c : KnownCpuLists) → HasOwn s c → (part : Part) (ph : ℕ → Phase) (references : ℕ → ℕ → ℕ) (list fresh back : List ℕ)
     → ((f : ℕ) → references c.number f ≡ s.references c.number f) → part.list ≡ list → part.fresh ≡ fresh → part.back ≡ back
     → HasOwn (record s { phases = ph; parts = with_at s.parts c.number part; references = references }) (record c { list = list; fresh = fresh; back = back })
 own_moved s c own part ph references list fresh back same on_list is_fresh is_back =
@@ -222,7 +222,7 @@ own_moved s c own part ph references list fresh back same on_list is_fresh is_ba
 
 -- ---- the visit
 
-module _ (t : KnownTable) (m : KnownMachine) (c : KnownCpu) (visit : Visits t m c) where
+module _ (t : KnownTable) (m : KnownMachine) (c : KnownCpuLists) (visit : Visits t m c) where
   -- what is known of the CPU in each step
   pub is_visited : (f : ℕ) → is_frame (local_of t m).zone f ≡ true → IsVisited (local_of t m) c.number f
   is_visited f framed = record {
@@ -277,7 +277,7 @@ module _ (t : KnownTable) (m : KnownMachine) (c : KnownCpu) (visit : Visits t m 
   booked_here = subst (λ (p : ℕ). IsBooked ((local_of t m).parts p)) visit.who
       (own_booked (zone_of_boot t) (cpu_past m.run.past).seen (lock_holder m) visit.held.holds.shows.legal)
 
-  module _ (n : KnownMachine) (d : KnownCpu) (steps : Run) (x : State) (noted : Notes t m.run steps n.run) (leads : IsLocalRun c.number (local_of t m) steps x) where
+  module _ (n : KnownMachine) (d : KnownCpuLists) (steps : Run) (x : State) (noted : Notes t m.run steps n.run) (leads : IsLocalRun c.number (local_of t m) steps x) where
     sees_then : local_of t n ≡ x
     sees_then = noted.grew.sees visit.held ∙ run_ends c.number (local_of t m) steps x leads
 
@@ -318,7 +318,7 @@ may_next t run later first rest e p held who noted all =
 -- ---- the machine as it was seen before
 
 -- what a call leaves that makes these steps
-pub record AllMoved (t : KnownTable) (now : KnownMachine) (c : KnownCpu) (Does : VisitState → VisitState → Type 0) (steps : Run) (n : KnownMachine) (d : KnownCpu)
+pub record AllMoved (t : KnownTable) (now : KnownMachine) (c : KnownCpuLists) (Does : VisitState → VisitState → Type 0) (steps : Run) (n : KnownMachine) (d : KnownCpuLists)
     (free : List Bool) (sums : List ℕ) (owners : List (Option ℕ)) : Type 0 where
   pub consistent : IsConsistent t n
   pub free_is : free ≡ free_of n.frame_states

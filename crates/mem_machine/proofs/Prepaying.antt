@@ -3,7 +3,7 @@ use Rattle.std.proofs.Common.{◌≡◌, ℕ, ◌+◌, ◌-◌, ◌<◌, ◌≤�
 use Rattle.std.specs.List.{fold}
 use Rattle.std.specs.Prelude.{slice_set}
 use Rattle.std.proofs.lemmas.Bool.{and_from, le-leb}
-use Rattle.frame_word.specs.Seats.{KnownTable}
+use Rattle.frame_word.specs.Tables.{KnownTable}
 use Rattle.group_tree.specs.declared.group.Group.{Group}
 use Rattle.group_tree.specs.Groups.{has_group}
 use Rattle.group_tree.specs.Room as room
@@ -19,7 +19,7 @@ use Rattle.step_rules.proofs.CoverParts.{own_part}
 use Rattle.step_rules.proofs.SoundSteps.{cpu_range}
 use Rattle.boot_words.specs.{hide, IsHeld, KnownPasts, MakesStep, cpu_past, zone_of_boot, HasSameLists}
 use Rattle.boot_words.proofs.Returning.{none_booked}
-use Rattle.cpu_part.specs.Cpus.{KnownCpu}
+use Rattle.cpu_part.specs.Cpus.{KnownCpuLists}
 use Rattle.step_watch.specs.Watched.{KnownWatch, Watches}
 use Rattle.mem_machine.specs.declared.machine.Machine.TheInside.{Inside}
 use Rattle.mem_machine.specs.{AreBooked, AreOwners, FollowsSteps, IsSoundMachine, machine_of, Makes, StaysVisited, Visits, lock_holder, local_of}
@@ -79,7 +79,7 @@ module _ (t : KnownTable) (m : KnownMachine) (u : State) (ok : IsShownBy t m u) 
 
 -- ---- the steps
 
-module _ (t : KnownTable) (m : KnownMachine) (c : KnownCpu) (ok : IsConsistent t m) (facts : AreCharges m.ledger) (visit : Visits t m c) (none : c.fresh ≡ [])
+module _ (t : KnownTable) (m : KnownMachine) (c : KnownCpuLists) (ok : IsConsistent t m) (facts : AreCharges m.ledger) (visit : Visits t m c) (none : c.fresh ≡ [])
     (drained : IsDrained t m c.number) where
   shown : IsShownBy t m (hide (local_of t m))
   shown = shown_seen t m ok visit.held
@@ -225,13 +225,13 @@ module _ (t : KnownTable) (m : KnownMachine) (ok : IsConsistent t m) (facts : Ar
 -- ---- in the words of the call
 
 -- what is known of the machine before it
-pub record KnowsFill (t : KnownTable) (m : KnownMachine) (c : KnownCpu) (g k : ℕ) : Type 0 where
+pub record KnowsFill (t : KnownTable) (m : KnownMachine) (c : KnownCpuLists) (g k : ℕ) : Type 0 where
   pub visit : Visits t m c
   pub drained : IsDrained t m c.number
   pub there : has_group m.ledger.groups g ≡ true
   pub alive : is_killed m.killed g ≡ false
 
-pub knows_fill : (t : KnownTable) (m now : KnownMachine) → m ≡ now → (c : KnownCpu) (g k : ℕ) → Visits t now c → MayCharge now g k → IsDrained t now c.number
+pub knows_fill : (t : KnownTable) (m now : KnownMachine) → m ≡ now → (c : KnownCpuLists) (g k : ℕ) → Visits t now c → MayCharge now g k → IsDrained t now c.number
     → KnowsFill t m c g k
 knows_fill t m now same c g k visit charges drained =
     subst (λ (x : KnownMachine). KnowsFill t x c g k) (sym same) (record { visit = visit; drained = drained; there = charges.there; alive = charges.alive })
@@ -247,7 +247,7 @@ fill_noted t u at run p g k n h number group mid granted later watch made saw =
     (subst (λ (x : ℕ). Watches mid.watch (zone_makes (Fill x g k) Done ∷ []) watch) number saw))
 
 -- the fields after it
-module _ {N : Type 0} (t : KnownTable) (fields : Inside N) (ok : IsSoundMachine t fields) (c : KnownCpu) (g k : ℕ) (facts : AreCharges fields.charges)
+module _ {N : Type 0} (t : KnownTable) (fields : Inside N) (ok : IsSoundMachine t fields) (c : KnownCpuLists) (g k : ℕ) (facts : AreCharges fields.charges)
     (knows : KnowsFill t (machine_of fields) c g k) (none : c.fresh ≡ []) where
   abbrev m : KnownMachine
   m = machine_of fields
@@ -279,12 +279,12 @@ module _ {N : Type 0} (t : KnownTable) (fields : Inside N) (ok : IsSoundMachine 
     }
 
 -- what a fill leaves, of the machine as it was seen before
-pub record AllFilled (t : KnownTable) (now : KnownMachine) (c : KnownCpu) (g k : ℕ) (after : KnownMachine) : Type 0 where
+pub record AllFilled (t : KnownTable) (now : KnownMachine) (c : KnownCpuLists) (g k : ℕ) (after : KnownMachine) : Type 0 where
   pub fills : Fills t c.number g k now after
   pub steps : Makes t now (fill_steps c.number g k) after
   pub visit : Visits t after c
 
-pub filled_now : (t : KnownTable) (m now : KnownMachine) → m ≡ now → (c : KnownCpu) (g k : ℕ) → IsConsistent t m → AreCharges m.ledger → KnowsFill t m c g k → c.fresh ≡ []
+pub filled_now : (t : KnownTable) (m now : KnownMachine) → m ≡ now → (c : KnownCpuLists) (g k : ℕ) → IsConsistent t m → AreCharges m.ledger → KnowsFill t m c g k → c.fresh ≡ []
     → room.PathHasRoom m.ledger.groups (current_of m.ledger) g k → (run : KnownRun) → Notes t m.run (fill_steps c.number g k) run → (l : Ledger) → l ≡ with_charge m.ledger g k
     → AllFilled t now c g k (record m { ledger = l; run = run })
 filled_now t m now same c g k ok facts knows none has run noted l charged =
@@ -295,7 +295,7 @@ filled_now t m now same c g k ok facts knows none has run noted l charged =
     })
 
 -- what a refusal leaves
-module _ {N : Type 0} (t : KnownTable) (fields : Inside N) (ok : IsSoundMachine t fields) (c : KnownCpu) (g k over : ℕ) (facts : AreCharges fields.charges)
+module _ {N : Type 0} (t : KnownTable) (fields : Inside N) (ok : IsSoundMachine t fields) (c : KnownCpuLists) (g k over : ℕ) (facts : AreCharges fields.charges)
     (knows : KnowsFill t (machine_of fields) c g k) (low : room.IsLowestOver fields.charges.groups (current_of fields.charges) g k over) (run : KnownRun)
     (noted : Notes t (machine_of fields).run (over_steps g k over) run) (charges : Ledger) (same : charges ≡ fields.charges) where
   abbrev before : KnownMachine

@@ -7,7 +7,7 @@ use Rattle.std.proofs.lemmas.List.{get_or_default}
 use Rattle.std.proofs.lemmas.Option.{none-some}
 use Rattle.zone_blocks.specs.declared.block.Block.{Block}
 use Rattle.zone_blocks.specs.{AreMaximalBlocks, GivesFrames}
-use Rattle.frame_word.specs.Seats.{KnownTable}
+use Rattle.frame_word.specs.Tables.{KnownTable}
 use Rattle.group_charge.specs.{Ledger, with_uncharge, KnownNotes}
 use Rattle.group_charge.proofs.CallerLemmas.{uncharge_events, uncharge_peaks}
 use Rattle.lru_lists.specs.declared.record.Link.{Link}

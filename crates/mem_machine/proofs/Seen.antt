@@ -2,7 +2,7 @@
 -- or references of `local_of`.
 use Rattle.std.proofs.Common.{◌≡◌, ◌≢◌, ℕ, ◌+◌, ◌==◌, ◌&&◌, List, Option, Some, None, cond, refl, sym, ap, ◌∙◌, subst, inl, inr, arith, length}
 use Rattle.std.specs.Prelude.{is_some, nat_le}
-use Rattle.frame_word.specs.Seats.{KnownTable}
+use Rattle.frame_word.specs.Tables.{KnownTable}
 use Rattle.step_rules.specs.declared.phase.Phase.{Phase}
 use Rattle.step_rules.specs.declared.phase.Phase.TheVariants as phase
 use Rattle.step_rules.specs.declared.phase.Stage.TheVariants.{FreshAt, BackAt, Live}
@@ -13,7 +13,7 @@ use Rattle.step_rules.proofs.CoverParts.{own_part, other_part, other_reference}
 use Rattle.step_rules.proofs.Runs.{sound_run}
 use Rattle.boot_words.specs.{group_or_0, hide, show_phase, cpu_past, zone_of_boot}
 use Rattle.boot_words.proofs.Showing.{holder_sees_both}
-use Rattle.cpu_part.specs.Cpus.{KnownCpu}
+use Rattle.cpu_part.specs.Cpus.{KnownCpuLists}
 use Rattle.mem_machine.specs.declared.frame_state.FrameState.{FrameState}
 use Rattle.mem_machine.specs.declared.frame_state.FrameState.TheVariants.{Free, Lent, Head, Tail}
 use Rattle.mem_machine.specs.{frame_state_at, phase_hidden, KnownMachine, IsConsistent, home_of, left_by, part_at, Holds, group_of_fresh, local_of}
@@ -24,7 +24,7 @@ same_number : (o : Option ℕ) → group_or_0 o ≡ number_or_0 o
 same_number None = refl
 same_number (Some g) = refl
 
-phase_as : (c : KnownCpu) (part : Part) (g f : ℕ) (x : FrameState) → group_or_0 part.stock.group ≡ g → part.fresh ≡ c.fresh → part.back ≡ c.back
+phase_as : (c : KnownCpuLists) (part : Part) (g f : ℕ) (x : FrameState) → group_or_0 part.stock.group ≡ g → part.fresh ≡ c.fresh → part.back ≡ c.back
     → show_phase c.number part f (phase_hidden x) ≡ phase_of c g f x
 phase_as c part g f Free group fresh back = refl
 phase_as c part g f (Lent q) group fresh back =
@@ -32,7 +32,7 @@ phase_as c part g f (Lent q) group fresh back =
 phase_as c part g f (Head unit) group fresh back = ap (λ (l : List ℕ). cond (nat_le 1 (times f l)) (phase.Head unit (BackAt c.number)) (phase.Head unit Live)) back
 phase_as c part g f (Tail h) group fresh back = refl
 
-module _ (t : KnownTable) (m : KnownMachine) (c : KnownCpu) (ok : IsConsistent t m) (holds : Holds t m c) where
+module _ (t : KnownTable) (m : KnownMachine) (c : KnownCpuLists) (ok : IsConsistent t m) (holds : Holds t m c) where
   -- what was seen, whole
   abbrev whole : State
   whole = state_of (zone_of_boot t) (cpu_past m.run.past).seen

@@ -2,7 +2,7 @@
 -- the lock.
 use Rattle.std.proofs.Common.{◌≡◌, ℕ, ◌+◌, ◌==◌, ◌||◌, Bool, true, false, length, cond, refl, ap, sym, ◌∙◌, subst, arith}
 use Rattle.std.specs.List.{fold}
-use Rattle.frame_word.specs.Seats.{KnownTable}
+use Rattle.frame_word.specs.Tables.{KnownTable}
 use Rattle.step_rules.specs.{Part, Run, state_of, with_part, other_part_seen, references_seen_by, seen_by}
 use Rattle.step_rules.specs.State.{State}
 use Rattle.step_rules.proofs.Basics.{cond-ap}

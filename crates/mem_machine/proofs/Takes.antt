@@ -3,8 +3,8 @@ use Rattle.std.proofs.Common.{◌≡◌, ℕ, ◌<◌, ◌==◌, Bool, Option, L
 use Rattle.std.specs.Prelude.{slice_set}
 use Rattle.zone_blocks.specs.declared.block.Block.{Block}
 use Rattle.zone_blocks.specs.{AreMaximalBlocks, GivesFrames, IsInUse}
-use Rattle.frame_word.specs.Seats.{KnownTable}
-use Rattle.cpu_part.specs.{KnownCpu, PassesFront}
+use Rattle.frame_word.specs.Tables.{KnownTable}
+use Rattle.cpu_part.specs.{KnownCpuLists, PassesFront}
 use Rattle.step_rules.specs.declared.phase.Way.TheVariants.{OnList}
 use Rattle.step_rules.specs.declared.phase.Phase.TheVariants as phase
 use Rattle.step_rules.specs.declared.step.Action.TheVariants.{PassBack, Collect}
@@ -28,7 +28,7 @@ use Rattle.mem_machine.proofs.OwnFrames.{HasFrame}
 use Rattle.mem_machine.proofs.Records.{free_given}
 use Rattle.mem_machine.proofs.Sight.{shown_seen}
 
-module _ (t : KnownTable) (m : KnownMachine) (c : KnownCpu) (ok : IsConsistent t m) (visit : Visits t m c) (f : ℕ) (rest : List ℕ) (front : c.list ≡ f ∷ rest) where
+module _ (t : KnownTable) (m : KnownMachine) (c : KnownCpuLists) (ok : IsConsistent t m) (visit : Visits t m c) (f : ℕ) (rest : List ℕ) (front : c.list ≡ f ∷ rest) where
   mine : HasFrame (local_of t m) c.number (phase.Lent c.number OnList) f
   mine = front_here t m c visit f rest front
 
@@ -79,7 +79,7 @@ module _ (t : KnownTable) (m : KnownMachine) (c : KnownCpu) (ok : IsConsistent t
 
 -- ---- of the machine as it was seen before
 
-module _ (t : KnownTable) (m now : KnownMachine) (same : m ≡ now) (c : KnownCpu) (visit : Visits t now c) (ok : IsConsistent t m) where
+module _ (t : KnownTable) (m now : KnownMachine) (same : m ≡ now) (c : KnownCpuLists) (visit : Visits t now c) (ok : IsConsistent t m) where
   here : Visits t m c
   here = visits_here t m now same c visit
 
@@ -91,7 +91,7 @@ module _ (t : KnownTable) (m now : KnownMachine) (same : m ≡ now) (c : KnownCp
   pub may_pass_front : (f : ℕ) (rest : List ℕ) → c.list ≡ f ∷ rest → MayMake t m.run.past c.number (PassBack f)
   may_pass_front f rest front = (unlist_may f rest front).0.legal
 
-  module _ (f : ℕ) (h : KnownCpu) (hands : PassesFront f c h) where
+  module _ (f : ℕ) (h : KnownCpuLists) (hands : PassesFront f c h) where
     pub may_collect_front : (p : ℕ) → p ≡ c.number → (later : KnownPasts) → MakesStep t m.run.past c.number (PassBack f) Done later → MayMake t later 0 (Collect f p)
     may_collect_front p number later made = subst (λ (x : ℕ). MayMake t later 0 (Collect f x)) (sym number) ((unlist_may f hands.0 hands.1).1 later made).0.legal
 
@@ -113,7 +113,7 @@ module _ (t : KnownTable) (m now : KnownMachine) (same : m ≡ now) (c : KnownCp
         let free_is : free ≡ free_of (slice_set m.frame_states f Free) = free_given before free m.frame_states f Free below was gives_f refl in
         let areas_f : AreMaximalBlocks (free_of (slice_set m.frame_states f Free)) blocks = subst (λ (l : List Bool). AreMaximalBlocks l blocks) free_is areas in
         let all = unlisted_moved t m c ok here f hands.0 hands.1 blocks areas_f run noted sums owners are own in
-        subst (λ (x : KnownMachine × KnownMachine × KnownCpu × List Bool). AllMoved t x.0 c (UnlistsOne f) (unlist_steps c.number f) x.1 x.2 x.3 sums owners)
+        subst (λ (x : KnownMachine × KnownMachine × KnownCpuLists × List Bool). AllMoved t x.0 c (UnlistsOne f) (unlist_steps c.number f) x.1 x.2 x.3 sums owners)
         (λ j. (same j, record m { blocks = blocks; frame_states = slice_set m.frame_states (sym index j) Free; run = run }, sym hands.2 j, sym free_is j)) all
 
   -- they were made, and the watch took them

@@ -1,6 +1,6 @@
 -- What a call's list of steps means among the steps of other CPUs.
 use Rattle.std.specs.Prelude.{◌≡◌, ℕ, ◌++◌}
-use Rattle.frame_word.specs.Seats.{KnownTable}
+use Rattle.frame_word.specs.Tables.{KnownTable}
 use Rattle.step_rules.specs.{Zone, Run, ShowsLocal, own_steps, IsInterleaved}
 use Rattle.mem_machine.specs.Local.{lock_holder, local_of, Makes}
 use Rattle.mem_machine.specs.Machines.{KnownMachine}

@@ -3,7 +3,7 @@ use Rattle.std.specs.Prelude.{◌≡◌, ◌≢◌, ℕ, ◌+◌, ◌<◌, ◌�
 use Rattle.std.specs.List.{slice_index_or}
 use Rattle.zone_blocks.specs.declared.block.Block.{Block}
 use Rattle.zone_blocks.specs.Areas.{AreMaximalBlocks}
-use Rattle.frame_word.specs.Seats.{KnownTable}
+use Rattle.frame_word.specs.Tables.{KnownTable}
 use Rattle.group_charge.specs.{Ledger, pages_of, current_of, initial_ledger, with_new_group, KnownNotes, detail_noted, forgotten, no_notes, noted}
 use Rattle.group_tree.specs.{most_groups, IsLeastFreeNumber, IsLowestOver}
 use Rattle.lru_lists.specs.declared.record.Link.{Link}
@@ -17,7 +17,7 @@ use Rattle.lru_lists.specs.{link_at, AreNowhere, AllLinked, entries_of}
 use Rattle.step_rules.specs.{told_pages, Part, one_if, sum_to, state_of}
 use Rattle.step_rules.specs.State.{State}
 use Rattle.boot_words.specs.{hide, KnownPasts, own_past, zone_of_boot, seat_at_first}
-use Rattle.cpu_part.specs.Cpus.{KnownCpu}
+use Rattle.cpu_part.specs.Cpus.{KnownCpuLists}
 use Rattle.mem_machine.specs.declared.frame_state.FrameState.{FrameState}
 use Rattle.mem_machine.specs.declared.frame_state.FrameState.TheVariants.{Free}
 use Rattle.mem_machine.specs.declared.counts.Counts.{Counts}
@@ -228,10 +228,10 @@ LacksRoom machine group pages lowest =
 -- state to another.
 pub record VisitState : Type 0 where
   pub machine : KnownMachine
-  pub cpu : KnownCpu
+  pub cpu : KnownCpuLists
 
 -- the visit state of this machine and this part
-abbrev pub visit_state : KnownMachine → KnownCpu → VisitState
+abbrev pub visit_state : KnownMachine → KnownCpuLists → VisitState
 visit_state machine cpu = record { machine = machine; cpu = cpu }
 
 -- nothing of the visit state changed

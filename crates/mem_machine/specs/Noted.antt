@@ -1,7 +1,7 @@
 -- What the machine has of the run: the pasts and the watch. Under the lock both go on with each step.
 use Rattle.std.specs.Prelude.{◌≡◌, ℕ, [], ◌∷◌, ⊤}
 use Rattle.std.specs.List.{fold}
-use Rattle.frame_word.specs.Seats.{KnownTable}
+use Rattle.frame_word.specs.Tables.{KnownTable}
 use Rattle.step_rules.specs.declared.step.Step.{Step}
 use Rattle.step_rules.specs.declared.step.Answer.{Answer}
 use Rattle.step_rules.specs.State.{State}

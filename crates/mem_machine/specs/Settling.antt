@@ -2,13 +2,13 @@
 use Rattle.std.specs.Prelude.{◌≡◌, ℕ, ◌^◌, Bool, true, false, Option, Some, None, IfSome, List, [], ◌∷◌, ◌++◌, slice_set, if◌then◌else◌}
 use Rattle.std.specs.List.{flat_map}
 use Rattle.zone_blocks.specs.Areas.{AreMaximalBlocks}
-use Rattle.frame_word.specs.Seats.{KnownTable}
+use Rattle.frame_word.specs.Tables.{KnownTable}
 use Rattle.group_charge.specs.Charges.{with_uncharge}
 use Rattle.step_rules.specs.declared.phase.ChargedUnit.{ChargedUnit}
 use Rattle.step_rules.specs.declared.step.Action.TheVariants.{PassBack, Collect, Report, Absorb, Unfreeze, Publish, Return}
 use Rattle.step_rules.specs.declared.step.Answer.TheVariants.{Done, Pages}
 use Rattle.step_rules.specs.After.{Run}
-use Rattle.cpu_part.specs.Cpus.{KnownCpu}
+use Rattle.cpu_part.specs.Cpus.{KnownCpuLists}
 use Rattle.mem_machine.specs.declared.frame_state.FrameState.TheVariants.{Head}
 use Rattle.mem_machine.specs.FrameStates.{frame_state_at, free_of}
 use Rattle.mem_machine.specs.Machines.{OneByOne, VisitState, VisitStateStays, is_killed}
@@ -19,7 +19,7 @@ use Rattle.mem_machine.specs.Counts.{with_killed_fresh, with_last_put}
 use Rattle.mem_machine.specs.Freeing.{FreesFrames}
 
 -- the CPU passes its oldest fresh frame back
-pub record HandsOver (frame : ℕ) (before after : KnownCpu) : Type 0 where
+pub record HandsOver (frame : ℕ) (before after : KnownCpuLists) : Type 0 where
   pub front : before.fresh ≡ frame ∷ after.fresh
   pub cpu : after ≡ record before { fresh = after.fresh }
 
@@ -104,13 +104,13 @@ abbrev pub ReturnsAllBack : List ℕ → VisitState → VisitState → Type 0
 ReturnsAllBack frames before after = OneByOne ReturnsBack frames before after
 
 -- the CPU keeps its number, its list and its pins
-pub record LeavesOthers (before after : KnownCpu) : Type 0 where
+pub record LeavesOthers (before after : KnownCpuLists) : Type 0 where
   pub number : after.number ≡ before.number
   pub list : after.list ≡ before.list
   pub pins : after.pins ≡ before.pins
 
 -- the CPU has nothing to settle: none of its frames is fresh or back
-abbrev pub IsSettled : KnownCpu → Type 0
+abbrev pub IsSettled : KnownCpuLists → Type 0
 IsSettled cpu = (cpu.fresh ≡ []) × (cpu.back ≡ [])
 
 -- all fresh frames are settled, in the order in which they were taken; then the units of all back frames are freed, in

@@ -1,6 +1,6 @@
 -- How a call is described by its steps.
 use Rattle.std.specs.Prelude.{◌≡◌, [], ◌++◌}
-use Rattle.frame_word.specs.Seats.{KnownTable}
+use Rattle.frame_word.specs.Tables.{KnownTable}
 use Rattle.step_rules.specs.After.{Run}
 use Rattle.mem_machine.specs.Machines.{KnownMachine, VisitState}
 

@@ -3,7 +3,7 @@ use Rattle.std.proofs.Common.{◌≡◌, ℕ, ◌+◌, ◌==◌, ◌&&◌, cond,
 use Rattle.std.specs.List.{fold}
 use Rattle.std.proofs.lemmas.Bool.{ne_eqb}
 use Rattle.std.proofs.lemmas.List.Sums.{sum_by-append, sum_by-cons}
-use Rattle.frame_word.specs.Seats.{KnownTable}
+use Rattle.frame_word.specs.Tables.{KnownTable}
 use Rattle.group_charge.specs.declared.note.Note.{Note}
 use Rattle.step_rules.specs.declared.step.Step.{Step}
 use Rattle.step_rules.specs.declared.step.Answer.{Answer}

@@ -1,7 +1,7 @@
 -- Visits under the lock, and the steps that the watch takes of them. Serves the visits at the end of a system.
 use Rattle.std.proofs.Common.{◌≡◌, ℕ, List, [], ◌∷◌, ◌++◌, sym, ap, ◌∙◌, subst}
-use Rattle.frame_word.specs.Seats.{KnownTable}
-use Rattle.cpu_part.specs.Cpus.{KnownCpu}
+use Rattle.frame_word.specs.Tables.{KnownTable}
+use Rattle.cpu_part.specs.Cpus.{KnownCpuLists}
 use Rattle.boot_words.specs.Cpus.{KnownCpuSeat}
 use Rattle.boot_words.specs.Pasts.{IsHeld, KnownPasts, Locks, Unlocks, own_past}
 use Rattle.step_rules.specs.State.{State}
@@ -25,7 +25,7 @@ run_twice m x n r v first second =
     is ∙ ap (with_run m) (sym (ap (λ (k : KnownMachine). k.run) is))
 
 -- a visit between the lock and its release, which the watch takes too
-pub locked_visit : (t : KnownTable) (Does : Transition VisitState → Type 0) (m m0 m1 n1 n2 n : KnownMachine) (c d : KnownCpu) (p : ℕ) → p ≡ c.number
+pub locked_visit : (t : KnownTable) (Does : Transition VisitState → Type 0) (m m0 m1 n1 n2 n : KnownMachine) (c d : KnownCpuLists) (p : ℕ) → p ≡ c.number
     → m0 ≡ with_past m m0.run.past → m1 ≡ with_watch m0 m1.run.watch → Watches m0.run.watch (cpu_makes p Lock Done ∷ []) m1.run.watch
     → Holds t m1 c → BySteps VisitMakes t Does (visit_state m1 c) (visit_state n1 d)
     → n2 ≡ with_watch n1 n2.run.watch → Watches n1.run.watch (cpu_makes p Unlock Done ∷ []) n2.run.watch → n ≡ with_past n2 n.run.past
@@ -47,11 +47,11 @@ locked_visit t Does m m0 m1 n1 n2 n c d p named locks found lock holds visit lef
     }
 
 -- what the CPU sees, after a step that the watch takes
-pub holds_seen : (t : KnownTable) (m n : KnownMachine) (c : KnownCpu) → n ≡ with_watch m n.run.watch → Holds t m c → Holds t n c
+pub holds_seen : (t : KnownTable) (m n : KnownMachine) (c : KnownCpuLists) → n ≡ with_watch m n.run.watch → Holds t m c → Holds t n c
 holds_seen t m n c is holds = subst (λ (k : KnownMachine). Holds t k c) (sym is) (record { held = holds.held; who = holds.who; own = holds.own })
 
 -- the CPU that holds the lock stays the same
-pub same_holder : (t : KnownTable) (Does : Transition VisitState → Type 0) (m n : KnownMachine) (c d : KnownCpu) → BySteps VisitMakes t Does (visit_state m c) (visit_state n d)
+pub same_holder : (t : KnownTable) (Does : Transition VisitState → Type 0) (m n : KnownMachine) (c d : KnownCpuLists) → BySteps VisitMakes t Does (visit_state m c) (visit_state n d)
     → Holds t m c → Holds t n d → d.number ≡ c.number
 same_holder t Does m n c d visit first last = sym last.who ∙ visit.makes.holder ∙ first.who
 
@@ -64,7 +64,7 @@ part_unlocked : (t : KnownTable) (held zone cpu : KnownPasts) → IsHeld t held 
 part_unlocked t held zone cpu is unlocks q = ap (λ (s : State). s.parts q) unlocks.left ∙ sym (ap (λ (s : State). s.parts q) (left_seen t held is))
 
 -- the machine of a CPU's visit, when the CPU has released the lock
-pub part_given : (t : KnownTable) (n1 n2 n : KnownMachine) (d : KnownCpu) (past : KnownPasts) → n2 ≡ with_watch n1 n2.run.watch → Holds t n1 d
+pub part_given : (t : KnownTable) (n1 n2 n : KnownMachine) (d : KnownCpuLists) (past : KnownPasts) → n2 ≡ with_watch n1 n2.run.watch → Holds t n1 d
     → Unlocks t n2.run.past n.run.past past → (q : ℕ) → part_at t n q ≡ part_at t n1 q
 part_given t n1 n2 n d past left holds gives q =
     part_unlocked t n1.run.past n.run.past past holds.held (subst (λ (x : KnownPasts). Unlocks t x n.run.past past) (ap (λ (k : KnownMachine). k.run.past) left) gives) q
@@ -74,7 +74,7 @@ pub part_taken : (t : KnownTable) (m m0 m1 : KnownMachine) (past : KnownPasts) �
 part_taken t m m0 m1 past found takes q =
     part_locked t m.run.past past m1.run.past (subst (Locks t m.run.past past) (sym (ap (λ (k : KnownMachine). k.run.past) found)) takes) q
 
-pub emptied_seen : (t : KnownTable) (m n : KnownMachine) (r : KnownRun) (c : KnownCpu) → n ≡ with_run m r → ((q : ℕ) → part_at t n q ≡ part_at t m q)
+pub emptied_seen : (t : KnownTable) (m n : KnownMachine) (r : KnownRun) (c : KnownCpuLists) → n ≡ with_run m r → ((q : ℕ) → part_at t n q ≡ part_at t m q)
     → IsEmptied t m c → IsEmptied t n c
 emptied_seen t m n r c is parts emptied = record {
   idle = emptied.idle;

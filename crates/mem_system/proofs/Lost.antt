@@ -3,7 +3,7 @@ use Rattle.std.proofs.Common.{◌≡◌, ◌⊎◌, ℕ, ◌+◌, ◌<◌, ◌�
 use Rattle.std.specs.Prelude.{is_some}
 use Rattle.std.proofs.lemmas.Bool.{cases_lt, cases_eq, false≢true}
 use Rattle.std.proofs.lemmas.Nat.{pow_pos}
-use Rattle.frame_word.specs.Seats.{KnownTable}
+use Rattle.frame_word.specs.Tables.{KnownTable}
 use Rattle.step_rules.specs.declared.phase.ChargedUnit.{ChargedUnit}
 use Rattle.step_rules.specs.declared.phase.Stage.{Stage}
 use Rattle.step_rules.specs.declared.phase.Stage.TheVariants.{FreshAt, Live, BackAt}
@@ -19,7 +19,7 @@ use Rattle.step_rules.proofs.Runs.{sound_run}
 use Rattle.boot_words.specs.{hide, hide_phase, hide_stage, own_past, zone_of_boot}
 use Rattle.boot_words.proofs.Backs.{back_of, backs_are_cpus}
 use Rattle.boot_words.proofs.Left.{zone_left}
-use Rattle.cpu_part.specs.{KnownCpu, HasOwn}
+use Rattle.cpu_part.specs.{KnownCpuLists, HasOwn}
 use Rattle.lru_lists.specs.declared.record.Home.{Home}
 use Rattle.mem_machine.specs.declared.frame_state.FrameState.{FrameState}
 use Rattle.mem_machine.specs.declared.frame_state.FrameState.TheVariants.{Lent, Head}
@@ -65,7 +65,7 @@ lent_ways (phase.Head v stage) p e = by stage (ap (has_as ListFrame p) e ∙ eq-
     by k has = inl has
 lent_ways x p e = inl (ap (has_as ListFrame p) e ∙ eq-eqb p p refl)
 
-module _ (t : KnownTable) (m : KnownMachine) (ok : IsConsistent t m) (rests : Rests t m) (cpus : List KnownCpu) (all : AreAllCpus t m cpus) where
+module _ (t : KnownTable) (m : KnownMachine) (ok : IsConsistent t m) (rests : Rests t m) (cpus : List KnownCpuLists) (all : AreAllCpus t m cpus) where
   abbrev zone : Zone
   zone = zone_of_boot t
 
@@ -82,7 +82,7 @@ module _ (t : KnownTable) (m : KnownMachine) (ok : IsConsistent t m) (rests : Re
   looks f r is = ap (λ (u : State). u.phases f) hidden ∙ ok.shown.phases f ∙ ap phase_hidden is
 
   -- what follows of the CPU of a number, that CPU has
-  its : (p : ℕ) (Has : KnownCpu → Type 0) → (1 ≤ p) × (p ≤ t.cpus) → ((c : KnownCpu) → c.number ≡ p → HasOwn s c → Has c) → SomeCpu cpus Has
+  its : (p : ℕ) (Has : KnownCpuLists → Type 0) → (1 ≤ p) × (p ≤ t.cpus) → ((c : KnownCpuLists) → c.number ≡ p → HasOwn s c → Has c) → SomeCpu cpus Has
   its p Has range has =
       let one = all.all p range.0 range.1 in
       (one.0, one.1, one.2, has one.1 one.3 (all.own one.0 one.1 one.2))

@@ -1,6 +1,6 @@
 -- Refusals that change nothing. Serves `remove_group` and `write_file`.
 use Rattle.std.proofs.Common.{ℕ, [], List, refl, inl}
-use Rattle.frame_word.specs.Seats.{KnownTable}
+use Rattle.frame_word.specs.Tables.{KnownTable}
 use Rattle.group_tree.specs.declared.fault.Fault.{Fault}
 use Rattle.group_tree.specs.declared.fault.Fault.TheVariants.{BadName, HasChildren, NoGroup}
 use Rattle.mem_machine.specs.{KnownMachine, Makes, BySteps, transition}

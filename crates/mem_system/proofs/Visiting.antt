@@ -2,13 +2,13 @@
 use Rattle.std.proofs.Common.{◌≡◌, ℕ, true, false, ◌++◌, refl, sym, ap, ◌∙◌, subst}
 use Rattle.std.specs.List.{flat_map}
 use Rattle.std.proofs.lemmas.Bool.{false≢true}
-use Rattle.frame_word.specs.Seats.{KnownTable}
+use Rattle.frame_word.specs.Tables.{KnownTable}
 use Rattle.step_rules.specs.declared.phase.Hold.{Hold}
 use Rattle.step_rules.specs.declared.phase.Hold.TheVariants.{HeldBy, Unheld, Visiting}
 use Rattle.step_rules.specs.{Part, is_unheld, visits, Run, state_of}
 use Rattle.boot_words.specs.{KnownCpuSeat, IsHeld, Unlocks, own_past, zone_of_boot}
 use Rattle.boot_words.specs.Pasts.{Locks}
-use Rattle.cpu_part.specs.{KnownCpu, KnowsItsPart}
+use Rattle.cpu_part.specs.{KnownCpuLists, KnowsItsPart}
 use Rattle.mem_machine.specs.{KnownMachine, is_killed, with_past, with_run, without_notes, Holds, IsShut, Makes, number_or_0, visit_state, Rests}
 use Rattle.mem_machine.specs.{Settles, fresh_steps, return_all_steps, settle_steps, open_steps, shut_steps, transition}
 use Rattle.mem_machine.proofs.Followed.{makes_both}
@@ -32,7 +32,7 @@ pub resting_shut : (t : KnownTable) (m : KnownMachine) → Rests t m → AllShut
 resting_shut t m rests p = free_shut p (state_of (zone_of_boot t) (own_past m.run.past).seen).hold rests.free
 
 -- notes that are forgotten leave who holds the lock, and what it sees
-pub forgotten_holds : (t : KnownTable) (m n : KnownMachine) (c : KnownCpu) → n ≡ without_notes m → Holds t m c → Holds t n c
+pub forgotten_holds : (t : KnownTable) (m n : KnownMachine) (c : KnownCpuLists) → n ≡ without_notes m → Holds t m c → Holds t n c
 forgotten_holds t m n c is holds = subst (λ (k : KnownMachine). Holds t k c) (sym is) (record { held = holds.held; who = holds.who; own = holds.own })
 
 pub forgotten_shut : (t : KnownTable) (m n : KnownMachine) (p : ℕ) → n ≡ without_notes m → IsShut t m p → IsShut t n p
@@ -40,12 +40,12 @@ forgotten_shut t m n p is shut = subst (λ (k : KnownMachine). IsShut t k p) (sy
 
 -- What the calls of a visit say, one after the other. The CPU takes the lock, earlier notes are forgotten, the visit is
 -- opened, the CPU is settled, inner steps are made, the visit is shut, and the CPU releases the lock.
-pub record GoesThrough (t : KnownTable) (m : KnownMachine) (c : KnownCpu) (seat : KnownCpuSeat) (inner : Run) (k : KnownMachine) (d : KnownCpu) (seat' : KnownCpuSeat) : Type 0 where
+pub record GoesThrough (t : KnownTable) (m : KnownMachine) (c : KnownCpuLists) (seat : KnownCpuSeat) (inner : Run) (k : KnownMachine) (d : KnownCpuLists) (seat' : KnownCpuSeat) : Type 0 where
   pub found : KnownMachine
   pub begun : KnownMachine
   pub entered : KnownMachine
   pub mid : KnownMachine
-  pub settled : KnownCpu
+  pub settled : KnownCpuLists
   pub done : KnownMachine
   pub left : KnownMachine
   pub knows : KnowsItsPart t seat c
@@ -68,7 +68,7 @@ pub record GoesThrough (t : KnownTable) (m : KnownMachine) (c : KnownCpu) (seat 
   pub unlocks : k ≡ with_past left k.run.past
   pub gives : Unlocks t left.run.past k.run.past seat'.seat
 
-module _ (t : KnownTable) (m : KnownMachine) (c : KnownCpu) (seat : KnownCpuSeat) (inner : Run) (k : KnownMachine) (d : KnownCpu) (seat' : KnownCpuSeat)
+module _ (t : KnownTable) (m : KnownMachine) (c : KnownCpuLists) (seat : KnownCpuSeat) (inner : Run) (k : KnownMachine) (d : KnownCpuLists) (seat' : KnownCpuSeat)
     (v : GoesThrough t m c seat inner k d seat') where
   begun_is : v.begun ≡ with_run (without_notes m) v.begun.run
   begun_is = run_twice (without_notes m) (without_notes v.found) v.begun (record (m.run) { past = v.found.run.past }) v.found.run (ap without_notes v.locks) v.forgets
@@ -120,7 +120,7 @@ module _ (t : KnownTable) (m : KnownMachine) (c : KnownCpu) (seat : KnownCpuSeat
       visit_counted t m v.found v.left k (visit_steps t (visit_state m c) inner) seat.seat seat'.seat rests told v.locks v.takes all_made v.unlocks v.gives rests_after
 
 -- the whole command
-pub served : (t : KnownTable) (cmd : LockedCommand) (reply : ReplyWithText) (l k : KnownLocked) (c : KnownCpu) (seat : KnownCpuSeat) (inner : Run) (d : KnownCpu) (seat' : KnownCpuSeat)
+pub served : (t : KnownTable) (cmd : LockedCommand) (reply : ReplyWithText) (l k : KnownLocked) (c : KnownCpuLists) (seat : KnownCpuSeat) (inner : Run) (d : KnownCpuLists) (seat' : KnownCpuSeat)
     (v : GoesThrough t l.machine c seat inner k.machine d seat') → k.sizes ≡ l.sizes
     → Executes l.sizes cmd reply (transition t (visit_state v.mid v.settled) inner (visit_state v.done d))
     → IsServed t cmd reply (locked_state l (cpu_in_run c seat)) (locked_state k (cpu_in_run d seat'))

@@ -1,9 +1,9 @@
 -- What contracts see of a boot, of a system, and of the first parts of its CPUs.
 use Rattle.std.specs.Prelude.{◌≡◌, ℕ, zero, suc, ◌+◌, List, [], ◌∷◌}
-use Rattle.frame_word.specs.Seats.{KnownTable}
+use Rattle.frame_word.specs.Tables.{KnownTable}
 use Rattle.boot_words.specs.declared.past.Past.{Past}
 use Rattle.boot_words.specs.{no_past, KnownPasts, IsAwayCpu, KnownCpuSeat, cpus_at_first, seat_at_first, AllOf}
-use Rattle.cpu_part.specs.Cpus.{KnownCpu, first_cpu}
+use Rattle.cpu_part.specs.Cpus.{KnownCpuLists, first_cpu}
 use Rattle.zone_blocks.specs.declared.config.Config.{Config}
 use Rattle.zone_blocks.specs.Config.{IsValidConfig}
 
@@ -32,7 +32,7 @@ pub record IsBooted (boot : KnownBoot) (zone : KnownPasts) (cpus : List KnownCpu
   pub away : AllOf (IsAwayCpu boot.frames) cpus
 
 -- the first parts of this many CPUs, from number `first` on: no frame is listed, fresh or back, and there is no pin
-abbrev pub first_cpus : (first count : ℕ) → List KnownCpu
+abbrev pub first_cpus : (first count : ℕ) → List KnownCpuLists
 first_cpus first zero = []
 first_cpus first (suc more) = first_cpu first ∷ first_cpus (first + 1) more
 

@@ -1,6 +1,6 @@
 -- What a visit finds counted.
 use Rattle.std.specs.Prelude.{◌≡◌, ℕ, ◌++◌, true}
-use Rattle.frame_word.specs.Seats.{KnownTable}
+use Rattle.frame_word.specs.Tables.{KnownTable}
 use Rattle.group_tree.specs.declared.event.EventKey.{EventKey}
 use Rattle.group_tree.specs.{count_of, has_group}
 use Rattle.group_charge.specs.Charges.{events_local_of, events_of, peak_of}

@@ -1,7 +1,7 @@
 -- How a system ends whose CPUs may still have pins: each pin is put, and then the boot ends. There is one legal run of all
 -- its steps.
 use Rattle.std.specs.Prelude.{◌≡◌, List, ◌++◌, IsPermutation}
-use Rattle.frame_word.specs.Seats.{KnownTable}
+use Rattle.frame_word.specs.Tables.{KnownTable}
 use Rattle.step_rules.specs.After.{Run}
 use Rattle.boot_words.specs.{GrewByAll, own_past, zone_of_boot, AllOf, BeginsRun}
 use Rattle.boot_words.specs.declared.past.Past.{Past}

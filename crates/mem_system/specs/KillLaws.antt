@@ -1,7 +1,7 @@
 -- What holds of each kill of a command beside that it comes last: all groups of its set die with it, and the limit has
 -- no room for what the command asked for.
 use Rattle.std.specs.Prelude.{◌≡◌, ℕ, ◌+◌, ◌<◌, ◌≤◌, ◌^◌, true, Some, List, ◌∷◌, ◌++◌}
-use Rattle.frame_word.specs.Seats.{KnownTable}
+use Rattle.frame_word.specs.Tables.{KnownTable}
 use Rattle.group_tree.specs.declared.group.Group.{Group}
 use Rattle.group_tree.specs.Groups.{in_subtree, limit_of, number_at}
 use Rattle.group_charge.specs.Charges.{Ledger, current_of}

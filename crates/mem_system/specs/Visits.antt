@@ -1,7 +1,7 @@
 -- How a command is served: in a visit of its CPU, under the lock.
 use Rattle.std.specs.Prelude.{◌≡◌, ℕ, false, Some, List, [], ◌++◌}
 use Rattle.std.specs.Borrow.{Bor}
-use Rattle.frame_word.specs.Seats.{KnownTable}
+use Rattle.frame_word.specs.Tables.{KnownTable}
 use Rattle.zone_blocks.specs.declared.config.Config.{Config}
 use Rattle.boot_words.specs.Pasts.{Locks, Unlocks}
 use Rattle.group_tree.specs.Groups.{number_at}

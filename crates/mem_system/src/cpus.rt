@@ -4,7 +4,7 @@ ghost use Rattle.std.specs.Prelude.{◌≡◌, ◌≢◌, ◌+◌, ◌<◌, ◌�
 ghost use Rattle.std.specs.Prelude.{MatchResult};
 ghost use Rattle.frame_word.specs.declared.answers.Get.TheVariants.{Zero};
 ghost use Rattle.boot_words.specs.{GrewByAll, RacesAt, IsAwayCpu, cpu_at_first, own_past, zone_of_boot};
-ghost use Rattle.stock_word.specs.declared.view.Stock.TheVariants.{NoGroup};
+ghost use Rattle.stock_word.specs.declared.stock.Stock.TheVariants.{NoGroup};
 ghost use Rattle.stock_word.specs.Stock.{HasWord};
 ghost use Rattle.group_tree.specs.declared.fault.Fault.TheVariants.{PinsFull};
 ghost use Rattle.step_rules.specs.State.{times};

@@ -4,13 +4,13 @@ use Rattle.std.specs.Prelude.{slice_set}
 use Rattle.std.specs.List.{slice_get}
 use Rattle.std.proofs.lemmas.List.{append-nil, length-set}
 use Rattle.frame_word.specs.declared.answers.Get.TheVariants.{Held}
-use Rattle.frame_word.specs.Seats.{KnownTable}
-use Rattle.stock_word.specs.declared.view.Stock.{Stock}
+use Rattle.frame_word.specs.Tables.{KnownTable}
+use Rattle.stock_word.specs.declared.stock.Stock.{Stock}
 use Rattle.group_charge.specs.Charges.{Ledger}
 use Rattle.group_tree.specs.declared.fault.Fault.TheVariants.{NoGroup, PinsFull, NotPinned}
 use Rattle.cpu_part.specs.declared.answers.Fast.{Fast as FastAnswer}
 use Rattle.cpu_part.specs.declared.answers.Fast.TheVariants.{FreshFull, ListEmpty, OtherGroup, Drained, NoStock, Got}
-use Rattle.cpu_part.specs.{KnownCpu, FastAnswers}
+use Rattle.cpu_part.specs.{KnownCpuLists, FastAnswers}
 use Rattle.step_rules.specs.declared.phase.Hold.{Hold}
 use Rattle.step_rules.specs.declared.phase.Hold.TheVariants.{HeldBy, Unheld}
 use Rattle.step_rules.specs.declared.step.Action.{Action}
@@ -44,7 +44,7 @@ use Rattle.script_replay.proofs.Gaining.{saw_none}
 
 -- ---- what is tried in vain
 
-fast_same : (g : ℕ) (answer : FastAnswer) (last : Stock) (c : KnownCpu) (last' : Stock) (d : KnownCpu) → FastAnswers g answer last c last' d
+fast_same : (g : ℕ) (answer : FastAnswer) (last : Stock) (c : KnownCpuLists) (last' : Stock) (d : KnownCpuLists) → FastAnswers g answer last c last' d
     → ((f : ℕ) → answer ≢ Got f) → d ≡ c
 fast_same g FreshFull last c last' d is none = is.1.1
 fast_same g ListEmpty last c last' d is none = is.2.1
@@ -76,7 +76,7 @@ leave_same : (t : KnownTable) (m n : KnownMachine) → left_by t n.run.past ≡ 
 leave_same t m n left = held_same (left_by t n.run.past) (left_by t m.run.past) (left_by t m.run.past).hold left
 
 -- the run that shows a machine shows it with another watch too
-pub shows_watched : (t : KnownTable) (run : Run) (m : KnownMachine) (cpus : List KnownCpu) (watch : KnownWatch) → ShowsAll t run m cpus
+pub shows_watched : (t : KnownTable) (run : Run) (m : KnownMachine) (cpus : List KnownCpuLists) (watch : KnownWatch) → ShowsAll t run m cpus
     → ShowsAll t run (with_watch m watch) cpus
 shows_watched t run m cpus watch shows = the_same_is_shown t run m (with_watch m watch) cpus shows (leave_same t m (with_watch m watch) refl)
 
@@ -86,7 +86,7 @@ not_watched t before after same = subst (OnlySaw t [] before) (sym same) (saw_no
 
 -- ---- one part of the whole
 
-module _ (t : KnownTable) (run : Run) (locked : KnownLocked) (cpus : List KnownCpu) (k : ℕ) (c : CpuInRun)
+module _ (t : KnownTable) (run : Run) (locked : KnownLocked) (cpus : List KnownCpuLists) (k : ℕ) (c : CpuInRun)
     (shows : ShowsAll t run locked.machine cpus) (is_part : slice_get cpus k ≡ Some c.part) where
   abbrev m : KnownMachine
   m = locked.machine
@@ -118,7 +118,7 @@ module _ (t : KnownTable) (run : Run) (locked : KnownLocked) (cpus : List KnownC
         count = length-set cpus k c.part ∙ here.count;
         each = parts_after (state_of (zone_of t) run) cpus k c.part c.part is_part was.number was.own (λ j e at ne. shows.each j e at);
       } in record {
-        shows = subst (λ (x : Run × KnownCpu). ShowsAll t x.0 n (slice_set cpus k x.1)) (λ i. (sym (append-nil run) i, sym same i)) still;
+        shows = subst (λ (x : Run × KnownCpuLists). ShowsAll t x.0 n (slice_set cpus k x.1)) (λ i. (sym (append-nil run) i, sym same i)) still;
         agrees = λ told. subst (λ (x : Run × Ledger). AgreesWithRun t x.0 x.1)
             (λ i. (sym (append-nil run) i, ap (λ (l : KnownLocked). l.machine.ledger) (sym kept.locked) i)) told;
       }

@@ -11,8 +11,8 @@ use Rattle.boot_words.specs.{AllOf, KnownPasts, Meets, own_past, GrewByAll, IsRu
 use Rattle.boot_words.proofs.Gaining.{gains_go_on, meet_gains, none_gains}
 use Rattle.frame_word.specs.declared.answers.Put.{Put}
 use Rattle.frame_word.specs.declared.answers.Put.TheVariants as put
-use Rattle.frame_word.specs.Seats.{KnownTable}
-use Rattle.stock_word.specs.declared.view.Stock.{Stock}
+use Rattle.frame_word.specs.Tables.{KnownTable}
+use Rattle.stock_word.specs.declared.stock.Stock.{Stock}
 use Rattle.stock_word.specs.Stock.{is_held}
 use Rattle.group_tree.specs.declared.fault.Fault.TheVariants.{PinsFull, NotPinned}
 use Rattle.cpu_part.specs.declared.answers.Fast.{Fast}

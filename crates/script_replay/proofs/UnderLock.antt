@@ -3,7 +3,7 @@ use Rattle.std.proofs.Common.{◌≡◌, ◌≢◌, ℕ, ◌++◌, Bool, [], ◌
 use Rattle.std.specs.Prelude.{◌⊎◌}
 use Rattle.boot_words.specs.{AllOf, own_past, GrewByAll, changes_of}
 use Rattle.boot_words.proofs.Gaining.{of_two_seats, visit_gains}
-use Rattle.frame_word.specs.Seats.{KnownTable}
+use Rattle.frame_word.specs.Tables.{KnownTable}
 use Rattle.group_charge.specs.Charges.{Ledger}
 use Rattle.step_rules.specs.declared.step.Step.{Step}
 use Rattle.step_rules.specs.declared.step.Answer.{Answer}

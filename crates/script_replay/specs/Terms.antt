@@ -1,6 +1,6 @@
 -- The terms of a replay.
 use Rattle.std.specs.Prelude.{Bool, false}
-use Rattle.frame_word.specs.Seats.{KnownTable}
+use Rattle.frame_word.specs.Tables.{KnownTable}
 use Rattle.zone_blocks.specs.declared.config.Config.{Config}
 use Rattle.mem_system.specs.Boots.{KnownSystem}
 use Rattle.script_replay.specs.declared.form.Form.{Form}

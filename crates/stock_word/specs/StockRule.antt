@@ -1,9 +1,9 @@
 -- The stock rule: what holds of the words and of all seats' views between any two atomic steps.
 use Rattle.std.specs.Prelude.{◌≡◌, ℕ, ◌+◌, ◌*◌, ◌<◌, ◌≤◌, ◌⊎◌, List, ◌==◌, cond, None, length, slice_index}
 use Rattle.frame_word.specs.Totals.{total_over}
-use Rattle.stock_word.specs.declared.view.Stock.{Stock}
-use Rattle.stock_word.specs.declared.view.StockAccount.{StockAccount}
-use Rattle.stock_word.specs.declared.view.StockView.{StockView}
+use Rattle.stock_word.specs.declared.stock.Stock.{Stock}
+use Rattle.stock_word.specs.declared.stock.StockAccount.{StockAccount}
+use Rattle.stock_word.specs.declared.stock.StockView.{StockView}
 use Rattle.stock_word.specs.Stock.{word_of, HasWord, stock_pages_of, group_of, is_held, drained_of, account_of}
 
 -- the index of the CPU's stock word

@@ -13,8 +13,8 @@
 //! A report word is a number of pages.
 #![tactic(auto)]
 
-mod view;
-mod words;
+mod stock;
+mod answers;
 
-pub use view::{Stock, StockAccount, StockView};
-pub use words::{Consume, Credit};
+pub use stock::{Stock, StockAccount, StockView};
+pub use answers::{Consume, Credit};

@@ -2,7 +2,7 @@
 use Rattle.std.proofs.Common.{◌∙◌, ℕ, Some, None, ap}
 use Rattle.std.proofs.lemmas.Bool.{false≢true}
 use Rattle.std.specs.Prelude.{IsSome, IsSomeAnd, Option}
-use Rattle.frame_word.specs.Seats.{KnownTable}
+use Rattle.frame_word.specs.Tables.{KnownTable}
 use Rattle.control_files.specs.declared.file.File.{File}
 use Rattle.tempolemon_c.specs.{GroupHasFiles, KnownLive, OnRaw, HasFileBehind, OnBoot, boot_of}
 

@@ -1,7 +1,7 @@
 -- A group is found by its path, and so a frame that is taken for the group is taken for its path. Serves `take_frame`.
 use Rattle.std.proofs.Common.{◌≡◌, ℕ, Some, List, refl, subst}
 use Rattle.std.specs.Borrow.{Bor}
-use Rattle.frame_word.specs.Seats.{KnownTable}
+use Rattle.frame_word.specs.Tables.{KnownTable}
 use Rattle.group_tree.specs.declared.group.Group.{Group}
 use Rattle.group_tree.specs.Groups.{AreGroups, number_at, path_of}
 use Rattle.group_tree.proofs.GroupLemmas.{group_at-contains, number_at-there, path_of-is}

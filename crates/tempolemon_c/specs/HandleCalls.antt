@@ -1,6 +1,6 @@
 -- What a call means, and what it does to a live boot.
 use Rattle.std.specs.Prelude.{◌≡◌, ◌⊎◌, ℕ, ◌≤◌, List, Some, false}
-use Rattle.frame_word.specs.Seats.{KnownTable}
+use Rattle.frame_word.specs.Tables.{KnownTable}
 use Rattle.group_tree.specs.{most_groups, has_group, path_of}
 use Rattle.group_tree.specs.declared.group.Group.{Group}
 use Rattle.group_charge.specs.Charges.{Ledger}

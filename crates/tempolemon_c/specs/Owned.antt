@@ -10,7 +10,7 @@ use Rattle.std.specs.Global.{Global}
 use Rattle.core.specs.contracts.marker.Brand as Brand
 use Rattle.std_heap.specs.contracts.GlobalAllocator.TheImpl.{ghosts}
 use Rattle.boot_words.specs.contracts.raw.BootWords as BootWords
-use Rattle.frame_word.specs.Seats.{KnownTable}
+use Rattle.frame_word.specs.Tables.{KnownTable}
 use Rattle.tempolemon_c.specs.Known.{KnownLive}
 use Rattle.tempolemon_c.specs.contracts.live.Live as Live
 use Rattle.tempolemon_c.specs.declared.live.Live as Known

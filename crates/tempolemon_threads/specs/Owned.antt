@@ -10,7 +10,7 @@ use Rattle.std.specs.Global.{Global}
 use Rattle.core.specs.contracts.marker.Brand as Brand
 use Rattle.std_heap.specs.contracts.GlobalAllocator.TheImpl.{ghosts}
 use Rattle.boot_words.specs.contracts.raw.BootWords as BootWords
-use Rattle.frame_word.specs.Seats.{KnownTable}
+use Rattle.frame_word.specs.Tables.{KnownTable}
 use Rattle.zone_threads.specs.Homes.{KnownHome}
 use Rattle.zone_threads.specs.contracts.home.Home as Home
 use Rattle.zone_threads.specs.declared.home.Home as Known

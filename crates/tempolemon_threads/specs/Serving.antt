@@ -1,6 +1,6 @@
 -- What each request does to what a handle leads to.
 use Rattle.std.specs.Prelude.{◌≡◌, Option, None, Some, IsSomeAnd}
-use Rattle.frame_word.specs.Seats.{KnownTable}
+use Rattle.frame_word.specs.Tables.{KnownTable}
 use Rattle.zone_blocks.specs.declared.config.Config.{Config}
 use Rattle.mem_system.specs.Ending.{HasEnded}
 use Rattle.zone_threads.specs.{HasCpu, HasNoCpu, IfNotEntered, KnownHome, TakesCpu, ReadsText}

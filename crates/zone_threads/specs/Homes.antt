@@ -3,7 +3,7 @@ use Rattle.std.specs.Prelude.{◌≡◌, ◌≢◌, ◌≤◌, ◌<◌, ℕ, All
 use Rattle.std.specs.Global.{Box}
 use Rattle.std.specs.List.{HoldsAt, swap_remove}
 use Rattle.host_memory.specs.Cells.{KnownChange, KnownLoan}
-use Rattle.frame_word.specs.Seats.{KnownTable}
+use Rattle.frame_word.specs.Tables.{KnownTable}
 use Rattle.zone_blocks.specs.declared.config.Config.{Config}
 use Rattle.mem_system.specs.{CpuInRun, PutsAndEnds, KnownLocked}
 use Rattle.mem_system.specs.declared.ending.SystemEnd.{SystemEnd}

@@ -2,7 +2,7 @@ use Rattle.std.proofs.Common.{◌≡◌, ℕ, ◌^◌, true, refl, sym, ◌∙�
 use Rattle.std.specs.Prelude.{Err, IfErr}
 use Rattle.group_tree.specs.Groups.{has_group}
 use Rattle.group_tree.proofs.CallerLemmas.{in_subtree-above}
-use Rattle.cpu_part.specs.Cpus.{KnownCpu}
+use Rattle.cpu_part.specs.Cpus.{KnownCpuLists}
 use Rattle.mem_machine.specs.{KnownMachine, Makes, Visits, BySteps}
 use Rattle.mem_alloc.specs.{ReclaimsHigh, HasMadeRoom, IsRoomAnswer, RelievesLimit, has_room_at}
 use Rattle.mem_alloc.proofs.Lowering.{Lowers, lowers_both, usages_fall, run_lowers}
@@ -31,7 +31,7 @@ returns-in-Err-NoBlock-clause-room g c _ =
 
 pub take_block-requires-clause-visit : goal.take_block-requires-clause-visit
 take_block-requires-clause-visit g c =
-    subst (λ (k : KnownCpu). Visits g.N.BootName.frames c.tries.machine k) (sym c.tries.invariant.1) (c.tries.invariant.0.visit c.requires.visit)
+    subst (λ (k : KnownCpuLists). Visits g.N.BootName.frames c.tries.machine k) (sym c.tries.invariant.1) (c.tries.invariant.0.visit c.requires.visit)
 
 pub make_room-requires-clause-held : goal.make_room-requires-clause-held
 make_room-requires-clause-held g c = c.in-Err-Over.ensures.visit.held

@@ -1,7 +1,7 @@
 use Rattle.std.proofs.Common.{◌+◌, ◌^◌, ◌<◌, sym, ap, ◌∙◌, subst}
 use Rattle.group_tree.specs.{has_group, PathHasRoom}
 use Rattle.group_charge.specs.Charges.{current_of}
-use Rattle.cpu_part.specs.Cpus.{KnownCpu}
+use Rattle.cpu_part.specs.Cpus.{KnownCpuLists}
 use Rattle.group_charge.specs.declared.note.Note.TheVariants.{Zone}
 use Rattle.mem_machine.specs.{KnownMachine, is_killed, with_note, Visits, visit_state}
 use Rattle.mem_alloc.specs.Blocks.{MakesTakeRounds, MayHaveBlock}
@@ -42,10 +42,10 @@ returns-in-Ok g c = record {
       let part = back_part _ _ _ _ _ c.drain_list.ensures.takes in
       record {
         visit = c.take_block.ensures.visit;
-        number = ap (λ (e : KnownCpu). e.number) c.take_block.ensures.cpu ∙ part.number;
-        back = ap (λ (e : KnownCpu). e.back) c.take_block.ensures.cpu ∙ part.back;
+        number = ap (λ (e : KnownCpuLists). e.number) c.take_block.ensures.cpu ∙ part.number;
+        back = ap (λ (e : KnownCpuLists). e.back) c.take_block.ensures.cpu ∙ part.back;
       };
-  fresh = ap (λ (e : KnownCpu). e.fresh) c.take_block.ensures.cpu ∙ (back_part _ _ _ _ _ c.drain_list.ensures.takes).fresh ∙ c.requires.settled.0;
+  fresh = ap (λ (e : KnownCpuLists). e.fresh) c.take_block.ensures.cpu ∙ (back_part _ _ _ _ _ c.drain_list.ensures.takes).fresh ∙ c.requires.settled.0;
   list = list_shrinks g.N.BootName.frames c.args.group c.args.order _ _ c.take_block.new.self _ _ _ c.drain_list.result c.list_len-listed.result
       c.list_len-listed.ensures.count
       c.drain_list.ensures.at_most c.drain_list.ensures.takes c.drain_list.ensures.fewer_only_at_the_end c.in-Ok.ensures.cpu c.drain_list.ensures.steps;
@@ -66,8 +66,8 @@ reclaim_until_taken-requires g c = record {
       c.take_block.new.cpu none (ap (λ l. is_killed l c.args.group) part.killed ∙ c.requires.room.charges.alive) there fits));
   settled =
       let part = back_part _ _ _ _ _ c.drain_list.ensures.takes in (
-        ap (λ (e : KnownCpu). e.fresh) c.in-Err-NoBlock.ensures.cpu ∙ part.fresh ∙ c.requires.settled.0,
-        ap (λ (e : KnownCpu). e.back) c.in-Err-NoBlock.ensures.cpu ∙ part.back ∙ c.requires.settled.1,
+        ap (λ (e : KnownCpuLists). e.fresh) c.in-Err-NoBlock.ensures.cpu ∙ part.fresh ∙ c.requires.settled.0,
+        ap (λ (e : KnownCpuLists). e.back) c.in-Err-NoBlock.ensures.cpu ∙ part.back ∙ c.requires.settled.1,
       );
 }
 
@@ -87,10 +87,10 @@ returns-in-Err-NoBlock g c =
           c.reclaim_until_taken.result rounds;
       stays = record {
         visit = c.reclaim_until_taken.ensures.visit;
-        number = ap (λ (e : KnownCpu). e.number) cpu ∙ part.number;
-        back = ap (λ (e : KnownCpu). e.back) cpu ∙ part.back;
+        number = ap (λ (e : KnownCpuLists). e.number) cpu ∙ part.number;
+        back = ap (λ (e : KnownCpuLists). e.back) cpu ∙ part.back;
       };
-      fresh = ap (λ (e : KnownCpu). e.fresh) cpu ∙ part.fresh ∙ c.requires.settled.0;
+      fresh = ap (λ (e : KnownCpuLists). e.fresh) cpu ∙ part.fresh ∙ c.requires.settled.0;
       list = list_shrinks g.N.BootName.frames c.args.group c.args.order _ _ c.reclaim_until_taken.new.machine _ _ _ c.drain_list.result
           c.list_len-listed.result c.list_len-listed.ensures.count c.drain_list.ensures.at_most c.drain_list.ensures.takes
           c.drain_list.ensures.fewer_only_at_the_end cpu c.drain_list.ensures.steps;

@@ -2,7 +2,7 @@ use Rattle.std.proofs.Common.{◌≡◌, ℕ, ◌∷◌, ◌++◌, [], length, f
 use Rattle.std.specs.Prelude.{Err, IfErr, Ok, Result}
 use Rattle.std.proofs.lemmas.Result.{err_from_is_err_and}
 use Rattle.mem_machine.specs.Machines.{is_killed}
-use Rattle.cpu_part.specs.Cpus.{KnownCpu}
+use Rattle.cpu_part.specs.Cpus.{KnownCpuLists}
 use Rattle.mem_alloc.specs.declared.faults.AllocFault.{AllocFault}
 use Rattle.mem_alloc.proofs.Making.{refused_with, if_ok_none}
 use Rattle.mem_alloc.proofs.Filling.{keeps_both, pays_keep, no_frame_keeps, filled_part, not_paid, not_found, gets_frame}
@@ -69,14 +69,14 @@ returns g c =
     let takes = c.take_front.ensures.pays in
     let cpu = takes.takes.2 in
     let none = next.fresh ∙ first.fresh ∙ c.requires.settled.0 in
-    let fresh = ap (λ (e : KnownCpu). e.fresh) cpu ∙ ap (λ l. l ++ c.take_front.result ∷ []) none in
+    let fresh = ap (λ (e : KnownCpuLists). e.fresh) cpu ∙ ap (λ l. l ++ c.take_front.result ∷ []) none in
     record {
       allocates = gets_frame t c.args.sizes c.args.group c.args.machine.now c.args.cpu.now alive _ _ paid c.take_front.result _ _ _ _ (next.number ∙ first.number)
           fills takes c.take_front.ensures.steps;
       stays = record {
         visit = c.take_front.ensures.visit;
-        number = ap (λ (e : KnownCpu). e.number) cpu ∙ next.number ∙ first.number;
-        back = ap (λ (e : KnownCpu). e.back) cpu ∙ next.back ∙ first.back;
+        number = ap (λ (e : KnownCpuLists). e.number) cpu ∙ next.number ∙ first.number;
+        back = ap (λ (e : KnownCpuLists). e.back) cpu ∙ next.back ∙ first.back;
       };
       fresh = fresh;
       at_most_high = λ low.
@@ -84,7 +84,7 @@ returns g c =
           let b = ap length c.requires.settled.0 in
           let full = next.high (omega (arith, a, b, low)) in
           let d = ap length takes.takes.1 in
-          let e = ap (λ (e : KnownCpu). length e.list) cpu in
+          let e = ap (λ (e : KnownCpuLists). length e.list) cpu in
           let f = ap length fresh in
           omega (arith, full, d, e, f);
       frame = c.take_front.ensures.frame;

@@ -1,5 +1,5 @@
 use Rattle.std.proofs.Common.{refl, ap, ◌∙◌, arith}
-use Rattle.cpu_part.specs.Cpus.{KnownCpu}
+use Rattle.cpu_part.specs.Cpus.{KnownCpuLists}
 use Rattle.mem_machine.specs.Steps.{refill_steps}
 use Rattle.mem_alloc.specs.Frames.{LendsBatch, LendsNoFrame}
 use Rattle.mem_alloc.proofs.Rounding.{rounds_none, rounds_done, rounds_succeed, rounds_end, rounds_more}
@@ -57,7 +57,7 @@ loop-round-preserved g c =
       lent_stock t done.refills.frames _ _ _ _ (c.reclaim_anywhere-freed.ensures.keeps.visit c.loop-round.cpu (c.loop-round.invariant.0.visit c.requires.visit)).held
           done.refills.steps done.refills.lends
           ∙ spared_stock t _ _ c.loop-round.cpu (c.loop-round.invariant.0.visit c.requires.visit) c.reclaim_anywhere-freed.ensures.keeps
-          (ap (λ (e : KnownCpu). e.fresh) c.loop-round.invariant.0.spares.cpu ∙ c.requires.none_fresh) ∙ c.loop-round.invariant.1,
+          (ap (λ (e : KnownCpuLists). e.fresh) c.loop-round.invariant.0.spares.cpu ∙ c.requires.none_fresh) ∙ c.loop-round.invariant.1,
     )
 
 pub returns-clause-refills : goal.returns-clause-refills
@@ -75,7 +75,7 @@ returns-then-refill-gt0-clause-stock g c =
     let visit = c.loop-round.invariant.0.visit c.requires.visit in
     let keeps = c.reclaim_anywhere-freed.ensures.keeps in
     lent_stock t done.frames _ _ _ _ (keeps.visit c.loop-round.cpu visit).held done.steps done.lends
-    ∙ spared_stock t _ _ c.loop-round.cpu visit keeps (ap (λ (e : KnownCpu). e.fresh) c.loop-round.invariant.0.spares.cpu ∙ c.requires.none_fresh)
+    ∙ spared_stock t _ _ c.loop-round.cpu visit keeps (ap (λ (e : KnownCpuLists). e.fresh) c.loop-round.invariant.0.spares.cpu ∙ c.requires.none_fresh)
     ∙ c.loop-round.invariant.1
 
 pub returns-then-freed-eq0-clause-stock : goal.returns-then-freed-eq0-clause-stock
@@ -85,7 +85,7 @@ returns-then-freed-eq0-clause-stock g c =
     let visit = c.loop-round.invariant.0.visit c.requires.visit in
     let keeps = c.reclaim_anywhere-freed.ensures.keeps in
     lent_stock t done.frames _ _ _ _ (keeps.visit c.loop-round.cpu visit).held done.steps done.lends
-    ∙ spared_stock t _ _ c.loop-round.cpu visit keeps (ap (λ (e : KnownCpu). e.fresh) c.loop-round.invariant.0.spares.cpu ∙ c.requires.none_fresh)
+    ∙ spared_stock t _ _ c.loop-round.cpu visit keeps (ap (λ (e : KnownCpuLists). e.fresh) c.loop-round.invariant.0.spares.cpu ∙ c.requires.none_fresh)
     ∙ c.loop-round.invariant.1
 
 pub returns-clause-stock : goal.returns-clause-stock

@@ -1,7 +1,7 @@
 -- Serves the contract of `execute`: what each command did, in the words of the command that it is.
 use Rattle.std.proofs.Common.{◌≡◌, ◌∙◌, [], ap, arith, length, refl, subst}
 use Rattle.zone_blocks.specs.declared.config.Config.{Config}
-use Rattle.cpu_part.specs.Cpus.{KnownCpu}
+use Rattle.cpu_part.specs.Cpus.{KnownCpuLists}
 use Rattle.mem_machine.proofs.Followed.{makes_none}
 use Rattle.mem_system.specs.{ListAndFreshStayWithin, NamesFrameBelow}
 use Rattle.mem_machine.proofs.Made.{visit_same}
@@ -9,7 +9,7 @@ use Rattle.mem_system.proofs.Keeping.{keeps_visit}
 use Rattle.mem_system.proofs.command.execute.Goals as goal
 
 -- a CPU without fresh frames has at most `high` frames, if its list has
-none_fresh : (sizes : Config) (cpu : KnownCpu) → cpu.fresh ≡ [] → ListAndFreshStayWithin sizes cpu cpu
+none_fresh : (sizes : Config) (cpu : KnownCpuLists) → cpu.fresh ≡ [] → ListAndFreshStayWithin sizes cpu cpu
 none_fresh sizes cpu none = λ within. let no_more = ap length none in omega (arith, no_more, within)
 
 pub make_group-requires : goal.make_group-requires

@@ -1,5 +1,5 @@
 use Rattle.std.proofs.Common.{ℕ, [], ap, refl, subst, sym}
-use Rattle.cpu_part.specs.{KnownCpu, FastAnswers}
+use Rattle.cpu_part.specs.{KnownCpuLists, FastAnswers}
 use Rattle.cpu_part.specs.declared.answers.Fast.TheVariants.{Got}
 use Rattle.reply_texts.specs.declared.steps.UnlockedAnswer.TheVariants as unlocked
 use Rattle.script_lines.specs.declared.line.Command.TheVariants.{Fast}
@@ -87,7 +87,7 @@ returns-in_default-alloc_fast g c =
               none = c.in_default-alloc_fast.not-Got;
             };
           };
-          alone = subst (λ (n : ℕ). MakesAlone n [] met.past seen.past) (ap (λ (p : KnownCpu). p.number) found.part) alone;
+          alone = subst (λ (n : ℕ). MakesAlone n [] met.past seen.past) (ap (λ (p : KnownCpuLists). p.number) found.part) alone;
         };
         grew = grew_both cpu.past [] met.past [] seen.past (seen_grew cpu.past met.past found.sees)
             (alone_grew met.part.number [] met.past seen.past alone);

@@ -1,5 +1,5 @@
 use Rattle.std.proofs.Common.{ap, arith}
-use Rattle.frame_word.specs.ReferenceRule.{visit_index}
+use Rattle.frame_word.specs.Word.{visit_index}
 use Rattle.boot_words.proofs.Reading.{reads_frame}
 use Rattle.boot_words.proofs.closed.ClosedWords.visit_word.Goals as goal
 

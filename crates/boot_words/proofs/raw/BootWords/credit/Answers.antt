@@ -1,7 +1,7 @@
 use Rattle.std.proofs.Common.{◌+◌, refl, sym, ap, subst, ◌∙◌}
 use Rattle.step_rules.specs.declared.step.Action.TheVariants.{Credit}
 use Rattle.boot_words.specs.{KnownPasts, MayDo, own_past, IsAwayCpu, zone_of_boot}
-use Rattle.stock_word.specs.declared.view.Stock.TheVariants.{DrainedOf, HeldBy}
+use Rattle.stock_word.specs.declared.stock.Stock.TheVariants.{DrainedOf, HeldBy}
 use Rattle.stock_word.specs.Stock.{word_of}
 use Rattle.step_rules.specs.declared.step.Answer.TheVariants.{Stocked}
 use Rattle.boot_words.proofs.Groupless.{no_credit}

@@ -1,5 +1,5 @@
 use Rattle.std.proofs.Common.{◌+◌, rules, ap, ◌∙◌, arith}
-use Rattle.stock_word.specs.declared.view.Stock.TheVariants.{NoGroup}
+use Rattle.stock_word.specs.declared.stock.Stock.TheVariants.{NoGroup}
 use Rattle.stock_word.proofs.Deals.{all_left, none_more, one_more}
 use Rattle.boot_words.specs.Seats.{cpus_pasts, first_alone, rest_of}
 use Rattle.boot_words.proofs.Dealing.{last_seats, next_past, next_seats, no_seats}

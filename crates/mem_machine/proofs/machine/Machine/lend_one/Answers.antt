@@ -1,6 +1,6 @@
 use Rattle.std.proofs.Common.{◌<◌, ◌≤◌, ap, sym, subst, arith, rules}
 use Rattle.zone_blocks.specs.Zone.{BuddyZone}
-use Rattle.frame_word.specs.Seats.{KnownTable}
+use Rattle.frame_word.specs.Tables.{KnownTable}
 use Rattle.mem_machine.specs.Kept.{machine_of}
 use Rattle.mem_machine.proofs.Lends.{block_inside, first_lent, lent_notes, lent_to_none, may_lend_first, number_low}
 use Rattle.mem_machine.proofs.Made.{visits_here}

@@ -1,5 +1,5 @@
 use Rattle.std.proofs.Common.{◌≡◌, sym, ap, ◌∙◌, subst}
-use Rattle.frame_word.specs.Seats.{KnownTable}
+use Rattle.frame_word.specs.Tables.{KnownTable}
 use Rattle.step_rules.specs.State.{State}
 use Rattle.boot_words.specs.{Meets, IsAwayCpu}
 use Rattle.mem_machine.specs.{machine_of, KnownMachine, left_by}

@@ -1,5 +1,5 @@
 use Rattle.std.proofs.Common.{◌∙◌, ℕ, refl, sym, subst, rules}
-use Rattle.frame_word.specs.Seats.{KnownTable}
+use Rattle.frame_word.specs.Tables.{KnownTable}
 use Rattle.step_rules.specs.declared.phase.Hold.TheVariants.{HeldBy}
 use Rattle.step_rules.specs.declared.step.Action.TheVariants.{ShutVisit}
 use Rattle.step_rules.specs.declared.step.Answer.TheVariants.{Done}

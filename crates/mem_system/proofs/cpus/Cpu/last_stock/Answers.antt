@@ -1,5 +1,5 @@
 use Rattle.std.proofs.Common.{◌≡◌, ◌∙◌, ℕ, [], subst, sym}
-use Rattle.stock_word.specs.declared.view.Stock.TheVariants.{NoGroup}
+use Rattle.stock_word.specs.declared.stock.Stock.TheVariants.{NoGroup}
 use Rattle.boot_words.specs.Cpus.{state_left}
 use Rattle.boot_words.proofs.Groupless.{no_group_nothing_fresh}
 use Rattle.mem_system.specs.Cpus.{CpuInRun}

@@ -1,7 +1,7 @@
 -- Serves `read`: the reply is what the charges after the visit make of the outcome.
 use Rattle.std.proofs.Common.{◌≡◌, ◌≢◌, ◌∙◌, ap, sym, subst}
 use Rattle.zone_blocks.specs.declared.config.Config.{Config}
-use Rattle.frame_word.specs.Seats.{KnownTable}
+use Rattle.frame_word.specs.Tables.{KnownTable}
 use Rattle.group_charge.specs.Charges.{Ledger}
 use Rattle.control_files.specs.Files as files
 use Rattle.mem_system.specs.Cpus.{CpuInRun}

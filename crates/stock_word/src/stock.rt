@@ -1,0 +1,94 @@
+//! What a stock word says, and what a seat knows of it.
+use std::collections::LinkedList;
+
+// This word and any above it is that of a drained stock.
+const DRAINED: u64 = 1 << 32;
+
+/// What a CPU has prepaid. Groups are numbers from 0 to 63.
+#[derive(Clone, Copy, Debug, PartialEq, Eq)]
+pub enum Stock {
+    /// No group yet: the stock was never filled.
+    NoGroup,
+    /// This many pages, 0 to 65,535, are prepaid for the group.
+    HeldBy { group: u32, pages: u32 },
+    /// The stock of the group was drained, and stays drained until a fill.
+    DrainedOf { group: u32 },
+}
+
+impl Stock {
+    ghost use Rattle.std.specs.Prelude.{◌≡◌};
+    ghost use Rattle.stock_word.specs.declared.stock.Stock.{Stock};
+    ghost use Rattle.stock_word.specs.Stock.{word_of, HasWord, stock_pages_of, group_of};
+
+    /// The word that encodes this stock in the table.
+    pub fn word(self) -> u64
+        ensures { result ≡ word_of self }
+    {
+        match self {
+            Stock::NoGroup => 0,
+            Stock::HeldBy { group, pages } => (u64::from(group) + 1) * 65_536 + u64::from(pages),
+            Stock::DrainedOf { group } => DRAINED + (u64::from(group) + 1) * 65_536,
+        }
+    }
+
+    /// The stock that a word encodes. The contract says nothing of a word that encodes no stock.
+    pub fn of_word(word: u64) -> Stock
+        ensures { (stock : Stock) → HasWord stock → word ≡ word_of stock → result ≡ stock }
+    {
+        let code = (word % DRAINED) / 65_536;
+        if code == 0 {
+            return Stock::NoGroup;
+        }
+        let group = (code - 1) as u32;
+        if word < DRAINED {
+            let pages = (word % 65_536) as u32;
+            Stock::HeldBy { group, pages }
+        } else {
+            Stock::DrainedOf { group }
+        }
+    }
+
+    /// The group of the stock; None for a stock of no group.
+    pub fn group(self) -> Option<u32>
+        ensures { result ≡ group_of self }
+    {
+        match self {
+            Stock::NoGroup => None,
+            Stock::HeldBy { group, pages: _ } | Stock::DrainedOf { group } => Some(group),
+        }
+    }
+
+    /// The pages in the stock.
+    pub fn pages(self) -> u32
+        ensures { result ≡ stock_pages_of self }
+    {
+        match self {
+            Stock::HeldBy { group: _, pages } => pages,
+            Stock::NoGroup | Stock::DrainedOf { group: _ } => 0,
+        }
+    }
+}
+
+/// What the zone's seat knows of one CPU. No value of it is made.
+pub struct StockAccount {
+    /// Pages charged through this CPU's stock: prepaid, fresh and reported ones.
+    pub book: u64,
+    /// The group of its last fill.
+    pub group: Option<u32>,
+    /// Whether it was filled and not drained since.
+    pub filled: bool,
+    /// Pages that were reported and not absorbed yet.
+    pub unabsorbed: u64,
+}
+
+/// What a seat knows. Seat 0 is the zone's, the others the CPUs'. No value of it is made.
+pub struct StockView {
+    /// 0 at the zone's seat, else the CPU's number.
+    pub number: u32,
+    /// Pages that the CPU took and has neither credited nor reported.
+    pub fresh: u64,
+    /// The stock that the CPU saw last. Its fresh pages are of that group.
+    pub last: Stock,
+    /// The zone's account of each CPU, by its number. Entry 0 is unused.
+    pub accounts: LinkedList<StockAccount>,
+}
