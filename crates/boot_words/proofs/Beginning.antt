@@ -4,9 +4,8 @@ use Rattle.std.specs.Prelude.{nat_le, slice_index}
 use Rattle.std.proofs.lemmas.List.{drop-replicate, length-replicate, take-replicate}
 use mathlib.Core.Logic.{dite}
 use native.Mathlib.Decide.{ℕ_discrete}
-use Rattle.frame_word.specs.Totals.{sum_over}
 use Rattle.step_rules.specs.State.{Zone, one_if}
-use Rattle.boot_words.specs.{AllOf, frame_base, words_in, word_count, BeginsRun, RunRule, of_number, no_past, all_pasts, cpus_pasts}
+use Rattle.boot_words.specs.{AllOf, frame_base, words_in, word_count, BeginsRun, RunRule, of_number, sum_over, no_past, all_pasts, cpus_pasts}
 use Rattle.boot_words.proofs.Booting.{a_boot_has_words}
 use Rattle.boot_words.proofs.Counting.{case_le, is_high, is_low, is_none, is_own}
 

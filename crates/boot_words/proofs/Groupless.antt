@@ -27,13 +27,13 @@ no_fresh : (t : KnownTable) (c : KnownCpuSeat) (f : ℕ) → IsAwayCpu t c → c
 no_fresh t c f is none has =
     let s = state_left t c in
     let fresh = fresh_is c.number (s.phases f) has in
-    let paid = subst (PhasePaid s.zone.cpus (groups_in s.parts)) fresh.1 ((sound_run (zone_of_boot t) (own_past c.seat).seen is.past.legal).frames f).paid in
+    let paid = subst (PhasePaid s.zone.cpus (groups_in s.parts)) fresh.1 ((sound_run (zone_of_boot t) (own_past c.past).seen is.past.legal).frames f).paid in
     none_some fresh.0.group (sym (group_left t c is none) ∙ paid.group)
 
-pub no_credit : (t : KnownTable) (c : KnownCpuSeat) (f : ℕ) → IsAwayCpu t c → c.last ≡ NoGroup → MayDo t c.seat (Credit f) → ⊥
+pub no_credit : (t : KnownTable) (c : KnownCpuSeat) (f : ℕ) → IsAwayCpu t c → c.last ≡ NoGroup → MayDo t c.past (Credit f) → ⊥
 no_credit t c f is none legal =
     let s = state_left t c in
-    no_fresh t c f is none (subst (λ q. has_as FreshFrame q (s.phases f) ≡ true) (sym is.number) (credit_tests s (own_past c.seat).number f legal).2)
+    no_fresh t c f is none (subst (λ q. has_as FreshFrame q (s.phases f) ≡ true) (sym is.number) (credit_tests s (own_past c.past).number f legal).2)
 
 fresh_none : (s : State) (cpu : ℕ) (fresh : List ℕ) → ((f : ℕ) → times f fresh ≡ one_if (has_as FreshFrame cpu (s.phases f))) → ((f : ℕ) → has_as FreshFrame cpu (s.phases f) ≡ true → ⊥) → fresh ≡ []
 fresh_none s cpu [] is none = refl
@@ -49,4 +49,4 @@ fresh_none s cpu (f ∷ rest) is none = absurd (by (has_as FreshFrame cpu (s.pha
 pub no_group_nothing_fresh : NoGroupNothingFresh
 no_group_nothing_fresh t c is none =
     let s = state_left t c in
-    fresh_none s c.number (s.parts c.number).fresh (λ f. (sound_run (zone_of_boot t) (own_past c.seat).seen is.past.legal).lists c.number FreshFrame f) (λ f has. no_fresh t c f is none has)
+    fresh_none s c.number (s.parts c.number).fresh (λ f. (sound_run (zone_of_boot t) (own_past c.past).seen is.past.legal).lists c.number FreshFrame f) (λ f has. no_fresh t c f is none has)

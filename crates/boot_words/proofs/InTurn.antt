@@ -8,7 +8,7 @@ use lib.ListN.{get_elem?}
 use Rattle.atomic_table.specs.Table.{State as Board, keeps}
 use Rattle.atomic_table.proofs.Lists.{set_again}
 use Rattle.frame_word.specs.{mark, KnownTable}
-use Rattle.stock_word.specs.StockRule.{report_index}
+use Rattle.stock_word.specs.Stock.{report_index}
 use Rattle.step_rules.specs.declared.phase.Phase.{Phase}
 use Rattle.step_rules.specs.declared.phase.Phase.TheVariants.{InZone, Lent, Head}
 use Rattle.step_rules.specs.declared.phase.Stage.TheVariants.{BackAt, FreshAt}

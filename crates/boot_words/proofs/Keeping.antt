@@ -34,10 +34,10 @@ same_put s q f answer = refl
 -- a step that changes neither the CPU's stock nor who holds the lock
 pub keeps_cpu : (t : KnownTable) (c : KnownCpuSeat) (action : Action) (answer : Answer) (s' : KnownPasts) → IsAwayCpu t c → IsFast action
     → ((s : State) (q : ℕ) → ((after s q action answer).parts q).stock ≡ (s.parts q).stock)
-    → CpuMakes t c.seat action answer s' → IsAwayCpu t (record { seat = s'; number = c.number; last = c.last })
+    → CpuMakes t c.past action answer s' → IsAwayCpu t (record { past = s'; number = c.number; last = c.last })
 keeps_cpu t c action answer s' is fast same m =
     let zone = zone_of_boot t in
-    let p = own_past c.seat in
+    let p = own_past c.past in
     let q = c.number in
     let between = m.grew.between in
     let before = p.seen ++ between in
@@ -57,18 +57,18 @@ keeps_cpu t c action answer s' is fast same m =
       has_word = is.has_word;
     }
 
-pub keeps_get : (t : KnownTable) (c : KnownCpuSeat) (f : ℕ) (answer : Answer) (s' : KnownPasts) → IsAwayCpu t c → CpuMakes t c.seat (Get f) answer s'
-    → IsAwayCpu t (record { seat = s'; number = c.number; last = c.last })
+pub keeps_get : (t : KnownTable) (c : KnownCpuSeat) (f : ℕ) (answer : Answer) (s' : KnownPasts) → IsAwayCpu t c → CpuMakes t c.past (Get f) answer s'
+    → IsAwayCpu t (record { past = s'; number = c.number; last = c.last })
 keeps_get t c f answer s' is m = keeps_cpu t c (Get f) answer s' is tt (λ s q. same_get s q f answer) m
 
-pub keeps_put : (t : KnownTable) (c : KnownCpuSeat) (f : ℕ) (answer : Answer) (s' : KnownPasts) → IsAwayCpu t c → CpuMakes t c.seat (Put f) answer s'
-    → IsAwayCpu t (record { seat = s'; number = c.number; last = c.last })
+pub keeps_put : (t : KnownTable) (c : KnownCpuSeat) (f : ℕ) (answer : Answer) (s' : KnownPasts) → IsAwayCpu t c → CpuMakes t c.past (Put f) answer s'
+    → IsAwayCpu t (record { past = s'; number = c.number; last = c.last })
 keeps_put t c f answer s' is m = keeps_cpu t c (Put f) answer s' is tt (λ s q. same_put s q f answer) m
 
 -- each answer of a get
-pub keeps_gets : (t : KnownTable) (c : KnownCpuSeat) (f : ℕ) (answer : gets.Get) (s' : KnownPasts) → IsAwayCpu t c → GetsReference t c.seat f answer s'
-    → IsAwayCpu t (record { seat = s'; number = c.number; last = c.last })
+pub keeps_gets : (t : KnownTable) (c : KnownCpuSeat) (f : ℕ) (answer : gets.Get) (s' : KnownPasts) → IsAwayCpu t c → GetsReference t c.past f answer s'
+    → IsAwayCpu t (record { past = s'; number = c.number; last = c.last })
 keeps_gets t c f said.Held s' is m = keeps_get t c f Held s' is m
 keeps_gets t c f said.Zero s' is m = keeps_get t c f Zero s' is m
 keeps_gets t c f said.Full s' is m = keeps_get t c f Full s' is m
-keeps_gets t c f (said.Raced n) s' is m = subst (λ (s : KnownPasts). IsAwayCpu t (record { seat = s; number = c.number; last = c.last })) (sym m.0) is
+keeps_gets t c f (said.Raced n) s' is m = subst (λ (s : KnownPasts). IsAwayCpu t (record { past = s; number = c.number; last = c.last })) (sym m.0) is

@@ -236,12 +236,12 @@ may_credit zone p f g n low high legal away saw fits =
     (λ words found. (g, record { fits = fits.0; found = found; later_is = refl }))
 
 -- ---- to the contracts of consume and credit
-pub consumes : (t : KnownTable) (c : KnownCpuSeat) (g n m : ℕ) → IsAwayCpu t c → MayDo t c.seat (Consume g) → c.last ≡ HeldBy g n → n ≡ m + 1
-    → MayChange (zone_of_boot t) c.seat.pasts (StockOf c.number) (λ x. either (x == word_of (HeldBy g n)) (word_of (HeldBy g m)) x)
-    (TellsPage (zone_of_boot t) (own_past c.seat) (Consume g) Took (HeldBy g n) (HeldBy g m) (DrainedOf g))
+pub consumes : (t : KnownTable) (c : KnownCpuSeat) (g n m : ℕ) → IsAwayCpu t c → MayDo t c.past (Consume g) → c.last ≡ HeldBy g n → n ≡ m + 1
+    → MayChange (zone_of_boot t) c.past.pasts (StockOf c.number) (λ x. either (x == word_of (HeldBy g n)) (word_of (HeldBy g m)) x)
+    (TellsPage (zone_of_boot t) (own_past c.past) (Consume g) Took (HeldBy g n) (HeldBy g m) (DrainedOf g))
 consumes t c g n m is legal last more =
     let zone = zone_of_boot t in
-    let p = own_past c.seat in
+    let p = own_past c.past in
     let at = is.number in
     let q = p.number in
     subst (λ (y : List Past × (ℕ × ℕ)). MayChange zone y.0 (StockOf y.1.0) (λ x. either (x == word_of (HeldBy g y.1.1)) (word_of (HeldBy g m)) x)
@@ -250,12 +250,12 @@ consumes t c g n m is legal last more =
     (subst (λ (y : ℕ × Stock). SawLast (stock_in ((state_of zone p.seen).parts y.0)) y.1) (λ i. (at i, (last ∙ ap (HeldBy g) more) i)) is.last)
     (subst HasWord (last ∙ ap (HeldBy g) more) is.has_word))
 
-pub credits : (t : KnownTable) (c : KnownCpuSeat) (f g n : ℕ) → IsAwayCpu t c → MayDo t c.seat (Credit f) → c.last ≡ HeldBy g n
-    → MayChange (zone_of_boot t) c.seat.pasts (StockOf c.number) (λ x. either (x == word_of (HeldBy g n)) (word_of (HeldBy g (n + 1))) x)
-    (TellsPage (zone_of_boot t) (own_past c.seat) (Credit f) Stocked (HeldBy g n) (HeldBy g (n + 1)) (DrainedOf g))
+pub credits : (t : KnownTable) (c : KnownCpuSeat) (f g n : ℕ) → IsAwayCpu t c → MayDo t c.past (Credit f) → c.last ≡ HeldBy g n
+    → MayChange (zone_of_boot t) c.past.pasts (StockOf c.number) (λ x. either (x == word_of (HeldBy g n)) (word_of (HeldBy g (n + 1))) x)
+    (TellsPage (zone_of_boot t) (own_past c.past) (Credit f) Stocked (HeldBy g n) (HeldBy g (n + 1)) (DrainedOf g))
 credits t c f g n is legal last =
     let zone = zone_of_boot t in
-    let p = own_past c.seat in
+    let p = own_past c.past in
     let at = is.number in
     subst (λ (y : List Past × ℕ). MayChange zone y.0 (StockOf y.1) (λ x. either (x == word_of (HeldBy g n)) (word_of (HeldBy g (n + 1))) x)
     (TellsPage zone p (Credit f) Stocked (HeldBy g n) (HeldBy g (n + 1)) (DrainedOf g))) (λ i. (sym is.past.alone i, sym at i))
@@ -264,12 +264,12 @@ credits t c f g n is legal last =
 
 -- the exchange was a step of the CPU
 pub exchanged_page : (t : KnownTable) (c : KnownCpuSeat) (action : Action) (answer : Answer) (stock : Stock) (c' : KnownCpuSeat) → IsAwayCpu t c → c'.number ≡ c.number → c'.last ≡ stock
-    → c'.seat.table ≡ c.seat.table → Knows (zone_of_boot t) (own_past c.seat) action answer stock c'.seat.pasts → Exchanges t c action answer stock c'
+    → c'.past.table ≡ c.past.table → Knows (zone_of_boot t) (own_past c.past) action answer stock c'.past.pasts → Exchanges t c action answer stock c'
 exchanged_page t c action answer stock c' is number last table k =
     let zone = zone_of_boot t in
-    let m = made t c.seat action answer c'.seat is.past table k.made in
-    let q : c'.number ≡ (own_past c.seat).number = number ∙ is.number in
-    let past : own_past c'.seat ≡ k.made.past = ap first_past k.made.later_is in record {
+    let m = made t c.past action answer c'.past is.past table k.made in
+    let q : c'.number ≡ (own_past c.past).number = number ∙ is.number in
+    let past : own_past c'.past ≡ k.made.past = ap first_past k.made.later_is in record {
       is = record {
         past = m.is_past;
         number = q ∙ sym m.grew.number;

@@ -15,7 +15,8 @@ use Rattle.boot_words.specs.Pasts.{KnownPasts, own_past, IsCpuPast}
 use Rattle.boot_words.specs.Seats.{zone_of_boot}
 
 -- a call by the CPU's seat was this step, with this answer
-pub record CpuMakes (t : KnownTable) (s : KnownPasts) (action : Action) (answer : Answer) (s' : KnownPasts) : Type 0 where
+pub record CpuMakes (t : KnownTable) (s : KnownPasts) (action : Action) (answer : Answer) (s' : KnownPasts)
+    : Type 0 where
   pub is_past : IsCpuPast t s'
   pub grew : GrewBy (own_past s) (record { seat = (own_past s).number; action = action }) answer (own_past s')
 

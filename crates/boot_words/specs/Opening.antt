@@ -12,7 +12,7 @@ seat_at_first table number = record { table = table; pasts = no_past number ∷ 
 
 -- the seat of this CPU at first: it saw no stock yet
 abbrev pub cpu_at_first : TableId → ℕ → KnownCpuSeat
-cpu_at_first table cpu = record { seat = seat_at_first table cpu; number = cpu; last = NoGroup }
+cpu_at_first table cpu = record { past = seat_at_first table cpu; number = cpu; last = NoGroup }
 
 -- the seats of n CPUs at first, from this number on
 abbrev pub cpus_at_first : TableId → ℕ → ℕ → List KnownCpuSeat

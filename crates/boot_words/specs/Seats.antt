@@ -3,7 +3,7 @@ use Rattle.std.specs.Prelude.{[], ◌≡◌, ℕ, ◌+◌, ◌≤◌, ◌<◌, L
 use Rattle.atomic_table.specs.Seated.{TableId}
 use Rattle.atomic_table.specs.Table.{Allows}
 use Rattle.frame_word.specs.{visit_index, KnownTable}
-use Rattle.stock_word.specs.StockRule.{stock_index}
+use Rattle.stock_word.specs.Stock.{stock_index}
 use Rattle.step_rules.specs.State.{Zone}
 use Rattle.boot_words.specs.declared.word.Word.{Word}
 use Rattle.boot_words.specs.declared.word.Word.TheVariants.{Quiet, StockOf, OfFrame, VisitOf}

@@ -76,7 +76,8 @@ with_frame_word words f word = record words { frames = slice_set words.frames f 
 
 -- the words with another visit word of the CPU
 abbrev pub with_visit_word : Zone → Words → ℕ → ℕ → Words
-with_visit_word zone words cpu word = record words { frames = slice_set words.frames (visit_index zone.frames cpu) word }
+with_visit_word zone words cpu word =
+    record words { frames = slice_set words.frames (visit_index zone.frames cpu) word }
 
 -- the words with another stock word of the CPU
 abbrev pub with_stock_word : Words → ℕ → ℕ → Words

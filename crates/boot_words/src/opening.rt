@@ -47,7 +47,7 @@ impl BootWords {
         requires table { rest.old.table ≡ self.now.table }
         ensures rest { rest.new ≡ record { table = self.now.table; pasts = rest_of rest.old.pasts } }
         ensures seat { result ≡ record {
-          seat = record { table = self.now.table; pasts = first_alone rest.old.pasts };
+          past = record { table = self.now.table; pasts = first_alone rest.old.pasts };
           number = cpu;
           last = NoGroup;
         } }

@@ -1,5 +1,5 @@
-//! A CPU's part of the memory controller: the frames of its list, its fresh and its back frames, and its pins. What they
-//! are worth, the CPU's past of the run says. The fast calls take no lock and wait for nobody. The others are made under the
+//! A CPU's part of the memory controller: the frames of its list, its fresh and its back frames, and its pins. The CPU's
+//! past of the run says what they are. The fast calls take no lock and wait for nobody. The others are made under the
 //! lock, with the seat that has the zone's past too.
 #![tactic(auto)]
 

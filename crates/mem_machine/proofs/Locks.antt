@@ -80,13 +80,13 @@ seen_own s c own = record {
 
 -- ---- the lock is taken
 
-module _ (t : KnownTable) (before : KnownPasts) (k : KnownCpuSeat) (c : KnownCpuLists) (after : KnownMachine) (knows : KnowsItsPart t k c) (locks : Locks t before k.seat after.run.past) where
+module _ (t : KnownTable) (before : KnownPasts) (k : KnownCpuSeat) (c : KnownCpuLists) (after : KnownMachine) (knows : KnowsItsPart t k c) (locks : Locks t before k.past after.run.past) where
   who_then : (cpu_past after.run.past).number ≡ c.number
   who_then = locks.cpu_grew.number ∙ sym knows.is.number ∙ knows.number
 
   pub locked_holds : Holds t after c
   locked_holds =
-      let q = (own_past k.seat).number in
+      let q = (own_past k.past).number in
       let same : q ≡ c.number = sym knows.is.number ∙ knows.number in
       let u = state_of (zone_of_boot t) (cpu_past after.run.past).seen in
       let lists : HasSameLists c.number (state_left t k) u = subst (λ (n : ℕ). HasSameLists n (state_left t k) u) same locks.own in
@@ -122,14 +122,14 @@ module _ (t : KnownTable) (m : KnownMachine) (c : KnownCpuLists) (ok : IsConsist
       (none_passes t m s shown)
 
 module _ (t : KnownTable) (before : KnownMachine) (c : KnownCpuLists) (zone : KnownPasts) (k : KnownCpuSeat) (holds : Holds t before c)
-    (unlocks : Unlocks t before.run.past zone k.seat) where
+    (unlocks : Unlocks t before.run.past zone k.past) where
   pub unlocked_knows : IsAwayCpu t k → KnowsItsPart t k c
   unlocked_knows is =
       let z = zone_of_boot t in
       let p = cpu_past before.run.past in
       let between = unlocks.cpu_grew.between in
       let behind = p.seen ++ between in
-      let same : (own_past k.seat).number ≡ c.number = unlocks.cpu_grew.number ∙ holds.who in
+      let same : (own_past k.past).number ≡ c.number = unlocks.cpu_grew.number ∙ holds.who in
       let ne : p.number ≢ 0 = holds.held.holds.cpu_is in
       let lists : HasSameLists p.number (state_of z p.seen) (state_of z behind) =
       lists_are_own z p.seen behind p.number ne (record { rest = between; is = refl; others = unlocks.cpu_grew.others }) in
@@ -149,10 +149,10 @@ module _ (t : KnownTable) (before : KnownMachine) (c : KnownCpuLists) (zone : Kn
 
 -- ---- a CPU and the zone meet
 
-pub met_knows : (t : KnownTable) (zone zone' : KnownPasts) (k l : KnownCpuSeat) (c : KnownCpuLists) → KnowsItsPart t k c → Meets t zone k.seat zone' l.seat → IsAwayCpu t l → l.number ≡ k.number
+pub met_knows : (t : KnownTable) (zone zone' : KnownPasts) (k l : KnownCpuSeat) (c : KnownCpuLists) → KnowsItsPart t k c → Meets t zone k.past zone' l.past → IsAwayCpu t l → l.number ≡ k.number
     → KnowsItsPart t l c
 met_knows t zone zone' k l c knows meets is number =
-    let same : (own_past k.seat).number ≡ c.number = sym knows.is.number ∙ knows.number in
+    let same : (own_past k.past).number ≡ c.number = sym knows.is.number ∙ knows.number in
     record {
       is = is;
       number = number ∙ knows.number;

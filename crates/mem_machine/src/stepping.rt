@@ -34,6 +34,6 @@ pub(crate) fn make_step<N: BootName, F: FnOnce() -> (Action, Answer) + Copy>(
         (record { past = past.new; watch = watch.new }) }
 {
     let (action, answer) = made();
-    tables.words.note(past, 0, &action, &answer);
+    tables.words.make_plain(past, 0, &action, &answer);
     watch.take(0, made);
 }

@@ -29,7 +29,7 @@ pub locked_visit : (t : KnownTable) (Does : Transition VisitState → Type 0) (m
     → m0 ≡ with_past m m0.run.past → m1 ≡ with_watch m0 m1.run.watch → Watches m0.run.watch (cpu_makes p Lock Done ∷ []) m1.run.watch
     → Holds t m1 c → BySteps VisitMakes t Does (visit_state m1 c) (visit_state n1 d)
     → n2 ≡ with_watch n1 n2.run.watch → Watches n1.run.watch (cpu_makes p Unlock Done ∷ []) n2.run.watch → n ≡ with_past n2 n.run.past
-    → (seat seat' : KnownCpuSeat) → (own_past seat.seat).number ≡ c.number → Locks t m.run.past seat.seat m0.run.past → Unlocks t n2.run.past n.run.past seat'.seat
+    → (seat seat' : KnownCpuSeat) → (own_past seat.past).number ≡ c.number → Locks t m.run.past seat.past m0.run.past → Unlocks t n2.run.past n.run.past seat'.past
     → VisitsUnderLock t Does (machine_and_cpu m (cpu_in_run c seat)) (machine_and_cpu n (cpu_in_run d seat'))
 locked_visit t Does m m0 m1 n1 n2 n c d p named locks found lock holds visit left unlock frees seat seat' its takes gives =
     let seen : BySteps VisitMakes t Does (visit_state (with_run m m1.run) c) (visit_state n1 d) =
@@ -41,9 +41,9 @@ locked_visit t Does m m0 m1 n1 n2 n c d p named locks found lock holds visit lef
       visit = seen;
       unlock = subst (λ (z : ℕ × KnownWatch). Watches n1.run.watch (cpu_makes z.0 Unlock Done ∷ []) z.1) (λ i. (named i, ap (λ (k : KnownMachine). k.run.watch) (sym frees) i)) unlock;
       machine = run_twice n1 n2 n _ _ left frees;
-      run = visit_in_run t c.number seen.steps m.run.past seat.seat m1.run.past n1.run.past n.run.past seat'.seat its
-          (subst (Locks t m.run.past seat.seat) (sym (ap (λ (k : KnownMachine). k.run.past) found)) takes) seen.makes.noted.grew
-          (subst (λ (x : KnownPasts). Unlocks t x n.run.past seat'.seat) (ap (λ (k : KnownMachine). k.run.past) left) gives);
+      run = visit_in_run t c.number seen.steps m.run.past seat.past m1.run.past n1.run.past n.run.past seat'.past its
+          (subst (Locks t m.run.past seat.past) (sym (ap (λ (k : KnownMachine). k.run.past) found)) takes) seen.makes.noted.grew
+          (subst (λ (x : KnownPasts). Unlocks t x n.run.past seat'.past) (ap (λ (k : KnownMachine). k.run.past) left) gives);
     }
 
 -- what the CPU sees, after a step that the watch takes

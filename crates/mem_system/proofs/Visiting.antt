@@ -50,7 +50,7 @@ pub record GoesThrough (t : KnownTable) (m : KnownMachine) (c : KnownCpuLists) (
   pub left : KnownMachine
   pub knows : KnowsItsPart t seat c
   pub locks : found ≡ with_past m found.run.past
-  pub takes : Locks t m.run.past seat.seat found.run.past
+  pub takes : Locks t m.run.past seat.past found.run.past
   pub holds : Holds t found c
   pub shut : IsShut t found c.number
   pub forgets : begun ≡ without_notes found
@@ -66,7 +66,7 @@ pub record GoesThrough (t : KnownTable) (m : KnownMachine) (c : KnownCpuLists) (
   pub left_holds : Holds t left d
   pub left_shut : IsShut t left d.number
   pub unlocks : k ≡ with_past left k.run.past
-  pub gives : Unlocks t left.run.past k.run.past seat'.seat
+  pub gives : Unlocks t left.run.past k.run.past seat'.past
 
 module _ (t : KnownTable) (m : KnownMachine) (c : KnownCpuLists) (seat : KnownCpuSeat) (inner : Run) (k : KnownMachine) (d : KnownCpuLists) (seat' : KnownCpuSeat)
     (v : GoesThrough t m c seat inner k d seat') where
@@ -85,7 +85,7 @@ module _ (t : KnownTable) (m : KnownMachine) (c : KnownCpuLists) (seat : KnownCp
       same_settle t v.begun v.entered c v.opens begun_held v.opening
       ∙ ap (λ (x : KnownMachine). settle_steps t (visit_state x c)) (v.forgets ∙ ap without_notes v.locks)
       ∙ ap (λ (q : Part). flat_map (fresh_steps (is_killed m.killed (number_or_0 q.stock.group)) c.number) c.fresh ++ return_all_steps (visit_state m c))
-      (part_locked t m.run.past seat.seat v.found.run.past v.takes c.number)
+      (part_locked t m.run.past seat.past v.found.run.past v.takes c.number)
 
   -- the machine found, and what it is when the visit is opened and when it is shut
   found_is : v.found ≡ with_run m v.found.run
@@ -117,7 +117,7 @@ module _ (t : KnownTable) (m : KnownMachine) (c : KnownCpuLists) (seat : KnownCp
   -- the machine still counts its run
   pub counted : Rests t m → CountsItsRun t m → Rests t k → CountsItsRun t k
   counted rests told rests_after =
-      visit_counted t m v.found v.left k (visit_steps t (visit_state m c) inner) seat.seat seat'.seat rests told v.locks v.takes all_made v.unlocks v.gives rests_after
+      visit_counted t m v.found v.left k (visit_steps t (visit_state m c) inner) seat.past seat'.past rests told v.locks v.takes all_made v.unlocks v.gives rests_after
 
 -- the whole command
 pub served : (t : KnownTable) (cmd : LockedCommand) (reply : ReplyWithText) (l k : KnownLocked) (c : KnownCpuLists) (seat : KnownCpuSeat) (inner : Run) (d : KnownCpuLists) (seat' : KnownCpuSeat)
@@ -129,7 +129,7 @@ served t cmd reply l k c seat inner d seat' v sizes executed =
     let m = l.machine in
     let steps = visit_steps t (visit_state m c) inner in
     let all = all_made t m c seat inner k.machine d seat' v in
-    let its : (own_past seat.seat).number ≡ p = sym v.knows.is.number ∙ v.knows.number in
+    let its : (own_past seat.past).number ≡ p = sym v.knows.is.number ∙ v.knows.number in
     let held = held_after t v.entered (settle_steps t (visit_state v.entered c)) v.mid v.settling
     (held_after t v.begun (open_steps p) v.entered v.opening (begun_held t m c seat inner k.machine d seat' v)) in
     record {
@@ -165,5 +165,5 @@ served t cmd reply l k c seat inner d seat' v sizes executed =
         watch = ap (λ (x : KnownMachine). x.run.watch) v.unlocks;
         unlocks = v.gives;
       };
-      run = visit_in_run t p steps m.run.past seat.seat v.found.run.past v.left.run.past k.machine.run.past seat'.seat its v.takes all.noted.grew v.gives;
+      run = visit_in_run t p steps m.run.past seat.past v.found.run.past v.left.run.past k.machine.run.past seat'.past its v.takes all.noted.grew v.gives;
     }

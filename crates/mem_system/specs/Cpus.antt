@@ -18,11 +18,11 @@ pub record CpuInRun : Type 0 where
 
 -- the CPU with this part and this seat
 abbrev pub cpu_in_run : KnownCpuLists → KnownCpuSeat → CpuInRun
-cpu_in_run part seat = record { part = part; past = seat.seat; last = seat.last }
+cpu_in_run part seat = record { part = part; past = seat.past; last = seat.last }
 
 -- the CPU's seat
 abbrev pub seat_of : CpuInRun → KnownCpuSeat
-seat_of cpu = record { seat = cpu.past; number = cpu.part.number; last = cpu.last }
+seat_of cpu = record { past = cpu.past; number = cpu.part.number; last = cpu.last }
 
 -- the CPU knows its own part by its seat
 abbrev pub KnowsItself : KnownTable → CpuInRun → Type 0

@@ -93,7 +93,7 @@ fn close_table<N: BootName>(
     requires rests { Rests N.frames machine }
     requires seats { AllOf (HasCpuPast N.frames) seats.items }
     requires count { length seats.items ≡ N.frames.cpus }
-    ensures { IsClosed N.frames machine seats.items result.words }
+    ensures { IsClosed N.frames machine seats.items result }
 {
     tables.into_words().close(machine.into_past(), seats)
 }

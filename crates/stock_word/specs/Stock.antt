@@ -1,9 +1,7 @@
--- What a stock word says, its encoding, and what a seat knows of the stocks.
-use Rattle.std.specs.Prelude.{ℕ, zero, suc, ◌+◌, ◌*◌, ◌<◌, Bool, true, false, List, [], ◌∷◌, Option, Some, None}
+-- What a stock word says, and which words are a CPU's.
+use Rattle.std.specs.Prelude.{ℕ, ◌+◌, ◌*◌, ◌<◌, Bool, true, false, Option, Some, None}
 use Rattle.stock_word.specs.declared.stock.Stock.{Stock}
 use Rattle.stock_word.specs.declared.stock.Stock.TheVariants.{NoGroup, HeldBy, DrainedOf}
-use Rattle.stock_word.specs.declared.stock.StockAccount.{StockAccount}
-use Rattle.stock_word.specs.declared.stock.StockView.{StockView}
 
 -- the word of a stock
 abbrev pub word_of : Stock → ℕ
@@ -41,16 +39,10 @@ drained_of NoGroup = NoGroup
 drained_of (HeldBy g n) = DrainedOf g
 drained_of (DrainedOf g) = DrainedOf g
 
--- the account of a CPU whose stock was never filled
-abbrev pub no_account : StockAccount
-no_account = record { book = 0; group = None; filled = false; unabsorbed = 0 }
+-- the index of the CPU's stock word
+abbrev pub stock_index : ℕ → ℕ
+stock_index cpu = 16 * cpu
 
--- the account of this CPU; past the end, that of a CPU whose stock was never filled
-abbrev pub stock_account_at : List StockAccount → ℕ → StockAccount
-stock_account_at [] cpu = no_account
-stock_account_at (a ∷ accounts) zero = a
-stock_account_at (a ∷ accounts) (suc cpu) = stock_account_at accounts cpu
-
--- the zone's account of the CPU
-abbrev pub account_of : StockView → ℕ → StockAccount
-account_of zone cpu = stock_account_at zone.accounts cpu
+-- the index of the CPU's report word, next to its stock word
+abbrev pub report_index : ℕ → ℕ
+report_index cpu = 16 * cpu + 1

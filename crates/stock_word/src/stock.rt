@@ -1,5 +1,4 @@
-//! What a stock word says, and what a seat knows of it.
-use std::collections::LinkedList;
+//! What a stock word says.
 
 // This word and any above it is that of a drained stock.
 const DRAINED: u64 = 1 << 32;
@@ -67,28 +66,4 @@ impl Stock {
             Stock::NoGroup | Stock::DrainedOf { group: _ } => 0,
         }
     }
-}
-
-/// What the zone's seat knows of one CPU. No value of it is made.
-pub struct StockAccount {
-    /// Pages charged through this CPU's stock: prepaid, fresh and reported ones.
-    pub book: u64,
-    /// The group of its last fill.
-    pub group: Option<u32>,
-    /// Whether it was filled and not drained since.
-    pub filled: bool,
-    /// Pages that were reported and not absorbed yet.
-    pub unabsorbed: u64,
-}
-
-/// What a seat knows. Seat 0 is the zone's, the others the CPUs'. No value of it is made.
-pub struct StockView {
-    /// 0 at the zone's seat, else the CPU's number.
-    pub number: u32,
-    /// Pages that the CPU took and has neither credited nor reported.
-    pub fresh: u64,
-    /// The stock that the CPU saw last. Its fresh pages are of that group.
-    pub last: Stock,
-    /// The zone's account of each CPU, by its number. Entry 0 is unused.
-    pub accounts: LinkedList<StockAccount>,
 }

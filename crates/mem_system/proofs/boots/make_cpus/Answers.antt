@@ -54,7 +54,7 @@ loop-dealt-preserved g c =
           ∙ (λ j. c.loop-dealt.invariant.parts j ++ (ap (λ (x : CpuInRun). x.part) c.in-Ok.ensures ∙ ap (λ (s : KnownCpuSeat). first_cpu s.number) front) j ∷ [])
           ∙ sym (cpus_next i);
       pasts = ap pasts_of c.push_reserved.ensures.items ∙ map-append (λ (x : CpuInRun). own_past x.past) c.loop-dealt.made.items (c.in-Ok.cpu ∷ [])
-          ∙ (λ j. c.loop-dealt.invariant.pasts j ++ (ap (λ (x : CpuInRun). own_past x.past) c.in-Ok.ensures ∙ ap (λ (s : KnownCpuSeat). own_past s.seat) front) j ∷ [])
+          ∙ (λ j. c.loop-dealt.invariant.pasts j ++ (ap (λ (x : CpuInRun). own_past x.past) c.in-Ok.ensures ∙ ap (λ (s : KnownCpuSeat). own_past s.past) front) j ∷ [])
           ∙ sym (pasts_next i);
     }
 

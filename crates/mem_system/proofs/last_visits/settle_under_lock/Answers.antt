@@ -32,10 +32,10 @@ pub returns-clause-settles : goal.returns-clause-settles
 returns-clause-settles g c =
     let t = g.N.BootName.frames in
     subst (λ (x : CpuInRun). VisitsUnderLock t SettlesInVisit (machine_and_cpu c.args.machine.now x)
-    (machine_and_cpu c.unlock.new.self (cpu_in_run c.settle_cpu.new.cpu c.unlock.new.past))) c.cpu.view_is
+    (machine_and_cpu c.unlock.new.self (cpu_in_run c.settle_cpu.new.cpu c.unlock.new.seat))) c.cpu.view_is
     (locked_visit t SettlesInVisit c.args.machine.now c.lock.new.self c.take_step.new.self c.settle_cpu.new.machine c.take_step-2.new.self
     c.unlock.new.self c.cpu.inside.part c.settle_cpu.new.cpu c.number-cpu_number.result (c.number-cpu_number.ensures.number ∙ sym (ap (λ (x : CpuInRun). x.part.number) c.cpu.view_is))
     c.lock.ensures.machine c.take_step.ensures.machine c.take_step.ensures.watched
     (holds_seen t c.lock.new.self c.take_step.new.self c.cpu.inside.part c.take_step.ensures.machine c.lock.ensures.holds)
     c.settle_cpu.ensures.settles c.take_step-2.ensures.machine c.take_step-2.ensures.watched
-    c.unlock.ensures.machine c.cpu.inside.past c.unlock.new.past (sym c.cpu.invariant.is.number ∙ c.cpu.invariant.number) c.lock.ensures.run c.unlock.ensures.run)
+    c.unlock.ensures.machine c.cpu.inside.past c.unlock.new.seat (sym c.cpu.invariant.is.number ∙ c.cpu.invariant.number) c.lock.ensures.run c.unlock.ensures.run)

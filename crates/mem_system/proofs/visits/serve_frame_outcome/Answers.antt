@@ -19,7 +19,7 @@ use Rattle.mem_system.proofs.visits.serve_frame_outcome.Goals.{After-settle, Aft
 
 -- the calls of the visit, one after the other
 visit : (g : given.Over) (c : After-unlock g) → GoesThrough g.N.BootName.frames c.locked.inside.machine c.cpu.inside.part c.cpu.inside.past
-    c.alloc_frame-answer.ensures.allocates.steps c.unlock.new.self c.alloc_frame-answer.new.cpu c.unlock.new.past
+    c.alloc_frame-answer.ensures.allocates.steps c.unlock.new.self c.alloc_frame-answer.new.cpu c.unlock.new.seat
 visit g c = record {
   found = c.lock.new.self;
   begun = c.forget_notes.new.self;
@@ -108,7 +108,7 @@ invariant_of-locked g c =
         shut = resting_shut t c.unlock.new.self rests;
         rests = rests;
         counted = counted t c.locked.inside.machine c.cpu.inside.part c.cpu.inside.past c.alloc_frame-answer.ensures.allocates.steps c.unlock.new.self
-            c.alloc_frame-answer.new.cpu c.unlock.new.past (visit g (goal.at.invariant_of-locked g c).After-unlock) quiet.rests quiet.counted rests;
+            c.alloc_frame-answer.new.cpu c.unlock.new.seat (visit g (goal.at.invariant_of-locked g c).After-unlock) quiet.rests quiet.counted rests;
         valid = quiet.valid;
         sized = quiet.sized;
       };
@@ -136,9 +136,9 @@ returns-clause-served g c path at =
     ap (λ (gs : List Group). number_at gs path.now) (groups_found g (goal.at.returns-clause-served g c).After-settle) ∙ at in
     let executed = frame_allocated t c.locked.inside.sizes path.now c.args.group c.settle.new.self x c.settle.new.cpu d answer
     c.alloc_frame-answer.ensures.allocates found in
-    subst (λ (z : ReplyWithText × KnownLocked × CpuInRun). IsServed t (Alloc path 0) z.0 (locked_state z.1 z.2) (locked_state k (cpu_in_run d c.unlock.new.past)))
+    subst (λ (z : ReplyWithText × KnownLocked × CpuInRun). IsServed t (Alloc path 0) z.0 (locked_state z.1 z.2) (locked_state k (cpu_in_run d c.unlock.new.seat)))
     (λ i. (sym told i, c.locked.view_is i, c.cpu.view_is i))
-    (served t (Alloc path 0) reply l k c.cpu.inside.part c.cpu.inside.past c.alloc_frame-answer.ensures.allocates.steps d c.unlock.new.past
+    (served t (Alloc path 0) reply l k c.cpu.inside.part c.cpu.inside.past c.alloc_frame-answer.ensures.allocates.steps d c.unlock.new.seat
     (visit g (goal.at.returns-clause-served g c).After-unlock) refl executed)
 
 pub returns-clause-groups : goal.returns-clause-groups

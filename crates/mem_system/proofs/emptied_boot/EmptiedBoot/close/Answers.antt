@@ -27,7 +27,7 @@ returns g c =
     let m = c.self.inside.machine in
     let cpus = c.self.inside.cpus.items in
     let gathered = c.gather_seats-seats.ensures in
-    let closed = subst (λ (l : List KnownCpuSeat). IsClosed t m l c.close_table.result.words) gathered.seats c.close_table.ensures in
+    let closed = subst (λ (l : List KnownCpuSeat). IsClosed t m l c.close_table.result) gathered.seats c.close_table.ensures in
     subst (λ (k : KnownEmptiedBoot). Closes t k c.take_audit-audit.result) c.self.view_is
-    (all_closes t (record { machine = m; cpus = cpus; drops = c.self.inside.drops }) c.take_audit-audit.result c.close_table.result.words
-    c.self.invariant.0 gathered.knows closed.consistent (closed_run t m cpus c.close_table.result.words c.self.invariant.0.rests gathered.knows closed) c.take_audit-audit.ensures)
+    (all_closes t (record { machine = m; cpus = cpus; drops = c.self.inside.drops }) c.take_audit-audit.result c.close_table.result
+    c.self.invariant.0 gathered.knows closed.consistent (closed_run t m cpus c.close_table.result c.self.invariant.0.rests gathered.knows closed) c.take_audit-audit.ensures)

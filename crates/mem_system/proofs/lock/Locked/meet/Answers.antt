@@ -11,7 +11,7 @@ invariant_of-self g c =
       quiet = record {
         shut = resting_shut t c.meet.new.self met.rests;
         rests = met.rests;
-        counted = met_counted t c.self.inside.machine c.meet.new.self c.cpu.inside.past.seat c.meet.new.past.seat quiet.rests quiet.counted met.meets met.rests
+        counted = met_counted t c.self.inside.machine c.meet.new.self c.cpu.inside.past.past c.meet.new.seat.past quiet.rests quiet.counted met.meets met.rests
             met.machine;
         valid = quiet.valid;
         sized = quiet.sized;

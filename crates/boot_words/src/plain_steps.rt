@@ -14,7 +14,7 @@ use step_rules::step::{Action, Answer};
 impl BootWords {
     // One load. Which step it stands for is in no word: it is there for the proof.
     #[inline(always)]
-    fn note_as<M: Telling>(
+    fn plain_as<M: Telling>(
         &self,
         held: &mut PastSeat,
         _seat: u32,
@@ -29,15 +29,15 @@ impl BootWords {
         self.load::<M>(held, Word::Quiet)
     }
 
-    /// Notes a step that changes no word, which is legal with this answer in the state that the lock's holder sees.
+    /// Makes a step that changes no word, which is legal with this answer in the state that the lock's holder sees.
     #[inline(always)]
-    pub fn note(&self, held: &mut PastSeat, seat: u32, action: &Action, answer: &Answer)
+    pub fn make_plain(&self, held: &mut PastSeat, seat: u32, action: &Action, answer: &Answer)
         requires held { IsHeld self.now held.old }
         requires plain { IsPlain action.now }
         requires step { IsLocalStep (local_by_pasts self.now held.old) (cpu_past held.old).number seat action.now
             answer.now }
         ensures run { MakesStep self.now held.old seat action.now answer.now held.new }
     {
-        self.note_as::<Brand>(held, seat, action, answer);
+        self.plain_as::<Brand>(held, seat, action, answer);
     }
 }

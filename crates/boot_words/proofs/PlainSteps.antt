@@ -22,10 +22,10 @@ plain_counted : (s : State) (action : Action) (answer : Answer) → IsPlain acti
 plain_counted s Lock answer plain = tt
 plain_counted s action answer plain = search rules
 
-pub notes : (t : KnownTable) (s : KnownPasts) (made_step : Step) (answer : Answer) → IsHeld t s → IsPlain made_step.action
+pub makes_plain : (t : KnownTable) (s : KnownPasts) (made_step : Step) (answer : Answer) → IsHeld t s → IsPlain made_step.action
     → IsLocalStep (local_by_pasts t s) (cpu_past s).number made_step.seat made_step.action answer
     → MayChange (zone_of_boot t) s.pasts Quiet (λ n. n) (λ found. MadeHeld (zone_of_boot t) (own_past s) (cpu_past s) made_step answer)
-notes t s made_step answer is plain is_step =
+makes_plain t s made_step answer is plain is_step =
     let zone = zone_of_boot t in
     let z = own_past s in
     let c = cpu_past s in
