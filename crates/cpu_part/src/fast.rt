@@ -18,12 +18,12 @@ impl<N: BootName> CpuLists<N> {
     /// Takes the front of the list for the group, and pays for it from the CPU's stock. The answer is the first of these
     /// that holds: 32 fresh frames, an empty list, what the stock says; else the frame.
     pub fn alloc_fast(&mut self, tables: &Tables<N>, seat: &mut CpuSeat, group: u32) -> Fast
-        requires knows { KnowsItsPart N.frames seat.old self.old }
+        requires knows { KnowsItsPart N.table seat.old self.old }
         ensures answer { FastAnswers group result seat.old.last self.old seat.new.last self.new }
-        ensures frame { IfGot result (λ f. f < N.frames.frames) }
+        ensures frame { IfGot result (λ f. f < N.table.frames) }
         ensures run { GrewByAll (own_past seat.old.past) (steps_of_fast self.old.number group result seat.old.last)
             (own_past seat.new.past) }
-        ensures knows { KnowsItsPart N.frames seat.new self.new }
+        ensures knows { KnowsItsPart N.table seat.new self.new }
     {
         if self.fresh.len() == MAX_FRESH {
             return Fast::FreshFull;
@@ -44,11 +44,11 @@ impl<N: BootName> CpuLists<N> {
     /// stays at 2^64 - 1.
     pub fn drop_fresh(&mut self, tables: &Tables<N>, seat: &mut CpuSeat, frame: Frame) -> Dropped
         requires fresh { 1 ≤ times frame self.old.fresh }
-        requires knows { KnowsItsPart N.frames seat.old self.old }
+        requires knows { KnowsItsPart N.table seat.old self.old }
         ensures answer { DropAnswers frame result seat.old.last self.old seat.new.last self.new }
         ensures run { GrewByAll (own_past seat.old.past) (steps_of_drop self.old.number frame result seat.old.last)
             (own_past seat.new.past) }
-        ensures knows { KnowsItsPart N.frames seat.new self.new }
+        ensures knows { KnowsItsPart N.table seat.new self.new }
     {
         match tables.words.credit(seat, frame) {
             Credit::Drained => Dropped::NeedVisit,

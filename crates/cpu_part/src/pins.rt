@@ -25,12 +25,12 @@ impl<N: BootName> CpuLists<N> {
         seat: &mut CpuSeat,
         frame: Frame,
     ) -> Result<Get, Fault>
-        requires frame { frame < N.frames.frames }
-        requires knows { KnowsItsPart N.frames seat.old self.old }
+        requires frame { frame < N.table.frames }
+        requires knows { KnowsItsPart N.table seat.old self.old }
         ensures answer { MatchResult result
             (λ answer. (length self.old.back + length self.old.pins < most_pins)
             × PinAnswers frame answer self.old self.new
-            × IfRaced answer (RacesAt (zone_of_boot N.frames) (own_past seat.old.past) frame))
+            × IfRaced answer (RacesAt (zone_of_boot N.table) (own_past seat.old.past) frame))
             (λ fault. (fault ≡ PinsFull) × (length self.old.back + length self.old.pins ≡ most_pins)
             × (self.new ≡ self.old)) }
         ensures never_zero { 1 ≤ times frame self.old.pins → result ≢ Ok Zero }
@@ -38,7 +38,7 @@ impl<N: BootName> CpuLists<N> {
         ensures run { GrewByAll (own_past seat.old.past) (steps_of_get self.old.number frame result)
             (own_past seat.new.past) }
         ensures last { seat.new.last ≡ seat.old.last }
-        ensures knows { KnowsItsPart N.frames seat.new self.new }
+        ensures knows { KnowsItsPart N.table seat.new self.new }
     {
         if self.back.len() + self.pins.len() == MAX_PINS {
             return Err(Fault::PinsFull);
@@ -55,13 +55,13 @@ impl<N: BootName> CpuLists<N> {
     /// Removes one pin from the frame. After its last reference the frame is the newest back frame.
     pub fn put(&mut self, tables: &Tables<N>, seat: &mut CpuSeat, frame: Frame) -> Put
         requires pinned { 1 ≤ times frame self.old.pins }
-        requires knows { KnowsItsPart N.frames seat.old self.old }
+        requires knows { KnowsItsPart N.table seat.old self.old }
         ensures answer { UnpinAnswers frame result self.old self.new }
         ensures unlisted { IsUnlisted frame self.old }
         ensures run { GrewByAll (own_past seat.old.past) (steps_of_put self.old.number frame result)
             (own_past seat.new.past) }
         ensures last { seat.new.last ≡ seat.old.last }
-        ensures knows { KnowsItsPart N.frames seat.new self.new }
+        ensures knows { KnowsItsPart N.table seat.new self.new }
     {
         unpin(&mut self.pins, frame);
         match tables.words.put(seat, frame) {

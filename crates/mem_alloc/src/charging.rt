@@ -23,8 +23,8 @@ fn holds_page<N: BootName>(
     cpu: &CpuLists<N>,
     group: GroupId,
 ) -> bool
-    requires holds { Holds N.frames machine.old cpu.now }
-    ensures holds { IsTrue result ↔ HoldsPage N.frames machine.old cpu.now.number group }
+    requires holds { Holds N.table machine.old cpu.now }
+    ensures holds { IsTrue result ↔ HoldsPage N.table machine.old cpu.now.number group }
     ensures machine { machine.new ≡ machine.old }
 {
     let number = group.number();
@@ -42,12 +42,12 @@ fn fill_one<N: BootName>(
     cpu: &CpuLists<N>,
     group: GroupId,
 ) -> Result<(), AllocFault>
-    requires visit { Visits N.frames machine.old cpu.now }
+    requires visit { Visits N.table machine.old cpu.now }
     requires may_charge { MayCharge machine.old group 1 }
     requires none_fresh { cpu.now.fresh ≡ [] }
-    requires drained { IsDrained N.frames machine.old cpu.now.number }
-    ensures charges { VisitDoes N.frames (ChargesOne group result) machine.old cpu.now machine.new cpu.now }
-    ensures visit { Visits N.frames machine.new cpu.now }
+    requires drained { IsDrained N.table machine.old cpu.now.number }
+    ensures charges { VisitDoes N.table (ChargesOne group result) machine.old cpu.now machine.new cpu.now }
+    ensures visit { Visits N.table machine.new cpu.now }
 {
     reclaim_high(machine, tables, group, 1);
     'tries: loop {
@@ -67,16 +67,16 @@ fn fill_batch<N: BootName>(
     group: GroupId,
     pages: u32,
 ) -> bool
-    requires visit { Visits N.frames machine.old cpu.now }
+    requires visit { Visits N.table machine.old cpu.now }
     requires may_charge { MayCharge machine.old group pages }
     requires pages { FitsStock pages }
     requires none_fresh { cpu.now.fresh ≡ [] }
-    requires drained { IsDrained N.frames machine.old cpu.now.number }
+    requires drained { IsDrained N.table machine.old cpu.now.number }
     ensures fills { result ≡ true
-        → VisitDoes N.frames (FillsBatch group pages) machine.old cpu.now machine.new cpu.now }
-    ensures lacks { result ≡ false → BySteps Makes N.frames (LacksBatch group pages) machine.old machine.new }
-    ensures visit { Visits N.frames machine.new cpu.now }
-    ensures drained { result ≡ false → IsDrained N.frames machine.new cpu.now.number }
+        → VisitDoes N.table (FillsBatch group pages) machine.old cpu.now machine.new cpu.now }
+    ensures lacks { result ≡ false → BySteps Makes N.table (LacksBatch group pages) machine.old machine.new }
+    ensures visit { Visits N.table machine.new cpu.now }
+    ensures drained { result ≡ false → IsDrained N.table machine.new cpu.now.number }
 {
     if !path_has_high_room(machine.charges(), group, pages) {
         return false;
@@ -96,16 +96,16 @@ fn fill_drained_stock<N: BootName>(
     sizes: Config,
     group: GroupId,
 ) -> Result<(), AllocFault>
-    requires visit { Visits N.frames machine.old cpu.now }
-    requires size { IsOfSize N.frames }
+    requires visit { Visits N.table machine.old cpu.now }
+    requires size { IsOfSize N.table }
     requires sizes { IsValidConfig sizes }
     requires there { IsTrue (has_group machine.old.ledger.groups group) }
     requires alive { is_killed machine.old.killed group ≡ false }
     requires none_fresh { cpu.now.fresh ≡ [] }
-    requires drained { IsDrained N.frames machine.old cpu.now.number }
-    ensures charges { VisitDoes N.frames (FillsDrainedStock sizes group result)
+    requires drained { IsDrained N.table machine.old cpu.now.number }
+    ensures charges { VisitDoes N.table (FillsDrainedStock sizes group result)
         machine.old cpu.now machine.new cpu.now }
-    ensures visit { Visits N.frames machine.new cpu.now }
+    ensures visit { Visits N.table machine.new cpu.now }
 {
     machine.prove_room();
     if fill_batch(machine, tables, cpu, group, sizes.stock) {
@@ -122,15 +122,15 @@ pub(crate) fn pay_for_frame<N: BootName>(
     sizes: Config,
     group: GroupId,
 ) -> Result<(), AllocFault>
-    requires visit { Visits N.frames machine.old cpu.now }
-    requires size { IsOfSize N.frames }
+    requires visit { Visits N.table machine.old cpu.now }
+    requires size { IsOfSize N.table }
     requires sizes { IsValidConfig sizes }
     requires there { IsTrue (has_group machine.old.ledger.groups group) }
     requires alive { is_killed machine.old.killed group ≡ false }
     requires none_fresh { cpu.now.fresh ≡ [] }
-    ensures pays { VisitDoes N.frames (PaysForFrame sizes group result) machine.old cpu.now machine.new cpu.now }
-    ensures visit { Visits N.frames machine.new cpu.now }
-    ensures page { OnOk result (HoldsPage N.frames machine.new cpu.now.number group) }
+    ensures pays { VisitDoes N.table (PaysForFrame sizes group result) machine.old cpu.now machine.new cpu.now }
+    ensures visit { Visits N.table machine.new cpu.now }
+    ensures page { OnOk result (HoldsPage N.table machine.new cpu.now.number group) }
 {
     if holds_page(machine, tables, cpu, group) {
         return Ok(());

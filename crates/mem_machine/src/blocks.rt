@@ -55,15 +55,15 @@ impl<N: BootName> Machine<N> {
         group: GroupId,
         order: Order,
     ) -> Result<Frame, TakeFault>
-        requires visit { Visits N.frames self.old cpu.old }
+        requires visit { Visits N.table self.old cpu.old }
         requires charges { MayCharge self.old group (2 ^ order) }
         requires none_fresh { cpu.old.fresh ≡ [] }
         requires none_back { cpu.old.back ≡ [] }
         ensures takes { IfOk result (λ head. TakesBlock group order head self.old self.new) }
         ensures refuses { IfErr result (λ fault. RefusesBlock group order fault self.old self.new) }
         ensures cpu { cpu.new ≡ cpu.old }
-        ensures visit { Visits N.frames self.new cpu.new }
-        ensures steps { Makes N.frames self.old (block_steps group order result) self.new }
+        ensures visit { Visits N.table self.new cpu.new }
+        ensures steps { Makes N.table self.old (block_steps group order result) self.new }
     {
         let pages = order.frames();
         prove_charges(&self.charges);

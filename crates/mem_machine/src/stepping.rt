@@ -23,14 +23,14 @@ pub(crate) fn make_step<N: BootName, F: FnOnce() -> (Action, Answer) + Copy>(
     made: F,
 )
     requires callable { F.IsAlwaysCallable made }
-    requires held { IsHeld N.frames past.old }
-    requires legal { (action : Action) × (answer : Answer) × MayTake N.frames past.old (zone_makes action answer)
+    requires held { IsHeld N.table past.old }
+    requires legal { (action : Action) × (answer : Answer) × MayTake N.table past.old (zone_makes action answer)
         × IsPlain action × Builds (F.post made) action answer }
-    ensures held { IsHeld N.frames past.new }
+    ensures held { IsHeld N.table past.new }
     ensures run { (action : Action) (answer : Answer) → Builds (F.post made) action answer
-        → MakesStep N.frames past.old 0 action answer past.new }
+        → MakesStep N.table past.old 0 action answer past.new }
     ensures notes { (action : Action) (answer : Answer) → Builds (F.post made) action answer
-        → Notes N.frames (record { past = past.old; watch = watch.old }) (zone_makes action answer ∷ [])
+        → Notes N.table (record { past = past.old; watch = watch.old }) (zone_makes action answer ∷ [])
         (record { past = past.new; watch = watch.new }) }
 {
     let (action, answer) = made();

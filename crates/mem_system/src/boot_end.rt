@@ -54,8 +54,8 @@ pub fn make_last_visits<N: BootName>(
     tables: Tables<N>,
     mut cpus: Vec<Cpu<N>>,
 ) -> Result<EmptiedBoot<N>, Pinned<N>>
-    requires { length cpus.items ≡ N.frames.cpus }
-    ensures visits { IfOk result (MakesLastVisits N.frames locked cpus.items) }
+    requires { length cpus.items ≡ N.table.cpus }
+    ensures visits { IfOk result (MakesLastVisits N.table locked cpus.items) }
     ensures pins { IfErr result (λ pinned. pinned.pins ≡ pins_of_all (parts_of cpus.items)) }
     ensures some_pin { IfErr result (λ pinned. 1 ≤ pinned.pins) }
     ensures locked { IfErr result (λ pinned. pinned.locked ≡ locked) }
@@ -97,8 +97,8 @@ pub fn end<N: BootName>(
     tables: Tables<N>,
     cpus: Vec<Cpu<N>>,
 ) -> Result<Audit, Pinned<N>>
-    requires { length cpus.items ≡ N.frames.cpus }
-    ensures ends { IfOk result (λ audit. Ends N.frames locked cpus.items audit) }
+    requires { length cpus.items ≡ N.table.cpus }
+    ensures ends { IfOk result (λ audit. Ends N.table locked cpus.items audit) }
     ensures pins { IfErr result (λ pinned. pinned.pins ≡ pins_of_all (parts_of cpus.items)) }
     ensures some_pin { IfErr result (λ pinned. 1 ≤ pinned.pins) }
     ensures locked { IfErr result (λ pinned. pinned.locked ≡ locked) }

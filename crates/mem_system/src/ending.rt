@@ -28,8 +28,8 @@ pub fn put_and_end<N: BootName>(
     tables: Tables<N>,
     mut cpus: Vec<Cpu<N>>,
 ) -> SystemEnd
-    requires { length cpus.items ≡ N.frames.cpus }
-    ensures { PutsAndEnds N.frames locked cpus.items result }
+    requires { length cpus.items ≡ N.table.cpus }
+    ensures { PutsAndEnds N.table locked cpus.items result }
 {
     prove_sizes(&tables);
     locked.prove_quiet();
@@ -45,8 +45,8 @@ impl<N: BootName> System<N> {
     /// Shuts the system down as `put_and_end` does: a host needs no other call for its end. No clause can name what lies
     /// behind the lock, so the contract says that some sound value was there and ended so.
     pub fn put_and_end(self, cpus: Vec<Cpu<N>>) -> SystemEnd
-        requires { length cpus.items ≡ N.frames.cpus }
-        ensures { BehindLock N.frames (λ found. PutsAndEnds N.frames found cpus.items result) }
+        requires { length cpus.items ≡ N.table.cpus }
+        ensures { BehindLock N.table (λ found. PutsAndEnds N.table found cpus.items result) }
     {
         let (locked, tables) = self.into_parts();
         put_and_end(locked, tables, cpus)

@@ -42,7 +42,7 @@ impl<N: BootName> Model for System<N> {
 
     ghost view = { λ s. record { frames = s.tables.words; sizes = s.sizes } };
 
-    ghost invariant = { λ s. IsValidConfig s.sizes × IsSizedAs s.sizes N.frames };
+    ghost invariant = { λ s. IsValidConfig s.sizes × IsSizedAs s.sizes N.table };
 }
 
 // Waits after a try of this number, from 0: pauses 1 to 1,024 times, twice as often after each try, and gives up the
@@ -76,8 +76,8 @@ impl<N: BootName> System<N> {
     /// Takes the system apart after all sharing ended: returns what lies behind the lock, as the last visit left it,
     /// and its tables. Clauses say only what always holds behind the lock.
     pub fn into_parts(self) -> (Locked<N>, Tables<N>)
-        ensures quiet { IsQuiet N.frames result.0 }
-        ensures consistent { IsConsistent N.frames result.0.machine }
+        ensures quiet { IsQuiet N.table result.0 }
+        ensures consistent { IsConsistent N.table result.0.machine }
         ensures charges { AreCharges result.0.machine.ledger }
         ensures sizes { result.0.sizes ≡ self.sizes }
         ensures frames { result.1.words ≡ self.frames }
@@ -95,7 +95,7 @@ impl<N: BootName> System<N> {
 
     /// The tables that N names, for the calls that take no lock.
     pub fn tables(&self) -> &Tables<N>
-        ensures frames { result.now.words ≡ N.frames }
+        ensures frames { result.now.words ≡ N.table }
     {
         &self.tables
     }
@@ -131,7 +131,7 @@ impl<N: BootName> System<N> {
     /// The group of this path; None if no group has it. It takes the lock and settles nothing. As with `visit`, the
     /// clause says that there was such a value behind the lock. The CPU makes no step, but sees the run that led to that.
     pub fn find<R: Wait>(&self, rt: &R, cpu: &mut Cpu<N>, path: &[u8]) -> Option<GroupId>
-        ensures { SeenBehindLock N.frames
+        ensures { SeenBehindLock N.table
             (λ found. result ≡ number_at found.machine.ledger.groups path.now) cpu.old cpu.new }
     {
         let mut guard = self.lock(rt);
@@ -147,8 +147,8 @@ impl<N: BootName> System<N> {
     /// value was left.
     #[inline(always)]
     pub fn visit<R: Wait>(&self, rt: &R, cpu: &mut Cpu<N>, cmd: &LockedCommand<'_>) -> ReplyWithText
-        requires { IsOfZone N.frames cmd.now }
-        ensures served { IsVisited N.frames self.now.sizes (IsServed N.frames cmd.now result) cpu.old cpu.new }
+        requires { IsOfZone N.table cmd.now }
+        ensures served { IsVisited N.table self.now.sizes (IsServed N.table cmd.now result) cpu.old cpu.new }
         ensures settled { IsSettledAfter cmd.now result cpu.new.part }
     {
         let mut reply = ReplyWithText::Done;
@@ -168,8 +168,8 @@ impl<N: BootName> System<N> {
         gate: &G,
         reply: &mut ReplyWithText,
     )
-        requires { IsOfZone N.frames cmd.now }
-        ensures served { IsVisited N.frames self.now.sizes (IsServed N.frames cmd.now reply.new) cpu.old cpu.new }
+        requires { IsOfZone N.table cmd.now }
+        ensures served { IsVisited N.table self.now.sizes (IsServed N.table cmd.now reply.new) cpu.old cpu.new }
         ensures settled { IsSettledAfter cmd.now reply.new cpu.new.part }
     {
         let mut guard = self.lock(rt);

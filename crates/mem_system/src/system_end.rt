@@ -24,10 +24,10 @@ impl<N: BootName> System<N> {
     /// pin remains. No clause can name what lies behind the lock, so the contract says that some sound value was there
     /// and ended so.
     pub fn shutdown(self, cpus: Vec<Cpu<N>>) -> Result<Audit, Held<N>>
-        requires { length cpus.items ≡ N.frames.cpus }
+        requires { length cpus.items ≡ N.table.cpus }
         ensures ends { IfOk result (λ audit.
-            BehindLock N.frames (λ found. Ends N.frames found cpus.items audit)) }
-        ensures frames { IfOk result (λ audit. audit.frames ≡ N.frames.frames) }
+            BehindLock N.table (λ found. Ends N.table found cpus.items audit)) }
+        ensures frames { IfOk result (λ audit. audit.frames ≡ N.table.frames) }
         ensures adds_up { IfOk result (λ audit. AddsUp audit) }
         ensures no_pin { IfOk result (λ _. pins_of_all (parts_of cpus.items) ≡ 0) }
         ensures pins { IfErr result (λ held. held.pins ≡ pins_of_all (parts_of cpus.items)) }

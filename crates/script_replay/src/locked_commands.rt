@@ -69,12 +69,12 @@ pub(crate) fn serve_locked<N: BootName>(
     cpu: &mut Cpu<N>,
     command: &Command<'_>,
 ) -> AnswerValue
-    requires in_range { CommandInRange N.frames.frames command.now }
+    requires in_range { CommandInRange N.table.frames command.now }
     requires settles { locked_command_of command.now ≡ None → OnlySettles command.now }
-    ensures answers { AnswersLocked N.frames command.now (answer_of locked.new.machine.ledger result)
+    ensures answers { AnswersLocked N.table command.now (answer_of locked.new.machine.ledger result)
         (locked_state locked.old cpu.old) (locked_state locked.new cpu.new) }
     ensures groups { NamesItsGroups locked.new.machine.ledger result }
-    ensures last { cpu.new.last ≡ stock_left N.frames locked.new.machine cpu.new.part.number }
+    ensures last { cpu.new.last ≡ stock_left N.table locked.new.machine cpu.new.part.number }
 {
     match locked_command_of(command) {
         Some(cmd) => AnswerValue::Served(serve_outcome(locked, tables, cpu, &cmd)),
@@ -94,12 +94,12 @@ pub(crate) fn serve_under_lock<N: BootName>(
     command: &Command<'_>,
     is_explained: bool,
 ) -> AnswerValue
-    requires in_range { CommandInRange N.frames.frames command.now }
+    requires in_range { CommandInRange N.table.frames command.now }
     requires settles { locked_command_of command.now ≡ None → OnlySettles command.now }
-    ensures served { ServesUnderLock N.frames is_explained command.now (answer_of locked.new.machine.ledger result)
+    ensures served { ServesUnderLock N.table is_explained command.now (answer_of locked.new.machine.ledger result)
         (locked_state locked.old cpu.old) (locked_state locked.new cpu.new) }
     ensures groups { NamesItsGroups locked.new.machine.ledger result }
-    ensures last { cpu.new.last ≡ stock_left N.frames locked.new.machine cpu.new.part.number }
+    ensures last { cpu.new.last ≡ stock_left N.table locked.new.machine cpu.new.part.number }
 {
     let cpu_number = cpu.number();
     begin_command(locked, cpu_number, is_explained);
@@ -119,10 +119,10 @@ pub(crate) fn serve_frame_under_lock<N: BootName>(
 ) -> AnswerValue
     requires there { IsTrue (has_group locked.old.machine.ledger.groups group) }
     ensures served { (path : Bor (List ℕ)) → number_at locked.old.machine.ledger.groups path.now ≡ Some group
-        → ServesUnderLock N.frames is_explained (Alloc path 0) (answer_of locked.new.machine.ledger result)
+        → ServesUnderLock N.table is_explained (Alloc path 0) (answer_of locked.new.machine.ledger result)
         (locked_state locked.old cpu.old) (locked_state locked.new cpu.new) }
     ensures groups { NamesItsGroups locked.new.machine.ledger result }
-    ensures last { cpu.new.last ≡ stock_left N.frames locked.new.machine cpu.new.part.number }
+    ensures last { cpu.new.last ≡ stock_left N.table locked.new.machine cpu.new.part.number }
 {
     let cpu_number = cpu.number();
     begin_command(locked, cpu_number, is_explained);

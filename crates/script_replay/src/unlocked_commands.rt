@@ -33,10 +33,10 @@ pub(crate) fn try_in_order<N: BootName>(
     cpu: &mut Cpu<N>,
     command: &Command<'_>,
 ) -> Option<UnlockedAnswer>
-    requires in_range { CommandInRange N.frames.frames command.now }
+    requires in_range { CommandInRange N.table.frames command.now }
     ensures answered { IfSome result (AnswersAlone command.now cpu.old cpu.new) }
     ensures needs_lock { IfNone result (NeedsLock command.now cpu.old cpu.new) }
-    ensures only_saw { OnlySaw N.frames [] locked.old locked.new }
+    ensures only_saw { OnlySaw N.table [] locked.old locked.new }
     ensures gains { Gains (steps_tried cpu.old.part.number command.now result)
         (locked_state locked.old cpu.old) (locked_state locked.new cpu.new) }
     ensures stays { is_tried command.now ≡ false → locked_state locked.new cpu.new ≡ locked_state locked.old cpu.old }
@@ -60,7 +60,7 @@ pub(crate) fn alloc_in_order<N: BootName>(
     group: GroupId,
 ) -> Fast
     ensures answer { FastAnswers group result cpu.old.last cpu.old.part cpu.new.last cpu.new.part }
-    ensures only_saw { OnlySaw N.frames [] locked.old locked.new }
+    ensures only_saw { OnlySaw N.table [] locked.old locked.new }
     ensures gains { Gains (steps_alone cpu.old.part.number (command.Fast group) (unlocked.Fast result))
         (locked_state locked.old cpu.old) (locked_state locked.new cpu.new) }
 {
@@ -79,7 +79,7 @@ pub(crate) fn try_unlocked<N: BootName>(
     cpu: &mut Cpu<N>,
     command: &Command<'_>,
 ) -> Option<UnlockedAnswer>
-    requires in_range { CommandInRange N.frames.frames command.now }
+    requires in_range { CommandInRange N.table.frames command.now }
     ensures answered { IfSome result (AnswersAlone command.now cpu.old cpu.new) }
     ensures needs_lock { IfNone result (NeedsLock command.now cpu.old cpu.new) }
     ensures run { MakesAlone cpu.old.part.number (steps_tried cpu.old.part.number command.now result)
@@ -104,7 +104,7 @@ pub(crate) fn try_unlocked<N: BootName>(
 // Pins the frame.
 #[inline(always)]
 fn pin<N: BootName>(tables: &Tables<N>, cpu: &mut Cpu<N>, frame_number: u32) -> UnlockedAnswer
-    requires in_zone { frame_number < N.frames.frames }
+    requires in_zone { frame_number < N.table.frames }
     ensures answer { AnswersAlone (command.Get frame_number) cpu.old cpu.new result }
     ensures run { MakesAlone cpu.old.part.number (steps_alone cpu.old.part.number (command.Get frame_number) result)
         cpu.old.past cpu.new.past }
@@ -119,7 +119,7 @@ fn pin<N: BootName>(tables: &Tables<N>, cpu: &mut Cpu<N>, frame_number: u32) -> 
 // Puts a pin of the frame. The CPU may have none on it.
 #[inline(always)]
 fn unpin<N: BootName>(tables: &Tables<N>, cpu: &mut Cpu<N>, frame_number: u32) -> UnlockedAnswer
-    requires in_zone { frame_number < N.frames.frames }
+    requires in_zone { frame_number < N.table.frames }
     ensures answer { AnswersAlone (command.Put frame_number) cpu.old cpu.new result }
     ensures run { MakesAlone cpu.old.part.number (steps_alone cpu.old.part.number (command.Put frame_number) result)
         cpu.old.past cpu.new.past }
@@ -133,7 +133,7 @@ fn unpin<N: BootName>(tables: &Tables<N>, cpu: &mut Cpu<N>, frame_number: u32) -
 
 // Lists the frame again, if it is fresh at the CPU and its page can be credited. Returns whether it did.
 fn try_relist<N: BootName>(tables: &Tables<N>, cpu: &mut Cpu<N>, frame_number: u32) -> bool
-    requires in_zone { frame_number < N.frames.frames }
+    requires in_zone { frame_number < N.table.frames }
     ensures listed { MatchBool result (ListsAgain frame_number cpu.old cpu.new)
         (CanNotList frame_number cpu.old cpu.new) }
     ensures run { MakesAlone cpu.old.part.number
@@ -171,7 +171,7 @@ pub(crate) fn watch_unlocked<N: BootName>(
     command: &Command<'_>,
     said: &UnlockedAnswer,
 )
-    requires in_range { CommandInRange N.frames.frames command.now }
+    requires in_range { CommandInRange N.table.frames command.now }
     requires few { (left : ℕ) → said.now ≡ unlocked.Put (Left left) → left < 2 ^ 32 }
     ensures { OnlyWatched (steps_alone cpu command.now said.now) locked.old locked.new }
 {

@@ -25,7 +25,7 @@ brand = Brand.the_row
 
 -- the parts of a boot of this table, under a name
 abbrev pub live_row : RattleType → KnownTable → RattleType
-live_row name frames = Live.the_row name (record { frames = frames })
+live_row name frames = Live.the_row name (record { table = frames })
 
 -- how the parts of a boot are stored, if there are any
 abbrev pub known_coded : Coded (Option KnownLive)

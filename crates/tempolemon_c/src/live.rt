@@ -51,16 +51,16 @@ impl<N: BootName> Model for Live<N> {
       unread_answer = l.unread_answer.items;
     } };
 
-    ghost invariant = { λ l. (length l.cpus.items ≡ N.frames.cpus) × IsSizedAs l.sizes N.frames };
+    ghost invariant = { λ l. (length l.cpus.items ≡ N.table.cpus) × IsSizedAs l.sizes N.table };
 }
 
 impl<N: BootName> Live<N> {
     /// Starts a boot of these sizes under a name of its table. `AllocError` means that memory ran out: nothing is left
     /// then.
     pub fn start(alloc: Global, boot: Boot, sizes: Config) -> Result<Live<N>, AllocError>
-        requires frames { boot.frames ≡ N.frames }
+        requires frames { boot.frames ≡ N.table }
         requires sizes { boot.sizes ≡ sizes }
-        ensures first { IfOk result (λ live. IsNewBootState sizes N.frames live.state) }
+        ensures first { IfOk result (λ live. IsNewBootState sizes N.table live.state) }
         ensures sizes { IfOk result (λ live. live.sizes ≡ sizes) }
         ensures unread_answer { IfOk result (λ live. live.unread_answer ≡ []) }
     {
@@ -83,8 +83,8 @@ impl<N: BootName> Live<N> {
         is_explained: bool,
     ) -> Result<Vec<u8>, ScriptFault>
         ensures answered { IfOk result (λ answers.
-            AnswersScript N.frames text.now is_explained answers.items self.old self.new) }
-        ensures fault { IfErr result (FailsScript N.frames text.now is_explained self.old self.new) }
+            AnswersScript N.table text.now is_explained answers.items self.old self.new) }
+        ensures fault { IfErr result (FailsScript N.table text.now is_explained self.old self.new) }
     {
         serve_lines(
             alloc,
@@ -102,7 +102,7 @@ impl<N: BootName> Live<N> {
     #[inline(always)]
     pub fn call(&mut self, cpu: u32, call: &Call<'_>) -> CallAnswer
         requires { IsTypedCall call.now }
-        ensures { CallsLive N.frames cpu call.now self.old self.new result }
+        ensures { CallsLive N.table cpu call.now self.old self.new result }
     {
         if cpu == 0 || cpu as usize > self.cpus.len() {
             return CallAnswer::NoCpu;
@@ -119,7 +119,7 @@ impl<N: BootName> Live<N> {
     fn serve_command(&mut self, cpu: u32, command: &Command<'_>) -> CallAnswer
         requires there { IsCpu (length self.old.state.cpus) cpu }
         requires asked { IsTypedCall (Script command.now) }
-        ensures { CallsLive N.frames cpu (Script command.now) self.old self.new result }
+        ensures { CallsLive N.table cpu (Script command.now) self.old self.new result }
     {
         match frame_named(command) {
             Some(frame) => {
@@ -136,9 +136,9 @@ impl<N: BootName> Live<N> {
     // small enough to be.
     #[inline(never)]
     fn serve(&mut self, cpu: u32, command: &Command<'_>) -> CallAnswer
-        requires there { CpuCommandInRange N.frames.frames (length self.old.state.cpus) cpu command.now }
+        requires there { CpuCommandInRange N.table.frames (length self.old.state.cpus) cpu command.now }
         requires has_value { HasValueAnswer command.now }
-        ensures { ReturnsCommandAnswer N.frames cpu command.now self.old self.new result }
+        ensures { ReturnsCommandAnswer N.table cpu command.now self.old self.new result }
     {
         self.serve_inlined(cpu, command)
     }
@@ -146,9 +146,9 @@ impl<N: BootName> Live<N> {
     // Does the same for a command that names a frame. It is inlined, since a get and a put have few steps.
     #[inline(always)]
     fn serve_inlined(&mut self, cpu: u32, command: &Command<'_>) -> CallAnswer
-        requires there { CpuCommandInRange N.frames.frames (length self.old.state.cpus) cpu command.now }
+        requires there { CpuCommandInRange N.table.frames (length self.old.state.cpus) cpu command.now }
         requires has_value { HasValueAnswer command.now }
-        ensures { ReturnsCommandAnswer N.frames cpu command.now self.old self.new result }
+        ensures { ReturnsCommandAnswer N.table cpu command.now self.old self.new result }
     {
         CallAnswer::Served(serve_value(
             &mut self.locked,
@@ -162,7 +162,7 @@ impl<N: BootName> Live<N> {
     // Takes a block for the group of this number, at a CPU that is there.
     fn allocate(&mut self, cpu: u32, group: u32, order: u32) -> CallAnswer
         requires there { IsCpu (length self.old.state.cpus) cpu }
-        ensures { CallsLive N.frames cpu (Alloc group order) self.old self.new result }
+        ensures { CallsLive N.table cpu (Alloc group order) self.old self.new result }
     {
         let Some(group) = find_group(self.locked.charges(), group) else {
             return CallAnswer::NoGroup;
@@ -181,7 +181,7 @@ impl<N: BootName> Live<N> {
     fn take_frame(&mut self, cpu: u32, group: GroupId) -> CallAnswer
         requires there { IsCpu (length self.old.state.cpus) cpu }
         requires group { IsTrue (has_group self.old.state.locked.machine.ledger.groups group) }
-        ensures { CallsLive N.frames cpu (Alloc group 0) self.old self.new result }
+        ensures { CallsLive N.table cpu (Alloc group 0) self.old self.new result }
     {
         let _path = self.locked.charges().tree().path_of(group).as_bytes(); // Called for its contract.
         CallAnswer::Served(alloc_value(&mut self.locked, &self.tables, &mut self.cpus, cpu, group))
@@ -214,7 +214,7 @@ impl<N: BootName> Live<N> {
 
     /// Ends the boot. Pins that are still held are put first.
     pub fn finish(self) -> BootEnd
-        ensures ends { EndsHeld N.frames self.state result }
+        ensures ends { EndsHeld N.table self.state result }
     {
         let Live {
             locked,
@@ -257,11 +257,11 @@ fn serve_lines<N: BootName>(
     text: &[u8],
     is_explained: bool,
 ) -> Result<Vec<u8>, ScriptFault>
-    requires sized { IsSizedAs sizes.now N.frames }
-    requires count { length cpus.old ≡ N.frames.cpus }
-    ensures answered { IfOk result (λ answers. ReplaysText (terms N.frames is_explained) sizes.now text.now
+    requires sized { IsSizedAs sizes.now N.table }
+    requires count { length cpus.old ≡ N.table.cpus }
+    ensures answered { IfOk result (λ answers. ReplaysText (terms N.table is_explained) sizes.now text.now
         (system_state locked.old cpus.old) (system_state locked.new cpus.new) answers.items) }
-    ensures fault { IfErr result (FailsText (terms N.frames is_explained) sizes.now text.now
+    ensures fault { IfErr result (FailsText (terms N.table is_explained) sizes.now text.now
         (system_state locked.old cpus.old) (system_state locked.new cpus.new)) }
 {
     let form = Form {

@@ -25,7 +25,7 @@ brand = Brand.the_row
 
 -- a home of this table, under a name
 abbrev pub home_row : RattleType → KnownTable → RattleType
-home_row name frames = Home.the_row name (record { frames = frames })
+home_row name frames = Home.the_row name (record { table = frames })
 
 -- how a home is stored, if there is one
 abbrev pub home_coded : Coded (Option KnownHome)

@@ -124,7 +124,7 @@ impl<N: BootName> Home<N> {
     #[inline(always)]
     pub fn call(&mut self, call: &Call<'_>) -> CallAnswer
         requires some { IsSome self.old.cpu }
-        ensures { Calls N.frames call.now self.old self.new result }
+        ensures { Calls N.table call.now self.old self.new result }
     {
         match *call {
             Call::Visit(cmd) => self.visit(&cmd),

@@ -37,8 +37,8 @@ impl<N: BootName> Behind<N> {
         cpu: &mut Cpu<N>,
         cmd: &LockedCommand<'_>,
     ) -> Outcome
-        requires { IsOfZone N.frames cmd.now }
-        ensures { IsVisited N.frames self.old.locked.sizes (ServesOutcome N.frames cmd.now result)
+        requires { IsOfZone N.table cmd.now }
+        ensures { IsVisited N.table self.old.locked.sizes (ServesOutcome N.table cmd.now result)
             cpu.old cpu.new }
     {
         self.locked.prove_quiet();
@@ -56,9 +56,9 @@ impl<N: BootName> Behind<N> {
         group: u32,
     ) -> Option<Outcome>
         ensures served { IfSome result (λ outcome.
-            IsVisited N.frames self.old.locked.sizes (ServesFrameOutcome N.frames group outcome)
+            IsVisited N.table self.old.locked.sizes (ServesFrameOutcome N.table group outcome)
             cpu.old cpu.new) }
-        ensures none { IfNone result (NoGroupBehindLock N.frames group cpu.old cpu.new) }
+        ensures none { IfNone result (NoGroupBehindLock N.table group cpu.old cpu.new) }
     {
         self.locked.prove_quiet();
         let Some(group) = find_group(self.locked.charges(), group) else {
@@ -80,9 +80,9 @@ impl<N: BootName> Behind<N> {
         order: u32,
     ) -> Option<Outcome>
         ensures served { IfSome result (λ outcome.
-            IsVisited N.frames self.old.locked.sizes (ServesBlock N.frames group order outcome)
+            IsVisited N.table self.old.locked.sizes (ServesBlock N.table group order outcome)
             cpu.old cpu.new) }
-        ensures none { IfNone result (NoGroupBehindLock N.frames group cpu.old cpu.new) }
+        ensures none { IfNone result (NoGroupBehindLock N.table group cpu.old cpu.new) }
     {
         self.locked.prove_quiet();
         let Some(group) = find_group(self.locked.charges(), group) else {
@@ -111,9 +111,9 @@ impl<N: BootName> Behind<N> {
         order: u32,
     ) -> Option<Outcome>
         ensures served { IfSome result (λ outcome.
-            IsVisited N.frames self.old.locked.sizes (ServesDirtyUnit N.frames group order outcome)
+            IsVisited N.table self.old.locked.sizes (ServesDirtyUnit N.table group order outcome)
             cpu.old cpu.new) }
-        ensures none { IfNone result (NoGroupBehindLock N.frames group cpu.old cpu.new) }
+        ensures none { IfNone result (NoGroupBehindLock N.table group cpu.old cpu.new) }
     {
         self.locked.prove_quiet();
         let Some(group) = find_group(self.locked.charges(), group) else {
@@ -136,7 +136,7 @@ impl<N: BootName> Behind<N> {
         which: GroupPages,
     ) -> CallAnswer
         ensures says { SaysPages self.old.locked.machine.ledger group which result }
-        ensures reads { ReadsPages N.frames group which result cpu.old cpu.new }
+        ensures reads { ReadsPages N.table group which result cpu.old cpu.new }
     {
         self.locked.prove_quiet();
         let answer = pages_read(self.locked.charges(), group, which);
@@ -155,9 +155,9 @@ impl<N: BootName> Behind<N> {
         pages: Limit,
     ) -> Option<Outcome>
         ensures served { IfSome result (λ outcome.
-            IsVisited N.frames self.old.locked.sizes (ServesPages N.frames group file pages outcome)
+            IsVisited N.table self.old.locked.sizes (ServesPages N.table group file pages outcome)
             cpu.old cpu.new) }
-        ensures none { IfNone result (NoGroupBehindLock N.frames group cpu.old cpu.new) }
+        ensures none { IfNone result (NoGroupBehindLock N.table group cpu.old cpu.new) }
     {
         self.locked.prove_quiet();
         let Some(group) = find_group(self.locked.charges(), group) else {
@@ -179,7 +179,7 @@ impl<N: BootName> Behind<N> {
     /// Settles a CPU.
     #[inline(always)]
     pub fn settle(&mut self, tables: &Tables<N>, cpu: &mut Cpu<N>)
-        ensures { IsVisited N.frames self.old.locked.sizes (SettlesCaller N.frames) cpu.old cpu.new }
+        ensures { IsVisited N.table self.old.locked.sizes (SettlesCaller N.table) cpu.old cpu.new }
     {
         self.locked.prove_quiet();
         serve_settle(&mut self.locked, tables, cpu);
@@ -188,7 +188,7 @@ impl<N: BootName> Behind<N> {
 
     /// Reads a file of a group, with its text.
     pub fn read(&mut self, tables: &Tables<N>, cpu: &mut Cpu<N>, asked: &ReadCall<'_>) -> ReadAnswer
-        ensures { IsReadUnderLock N.frames self.old.locked.sizes asked.now cpu.old cpu.new result }
+        ensures { IsReadUnderLock N.table self.old.locked.sizes asked.now cpu.old cpu.new result }
     {
         let ReadCall { path, file } = *asked;
         self.locked.prove_quiet();

@@ -27,8 +27,8 @@ impl<N: BootName> Drop for ZoneEnd<N> {
 /// Ends a zone by its parts, once no thread has a CPU. Pins that are still held are put first. `None` if the part of a CPU
 /// isn't there, which no call leaves so: the parts stay in memory then.
 pub fn end_parts<N: BootName>(tables: Tables<N>, behind: Behind<N>) -> Option<SystemEnd>
-    ensures ended { IfSome result (PutsAndEnds N.frames behind.locked behind.parked) }
-    ensures lost { IfNone result (length behind.parked ≢ N.frames.cpus) }
+    ensures ended { IfSome result (PutsAndEnds N.table behind.locked behind.parked) }
+    ensures lost { IfNone result (length behind.parked ≢ N.table.cpus) }
 {
     let Behind { locked, parked } = behind;
     if parked.len() != tables.words.cpus() as usize {

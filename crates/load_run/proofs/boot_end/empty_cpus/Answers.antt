@@ -18,12 +18,12 @@ unreachable-requires g c =
 
 pub returns-in-Ok : goal.returns-in-Ok
 returns-in-Ok g c = record {
-  leaves = leaves_free g.N.BootName.frames (system_state c.args.locked c.args.cpus.items) c.in-Ok.emptied c.in-Ok.ensures.visits;
+  leaves = leaves_free g.N.BootName.table (system_state c.args.locked c.args.cpus.items) c.in-Ok.emptied c.in-Ok.ensures.visits;
 }
 
 pub returns-in-Ok-make_last_visits : goal.returns-in-Ok-make_last_visits
 returns-in-Ok-make_last_visits g c =
-    let t = g.N.BootName.frames in
+    let t = g.N.BootName.table in
     let same = c.in-Err.ensures in
     let put = c.put_all_pins.ensures in
     let now = c.put_all_pins.new in

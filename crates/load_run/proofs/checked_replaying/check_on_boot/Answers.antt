@@ -29,7 +29,7 @@ end_checked_boot-requires g c =
 pub returns-in_err-answers : goal.returns-in_err-answers
 returns-in_err-answers g c =
     let booted = c.in_ok-locked.ensures in
-    let new = new_watched c.args.boot.sizes c.args.sizes g.N.BootName.frames _ c.deref_mut.result.now _ _ booted.sized c.requires.sizes
+    let new = new_watched c.args.boot.sizes c.args.sizes g.N.BootName.table _ c.deref_mut.result.now _ _ booted.sized c.requires.sizes
     booted.machine booted.sizes (lent_parts _ _ c.deref_mut.ensures.value booted.cpus) (lent_so_far _ _ _ c.deref_mut.ensures.value booted.so_far)
     c.in_ok-watch.ensures c.set_watch.ensures in
     let p = err_from_is_err_and c.from_residual-in_err-answers.result c.from_residual-in_err-answers.ensures.1 in
@@ -41,7 +41,7 @@ returns-in_err-answers g c =
 
 pub returns-then-not-seen : goal.returns-then-not-seen
 returns-then-not-seen g c =
-    let t = g.N.BootName.frames in
+    let t = g.N.BootName.table in
     let booted = c.in_ok-locked.ensures in
     let left = c.replay_checked-answers.new in
     let new = new_watched c.args.boot.sizes c.args.sizes t _ c.deref_mut.result.now _ _ booted.sized c.requires.sizes
@@ -68,7 +68,7 @@ returns-then-not-seen g c =
 
 pub returns : goal.returns
 returns g c =
-    let t = g.N.BootName.frames in
+    let t = g.N.BootName.table in
     let booted = c.in_ok-locked.ensures in
     let left = c.replay_checked-answers.new in
     let new = new_watched c.args.boot.sizes c.args.sizes t _ c.deref_mut.result.now _ _ booted.sized c.requires.sizes

@@ -29,7 +29,7 @@ pub serve_later-told-requires-clause-count : goal.serve_later-told-requires-clau
 serve_later-told-requires-clause-count g c =
     let back = given_back _ _ _ _ c.deref_mut.ensures.value c.deref_mut.ensures.len c.replay-first.auto.cpus in
     let looked = given_back _ _ _ _ c.deref_mut-2.ensures.value c.deref_mut-2.ensures.len c.survey.auto.cpus in
-    let long : length c.deref_mut-3.result.now ≡ g.N.BootName.frames.cpus =
+    let long : length c.deref_mut-3.result.now ≡ g.N.BootName.table.cpus =
     ap length (c.deref_mut-3.ensures.value ∙ looked) ∙ c.survey.auto.cpus ∙ ap length (c.deref_mut-2.ensures.value ∙ back) ∙ c.replay-first.auto.cpus
     ∙ ap length c.deref_mut.ensures.value ∙ c.in_ok-locked.ensures.count in
     let sized = c.prove_quiet.ensures.quiet.sized.cpus in
@@ -69,7 +69,7 @@ end_boot-ended-requires g c =
 
 pub returns : goal.returns
 returns g c =
-    let t = g.N.BootName.frames in
+    let t = g.N.BootName.table in
     let sizes = c.args.boot.sizes in
     let lines = c.args.lines.now in
     let is_numbered = c.args.is_numbered in

@@ -15,7 +15,7 @@ returns-then-not-path_has_high_room-clause-lacks g c _ = record {
         ∙ c.if-not-path_has_high_room.true),
     record { machine = refl; steps_are = refl },
   );
-  makes = makes_none g.N.BootName.frames c.args.machine.now;
+  makes = makes_none g.N.BootName.table c.args.machine.now;
 }
 
 pub returns-in_default-clause-fills : goal.returns-in_default-clause-fills

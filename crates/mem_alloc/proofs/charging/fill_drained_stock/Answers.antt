@@ -9,13 +9,13 @@ fill_batch-requires-clause-may_charge g c =
 
 pub returns-then-fill_batch-clause-charges : goal.returns-then-fill_batch-clause-charges
 returns-then-fill_batch-clause-charges g c =
-    batch_fits g.N.BootName.frames c.args.sizes c.args.group c.args.machine.now c.fill_batch.new.machine c.args.cpu.now
+    batch_fits g.N.BootName.table c.args.sizes c.args.group c.args.machine.now c.fill_batch.new.machine c.args.cpu.now
     (c.fill_batch.ensures.fills c.if-fill_batch.true)
 
 pub fill_one-requires-clause-may_charge : goal.fill_one-requires-clause-may_charge
 fill_one-requires-clause-may_charge g c =
     let lacks = c.fill_batch.ensures.lacks c.if-fill_batch.false in
-    still_may g.N.BootName.frames c.args.group c.args.sizes.stock 1 c.args.machine.now c.fill_batch.new.machine lacks.steps lacks.does
+    still_may g.N.BootName.table c.args.group c.args.sizes.stock 1 c.args.machine.now c.fill_batch.new.machine lacks.steps lacks.does
     (record { there = c.requires.there; alive = c.requires.alive; fits = c.prove_room.ensures.room 1 (omega arith) })
 
 pub fill_one-requires-clause-drained : goal.fill_one-requires-clause-drained
@@ -23,5 +23,5 @@ fill_one-requires-clause-drained g c = c.fill_batch.ensures.drained c.if-fill_ba
 
 pub returns-clause-charges : goal.returns-clause-charges
 returns-clause-charges g c =
-    one_charged g.N.BootName.frames c.args.sizes c.args.group c.args.machine.now c.fill_batch.new.machine c.fill_one.new.machine c.args.cpu.now c.args.cpu.now
+    one_charged g.N.BootName.table c.args.sizes c.args.group c.args.machine.now c.fill_batch.new.machine c.fill_one.new.machine c.args.cpu.now c.args.cpu.now
     (c.fill_batch.ensures.lacks c.if-fill_batch.false) c.fill_one.result c.fill_one.ensures.charges

@@ -18,7 +18,7 @@ some_pages t m cpu g own pages is page = let e : pages ≡ page.0 + 1 = ap stock
 
 pub returns-then-own-number-clause-holds : goal.returns-then-own-number-clause-holds
 returns-then-own-number-clause-holds g c =
-    let t = g.N.BootName.frames in
+    let t = g.N.BootName.table in
     let m = c.args.machine.now in
     let cpu = c.args.cpu.now.number in
     let own = c.in-HeldBy.own in

@@ -11,7 +11,7 @@ use Rattle.mem_alloc.proofs.frames.alloc_frame.Goals as goal
 
 pub returns-in_err-pay_for_frame : goal.returns-in_err-pay_for_frame
 returns-in_err-pay_for_frame g c =
-    let t = g.N.BootName.frames in
+    let t = g.N.BootName.table in
     let alive : is_killed c.args.machine.now.killed c.args.group ≡ false = sym c.is_killed.ensures ∙ c.if-is_killed.false in
     let r = c.from_residual.result in
     let x = c.in_err-pay_for_frame.field-0.0 in
@@ -30,7 +30,7 @@ returns-in_err-pay_for_frame g c =
 
 pub returns-in_err-fill_list : goal.returns-in_err-fill_list
 returns-in_err-fill_list g c =
-    let t = g.N.BootName.frames in
+    let t = g.N.BootName.table in
     let alive : is_killed c.args.machine.now.killed c.args.group ≡ false = sym c.is_killed.ensures ∙ c.if-is_killed.false in
     let r = c.from_residual-in_err-fill_list.result in
     let x = c.in_err-fill_list.field-0.0 in
@@ -40,7 +40,7 @@ returns-in_err-fill_list g c =
     let paid = c.in_ok-pay_for_frame.ensures.pays in
     let none = c.in_err-fill_list.ensures.fills in
     let first = pays_keep t c.args.sizes c.args.group (Ok tt) _ _ _ _ paid.steps paid.does in
-    let then = no_frame_keeps g.N.BootName.frames c.args.sizes x _ _ _ _ none.steps none.does in
+    let then = no_frame_keeps g.N.BootName.table c.args.sizes x _ _ _ _ none.steps none.does in
     let k = keeps_both _ _ _ first then in
     let fresh = k.fresh ∙ c.requires.settled.0 in
     record {
@@ -55,17 +55,17 @@ pub take_front-requires-clause-none_fresh : goal.take_front-requires-clause-none
 take_front-requires-clause-none_fresh g c =
     let paid = c.in_ok-pay_for_frame.ensures.pays in
     let fills = c.in_ok-fill_list.ensures.fills in
-    let first = pays_keep g.N.BootName.frames c.args.sizes c.args.group (Ok tt) _ _ _ _ paid.steps paid.does in
-    (filled_part g.N.BootName.frames c.args.sizes _ _ _ _ fills.steps c.requires.sizes fills.does).fresh ∙ first.fresh ∙ c.requires.settled.0
+    let first = pays_keep g.N.BootName.table c.args.sizes c.args.group (Ok tt) _ _ _ _ paid.steps paid.does in
+    (filled_part g.N.BootName.table c.args.sizes _ _ _ _ fills.steps c.requires.sizes fills.does).fresh ∙ first.fresh ∙ c.requires.settled.0
 
 pub returns : goal.returns
 returns g c =
-    let t = g.N.BootName.frames in
+    let t = g.N.BootName.table in
     let alive : is_killed c.args.machine.now.killed c.args.group ≡ false = sym c.is_killed.ensures ∙ c.if-is_killed.false in
     let paid = c.in_ok-pay_for_frame.ensures.pays in
     let fills = c.in_ok-fill_list.ensures.fills in
     let first = pays_keep t c.args.sizes c.args.group (Ok tt) _ _ _ _ paid.steps paid.does in
-    let next = filled_part g.N.BootName.frames c.args.sizes _ _ _ _ fills.steps c.requires.sizes fills.does in
+    let next = filled_part g.N.BootName.table c.args.sizes _ _ _ _ fills.steps c.requires.sizes fills.does in
     let takes = c.take_front.ensures.pays in
     let cpu = takes.takes.2 in
     let none = next.fresh ∙ first.fresh ∙ c.requires.settled.0 in
@@ -94,5 +94,5 @@ pub returns-then-is_killed-clause-allocates : goal.returns-then-is_killed-clause
 returns-then-is_killed-clause-allocates g c = record {
   steps = [];
   does = inl (record { is = sym c.is_killed.ensures ∙ c.if-is_killed.true; does = record { machine = refl; cpu = refl; steps_are = refl } });
-  makes = makes_none g.N.BootName.frames c.args.machine.now;
+  makes = makes_none g.N.BootName.table c.args.machine.now;
 }

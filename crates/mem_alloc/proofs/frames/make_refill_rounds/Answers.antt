@@ -8,7 +8,7 @@ use Rattle.mem_alloc.proofs.frames.make_refill_rounds.Goals as goal
 
 pub loop-round-init : goal.loop-round-init
 loop-round-init g c =
-    (rounds_none g.N.BootName.frames 1 LendsNoFrame (λ _. LendsBatch c.args.batch) c.args.machine.now c.args.cpu.now, refl)
+    (rounds_none g.N.BootName.table 1 LendsNoFrame (λ _. LendsBatch c.args.batch) c.args.machine.now c.args.cpu.now, refl)
 
 pub reclaim_anywhere-freed-requires : goal.reclaim_anywhere-freed-requires
 reclaim_anywhere-freed-requires g c =
@@ -20,7 +20,7 @@ refill-requires-clause-visit g c =
 
 pub returns-then-refill-gt0-clause-refills : goal.returns-then-refill-gt0-clause-refills
 returns-then-refill-gt0-clause-refills g c =
-    let t = g.N.BootName.frames in
+    let t = g.N.BootName.table in
     let done = c.refill.ensures in
     let many = c.if-refill-gt0.true in
     rounds_succeed t 1 LendsNoFrame (λ _. LendsBatch c.args.batch) c.args.machine.now c.args.cpu.now c.loop-round.round
@@ -32,7 +32,7 @@ returns-then-refill-gt0-clause-refills g c =
 
 pub returns-then-freed-eq0-clause-refills : goal.returns-then-freed-eq0-clause-refills
 returns-then-freed-eq0-clause-refills g c =
-    let t = g.N.BootName.frames in
+    let t = g.N.BootName.table in
     let done = c.refill.ensures in
     let none = lent_none t c.refill.result c.args.batch _ _ _ _ done.refills c.if-refill-gt0.false done.fewer_only_at_the_end
     c.requires.some in
@@ -44,7 +44,7 @@ returns-then-freed-eq0-clause-refills g c =
 
 pub loop-round-preserved : goal.loop-round-preserved
 loop-round-preserved g c =
-    let t = g.N.BootName.frames in
+    let t = g.N.BootName.table in
     let done = c.refill.ensures in
     let none = lent_none t c.refill.result c.args.batch _ _ _ _ done.refills c.if-refill-gt0.false done.fewer_only_at_the_end
     c.requires.some in (
@@ -62,7 +62,7 @@ loop-round-preserved g c =
 
 pub returns-clause-refills : goal.returns-clause-refills
 returns-clause-refills g c =
-    rounds_done g.N.BootName.frames 1 LendsNoFrame (λ _. LendsBatch c.args.batch) c.args.machine.now c.args.cpu.now
+    rounds_done g.N.BootName.table 1 LendsNoFrame (λ _. LendsBatch c.args.batch) c.args.machine.now c.args.cpu.now
     c.loop-round.round c.loop-round.machine c.loop-round.cpu c.loop-round.invariant.0 c.loop-round-test.false
 
 pub returns-clause-visit : goal.returns-clause-visit
@@ -70,7 +70,7 @@ returns-clause-visit g c = c.loop-round.invariant.0.visit c.requires.visit
 
 pub returns-then-refill-gt0-clause-stock : goal.returns-then-refill-gt0-clause-stock
 returns-then-refill-gt0-clause-stock g c =
-    let t = g.N.BootName.frames in
+    let t = g.N.BootName.table in
     let done = c.refill.ensures.refills in
     let visit = c.loop-round.invariant.0.visit c.requires.visit in
     let keeps = c.reclaim_anywhere-freed.ensures.keeps in
@@ -80,7 +80,7 @@ returns-then-refill-gt0-clause-stock g c =
 
 pub returns-then-freed-eq0-clause-stock : goal.returns-then-freed-eq0-clause-stock
 returns-then-freed-eq0-clause-stock g c =
-    let t = g.N.BootName.frames in
+    let t = g.N.BootName.table in
     let done = c.refill.ensures.refills in
     let visit = c.loop-round.invariant.0.visit c.requires.visit in
     let keeps = c.reclaim_anywhere-freed.ensures.keeps in

@@ -7,6 +7,6 @@ returns g c = record {
   cpu = hands_over _ _ _ c.in-Some.ensures.answer;
   sums = search rules;
   held = c.in-Some.ensures.run.held;
-  notes = collect_notes g.N.BootName.frames _ _ _ _ _ c.number-at.ensures c.number-cpu_number.ensures.number _ _ c.requires.held
+  notes = collect_notes g.N.BootName.table _ _ _ _ _ c.number-at.ensures c.number-cpu_number.ensures.number _ _ c.requires.held
       c.in-Some.ensures.run c.watch_collected.ensures;
 }

@@ -18,7 +18,7 @@ lend-requires-clause-room g c =
 
 pub returns-clause-lists : goal.returns-clause-lists
 returns-clause-lists g c =
-    let t = g.N.BootName.frames in
+    let t = g.N.BootName.table in
     let cuts = c.cut_list.ensures.cuts in
     let p = c.args.cpu.now.number in
     let m = c.args.machine.now in

@@ -10,7 +10,7 @@ use Rattle.mem_system.proofs.visits.serve_outcome.Goals as goal
 use Rattle.mem_system.proofs.visits.serve_outcome.Goals.{After-unlock}
 
 -- the calls of the visit, one after the other
-visit : (g : given.Over) (c : After-unlock g) → GoesThrough g.N.BootName.frames c.locked.inside.machine c.cpu.inside.part c.cpu.inside.past
+visit : (g : given.Over) (c : After-unlock g) → GoesThrough g.N.BootName.table c.locked.inside.machine c.cpu.inside.part c.cpu.inside.past
     c.execute-outcome.ensures.executed.steps c.unlock.new.self c.execute-outcome.new.cpu c.unlock.new.seat
 visit g c = record {
   found = c.lock.new.self;
@@ -42,10 +42,10 @@ visit g c = record {
 }
 
 pub open-requires-clause-holds : goal.open-requires-clause-holds
-open-requires-clause-holds g c = forgotten_holds g.N.BootName.frames c.lock.new.self c.forget_notes.new.self c.cpu.inside.part c.forget_notes.ensures c.lock.ensures.holds
+open-requires-clause-holds g c = forgotten_holds g.N.BootName.table c.lock.new.self c.forget_notes.new.self c.cpu.inside.part c.forget_notes.ensures c.lock.ensures.holds
 
 pub open-requires-clause-shut : goal.open-requires-clause-shut
-open-requires-clause-shut g c = forgotten_shut g.N.BootName.frames c.lock.new.self c.forget_notes.new.self c.cpu.inside.part.number c.forget_notes.ensures c.lock.ensures.shut
+open-requires-clause-shut g c = forgotten_shut g.N.BootName.table c.lock.new.self c.forget_notes.new.self c.cpu.inside.part.number c.forget_notes.ensures c.lock.ensures.shut
 
 pub unlock-requires-clause-number : goal.unlock-requires-clause-number
 unlock-requires-clause-number g c =
@@ -54,7 +54,7 @@ unlock-requires-clause-number g c =
 
 pub invariant_of-locked : goal.invariant_of-locked
 invariant_of-locked g c =
-    let t = g.N.BootName.frames in
+    let t = g.N.BootName.table in
     let quiet = c.locked.invariant.quiet in
     let rests = c.unlock.ensures.rests in
     record {
@@ -72,7 +72,7 @@ invariant_of-locked g c =
 pub returns : goal.returns
 unfolding visit
 returns g c =
-    let t = g.N.BootName.frames in
+    let t = g.N.BootName.table in
     let d = c.execute-outcome.new.cpu in
     let l : KnownLocked = record { machine = c.locked.inside.machine; sizes = c.locked.inside.sizes } in
     let k : KnownLocked = record { machine = c.unlock.new.self; sizes = c.locked.inside.sizes } in

@@ -25,7 +25,7 @@ returns-in-Got-clause-answer g c path is =
       answered = record {
         gets = record { group = group; found = is; got = c.in-Got.ensures.answer };
         alone = record {
-          locked = then_watched g.N.BootName.frames l mid m c.number-cpu_number.result number c.number-cpu_number.ensures.number (λ (n : ℕ). steps_alone n (Fast group) said)
+          locked = then_watched g.N.BootName.table l mid m c.number-cpu_number.result number c.number-cpu_number.ensures.number (λ (n : ℕ). steps_alone n (Fast group) said)
               c.in-Got.ensures.only_saw watched;
           steps_are = refl;
         };
@@ -39,7 +39,7 @@ returns-in_default-clause-answer g c path is =
     let l = c.args.locked.now in
     let tried = c.alloc_in_order in
     let served = c.serve_frame_under_lock in
-    lock_served (terms g.N.BootName.frames c.args.is_explained) (Alloc path 0) l served.new.locked c.args.cpu.now served.new.cpu
+    lock_served (terms g.N.BootName.table c.args.is_explained) (Alloc path 0) l served.new.locked c.args.cpu.now served.new.cpu
     (locked_state tried.new.locked tried.new.cpu) (answer_of served.new.locked.machine.ledger served.result) (record {
       group = c.args.group;
       found = is;

@@ -17,12 +17,12 @@ returns-clause-needs_lock g c =
 
 pub returns-clause-only_saw : goal.returns-clause-only_saw
 returns-clause-only_saw g c =
-    both_saw g.N.BootName.frames c.args.locked.now c.meet.new.self c.meet-2.new.self _ _ _ _ c.meet.ensures.locked c.meet.ensures.meets c.meet-2.ensures.locked
+    both_saw g.N.BootName.table c.args.locked.now c.meet.new.self c.meet-2.new.self _ _ _ _ c.meet.ensures.locked c.meet.ensures.meets c.meet-2.ensures.locked
     c.meet-2.ensures.meets
 
 pub returns-clause-gains : goal.returns-clause-gains
 returns-clause-gains g c =
     let tried = c.try_unlocked-said in
-    met_gains g.N.BootName.frames c.args.locked.now c.meet.new.self c.meet-2.new.self c.args.cpu.now c.meet.new.cpu tried.new.cpu c.meet-2.new.cpu
+    met_gains g.N.BootName.table c.args.locked.now c.meet.new.self c.meet-2.new.self c.args.cpu.now c.meet.new.cpu tried.new.cpu c.meet-2.new.cpu
     (λ (n : ℕ). steps_tried n c.args.command.now tried.result) c.number-number.ensures.in_run c.meet.ensures.part c.meet.ensures.meets tried.ensures.run
     c.meet-2.ensures.meets

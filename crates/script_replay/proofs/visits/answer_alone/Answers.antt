@@ -8,7 +8,7 @@ use Rattle.script_replay.proofs.visits.answer_alone.Goals as goal
 
 pub returns-in-Some : goal.returns-in-Some
 returns-in-Some g c =
-    let on = boot_tables g.N.BootName.frames c.args.visitor.now.system.now.sizes in
+    let on = boot_tables g.N.BootName.table c.args.visitor.now.system.now.sizes in
     let path = c.in-Some.path in
     let found : frame_path c.args.command.now ≡ Some path = search rules in
     let taken = c.take_listed in
@@ -19,7 +19,7 @@ returns-in-Some g c =
 
 pub returns-in-None : goal.returns-in-None
 returns-in-None g c =
-    let on = boot_tables g.N.BootName.frames c.args.visitor.now.system.now.sizes in
+    let on = boot_tables g.N.BootName.table c.args.visitor.now.system.now.sizes in
     let tried = c.try_unlocked in record {
       answers = tried_alone on c.args.command.now c.args.cpu.now tried.new.cpu tried.result tried.ensures.answered tried.ensures.run;
       needs_visit = tried_in_vain on c.args.command.now c.args.cpu.now tried.new.cpu tried.result (search rules) tried.ensures.needs_lock

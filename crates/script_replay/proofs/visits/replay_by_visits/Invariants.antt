@@ -5,4 +5,4 @@ use Rattle.script_replay.proofs.visits.replay_by_visits.Given as goal
 
 abbrev pub invariant-loop-line : goal.invariant-loop-line
 invariant-loop-line g l =
-    VisitsAll (boot_tables g.N.BootName.frames l.system.sizes) (take l.line-index l.lines) l.initial.cpus l.cpus (string_bytes l.answers)
+    VisitsAll (boot_tables g.N.BootName.table l.system.sizes) (take l.line-index l.lines) l.initial.cpus l.cpus (string_bytes l.answers)

@@ -17,7 +17,7 @@ returns g c =
     let said = c.in_ok-visit_line.ensures.answered in
     let is : c.as_str.result.now ≡ said.text = search rules in
     record {
-      answered = with_number (ServesByVisits (boot_tables g.N.BootName.frames c.args.visitor.now.system.now.sizes) c.args.command.now c.args.cpu.now c.visit_line.new.cpu)
+      answered = with_number (ServesByVisits (boot_tables g.N.BootName.table c.args.visitor.now.system.now.sizes) c.args.command.now c.args.cpu.now c.visit_line.new.cpu)
           c.args.line said.text c.as_str.result.now c.args.text.now c.write_numbered.new.text c.write_numbered.result said.so is
           c.write_numbered.ensures;
     }

@@ -15,12 +15,12 @@ consume-requires-clause-legal g c =
     let short : length c.self.inside.fresh.items < 32 = omega arith in
     let some : 1 ≤ length c.self.inside.list.items = search rules in
     let knows = subst (KnowsItsPart _ _) (sym c.self.view_is) c.requires.knows in
-    subst (λ (u : KnownTable). MayDo u c.args.seat.now.past (Consume c.args.group)) (sym c.args.tables.now.frames_are)
+    subst (λ (u : KnownTable). MayDo u c.args.seat.now.past (Consume c.args.group)) (sym c.args.tables.now.words_are)
     (may_consume _ _ _ knows c.args.group some short)
 
 pub returns-in-Drained-clause-knows : goal.returns-in-Drained-clause-knows
 returns-in-Drained-clause-knows g c =
-    let told = subst (λ (u : KnownTable). ConsumesPage u c.args.seat.now c.args.group consumes.Drained c.consume.new.cpu) c.args.tables.now.frames_are
+    let told = subst (λ (u : KnownTable). ConsumesPage u c.args.seat.now c.args.group consumes.Drained c.consume.new.cpu) c.args.tables.now.words_are
     c.in-Drained.ensures in
     knows_drained _ _ _ c.requires.knows (Consume c.args.group) c.consume.new.cpu tt (λ s q. refl) told.1
 
@@ -33,7 +33,7 @@ returns-in-Took-clause-frame g c =
 pub returns-in-Took-clause-knows : goal.returns-in-Took-clause-knows
 returns-in-Took-clause-knows g c =
     let knows = subst (KnowsItsPart _ _) (sym c.self.view_is) c.requires.knows in
-    let told = subst (λ (u : KnownTable). ConsumesPage u c.args.seat.now c.args.group consumes.Took c.consume.new.cpu) c.args.tables.now.frames_are
+    let told = subst (λ (u : KnownTable). ConsumesPage u c.args.seat.now c.args.group consumes.Took c.consume.new.cpu) c.args.tables.now.words_are
     c.in-Took.ensures in
     knows_took _ _ _ knows c.args.group c.freshen.result told.0 c.freshen.new.list.items c.freshen.new.fresh.items c.consume.new.cpu told.2
     c.freshen.ensures.front c.freshen.ensures.fresh

@@ -12,12 +12,12 @@ take_back-requires-clause-legal g c =
     let some : 0 < length c.self.inside.fresh.items = search rules in
     let front : c.args.self.now.fresh ≡ f ∷ rest = ap (λ (k : KnownCpuLists). k.fresh) (sym c.self.view_is)
     ∙ front_removed f c.self.inside.fresh.items rest some c.remove-frame.ensures.value c.remove-frame.ensures.items in
-    are_legal_at _ _ c.args.tables.now.frames_are _ _ (λ p. take_back_run p f) (ap (λ (k : KnownCpuLists). k.number) c.self.view_is) c.args.held.now
+    are_legal_at _ _ c.args.tables.now.words_are _ _ (λ p. take_back_run p f) (ap (λ (k : KnownCpuLists). k.number) c.self.view_is) c.args.held.now
     (c.requires.legal f rest front)
 
 pub returns-clause-run : goal.returns-clause-run
 returns-clause-run g c =
-    made_at _ _ c.args.tables.now.frames_are _ _ (λ p. take_back_run p c.remove-frame.result) (ap (λ (k : KnownCpuLists). k.number) c.self.view_is)
+    made_at _ _ c.args.tables.now.words_are _ _ (λ p. take_back_run p c.remove-frame.result) (ap (λ (k : KnownCpuLists). k.number) c.self.view_is)
     c.args.held.now _ c.take_back.ensures
 
 pub returns-clause-frame : goal.returns-clause-frame
@@ -26,4 +26,4 @@ returns-clause-frame g c =
     let some : 0 < length c.self.inside.fresh.items = search rules in
     let front : c.args.self.now.fresh ≡ f ∷ rest = ap (λ (k : KnownCpuLists). k.fresh) (sym c.self.view_is)
     ∙ front_removed f c.self.inside.fresh.items rest some c.remove-frame.ensures.value c.remove-frame.ensures.items in
-    passed_inside g.N.BootName.frames c.args.held.now c.args.self.now.number f (c.requires.legal f rest front).0
+    passed_inside g.N.BootName.table c.args.held.now c.args.self.now.number f (c.requires.legal f rest front).0

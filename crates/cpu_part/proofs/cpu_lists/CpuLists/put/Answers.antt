@@ -16,7 +16,7 @@ pub put-requires-clause-legal : goal.put-requires-clause-legal
 put-requires-clause-legal g c =
     let knows = subst (KnowsItsPart _ _) (sym c.self.view_is) c.requires.knows in
     let pinned = subst (λ (k : KnownCpuLists). 1 ≤ times c.args.frame k.pins) (sym c.self.view_is) c.requires.pinned in
-    may_do_at _ _ c.args.tables.now.frames_are c.args.seat.now.past (Put c.args.frame) (may_put _ _ _ knows c.args.frame pinned)
+    may_do_at _ _ c.args.tables.now.words_are c.args.seat.now.past (Put c.args.frame) (may_put _ _ _ knows c.args.frame pinned)
 
 pub invariant_of-self : goal.invariant_of-self
 invariant_of-self g c =
@@ -33,15 +33,15 @@ invariant_of-self-in-Left g c =
 
 pub returns-in-Last-clause-unlisted : goal.returns-in-Last-clause-unlisted
 returns-in-Last-clause-unlisted g c =
-    let run = subst (λ (u : KnownTable). CpuMakes u c.args.seat.now.past (Put c.args.frame) said.Last c.put.new.cpu.past) c.args.tables.now.frames_are
+    let run = subst (λ (u : KnownTable). CpuMakes u c.args.seat.now.past (Put c.args.frame) said.Last c.put.new.cpu.past) c.args.tables.now.words_are
     c.in-Last.ensures.run in
     put_last _ _ _ c.requires.knows c.args.frame c.put.new.cpu.past run
 
 pub returns-in-Last-clause-knows : goal.returns-in-Last-clause-knows
 returns-in-Last-clause-knows g c =
     let knows = subst (KnowsItsPart _ _) (sym c.self.view_is) c.requires.knows in
-    let is = subst (λ (u : KnownTable). IsAwayCpu u c.put.new.cpu) c.args.tables.now.frames_are c.in-Last.ensures.cpu in
-    let run = subst (λ (u : KnownTable). CpuMakes u c.args.seat.now.past (Put c.args.frame) said.Last c.put.new.cpu.past) c.args.tables.now.frames_are
+    let is = subst (λ (u : KnownTable). IsAwayCpu u c.put.new.cpu) c.args.tables.now.words_are c.in-Last.ensures.cpu in
+    let run = subst (λ (u : KnownTable). CpuMakes u c.args.seat.now.past (Put c.args.frame) said.Last c.put.new.cpu.past) c.args.tables.now.words_are
     c.in-Last.ensures.run in
     knows_last _ _ _ knows c.put.new.cpu is c.in-Last.ensures.same.0 c.args.frame c.unpin.new.pins.items c.push_back_reserved.new.self.items run
     c.unpin.ensures.pins c.push_back_reserved.ensures.items
@@ -49,20 +49,20 @@ returns-in-Last-clause-knows g c =
 pub returns-in-Left-clause-answer : goal.returns-in-Left-clause-answer
 returns-in-Left-clause-answer g c =
     let run = subst (λ (u : KnownTable). CpuMakes u c.args.seat.now.past (Put c.args.frame) (said.Left c.in-Left.left) c.put.new.cpu.past)
-    c.args.tables.now.frames_are c.in-Left.ensures.run in
+    c.args.tables.now.words_are c.in-Left.ensures.run in
     let told = put_left _ _ _ c.requires.knows c.args.frame c.in-Left.left c.put.new.cpu.past run in
     let low = told.1 in let high = told.2 in search rules
 
 pub returns-in-Left-clause-unlisted : goal.returns-in-Left-clause-unlisted
 returns-in-Left-clause-unlisted g c =
     let run = subst (λ (u : KnownTable). CpuMakes u c.args.seat.now.past (Put c.args.frame) (said.Left c.in-Left.left) c.put.new.cpu.past)
-    c.args.tables.now.frames_are c.in-Left.ensures.run in
+    c.args.tables.now.words_are c.in-Left.ensures.run in
     (put_left _ _ _ c.requires.knows c.args.frame c.in-Left.left c.put.new.cpu.past run).0
 
 pub returns-in-Left-clause-knows : goal.returns-in-Left-clause-knows
 returns-in-Left-clause-knows g c =
     let knows = subst (KnowsItsPart _ _) (sym c.self.view_is) c.requires.knows in
-    let is = subst (λ (u : KnownTable). IsAwayCpu u c.put.new.cpu) c.args.tables.now.frames_are c.in-Left.ensures.cpu in
+    let is = subst (λ (u : KnownTable). IsAwayCpu u c.put.new.cpu) c.args.tables.now.words_are c.in-Left.ensures.cpu in
     let run = subst (λ (u : KnownTable). CpuMakes u c.args.seat.now.past (Put c.args.frame) (said.Left c.in-Left.left) c.put.new.cpu.past)
-    c.args.tables.now.frames_are c.in-Left.ensures.run in
+    c.args.tables.now.words_are c.in-Left.ensures.run in
     knows_left _ _ _ knows c.put.new.cpu is c.in-Left.ensures.same.0 c.args.frame c.in-Left.left c.unpin.new.pins.items run c.unpin.ensures.pins

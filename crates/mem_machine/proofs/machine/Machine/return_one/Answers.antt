@@ -8,7 +8,7 @@ use Rattle.mem_machine.proofs.machine.Machine.return_one.Goals as goal
 
 pub pass_back_unit-requires : goal.pass_back_unit-requires
 pass_back_unit-requires g c =
-    let t = g.N.BootName.frames in
+    let t = g.N.BootName.table in
     let m = machine_of c.self.inside in
     let visit = visits_here t m _ c.self.view_is c.args.cpu.now c.requires in
     record {
@@ -19,13 +19,13 @@ pass_back_unit-requires g c =
 
 pub collect-requires-clause-legal : goal.collect-requires-clause-legal
 collect-requires-clause-legal g c =
-    may_collect g.N.BootName.frames (machine_of c.self.inside) _ c.self.view_is c.args.cpu.now c.requires c.self.invariant.consistent c.in-Some.frame _
+    may_collect g.N.BootName.table (machine_of c.self.inside) _ c.self.view_is c.args.cpu.now c.requires c.self.invariant.consistent c.in-Some.frame _
     c.in-Some.ensures.answer.1 _ c.number-cpu_number.ensures.number _ c.number-at.ensures (record { past = c.pass_back_unit.new.held; watch = c.take.new.self })
-    c.in-Some.ensures.run (c.take.ensures _ _ (search rules)) _ c.args.tables.now.frames_are
+    c.in-Some.ensures.run (c.take.ensures _ _ (search rules)) _ c.args.tables.now.words_are
 
 pub free_unit-requires : goal.free_unit-requires
 free_unit-requires g c =
-    let t = g.N.BootName.frames in
+    let t = g.N.BootName.table in
     let m = machine_of c.self.inside in
     let ok = c.self.invariant.consistent in
     let heads = read_head t m _ c.self.view_is c.args.cpu.now c.requires ok c.in-Some.frame _ c.in-Some.ensures.answer.1 _ c.number-at.ensures _ c.index.ensures
@@ -38,14 +38,14 @@ free_unit-requires g c =
 
 pub make_step-requires-clause-legal : goal.make_step-requires-clause-legal
 make_step-requires-clause-legal g c =
-    legal_step _ _ _ _ (may_return g.N.BootName.frames (machine_of c.self.inside) _ c.self.view_is c.args.cpu.now c.requires c.self.invariant.consistent c.in-Some.frame _
+    legal_step _ _ _ _ (may_return g.N.BootName.table (machine_of c.self.inside) _ c.self.view_is c.args.cpu.now c.requires c.self.invariant.consistent c.in-Some.frame _
     c.in-Some.ensures.answer.1 _ c.number-cpu_number.ensures.number _ c.number-at.ensures (record { past = c.pass_back_unit.new.held; watch = c.take.new.self })
-    c.in-Some.ensures.run (c.take.ensures _ _ (search rules)) _ c.args.tables.now.frames_are (record { past = c.collect.new.held; watch = c.take-2.new.self })
+    c.in-Some.ensures.run (c.take.ensures _ _ (search rules)) _ c.args.tables.now.words_are (record { past = c.collect.new.held; watch = c.take-2.new.self })
     c.collect.ensures (c.take-2.ensures _ _ (search rules))) tt (search rules)
 
 pub invariant_of-self-2 : goal.invariant_of-self-2
 invariant_of-self-2 g c =
-    let t = g.N.BootName.frames in
+    let t = g.N.BootName.table in
     let m = machine_of c.self.inside in
     let ok = c.self.invariant.consistent in
     let u = c.free_unit.ensures in
@@ -53,7 +53,7 @@ invariant_of-self-2 g c =
     ∙ c.in-Head.is in
     let notes = returned_notes t m _ c.self.view_is c.args.cpu.now c.requires ok c.in-Some.frame _
     c.in-Some.ensures.answer.1 _ c.number-cpu_number.ensures.number _ c.number-at.ensures (record { past = c.pass_back_unit.new.held; watch = c.take.new.self })
-    c.in-Some.ensures.run (c.take.ensures _ _ (search rules)) _ c.args.tables.now.frames_are (record { past = c.collect.new.held; watch = c.take-2.new.self })
+    c.in-Some.ensures.run (c.take.ensures _ _ (search rules)) _ c.args.tables.now.words_are (record { past = c.collect.new.held; watch = c.take-2.new.self })
     c.collect.ensures (c.take-2.ensures _ _ (search rules)) _ (c.make_step.ensures.notes _ _ (search rules)) in
     let all = return_all t m _ c.self.view_is c.args.cpu.now c.requires ok c.in-Some.frame _ c.in-Some.ensures.answer _ _ _ _ c.self.invariant.free
     c.self.invariant.sums c.self.invariant.owners _ c.number-at.ensures _ heads _ u.frame_states _ u.frames u.areas _ u.charges _ c.with_last_put-self-inside.ensures _ notes in
@@ -61,7 +61,7 @@ invariant_of-self-2 g c =
 
 pub returns : goal.returns
 returns g c =
-    let t = g.N.BootName.frames in
+    let t = g.N.BootName.table in
     let m = machine_of c.self.inside in
     let ok = c.self.invariant.consistent in
     let u = c.free_unit.ensures in
@@ -69,7 +69,7 @@ returns g c =
     ∙ c.in-Head.is in
     let notes = returned_notes t m _ c.self.view_is c.args.cpu.now c.requires ok c.in-Some.frame _
     c.in-Some.ensures.answer.1 _ c.number-cpu_number.ensures.number _ c.number-at.ensures (record { past = c.pass_back_unit.new.held; watch = c.take.new.self })
-    c.in-Some.ensures.run (c.take.ensures _ _ (search rules)) _ c.args.tables.now.frames_are (record { past = c.collect.new.held; watch = c.take-2.new.self })
+    c.in-Some.ensures.run (c.take.ensures _ _ (search rules)) _ c.args.tables.now.words_are (record { past = c.collect.new.held; watch = c.take-2.new.self })
     c.collect.ensures (c.take-2.ensures _ _ (search rules)) _ (c.make_step.ensures.notes _ _ (search rules)) in
     let all = return_all t m _ c.self.view_is c.args.cpu.now c.requires ok c.in-Some.frame _ c.in-Some.ensures.answer _ _ _ _ c.self.invariant.free
     c.self.invariant.sums c.self.invariant.owners _ c.number-at.ensures _ heads _ u.frame_states _ u.frames u.areas _ u.charges _ c.with_last_put-self-inside.ensures _ notes in
@@ -77,5 +77,5 @@ returns g c =
 
 pub unreachable-requires : goal.unreachable-requires
 unreachable-requires g c =
-    not_other g.N.BootName.frames (machine_of c.self.inside) _ c.self.view_is c.args.cpu.now c.requires c.self.invariant.consistent c.in-Some.frame _
+    not_other g.N.BootName.table (machine_of c.self.inside) _ c.self.view_is c.args.cpu.now c.requires c.self.invariant.consistent c.in-Some.frame _
     c.in-Some.ensures.answer.1 _ c.number-at.ensures _ c.index.ensures c.in_default-index.not-Head

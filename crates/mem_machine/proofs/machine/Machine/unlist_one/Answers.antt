@@ -9,7 +9,7 @@ use Rattle.mem_machine.proofs.machine.Machine.unlist_one.Goals as goal
 
 pub pass_front-requires : goal.pass_front-requires
 pass_front-requires g c =
-    let t = g.N.BootName.frames in
+    let t = g.N.BootName.table in
     let m = machine_of c.self.inside in
     let visit = visits_here t m _ c.self.view_is c.args.cpu.now c.requires in
     record {
@@ -20,25 +20,25 @@ pass_front-requires g c =
 
 pub collect-requires : goal.collect-requires
 collect-requires g c =
-    let t = g.N.BootName.frames in
+    let t = g.N.BootName.table in
     let m = machine_of c.self.inside in
     let visit = visits_here t m _ c.self.view_is c.args.cpu.now c.requires in
     record {
-      held = held_at _ _ c.args.tables.now.frames_are _ c.in-Some.ensures.run.held;
+      held = held_at _ _ c.args.tables.now.words_are _ c.in-Some.ensures.run.held;
       holder = c.number-cpu_number.ensures.number ∙ sym (c.in-Some.ensures.run.cpu_grew.number ∙ visit.who);
-      legal = may_at _ _ c.args.tables.now.frames_are 0 refl c.pass_front.new.held (Collect c.in-Some.frame c.number-cpu_number.result)
+      legal = may_at _ _ c.args.tables.now.words_are 0 refl c.pass_front.new.held (Collect c.in-Some.frame c.number-cpu_number.result)
           (may_collect_front t m _ c.self.view_is c.args.cpu.now c.requires c.self.invariant.consistent c.in-Some.frame _ c.in-Some.ensures.answer _ c.number-cpu_number.ensures.number _ c.in-Some.ensures.run);
     }
 
 pub give-requires : goal.give-requires
 give-requires g c =
-    may_give g.N.BootName.frames (machine_of c.self.inside) _ c.self.view_is c.args.cpu.now c.requires c.self.invariant.consistent c.in-Some.frame _ c.in-Some.ensures.answer _ _
+    may_give g.N.BootName.table (machine_of c.self.inside) _ c.self.view_is c.args.cpu.now c.requires c.self.invariant.consistent c.in-Some.frame _ c.in-Some.ensures.answer _ _
     c.single_order.result c.self.invariant.free c.number-at.ensures c.single_order.ensures
 
 pub invariant_of-self-2 : goal.invariant_of-self-2
 invariant_of-self-2 g c =
-    let t = g.N.BootName.frames in
-    let made = made_at g.N.BootName.frames _ c.args.tables.now.frames_are 0 refl _ (Collect c.in-Some.frame c.number-cpu_number.result) Done _ c.collect.ensures in
+    let t = g.N.BootName.table in
+    let made = made_at g.N.BootName.table _ c.args.tables.now.words_are 0 refl _ (Collect c.in-Some.frame c.number-cpu_number.result) Done _ c.collect.ensures in
     let noted = taken_notes t (machine_of c.self.inside) _ c.self.view_is c.args.cpu.now c.requires c.self.invariant.consistent c.in-Some.frame _ c.number-cpu_number.result _ c.number-at.ensures c.number-cpu_number.ensures.number
     c.number-cpu_number.ensures.number _ _ _ _ c.in-Some.ensures.run made (c.take.ensures _ _ (search rules)) (c.take-2.ensures _ _ (search rules)) in
     let all = unlisted_all t (machine_of c.self.inside) _ c.self.view_is c.args.cpu.now c.requires c.self.invariant.consistent c.in-Some.frame _ c.in-Some.ensures.answer _ _ c.single_order.result _ _ _ _ c.self.invariant.free
@@ -47,8 +47,8 @@ invariant_of-self-2 g c =
 
 pub returns : goal.returns
 returns g c =
-    let t = g.N.BootName.frames in
-    let made = made_at g.N.BootName.frames _ c.args.tables.now.frames_are 0 refl _ (Collect c.in-Some.frame c.number-cpu_number.result) Done _ c.collect.ensures in
+    let t = g.N.BootName.table in
+    let made = made_at g.N.BootName.table _ c.args.tables.now.words_are 0 refl _ (Collect c.in-Some.frame c.number-cpu_number.result) Done _ c.collect.ensures in
     let noted = taken_notes t (machine_of c.self.inside) _ c.self.view_is c.args.cpu.now c.requires c.self.invariant.consistent c.in-Some.frame _ c.number-cpu_number.result _ c.number-at.ensures c.number-cpu_number.ensures.number
     c.number-cpu_number.ensures.number _ _ _ _ c.in-Some.ensures.run made (c.take.ensures _ _ (search rules)) (c.take-2.ensures _ _ (search rules)) in
     let all = unlisted_all t (machine_of c.self.inside) _ c.self.view_is c.args.cpu.now c.requires c.self.invariant.consistent c.in-Some.frame _ c.in-Some.ensures.answer _ _ c.single_order.result _ _ _ _ c.self.invariant.free

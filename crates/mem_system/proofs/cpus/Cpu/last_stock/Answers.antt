@@ -7,7 +7,7 @@ use Rattle.mem_system.proofs.cpus.Cpu.last_stock.Goals as goal
 
 pub returns-clause-none_fresh : goal.returns-clause-none_fresh
 returns-clause-none_fresh g c = λ none.
-    let t = g.N.BootName.frames in
+    let t = g.N.BootName.table in
     let past = c.self.inside.past in
     let knows = c.self.invariant in
     let last : past.last ≡ NoGroup = sym c.last.ensures ∙ none in

@@ -10,11 +10,11 @@ use Rattle.mem_system.proofs.emptied_boot.EmptiedBoot.close.Goals as goal
 
 pub gather_seats-seats-requires-clause-idle : goal.gather_seats-seats-requires-clause-idle
 gather_seats-seats-requires-clause-idle g c =
-    All-weaker (IsEmptied g.N.BootName.frames c.self.inside.machine) IsIdle (λ cpu emptied. emptied.idle) (parts_of c.self.inside.cpus.items) c.self.invariant.0.all_emptied
+    All-weaker (IsEmptied g.N.BootName.table c.self.inside.machine) IsIdle (λ cpu emptied. emptied.idle) (parts_of c.self.inside.cpus.items) c.self.invariant.0.all_emptied
 
 pub close_table-requires-clause-seats : goal.close_table-requires-clause-seats
 close_table-requires-clause-seats g c =
-    let t = g.N.BootName.frames in
+    let t = g.N.BootName.table in
     subst (AllOf (HasCpuPast t)) (sym c.gather_seats-seats.ensures.seats) (have_pasts t c.self.inside.cpus.items c.gather_seats-seats.ensures.knows)
 
 pub close_table-requires-clause-count : goal.close_table-requires-clause-count
@@ -23,7 +23,7 @@ close_table-requires-clause-count g c =
 
 pub returns : goal.returns
 returns g c =
-    let t = g.N.BootName.frames in
+    let t = g.N.BootName.table in
     let m = c.self.inside.machine in
     let cpus = c.self.inside.cpus.items in
     let gathered = c.gather_seats-seats.ensures in

@@ -4,7 +4,7 @@ use Rattle.mem_system.proofs.lock.Locked.meet.Goals as goal
 
 pub invariant_of-self : goal.invariant_of-self
 invariant_of-self g c =
-    let t = g.N.BootName.frames in
+    let t = g.N.BootName.table in
     let quiet = c.self.invariant.quiet in
     let met = c.meet.ensures in
     record {

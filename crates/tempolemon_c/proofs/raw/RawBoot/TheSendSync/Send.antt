@@ -7,7 +7,7 @@ use Rattle.tempolemon_c.specs.contracts.raw.RawBoot.{the_row, the_type}
 
 owned : (f : KnownTable) (a : Global) (p : Ptr) (o : Option KnownLive) → Keyless (live_owns brand f a p o)
 owned f a p None = tt
-owned f a p (Some live) = box_crosses (live_row brand f) (live_send brand (record { frames = f })) a p live
+owned f a p (Some live) = box_crosses (live_row brand f) (live_send brand (record { table = f })) a p live
 
 pub send : IsSend the_row
 send =

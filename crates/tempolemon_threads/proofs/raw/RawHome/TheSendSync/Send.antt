@@ -8,7 +8,7 @@ use Rattle.tempolemon_threads.specs.contracts.raw.RawHome.{the_row, the_type}
 
 owned : (f : KnownTable) (a : Global) (p : Ptr) (o : Option KnownHome) → Keyless (home_owns brand f a p o)
 owned f a p None = tt
-owned f a p (Some home) = box_crosses (home_row brand f) (home_send brand (record { frames = f })) a p home
+owned f a p (Some home) = box_crosses (home_row brand f) (home_send brand (record { table = f })) a p home
 
 pub send : IsSend the_row
 send =

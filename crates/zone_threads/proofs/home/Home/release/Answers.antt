@@ -34,5 +34,5 @@ released t number outcome before between after from seen was now sizes change mi
 
 pub returns-in-Some-serve : goal.returns-in-Some-serve
 returns-in-Some-serve g c =
-    released g.N.BootName.frames c.args.number c.in-Some-serve.outcome c.args.self.now _ c.serve.new.self c.in-Some.cpu c.relist.new.cpu
+    released g.N.BootName.table c.args.number c.in-Some-serve.outcome c.args.self.now _ c.serve.new.self c.in-Some.cpu c.relist.new.cpu
     (search rules) refl (search rules) (search rules) (search rules) c.in-Some-serve.ensures.served
