@@ -239,11 +239,6 @@ pub record VisitStateStays (before after : VisitState) : Type 0 where
   pub machine : after.machine ≡ before.machine
   pub cpu : after.cpu ≡ before.cpu
 
--- nothing of the visit state changed, except what the machine's watch saw
-pub record OnlyWatches (before after : VisitState) : Type 0 where
-  pub machine : after.machine ≡ record before.machine { run = after.machine.run }
-  pub cpu : after.cpu ≡ before.cpu
-
 -- `First` leads from the visit state before to a visit state between, and `Rest` leads from there to the visit state
 -- after
 pub record FirstThen (First Rest : VisitState → VisitState → Type 0) (before after : VisitState) : Type 0 where

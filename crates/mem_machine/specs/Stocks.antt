@@ -103,10 +103,6 @@ DrainsAllIf table test zero drains before after = (drains ≡ []) × (after ≡ 
 DrainsAllIf table test (suc count) drains before after =
     DrainsInTurn (DrainsAllIf table test count) (DrainsIf table test (suc count)) drains before after
 
--- the CPU's stock is drained if it is of a group in this group's subtree
-abbrev pub DrainsBelow : KnownTable → ℕ → ℕ → List Drain → KnownMachine → KnownMachine → Type 0
-DrainsBelow table group cpu drains before after = DrainsIf table (of_subtree group) cpu drains before after
-
 -- of the stocks of CPUs 1 to `count`, those of the group's subtree are drained
 abbrev pub DrainsAllBelow : KnownTable → ℕ → ℕ → List Drain → KnownMachine → KnownMachine → Type 0
 DrainsAllBelow table group count drains before after = DrainsAllIf table (of_subtree group) count drains before after
