@@ -5,7 +5,8 @@ use Rattle.std.specs.Prelude.{IfSome}
 use Rattle.std.proofs.lemmas.Option.{none-some}
 use Rattle.zone_blocks.specs.declared.config.Config.{Config}
 use Rattle.step_rules.specs.After.{Run, IsLegalRun}
-use Rattle.mem_machine.specs.{AgreesWithRun, zone_of}
+use Rattle.boot_words.specs.{zone_of_boot}
+use Rattle.mem_machine.specs.{AgreesWithRun}
 use Rattle.mem_history.specs.Whole.{ShowsAll}
 use Rattle.mem_system.specs.Cpus.{parts_of}
 use Rattle.script_lines.specs.declared.line.Line.{Line}
@@ -27,7 +28,7 @@ module _ (on : SessionTerms) where
 
   served_keeps : (form : SessionForm) (run : Run) (text : List ℕ) (line : Line) (s e : SystemState) (answer : List ℕ)
       → ShowsAll on.frames run s.locked.machine (parts_of s.cpus) → (one : ServesInForm form on.frames text line s e answer)
-      → IsLegalRun (zone_of on.frames) (run ++ steps_in_form form on.frames text line s e answer one)
+      → IsLegalRun (zone_of_boot on.frames) (run ++ steps_in_form form on.frames text line s e answer one)
       → GoesOn run s (run ++ steps_in_form form on.frames text line s e answer one) e
       (KeepsPromise on.frames (run ++ steps_in_form form on.frames text line s e answer one) e)
   served_keeps (Answers is_explained) run text line s e answer shows one legal =
@@ -56,7 +57,7 @@ module _ (on : SessionTerms) where
 
   turn_keeps : (sizes : Config) (run : Run) (number : ℕ) (text : Option (List ℕ)) (served : Option Line) (s e : SystemState) (answer : List ℕ)
       → ShowsAll on.frames run s.locked.machine (parts_of s.cpus) → (one : AnswersLine on sizes number text served s e answer)
-      → IsLegalRun (zone_of on.frames) (run ++ steps_of_turn on sizes number text served s e answer one)
+      → IsLegalRun (zone_of_boot on.frames) (run ++ steps_of_turn on sizes number text served s e answer one)
       → GoesOn run s (run ++ steps_of_turn on sizes number text served s e answer one) e
       (IfSome served (λ line. KeepsPromise on.frames (run ++ steps_of_turn on sizes number text served s e answer one) e))
   turn_keeps sizes run number None None s e answer shows one legal = (nothing_follows on.frames run s e [] refl one.1 shows, λ told. tt)
@@ -80,7 +81,7 @@ legal_turns_keep_it on sizes number (turn ∷ turns) s e answers run shows legal
     let more = steps_of_turns on sizes (number + 1) turns mid e answers.2 in
     let first = turn_keeps on sizes run number turn.text turn.served s mid turn.answer shows answers.1 (legal_first on.frames run one more legal) in
     let rest = legal_turns_keep_it on sizes (number + 1) turns mid e answers.2 (run ++ one) first.0.shows
-    (subst (IsLegalRun (zone_of on.frames)) (sym (append_assoc run one more)) legal) in
+    (subst (IsLegalRun (zone_of_boot on.frames)) (sym (append_assoc run one more)) legal) in
     (follows_both on.frames run s mid e one more first.0 rest.0, λ told. (first.1 told, rest.1 (first.0.agrees told)))
 
 -- the run so far goes on by the lines of turns

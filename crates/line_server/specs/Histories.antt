@@ -3,7 +3,8 @@ use Rattle.std.specs.Prelude.{ℕ, ◌+◌, List, [], ◌∷◌, ◌++◌, Optio
 use Rattle.frame_word.specs.Tables.{KnownTable}
 use Rattle.zone_blocks.specs.declared.config.Config.{Config}
 use Rattle.step_rules.specs.After.{Run, IsLegalRun}
-use Rattle.mem_machine.specs.{AgreesWithRun, zone_of}
+use Rattle.boot_words.specs.{zone_of_boot}
+use Rattle.mem_machine.specs.{AgreesWithRun}
 use Rattle.mem_history.specs.Whole.{GoesOnTo, ShowsAll}
 use Rattle.mem_system.specs.Cpus.{parts_of}
 use Rattle.script_lines.specs.declared.line.Line.{Line}
@@ -54,7 +55,7 @@ abbrev pub LegalTurnsKeepIt : Type 0
 LegalTurnsKeepIt = (on : SessionTerms) (sizes : Config) (number : ℕ) (turns : List Turn) (before after : SystemState)
     (answers : AnswersTurns on sizes number turns before after) (run : Run)
     → ShowsAll on.frames run before.locked.machine (parts_of before.cpus)
-    → IsLegalRun (zone_of on.frames) (run ++ steps_of_turns on sizes number turns before after answers)
+    → IsLegalRun (zone_of_boot on.frames) (run ++ steps_of_turns on sizes number turns before after answers)
     → GoesOnTo on.frames run before.locked.machine (run ++ steps_of_turns on sizes number turns before after answers)
     after.locked.machine (parts_of after.cpus)
     × (AgreesWithRun on.frames run before.locked.machine.ledger

@@ -9,11 +9,11 @@ use Rattle.zone_blocks.specs.declared.config.Config.{Config}
 use Rattle.step_rules.specs.State.{Zone}
 use Rattle.step_watch.specs.Watched.{IsNewWatch, KnownWatch}
 use Rattle.mem_core.specs.Shown as core
-use Rattle.mem_machine.specs.{zone_of, KnownMachine, IsFirst, with_watch, AgreesWithRun}
+use Rattle.mem_machine.specs.{KnownMachine, IsFirst, with_watch, AgreesWithRun}
 use Rattle.mem_history.specs.Whole.{ShowsAll}
 use Rattle.mem_history.proofs.Booting.{a_boot_is_shown}
 use Rattle.boot_words.specs.declared.past.Past.{Past}
-use Rattle.boot_words.specs.{own_past, IsRunSoFar}
+use Rattle.boot_words.specs.{own_past, IsRunSoFar, zone_of_boot}
 use Rattle.mem_system.specs.{IsSizedAs, first_cpus, CpuInRun, parts_of, pasts_of, KnownLocked}
 use Rattle.mem_history.proofs.Agreeing.{a_boot_agrees}
 use Rattle.mem_system.proofs.Closing.{written_back}
@@ -86,7 +86,7 @@ watched_first t m watch first = record {
 
 -- a new watch of a boot's sizes is one of its tables
 pub new_watch : (booted sizes : Config) (t : KnownTable) → IsSizedAs booted t → booted ≡ sizes → (watch : KnownWatch)
-    → IsNewWatch (core.zone_of_config sizes) watch → IsNewWatch (zone_of t) watch
+    → IsNewWatch (core.zone_of_config sizes) watch → IsNewWatch (zone_of_boot t) watch
 new_watch booted sizes t sized same watch new =
     let frames : sizes.frames ≡ t.frames = ap (λ (s : Config). s.frames) (sym same) ∙ sym sized.frames in
     let cpus : sizes.cpus ≡ t.cpus = ap (λ (s : Config). s.cpus) (sym same) ∙ sym sized.cpus in

@@ -4,13 +4,12 @@ use Rattle.std.proofs.Common.{◌∙◌, ℕ, List, [], ◌∷◌, ◌++◌, sub
 use Rattle.std.proofs.lemmas.List.{length-map}
 use Rattle.frame_word.specs.Tables.{KnownTable}
 use Rattle.boot_words.specs.declared.past.Past.{Past as SeatPast}
-use Rattle.boot_words.specs.{own_past, AllOf, BeginsRun, IsPastOf, AreFrameWords, AreStockWords}
+use Rattle.boot_words.specs.{own_past, AllOf, BeginsRun, IsPastOf, AreFrameWords, AreStockWords, zone_of_boot}
 use Rattle.boot_words.proofs.Gaining.{the_run_so_far_is_legal}
 use Rattle.boot_words.proofs.Growing.{past_of_run}
 use Rattle.step_rules.specs.State.{State, Zone}
 use Rattle.step_rules.specs.After.{Run}
 use Rattle.mem_core.proofs.Keeping.{always_keeps}
-use Rattle.mem_machine.specs.Interleaving.{zone_of}
 use Rattle.mem_system.specs.Cpus.{CpuInRun, pasts_of}
 use Rattle.script_lines.specs.declared.line.Line.{Line}
 use Rattle.script_replay.specs.{KeepsHistory, Past, past_line, HasRun, SystemState}
@@ -32,20 +31,20 @@ all_begin zone run (p ∷ pasts) all = (past_of_run zone run p all.0, all_begin 
 
 -- if a run led to the end, it and the steps of the end are one legal run, which led to the words that were closed
 pub whole_run : (t : KnownTable) (run : Run) (end : SystemState) (ended : BootEnd) → HasRun run end → (ends : EndsHeld t end ended)
-    → IsWholeRun (zone_of t) (last_words ends.closes) (run ++ ends.leaves.steps)
+    → IsWholeRun (zone_of_boot t) (last_words ends.closes) (run ++ ends.leaves.steps)
 whole_run t run end ended has ends =
     let closes = ends.closes in
     let cpus = ends.emptied.cpus in
     let whole : Run = run ++ ends.leaves.steps in
     let last : Run = closes.end.run in
     let words = last_words closes in
-    let both = the_run_so_far_is_legal (zone_of t) last whole (own_past ends.emptied.machine.run.past) (pasts_of cpus) closes.end.is.legal closes.zone
-    (length-map cpus (λ (x : CpuInRun). own_past x.past) ∙ closes.count) (all_begin (zone_of t) last (own_past ends.emptied.machine.run.past ∷ pasts_of cpus) closes.end.begin) (ends.leaves.so_far run has) in
+    let both = the_run_so_far_is_legal (zone_of_boot t) last whole (own_past ends.emptied.machine.run.past) (pasts_of cpus) closes.end.is.legal closes.zone
+    (length-map cpus (λ (x : CpuInRun). own_past x.past) ∙ closes.count) (all_begin (zone_of_boot t) last (own_past ends.emptied.machine.run.past ∷ pasts_of cpus) closes.end.begin) (ends.leaves.so_far run has) in
     record {
       leads = record {
         legal = both.0;
         frames = subst (λ (s : State). AreFrameWords s words.frames) (sym both.1) closes.end.is.frames;
         stocks = subst (λ (s : State). AreStockWords s words.stocks) (sym both.1) closes.end.is.stocks;
       };
-      promise = always_keeps (zone_of t) whole both.0;
+      promise = always_keeps (zone_of_boot t) whole both.0;
     }

@@ -5,8 +5,8 @@ use Rattle.frame_word.specs.Tables.{KnownTable}
 use Rattle.zone_blocks.specs.declared.config.Config.{Config}
 use Rattle.zone_blocks.specs.Config.{IsValidConfig}
 use Rattle.step_rules.specs.After.{Run as StepRun}
-use Rattle.boot_words.specs.{AreChangesOf, own_past, OthersFollow}
-use Rattle.mem_machine.specs.{zone_of, AgreesWithRun}
+use Rattle.boot_words.specs.{AreChangesOf, own_past, OthersFollow, zone_of_boot}
+use Rattle.mem_machine.specs.{AgreesWithRun}
 use Rattle.mem_system.specs.{CpuInRun, IsQuiet}
 use Rattle.script_lines.specs.declared.line.Line.{Line}
 use Rattle.script_lines.specs.Script.{IsScript, longest_script}
@@ -46,7 +46,7 @@ pub record AreReplayAnswers (sizes : Config) (form : Form) (is_audited : Bool) (
   pub ends : WritesEnd frames is_audited end ending
   pub whole : StepRun
   pub whole_is : whole ≡ run ++ ends.ends.leaves.steps
-  pub is_whole : IsWholeRun (zone_of frames) (last_words ends.ends.closes) whole
+  pub is_whole : IsWholeRun (zone_of_boot frames) (last_words ends.ends.closes) whole
   pub text_is : text ≡ answers ++ ending
 
 -- the line that says how many steps were checked
@@ -101,7 +101,7 @@ pub record AreThreadAnswers (sizes : Config) (is_numbered is_audited : Bool) (li
   pub ends : WritesEnd frames is_audited at_end ending
   pub whole : StepRun
   pub whole_is : whole ≡ sees_end.beginning ++ ends.ends.leaves.steps
-  pub is_whole : IsWholeRun (zone_of frames) (last_words ends.ends.closes) whole
+  pub is_whole : IsWholeRun (zone_of_boot frames) (last_words ends.ends.closes) whole
   pub changes : AreChangesOf sees.beginning run
   pub each : (index : ℕ) (cpu : CpuInRun) (steps : StepRun) → slice_get end.cpus index ≡ Some cpu
       → slice_get told index ≡ Some steps

@@ -8,6 +8,7 @@ use Rattle.std.proofs.lemmas.Option.{slice_get_past}
 use Rattle.frame_word.specs.Tables.{KnownTable}
 use Rattle.group_charge.specs.Charges.{AreCharges}
 use Rattle.zone_blocks.specs.Areas.{AreMaximalBlocks}
+use Rattle.boot_words.specs.{zone_of_boot}
 use Rattle.cpu_part.specs.Cpus.{KnownCpuLists}
 use Rattle.step_rules.specs.declared.phase.ChargedUnit.{ChargedUnit}
 use Rattle.step_rules.specs.declared.phase.Stage.{Stage}
@@ -28,7 +29,7 @@ use Rattle.step_rules.proofs.Promising.{the_promise_is_kept}
 use Rattle.mem_machine.specs.declared.frame_state.FrameState.{FrameState}
 use Rattle.mem_machine.specs.declared.frame_state.FrameState.TheVariants.{Free, Lent, Head, Tail}
 use Rattle.mem_machine.specs.FrameStates as frame_states
-use Rattle.mem_machine.specs.{frame_state_at, free_of, phase_hidden, KnownMachine, IsConsistent, left_by, part_at, stock_group, zone_of}
+use Rattle.mem_machine.specs.{frame_state_at, free_of, phase_hidden, KnownMachine, IsConsistent, left_by, part_at, stock_group}
 use Rattle.step_rules.proofs.Runs.{sound_run}
 use Rattle.boot_words.specs.Hidden.{hide_phase}
 use Rattle.mem_history.specs.{ShowsAll, TheWholeIsPromised, list_by, fresh_frames_by, keeper_by, stock_by, shown_of}
@@ -98,7 +99,7 @@ any_head_plain (Tail g) u stage e = cc
 module _ (t : KnownTable) (run : Run) (m : KnownMachine) (cpus : List KnownCpuLists) (shows : ShowsAll t run m cpus)
     (is : IsConsistent t m) (charges : AreCharges m.ledger) where
   abbrev zone : Zone
-  zone = zone_of t
+  zone = zone_of_boot t
 
   abbrev whole : State
   whole = state_of zone run
@@ -218,4 +219,4 @@ module _ (t : KnownTable) (run : Run) (m : KnownMachine) (cpus : List KnownCpuLi
 
 pub the_whole_is_promised : TheWholeIsPromised
 the_whole_is_promised t run m cpus shows is charges =
-    the_promise_is_kept (zone_of t) run (shown_of t m cpus) shows.legal shows.free (is_shown t run m cpus shows is charges)
+    the_promise_is_kept (zone_of_boot t) run (shown_of t m cpus) shows.legal shows.free (is_shown t run m cpus shows is charges)

@@ -7,9 +7,9 @@ use Rattle.step_rules.specs.declared.phase.Hold.{Hold}
 use Rattle.step_rules.specs.declared.phase.Hold.TheVariants.{HeldBy}
 use Rattle.step_rules.specs.{Part, Zone, Run, state_of, IsLegalRun, other_part_seen, seen_by}
 use Rattle.step_rules.specs.State.{State}
-use Rattle.boot_words.specs.{hide, show_own, cpu_past}
+use Rattle.boot_words.specs.{hide, show_own, cpu_past, zone_of_boot}
 use Rattle.boot_words.proofs.Showing.{holder_sees_both}
-use Rattle.mem_machine.specs.{KnownMachine, VisitState, left_by, local_of, zone_of}
+use Rattle.mem_machine.specs.{KnownMachine, VisitState, left_by, local_of}
 use Rattle.mem_history.specs.Whole.{HasTakenLock, LeavesState}
 
 -- two parts with the same lists that look the same to others
@@ -44,7 +44,7 @@ pub leaves : (t : KnownTable) (m : KnownMachine) (s : State) (hold : Hold) → l
 leaves t m s hold left = ap (λ (x : State). record x { hold = (left_by t m.run.past).hold }) left
 
 module _ (t : KnownTable) (run : Run) (cpus : List KnownCpuLists) (k : ℕ) (now : VisitState) (taken : HasTakenLock t cpus k now)
-    (legal : IsLegalRun (zone_of t) run) where
+    (legal : IsLegalRun (zone_of_boot t) run) where
   abbrev m : KnownMachine
   m = now.machine
 
@@ -53,20 +53,20 @@ module _ (t : KnownTable) (run : Run) (cpus : List KnownCpuLists) (k : ℕ) (now
 
   -- what the holder's past left, whole
   abbrev seen : State
-  seen = state_of (zone_of t) (cpu_past now.machine.run.past).seen
+  seen = state_of (zone_of_boot t) (cpu_past now.machine.run.past).seen
 
-  left_is : left_by t now.machine.run.past ≡ hide (state_of (zone_of t) (cpu_past now.machine.run.past).seen)
-  left_is = ap (λ (r : Run). hide (state_of (zone_of t) r)) taken.holds.held.holds.same
+  left_is : left_by t now.machine.run.past ≡ hide (state_of (zone_of_boot t) (cpu_past now.machine.run.past).seen)
+  left_is = ap (λ (r : Run). hide (state_of (zone_of_boot t) r)) taken.holds.held.holds.same
 
-  local_is : local_of t now.machine ≡ seen_by now.cpu.number (state_of (zone_of t) (cpu_past now.machine.run.past).seen)
+  local_is : local_of t now.machine ≡ seen_by now.cpu.number (state_of (zone_of_boot t) (cpu_past now.machine.run.past).seen)
   local_is = ap (λ (q : ℕ). seen_by q seen) taken.holds.who
 
   -- the run that shows the whole left the CPU's lists, and what the machine's past left; then the CPU sees the same
-  pub sees_whole : LeavesState t now.machine (state_of (zone_of t) run) → HasOwn (state_of (zone_of t) run) now.cpu
-      → state_of (zone_of t) run ≡ record (state_of (zone_of t) run) { hold = HeldBy now.cpu.number }
-      → local_of t now.machine ≡ seen_by now.cpu.number (state_of (zone_of t) run)
+  pub sees_whole : LeavesState t now.machine (state_of (zone_of_boot t) run) → HasOwn (state_of (zone_of_boot t) run) now.cpu
+      → state_of (zone_of_boot t) run ≡ record (state_of (zone_of_boot t) run) { hold = HeldBy now.cpu.number }
+      → local_of t now.machine ≡ seen_by now.cpu.number (state_of (zone_of_boot t) run)
   sees_whole left own held =
-      let zone = zone_of t in
+      let zone = zone_of_boot t in
       let hold : (left_by t m.run.past).hold ≡ HeldBy c.number = ap (λ (x : State). x.hold) left_is ∙ ap (λ (x : State). x.hold) (sym local_is) ∙ taken.shut in
       let same : hide seen ≡ hide (state_of zone run) = sym left_is ∙ left ∙ ap (λ (h : Hold). record (hide (state_of zone run)) { hold = h }) hold ∙ ap hide (sym held) in
       local_is ∙ sees_same zone (cpu_past m.run.past).seen run c taken.holds.held.holds.shows.legal legal same

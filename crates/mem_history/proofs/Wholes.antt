@@ -18,9 +18,9 @@ use Rattle.step_rules.proofs.Runs.{state_more}
 use Rattle.step_rules.proofs.Freeing.{zone_of_run}
 use Rattle.step_rules.proofs.Interleaving.{local_runs_interleave}
 use Rattle.step_rules.proofs.Seeing.{the_lock_is_passed_on}
-use Rattle.boot_words.specs.{hide, HasNoStepOf}
+use Rattle.boot_words.specs.{hide, HasNoStepOf, zone_of_boot}
 use Rattle.boot_words.proofs.Owning.{lists_are_own}
-use Rattle.mem_machine.specs.{AgreesWithRun, KnownMachine, VisitState, left_by, lock_holder, local_of, IsInterleaving, zone_of, Shows}
+use Rattle.mem_machine.specs.{AgreesWithRun, KnownMachine, VisitState, left_by, lock_holder, local_of, IsInterleaving, Shows}
 use Rattle.mem_machine.specs.Steps.{cpu_makes}
 use Rattle.mem_machine.proofs.Sight.{hide_seen, left_seen}
 use Rattle.mem_machine.proofs.Tells.{ledgers_agree}
@@ -46,7 +46,7 @@ set_else xs k j x y ne e =
 module _ (t : KnownTable) (run : Run) (m : KnownMachine) (cpus : List KnownCpuLists) (k : ℕ) (c : KnownCpuLists) (shows : ShowsAll t run m cpus)
     (is_part : slice_get cpus k ≡ Some c) where
   abbrev zone : Zone
-  zone = zone_of t
+  zone = zone_of_boot t
 
   abbrev whole : State
   whole = state_of zone run
@@ -90,9 +90,9 @@ module _ (t : KnownTable) (run : Run) (m : KnownMachine) (cpus : List KnownCpuLi
 module _ (t : KnownTable) (run : Run) (cpus : List KnownCpuLists) (k : ℕ) (now : VisitState) (shows : ShowsAll t run now.machine cpus)
     (taken : HasTakenLock t cpus k now) where
   -- the CPU sees what the run shows it
-  pub takes : ShowsLocal (zone_of t) (locked t run now.machine cpus k now.cpu shows taken.is_part) now.cpu.number (local_of t now.machine)
+  pub takes : ShowsLocal (zone_of_boot t) (locked t run now.machine cpus k now.cpu shows taken.is_part) now.cpu.number (local_of t now.machine)
   takes =
-      let zone = zone_of t in let c = now.cpu in let whole = state_of zone run in
+      let zone = zone_of_boot t in let c = now.cpu in let whole = state_of zone run in
       let lock = locked t run now.machine cpus k c shows taken.is_part in
       let lock_is = locked_is t run now.machine cpus k c shows taken.is_part in
       let zoned : is_cpu whole.zone c.number ≡ true = ap (λ (z : Zone). is_cpu z c.number) (zone_of_run zone run) ∙ is_one t run now.machine cpus k c shows taken.is_part in
@@ -115,8 +115,8 @@ the_same_is_shown t run m other cpus shows same = record {
   each = shows.each;
 }
 
-holder_shown : (t : KnownTable) (run : Run) (m : KnownMachine) (p : ℕ) → lock_holder m ≡ p → ShowsLocal (zone_of t) run p (local_of t m) → Shows t run m
-holder_shown t run m p who = subst (λ (q : ℕ). ShowsLocal (zone_of t) run q (local_of t m)) (sym who)
+holder_shown : (t : KnownTable) (run : Run) (m : KnownMachine) (p : ℕ) → lock_holder m ≡ p → ShowsLocal (zone_of_boot t) run p (local_of t m) → Shows t run m
+holder_shown t run m p who = subst (λ (q : ℕ). ShowsLocal (zone_of_boot t) run q (local_of t m)) (sym who)
 
 pub the_holder_is_shown : TheHolderIsShown
 the_holder_is_shown t run cpus k now shows taken =
@@ -152,7 +152,7 @@ parts_after s cpus k c d is_part number own others j e at = elim (cases_eq j k) 
 
 pub lines_follow : LinesFollow
 lines_follow t run cpus k before steps later shows serves legal =
-    let zone = zone_of t in
+    let zone = zone_of_boot t in
     let m = before.machine in let n = later.machine in
     let c = before.cpu in let d = later.cpu in
     let p = c.number in

@@ -3,12 +3,13 @@ use Rattle.std.specs.Prelude.{◌≡◌, ℕ, ◌+◌, ◌-◌, nat_le, zero, su
 use Rattle.std.specs.Option.{option_map_or}
 use Rattle.frame_word.specs.Tables.{KnownTable}
 use Rattle.group_charge.specs.Charges.{AreCharges, current_of}
+use Rattle.boot_words.specs.{zone_of_boot}
 use Rattle.cpu_part.specs.Cpus.{KnownCpuLists, first_cpu}
 use Rattle.step_rules.specs.{Stock, times, frames_kept, pages_prepaid, Run, state_of, Shown}
 use Rattle.step_rules.specs.Promise.{Promise}
 use Rattle.mem_machine.specs.declared.frame_state.FrameState.{FrameState}
 use Rattle.mem_machine.specs.declared.frame_state.FrameState.TheVariants.{Free, Lent, Head, Tail}
-use Rattle.mem_machine.specs.{frame_state_at, AgreesWithRun, KnownMachine, IsConsistent, IsFirst, part_at, stock_group, zone_of}
+use Rattle.mem_machine.specs.{frame_state_at, AgreesWithRun, KnownMachine, IsConsistent, IsFirst, part_at, stock_group}
 use Rattle.mem_history.specs.Whole.{ShowsAll}
 
 -- ---- a new boot
@@ -37,8 +38,8 @@ abbrev pub CurrentIsKept : Type 0
 CurrentIsKept = (table : KnownTable) (run : Run) (machine : KnownMachine) (cpus : List KnownCpuLists)
     → ShowsAll table run machine cpus → IsConsistent table machine → AreCharges machine.ledger → (group : ℕ)
     → current_of machine.ledger group
-    ≡ frames_kept (state_of (zone_of table) run).groups (state_of (zone_of table) run).phases table.frames group
-    + pages_prepaid (state_of (zone_of table) run).groups (state_of (zone_of table) run).parts table.cpus group
+    ≡ frames_kept (state_of (zone_of_boot table) run).groups (state_of (zone_of_boot table) run).phases table.frames group
+    + pages_prepaid (state_of (zone_of_boot table) run).groups (state_of (zone_of_boot table) run).parts table.cpus group
 
 -- ---- the promise
 
@@ -82,4 +83,4 @@ shown_of table machine cpus = record {
 abbrev pub TheWholeIsPromised : Type 0
 TheWholeIsPromised = (table : KnownTable) (run : Run) (machine : KnownMachine) (cpus : List KnownCpuLists)
     → ShowsAll table run machine cpus → IsConsistent table machine → AreCharges machine.ledger
-    → Promise (zone_of table) run (shown_of table machine cpus)
+    → Promise (zone_of_boot table) run (shown_of table machine cpus)

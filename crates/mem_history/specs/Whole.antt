@@ -8,8 +8,8 @@ use Rattle.step_rules.specs.declared.step.Answer.{Answer}
 use Rattle.step_rules.specs.declared.step.Answer.TheVariants.{Done}
 use Rattle.step_rules.specs.State.{State, is_unheld}
 use Rattle.step_rules.specs.After.{Run, after, state_of, IsLegalRun}
-use Rattle.boot_words.specs.{hide, IsFast}
-use Rattle.mem_machine.specs.{AgreesWithRun, KnownMachine, VisitState, left_by, with_run, Holds, IsShut, Makes, zone_of, Shows}
+use Rattle.boot_words.specs.{hide, IsFast, zone_of_boot}
+use Rattle.mem_machine.specs.{AgreesWithRun, KnownMachine, VisitState, left_by, with_run, Holds, IsShut, Makes, Shows}
 use Rattle.mem_machine.specs.Steps.{cpu_makes}
 
 -- the machine's past left this state, except who holds the lock, with every CPU's own part hidden
@@ -25,12 +25,12 @@ pub record IsPartAt (state : State) (index : ℕ) (cpu : KnownCpuLists) : Type 0
 -- The run shows the whole. It is legal and leaves the lock free. It leaves what the machine's past left. There is one part
 -- for each CPU, and each has what the run leaves of it.
 pub record ShowsAll (table : KnownTable) (run : Run) (machine : KnownMachine) (cpus : List KnownCpuLists) : Type 0 where
-  pub legal : IsLegalRun (zone_of table) run
-  pub free : is_unheld (state_of (zone_of table) run).hold ≡ true
-  pub left : LeavesState table machine (state_of (zone_of table) run)
+  pub legal : IsLegalRun (zone_of_boot table) run
+  pub free : is_unheld (state_of (zone_of_boot table) run).hold ≡ true
+  pub left : LeavesState table machine (state_of (zone_of_boot table) run)
   pub count : length cpus ≡ table.cpus
   pub each : (index : ℕ) (cpu : KnownCpuLists) → slice_get cpus index ≡ Some cpu
-      → IsPartAt (state_of (zone_of table) run) index cpu
+      → IsPartAt (state_of (zone_of_boot table) run) index cpu
 
 -- the pasts of both machines left the same, except who holds the lock
 abbrev pub LeaveTheSame : KnownTable → KnownMachine → KnownMachine → Type 0
@@ -78,7 +78,7 @@ pub record ServesAt (table : KnownTable) (cpus : List KnownCpuLists) (index : �
 abbrev pub LinesFollow : Type 0
 LinesFollow = (table : KnownTable) (run : Run) (cpus : List KnownCpuLists) (index : ℕ) (before : VisitState) (steps : Run)
     (after : VisitState) → ShowsAll table run before.machine cpus → ServesAt table cpus index before steps after
-    → IsLegalRun (zone_of table) (run ++ under_lock before.cpu.number steps)
+    → IsLegalRun (zone_of_boot table) (run ++ under_lock before.cpu.number steps)
     → GoesOnTo table run before.machine (run ++ under_lock before.cpu.number steps) after.machine
     (slice_set cpus index after.cpu)
 
@@ -97,7 +97,7 @@ pub record ServesFast (table : KnownTable) (run : Run) (cpus : List KnownCpuList
   pub fast : IsFast action
   pub machine : after.machine ≡ with_run before.machine after.machine.run
   pub left : LeaveTheSame table before.machine after.machine
-  pub leads : IsOwnStep (state_of (zone_of table) run) before.cpu action answer after.cpu
+  pub leads : IsOwnStep (state_of (zone_of_boot table) run) before.cpu action answer after.cpu
 
 -- if a run shows the whole and continues legally with that step, then the longer run shows the whole after the step
 abbrev pub FastLinesFollow : Type 0
@@ -105,6 +105,6 @@ FastLinesFollow = (table : KnownTable) (run : Run) (cpus : List KnownCpuLists) (
     (action : Action)
     (answer : Answer) (after : VisitState) → ShowsAll table run before.machine cpus
     → ServesFast table run cpus index before action answer after
-    → IsLegalRun (zone_of table) (run ++ cpu_makes before.cpu.number action answer ∷ [])
+    → IsLegalRun (zone_of_boot table) (run ++ cpu_makes before.cpu.number action answer ∷ [])
     → GoesOnTo table run before.machine (run ++ cpu_makes before.cpu.number action answer ∷ []) after.machine
     (slice_set cpus index after.cpu)

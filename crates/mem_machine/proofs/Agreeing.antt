@@ -12,7 +12,8 @@ use Rattle.group_charge.specs.Charges.{account_at, empty_account, events_local_o
 use Rattle.step_rules.specs.Peaks.{IsPeak}
 use Rattle.step_rules.proofs.Noting.{events_are_counted}
 use Rattle.step_rules.proofs.Peaking.{peaks_are_kept}
-use Rattle.mem_machine.specs.{AgreesWithRun, zone_of}
+use Rattle.boot_words.specs.{zone_of_boot}
+use Rattle.mem_machine.specs.{AgreesWithRun}
 
 -- the one account there, or none
 abbrev found : Bool → Option Account
@@ -47,7 +48,7 @@ root_alone m there = elim (cases_eq m 0) [
 
 pub first_agrees : (t : KnownTable) → AgreesWithRun t [] initial_ledger
 first_agrees t =
-    let zone = zone_of t in
+    let zone = zone_of_boot t in
     record {
       peak = λ g there. subst (λ (k : ℕ). IsPeak zone [] k (peak_of initial_ledger k)) (sym (root_alone g there))
           (subst (IsPeak zone [] 0) (sym first_peak) (peaks_are_kept.boot zone));

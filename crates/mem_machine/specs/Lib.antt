@@ -62,7 +62,7 @@ pub use Rattle.mem_machine.specs.Freeing.{FreesFrames}
 pub use Rattle.mem_machine.specs.Lists.{JoinsList, LeavesList}
 pub use Rattle.mem_machine.specs.Blocks.{PlacesUnit, RefusesBlock, TakesBlock, TakesNoBlock, block_steps, placed_frame_state, taken_steps}
 pub use Rattle.mem_machine.specs.Blocks.{unplaced_steps}
-pub use Rattle.mem_machine.specs.Interleaving.{CallsInterleave, IsInterleaving, Shows, zone_of}
+pub use Rattle.mem_machine.specs.Interleaving.{CallsInterleave, IsInterleaving, Shows}
 pub use Rattle.mem_machine.specs.Agreeing.{AgreesWithRun, LedgersAgree}
 pub use Rattle.mem_machine.specs.Releasing.{LeavesReferences, Releases, ReturnsUnit, release_steps}
 pub use Rattle.mem_machine.specs.Evicting.{Evicts, EvictsUnit, MissesUnit, evict_steps}

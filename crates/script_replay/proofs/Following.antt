@@ -20,8 +20,8 @@ use Rattle.step_rules.specs.declared.step.Answer.TheVariants as step_answer
 use Rattle.step_rules.specs.State.{State}
 use Rattle.step_rules.specs.After.{Run, state_of, IsLegalRun}
 use Rattle.step_watch.specs.Watched.{KnownWatch}
-use Rattle.boot_words.specs.{own_past, IsFast}
-use Rattle.mem_machine.specs.{VisitState, visit_state, KnownMachine, left_by, with_run, with_watch, zone_of, AgreesWithRun}
+use Rattle.boot_words.specs.{own_past, IsFast, zone_of_boot}
+use Rattle.mem_machine.specs.{VisitState, visit_state, KnownMachine, left_by, with_run, with_watch, AgreesWithRun}
 use Rattle.mem_machine.specs.Steps.{cpu_makes}
 use Rattle.mem_machine.proofs.Locks.{unlocked_found}
 use Rattle.mem_history.specs.{GoesOnTo, HasTakenLock, IsOwnStep, LeaveTheSame, ShowsAll, under_lock, IsPart, put_answer}
@@ -103,7 +103,7 @@ module _ (t : KnownTable) (run : Run) (locked : KnownLocked) (cpus : List KnownC
 
   -- the run that goes on with these steps is legal
   abbrev IsLegalOn : Run → Type 0
-  IsLegalOn steps = IsLegalRun (zone_of t) (run ++ steps)
+  IsLegalOn steps = IsLegalRun (zone_of_boot t) (run ++ steps)
 
   -- nothing that is seen changed
   unseen_follows : (after : LockedState) → OnlySaw t [] locked after.locked → after.cpu.part ≡ c.part → Follows [] after
@@ -116,7 +116,7 @@ module _ (t : KnownTable) (run : Run) (locked : KnownLocked) (cpus : List KnownC
         free = here.free;
         left = here.left;
         count = length-set cpus k c.part ∙ here.count;
-        each = parts_after (state_of (zone_of t) run) cpus k c.part c.part is_part was.number was.own (λ j e at ne. shows.each j e at);
+        each = parts_after (state_of (zone_of_boot t) run) cpus k c.part c.part is_part was.number was.own (λ j e at ne. shows.each j e at);
       } in record {
         shows = subst (λ (x : Run × KnownCpuLists). ShowsAll t x.0 n (slice_set cpus k x.1)) (λ i. (sym (append-nil run) i, sym same i)) still;
         agrees = λ told. subst (λ (x : Run × Ledger). AgreesWithRun t x.0 x.1)
@@ -157,7 +157,7 @@ module _ (t : KnownTable) (run : Run) (locked : KnownLocked) (cpus : List KnownC
 
   -- a step without the lock
   step_follows : (action : Action) (answer : StepAnswer) (after : LockedState) → OnlySaw t (cpu_makes p action answer ∷ []) locked after.locked
-      → IsFast action → IsOwnStep (state_of (zone_of t) run) c.part action answer after.cpu.part
+      → IsFast action → IsOwnStep (state_of (zone_of_boot t) run) c.part action answer after.cpu.part
       → IsLegalOn (cpu_makes p action answer ∷ []) → Follows (cpu_makes p action answer ∷ []) after
   step_follows action answer after kept fast leads legal =
       let to : VisitState = visit_state after.locked.machine after.cpu.part in

@@ -8,7 +8,8 @@ use Rattle.std.proofs.lemmas.List.{map-set}
 use Rattle.std.proofs.lemmas.Option.{slice_get-map}
 use Rattle.frame_word.specs.Tables.{KnownTable}
 use Rattle.step_rules.specs.After.{Run, IsLegalRun}
-use Rattle.mem_machine.specs.{AgreesWithRun, zone_of}
+use Rattle.boot_words.specs.{zone_of_boot}
+use Rattle.mem_machine.specs.{AgreesWithRun}
 use Rattle.mem_history.specs.Whole.{GoesOnTo, ShowsAll}
 use Rattle.mem_history.proofs.Along.{legal_front}
 use Rattle.mem_history.proofs.Promised.{the_whole_is_promised}
@@ -40,7 +41,7 @@ nothing_follows t run s e steps none same shows =
     (record { shows = shows; agrees = λ told. told })
 
 pub line_follows : (on : Terms) (run : Run) (line : Line) (s e : SystemState) (text : List ℕ) → ShowsAll on.frames run s.locked.machine (parts_of s.cpus)
-    → (serves : ServesLine on line s e text) → IsLegalRun (zone_of on.frames) (run ++ serves.steps) → Follows on.frames run s (run ++ serves.steps) e
+    → (serves : ServesLine on line s e text) → IsLegalRun (zone_of_boot on.frames) (run ++ serves.steps) → Follows on.frames run s (run ++ serves.steps) e
 line_follows on run Go s e text shows serves legal =
     nothing_follows on.frames run s e serves.steps serves.tells.so.steps_are serves.tells.so.stays shows
 line_follows on run (At number cpu command) s e text shows serves legal =
@@ -59,8 +60,8 @@ follows_both t run s m e one two first rest =
     (record { shows = rest.shows; agrees = λ told. rest.agrees (first.agrees told) })
 
 -- the legal run of two lists of steps, up to the second
-pub legal_first : (t : KnownTable) (run one two : Run) → IsLegalRun (zone_of t) (run ++ (one ++ two)) → IsLegalRun (zone_of t) (run ++ one)
-legal_first t run one two legal = legal_front (zone_of t) (run ++ one) two (subst (IsLegalRun (zone_of t)) (sym (append_assoc run one two)) legal)
+pub legal_first : (t : KnownTable) (run one two : Run) → IsLegalRun (zone_of_boot t) (run ++ (one ++ two)) → IsLegalRun (zone_of_boot t) (run ++ one)
+legal_first t run one two legal = legal_front (zone_of_boot t) (run ++ one) two (subst (IsLegalRun (zone_of_boot t)) (sym (append_assoc run one two)) legal)
 
 pub legal_lines_are_shown : LegalLinesAreShown
 legal_lines_are_shown on [] s e text served run shows legal = nothing_follows on.frames run s e [] refl served.1 shows
@@ -71,7 +72,7 @@ legal_lines_are_shown on (line ∷ lines) s e text served run shows legal =
     let first = line_follows on run line s mid served.first shows one (legal_first on.frames run one.steps more legal) in
     follows_both on.frames run s mid e one.steps more first
     (legal_lines_are_shown on lines mid e served.rest served.serves_rest (run ++ one.steps) first.shows
-    (subst (IsLegalRun (zone_of on.frames)) (sym (append_assoc run one.steps more)) legal))
+    (subst (IsLegalRun (zone_of_boot on.frames)) (sym (append_assoc run one.steps more)) legal))
 
 -- the promise holds after a line
 pub line_kept : (on : Terms) (run : Run) (line : Line) (s e : SystemState) (text : List ℕ) (serves : ServesLine on line s e text)
@@ -84,13 +85,13 @@ line_kept on run line s e text serves goes told = record {
 
 all_kept : (on : Terms) (lines : List Line) (s e : SystemState) (text : List ℕ) (served : ServesAll on lines s e text) (run : Run)
     → ShowsAll on.frames run s.locked.machine (parts_of s.cpus) → (whole : Run) → whole ≡ run ++ steps_of_served on lines s e text served
-    → IsLegalRun (zone_of on.frames) whole → AgreesWithRun on.frames run s.locked.machine.ledger → KeepsHistory on lines (past run s) (past whole e) text
+    → IsLegalRun (zone_of_boot on.frames) whole → AgreesWithRun on.frames run s.locked.machine.ledger → KeepsHistory on lines (past run s) (past whole e) text
 all_kept on [] s e text served run shows whole is legal told = (served.0, λ i. past ((is ∙ append-nil run) i) (served.1 i))
 all_kept on (line ∷ lines) s e text served run shows whole is legal told =
     let one = served.serves_first in
     let mid = served.between in
     let more = steps_of_served on lines mid e served.rest served.serves_rest in
-    let first = line_follows on run line s mid served.first shows one (legal_first on.frames run one.steps more (subst (IsLegalRun (zone_of on.frames)) is legal)) in
+    let first = line_follows on run line s mid served.first shows one (legal_first on.frames run one.steps more (subst (IsLegalRun (zone_of_boot on.frames)) is legal)) in
     record {
       first = served.first;
       rest = served.rest;

@@ -1,6 +1,7 @@
 -- The watch took the steps of each line, and so of all lines. Serves `replay_checked`, and `log_line` of `line_server`.
 use Rattle.std.proofs.Common.{◌≡◌, ◌++◌, ℕ, zero, Bool, true, List, [], ◌∷◌, refl, sym, ap, subst}
 use Rattle.frame_word.specs.Tables.{KnownTable}
+use Rattle.boot_words.specs.{zone_of_boot}
 use Rattle.cpu_part.specs.declared.answers.Fast.TheVariants.{Got}
 use Rattle.group_tree.specs.declared.fault.Fault.TheVariants.{NoGroup}
 use Rattle.step_rules.specs.declared.step.Action.TheVariants as step
@@ -8,7 +9,6 @@ use Rattle.step_rules.specs.declared.step.Answer.TheVariants as step_answer
 use Rattle.step_rules.specs.After.{Run}
 use Rattle.step_watch.specs.Watched.{KnownWatch, Watches, SawRun, has_legal_steps}
 use Rattle.step_watch.proofs.Watching.{watches_none, watches_both, watched_runs_are_legal}
-use Rattle.mem_machine.specs.Interleaving.{zone_of}
 use Rattle.mem_machine.specs.Steps.{cpu_makes}
 use Rattle.mem_system.specs.Locked.{KnownLocked}
 use Rattle.mem_system.specs.Visits.{transition, LockedState}
@@ -102,7 +102,7 @@ replayed_legally on lines s e text served allowed = record {
   served = served;
   history = λ shows told new.
       let steps = steps_of_served on lines s e text served in
-      let saw : SawRun (zone_of on.frames) steps e.locked.machine.run.watch =
-      watched_runs_are_legal (zone_of on.frames) s.locked.machine.run.watch steps e.locked.machine.run.watch new (all_seen on lines s e text served) allowed in
+      let saw : SawRun (zone_of_boot on.frames) steps e.locked.machine.run.watch =
+      watched_runs_are_legal (zone_of_boot on.frames) s.locked.machine.run.watch steps e.locked.machine.run.watch new (all_seen on lines s e text served) allowed in
       record { run = steps; saw = saw; history = legal_lines_keep_it on lines s e text served [] shows saw.legal told };
 }

@@ -3,8 +3,9 @@ use Rattle.std.specs.Prelude.{◌≡◌, ℕ, ◌-◌, true, false, List, [], �
 use Rattle.frame_word.specs.Tables.{KnownTable}
 use Rattle.step_rules.specs.After.{Run, IsLegalRun}
 use Rattle.step_rules.specs.Promise.{Promise}
+use Rattle.boot_words.specs.{zone_of_boot}
 use Rattle.step_watch.specs.Watched.{IsNewWatch, SawRun, has_legal_steps}
-use Rattle.mem_machine.specs.{zone_of, AgreesWithRun}
+use Rattle.mem_machine.specs.{AgreesWithRun}
 use Rattle.mem_history.specs.{GoesOnTo, ShowsAll, shown_of}
 use Rattle.mem_system.specs.Cpus.{parts_of}
 use Rattle.mem_system.specs.Visits.{transition}
@@ -32,7 +33,7 @@ past_line past steps after = record { run = past.run ++ steps; now = after }
 -- the promise holds after the run, of what the machine and the CPUs show, and the ledger has the peaks and event counts
 -- of the run
 pub record KeepsPromise (table : KnownTable) (run : Run) (now : SystemState) : Type 0 where
-  pub promise : Promise (zone_of table) run (shown_of table now.locked.machine (parts_of now.cpus))
+  pub promise : Promise (zone_of_boot table) run (shown_of table now.locked.machine (parts_of now.cpus))
   pub tells : AgreesWithRun table run now.locked.machine.ledger
 
 -- The first line is served by these steps, by which the run so far goes on, and the promise holds after them. The other
@@ -62,7 +63,7 @@ abbrev pub LegalLinesAreShown : Type 0
 LegalLinesAreShown = (terms : Terms) (lines : List Line) (before after : SystemState) (text : List ℕ)
     (served : ServesAll terms lines before after text) (run : Run)
     → ShowsAll terms.frames run before.locked.machine (parts_of before.cpus)
-    → IsLegalRun (zone_of terms.frames) (run ++ steps_of_served terms lines before after text served)
+    → IsLegalRun (zone_of_boot terms.frames) (run ++ steps_of_served terms lines before after text served)
     → GoesOnTo terms.frames run before.locked.machine (run ++ steps_of_served terms lines before after text served)
     after.locked.machine (parts_of after.cpus)
 
@@ -71,7 +72,7 @@ abbrev pub LegalLinesKeepIt : Type 0
 LegalLinesKeepIt = (terms : Terms) (lines : List Line) (before after : SystemState) (text : List ℕ)
     (served : ServesAll terms lines before after text) (run : Run)
     → ShowsAll terms.frames run before.locked.machine (parts_of before.cpus)
-    → IsLegalRun (zone_of terms.frames) (run ++ steps_of_served terms lines before after text served)
+    → IsLegalRun (zone_of_boot terms.frames) (run ++ steps_of_served terms lines before after text served)
     → AgreesWithRun terms.frames run before.locked.machine.ledger
     → KeepsHistory terms lines (past run before)
     (past (run ++ steps_of_served terms lines before after text served) after) text
@@ -81,7 +82,7 @@ LegalLinesKeepIt = (terms : Terms) (lines : List Line) (before after : SystemSta
 pub record HasLegalHistory (terms : Terms) (lines : List Line) (before after : SystemState) (text : List ℕ)
     : Type 0 where
   pub run : Run
-  pub saw : SawRun (zone_of terms.frames) run after.locked.machine.run.watch
+  pub saw : SawRun (zone_of_boot terms.frames) run after.locked.machine.run.watch
   pub history : KeepsHistory terms lines (past [] before) (past run after) text
 
 -- The result of a replay. If it succeeds, all lines were served and these are their answers. If memory runs out for the
@@ -98,7 +99,7 @@ pub record ReplaysLegally (terms : Terms) (lines : List Line) (before after : Sy
   pub served : ServesAll terms lines before after text
   pub history : ShowsAll terms.frames [] before.locked.machine (parts_of before.cpus)
       → AgreesWithRun terms.frames [] before.locked.machine.ledger
-      → IsNewWatch (zone_of terms.frames) before.locked.machine.run.watch
+      → IsNewWatch (zone_of_boot terms.frames) before.locked.machine.run.watch
       → HasLegalHistory terms lines before after text
 
 -- The last of so many lines is the first one with a step that the watch doesn't allow: it allowed all steps of the

@@ -1,8 +1,8 @@
 use Rattle.std.proofs.Common.{◌≡◌, ℕ, List, true, [], ◌++◌, ◌∙◌, ap, length, refl, subst, sym}
 use Rattle.std.proofs.lemmas.Result.{IfErr-at_err, IfOk-at_ok, err_from_is_err_and}
+use Rattle.boot_words.specs.{zone_of_boot}
 use Rattle.mem_system.specs.{CpuInRun, KnownLocked}
 use Rattle.step_watch.specs.Watched.{has_legal_steps}
-use Rattle.mem_machine.specs.Interleaving.{zone_of}
 use Rattle.script_replay.specs.{past, HasRun, SystemState, system_state, form_terms}
 use Rattle.load_run.specs.{checked_text, EndsChecked, boot_end_text}
 use Rattle.load_run.proofs.Starting.{boot_agrees, boot_shown, given_back, lent_parts, lent_so_far, lines_there}
@@ -81,7 +81,7 @@ returns g c =
     let tells = replays.history (boot_shown _ _ _ new.first) (boot_agrees _ _ _ new.first) new.watched in
     let held = ends.ends in
     let on : has_legal_steps held.emptied.machine.run.watch ≡ true = sym ends.is_legal ∙ c.if-not-seen.false in
-    let saw = saw_more (zone_of t) tells.run left.locked.machine.run.watch held.leaves.steps held.emptied.machine.run.watch tells.saw held.leaves.watched on in
+    let saw = saw_more (zone_of_boot t) tells.run left.locked.machine.run.watch held.leaves.steps held.emptied.machine.run.watch tells.saw held.leaves.watched on in
     let start : SystemState = system_state c.set_watch.new.self c.deref_mut.result.now in
     let end : SystemState = system_state left.locked left.cpus in
     let has : HasRun tells.run end = kept_goes_on (form_terms t c.args.form) c.args.lines.now (past [] start) (past tells.run end) _ tells.history new.first.so_far in
