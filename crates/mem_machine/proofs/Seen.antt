@@ -1,6 +1,6 @@
 -- What the lock's holder sees is what the machine's fields and its own lists show. Serves callers that read phases, parts
 -- or references of `local_of`.
-use Rattle.std.proofs.Common.{◌≡◌, ◌≢◌, ℕ, ◌+◌, ◌==◌, ◌&&◌, List, Option, Some, None, cond, refl, sym, ap, ◌∙◌, subst, inl, inr, arith, length}
+use Rattle.std.proofs.Common.{◌≡◌, ◌≢◌, ℕ, ◌+◌, ◌==◌, ◌&&◌, List, cond, refl, sym, ap, ◌∙◌, subst, inl, inr, arith, length}
 use Rattle.std.specs.Prelude.{is_some, nat_le, unwrap_or}
 use Rattle.frame_word.specs.Tables.{KnownTable}
 use Rattle.step_rules.specs.declared.phase.Phase.{Phase}
@@ -17,12 +17,8 @@ use Rattle.cpu_part.specs.Cpus.{KnownCpuLists}
 use Rattle.mem_machine.specs.declared.frame_state.FrameState.{FrameState}
 use Rattle.mem_machine.specs.declared.frame_state.FrameState.TheVariants.{Free, Lent, Head, Tail}
 use Rattle.mem_machine.specs.{frame_state_at, phase_hidden, KnownMachine, IsConsistent, home_of, left_by, part_at, Holds, group_of_fresh, local_of}
-use Rattle.mem_machine.specs.{number_or_0, phase_of, visit_state}
+use Rattle.mem_machine.specs.{phase_of, visit_state}
 use Rattle.mem_machine.proofs.Sight.{left_seen, shown_seen}
-
-same_number : (o : Option ℕ) → unwrap_or o 0 ≡ number_or_0 o
-same_number None = refl
-same_number (Some g) = refl
 
 phase_as : (c : KnownCpuLists) (part : Part) (g f : ℕ) (x : FrameState) → unwrap_or part.stock.group 0 ≡ g → part.fresh ≡ c.fresh → part.back ≡ c.back
     → show_phase c.number part f (phase_hidden x) ≡ phase_of c g f x
@@ -54,7 +50,7 @@ module _ (t : KnownTable) (m : KnownMachine) (c : KnownCpuLists) (ok : IsConsist
       let x = frame_state_at m.frame_states f in
       let hidden : (hide u).phases f ≡ phase_hidden x = ap (λ (v : State). v.phases f) (sym left_whole) ∙ ok.shown.phases f in
       let group : unwrap_or (u.parts c.number).stock.group 0 ≡ group_of_fresh t (visit_state m c) =
-      same_number (u.parts c.number).stock.group ∙ ap (λ (v : State). number_or_0 (v.parts c.number).stock.group) (sym left_whole) in
+      ap (λ (v : State). unwrap_or (v.parts c.number).stock.group 0) (sym left_whole) in
       ap (λ (v : State). v.phases f) both
       ∙ ap (λ (n : ℕ). show_phase n (u.parts n) f ((hide u).phases f)) holds.who
       ∙ ap (show_phase c.number (u.parts c.number) f) hidden

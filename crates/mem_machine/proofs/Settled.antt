@@ -1,6 +1,6 @@
 -- All fresh frames and then all back frames are settled. Serves `settle_one` and the loops of `settle_fresh` and
 -- `settle_back`.
-use Rattle.std.proofs.Common.{◌≡◌, ℕ, ◌+◌, ◌-◌, ◌<◌, ◌≤◌, Bool, true, false, Option, Some, None, List, [], ◌∷◌, length, refl, sym, ap, ◌∙◌, subst, arith, inl, inr, slice_index_or}
+use Rattle.std.proofs.Common.{◌≡◌, ℕ, ◌+◌, ◌-◌, ◌<◌, ◌≤◌, Bool, true, false, Option, Some, None, List, [], ◌∷◌, length, refl, sym, ap, ◌∙◌, subst, arith, inl, inr, slice_index_or, unwrap_or}
 use Rattle.std.specs.List.{flat_map, fold}
 use Rattle.std.proofs.lemmas.Bool.{cases_Bool, false≢true}
 use Rattle.std.proofs.lemmas.List.{get_or_default}
@@ -12,7 +12,7 @@ use Rattle.step_rules.specs.State.{Part, State, with_at}
 use Rattle.step_rules.specs.After.{absorbed, with_report, without_frame}
 use Rattle.step_rules.proofs.Basics.{at_each}
 use Rattle.boot_words.specs.Pasts.{IsHeld}
-use Rattle.mem_machine.specs.{AreOwners, KnownMachine, is_killed, left_by, stock_group, Makes, Visits, group_of_fresh, local_of, number_or_0}
+use Rattle.mem_machine.specs.{AreOwners, KnownMachine, is_killed, left_by, stock_group, Makes, Visits, group_of_fresh, local_of}
 use Rattle.mem_machine.specs.{visit_state, after_made, FindsNoneBack, FindsNoneFresh, HandsOver, KeepsFresh, DropsFresh, SettlesFresh}
 use Rattle.mem_machine.specs.{SettlesAllFresh, ReturnsBack, ReturnsAllBack, LeavesOthers, Settles, collect_steps, fresh_steps, is_fresh_killed}
 use Rattle.mem_machine.specs.{return_steps, settle_steps}
@@ -76,7 +76,7 @@ killed_read killed n g mark same size few read on =
 
 -- the group that a fresh frame is of is that of the stock
 pub named_group : (t : KnownTable) (m : KnownMachine) (c : KnownCpuLists) (g : ℕ) → stock_group t m c.number ≡ Some g → group_of_fresh t (visit_state m c) ≡ g
-named_group t m c g of = ap number_or_0 of
+named_group t m c g of = ap (λ (o : Option ℕ). unwrap_or o 0) of
 
 -- ---- whose the stock is
 
@@ -161,7 +161,7 @@ fresh_more t m c x y x' y' f so_far one visit run =
     let run_c : Makes t x (fresh_steps k p f) x' =
     subst (λ (z : ℕ × Bool). Makes t x (fresh_steps z.1 z.0 f) x') (λ i. (so_far.others.number i, so_far.killed i)) run in
     let same : group_of_fresh t (visit_state x' y') ≡ group_of_fresh t (visit_state x y) =
-    ap number_or_0 (ap (stock_group t x') over.others.number ∙ group_stays t (is_fresh_killed t (visit_state x y)) x x' y.number f y.number so_far.visit.held run) in
+    ap (λ (o : Option ℕ). unwrap_or o 0) (ap (stock_group t x') over.others.number ∙ group_stays t (is_fresh_killed t (visit_state x y)) x x' y.number f y.number so_far.visit.held run) in
     record {
       settles = λ n d rest. so_far.settles n d (subst (λ (l : List ℕ). SettlesAllFresh t l (visit_state x y) (visit_state n d)) (sym over.front) (record { between = visit_state x' y'; first = one; rest = rest }));
       steps = λ b rest. so_far.steps b (subst (λ (l : List ℕ). Makes t x (flat_map (fresh_steps k p) l) b) (sym over.front)

@@ -41,7 +41,7 @@ pub use Rattle.mem_machine.specs.Kept.{IsSoundMachine, machine_of}
 pub use Rattle.mem_machine.specs.Following.{ExistsAfter, FollowsSteps, Moves, moved_along, moves_count, moves_peak}
 pub use Rattle.mem_machine.specs.Counting.{counts_after, counts_along, is_back_passing, one_more_freeze, one_more_last_put, one_more_return}
 pub use Rattle.mem_machine.specs.Local.{Holds, IsOpen, IsShut, KeepsVisit, Makes, StaysVisited, VisitDoes, VisitMakes, Visits, group_of_fresh}
-pub use Rattle.mem_machine.specs.Local.{local_of, lock_holder, number_or_0, phase_of}
+pub use Rattle.mem_machine.specs.Local.{local_of, lock_holder, phase_of}
 pub use Rattle.mem_machine.specs.Transitions.{BySteps, Finds, InTurn, MachineStays, OfMachineAlone, Stays, Transition, transition}
 pub use Rattle.mem_machine.specs.Start.{AreEmpty}
 pub use Rattle.mem_machine.specs.Steps.{Drain, drain_list_steps, drain_steps, drain_stocks_steps, fill_steps, kill_steps, lend_steps, make_steps}

@@ -1,6 +1,6 @@
 -- What the CPU that holds the lock sees of the machine and its own part, in the words of the rules, and which steps
 -- lead from one machine to another.
-use Rattle.std.specs.Prelude.{◌≡◌, ℕ, ◌==◌, ◌&&◌, nat_le, true, Option, Some, None, if◌then◌else◌}
+use Rattle.std.specs.Prelude.{◌≡◌, ℕ, ◌==◌, ◌&&◌, nat_le, true, if◌then◌else◌, unwrap_or}
 use Rattle.frame_word.specs.Tables.{KnownTable}
 use Rattle.cpu_part.specs.{KnownCpuLists, HasOwn}
 use Rattle.step_rules.specs.declared.phase.Hold.TheVariants.{HeldBy}
@@ -83,14 +83,9 @@ pub record KeepsVisit (table : KnownTable) (before : KnownCpuLists) (machine : K
   pub number : after.number ≡ before.number
   pub back : after.back ≡ before.back
 
--- the number, or 0 if there is none
-abbrev pub number_or_0 : Option ℕ → ℕ
-number_or_0 None = 0
-number_or_0 (Some number) = number
-
 -- the group of the CPU's fresh frames, which its stock paid for
 abbrev pub group_of_fresh : KnownTable → VisitState → ℕ
-group_of_fresh table now = number_or_0 (stock_group table now.machine now.cpu.number)
+group_of_fresh table now = unwrap_or (stock_group table now.machine now.cpu.number) 0
 
 -- The phase of a frame with this record, as the CPU sees it, whose fresh frames are of this group. A lent frame is
 -- fresh if it is one of the CPU's own fresh frames, else listed. The head of a unit is back if it is one of the CPU's

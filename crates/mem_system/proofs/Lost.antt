@@ -1,6 +1,6 @@
 -- Who has a unit, by the state after a run that goes on from the machine's past. Serves `no_unit_is_lost`.
 use Rattle.std.proofs.Common.{◌≡◌, ◌⊎◌, ℕ, ◌+◌, ◌<◌, ◌≤◌, true, Option, Some, None, List, refl, sym, ap, ◌∙◌, inl, inr, arith, zero, suc, eq-eqb}
-use Rattle.std.specs.Prelude.{is_some}
+use Rattle.std.specs.Prelude.{is_some, unwrap_or}
 use Rattle.std.proofs.lemmas.Bool.{cases_lt, cases_eq, false≢true}
 use Rattle.std.proofs.lemmas.Nat.{pow_pos}
 use Rattle.frame_word.specs.Tables.{KnownTable}
@@ -23,7 +23,7 @@ use Rattle.cpu_part.specs.{KnownCpuLists, HasOwn}
 use Rattle.lru_lists.specs.declared.record.Home.{Home}
 use Rattle.mem_machine.specs.declared.frame_state.FrameState.{FrameState}
 use Rattle.mem_machine.specs.declared.frame_state.FrameState.TheVariants.{Lent, Head}
-use Rattle.mem_machine.specs.{frame_state_at, head_group_of, phase_hidden, number_or_0, FitsFrameState, KnownMachine, IsConsistent, home_of, left_by}
+use Rattle.mem_machine.specs.{frame_state_at, head_group_of, phase_hidden, FitsFrameState, KnownMachine, IsConsistent, home_of, left_by}
 use Rattle.mem_machine.specs.{Rests}
 use Rattle.mem_machine.proofs.NoneLent.{lent_to_cpu}
 use Rattle.mem_system.specs.Lost.{AreAllCpus, ConsistentMachinesLoseNoUnit, SomeCpu, IsKeptFor, HasUnit, HasLent}
@@ -40,7 +40,7 @@ some_seat (suc n) h some = elim (cases_lt 0 (h n)) [
 some_home : (home : Option Home) (x : FrameState) (g : ℕ) → FitsFrameState home x → head_group_of x ≡ Some g
     → ((h : Home) × (home ≡ Some h) × (h.owner ≡ g)) ⊎ (home ≡ None)
 some_home None x g kept group = inr refl
-some_home (Some h) x g kept group = inl (h, refl, ap number_or_0 (sym kept.1 ∙ group))
+some_home (Some h) x g kept group = inl (h, refl, ap (λ (o : Option ℕ). unwrap_or o 0) (sym kept.1 ∙ group))
 
 -- a head that looks live has references, or is a CPU's back frame
 two_ways : (x : Phase) (u : ChargedUnit) → hide_phase x ≡ phase.Head u Live

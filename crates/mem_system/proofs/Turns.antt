@@ -1,7 +1,7 @@
 -- A CPU is settled, or its list is returned and its stock drained. Serves the visits at the end of a system.
 use Rattle.std.proofs.Common.{◌≡◌, ℕ, zero, suc, ◌<◌, ◌≤◌, Bool, true, false, List, [], ◌∷◌, ◌++◌, length, take, refl, sym, ap, ◌∙◌, subst, inl, inr, arith}
 use Rattle.std.proofs.Common.{append-nil}
-use Rattle.std.specs.Prelude.{slice_set}
+use Rattle.std.specs.Prelude.{slice_set, unwrap_or}
 use Rattle.std.specs.List.{flat_map}
 use Rattle.std.proofs.lemmas.Bool.{cases_lt, false≢true}
 use Rattle.std.proofs.lemmas.List.{nil_from_length}
@@ -10,7 +10,7 @@ use Rattle.cpu_part.specs.Cpus.{KnownCpuLists}
 use Rattle.mem_machine.specs.declared.frame_state.FrameState.{FrameState}
 use Rattle.mem_machine.specs.declared.frame_state.FrameState.TheVariants.{Free, Lent}
 use Rattle.mem_machine.specs.{frame_state_at, KnownMachine, is_killed, with_run, UnlistsMany, Drains, IsDrained, stock_group, visit_state, Makes}
-use Rattle.mem_machine.specs.{VisitMakes, number_or_0, Settles, fresh_steps, is_fresh_killed, return_all_steps, settle_steps, open_steps, shut_steps}
+use Rattle.mem_machine.specs.{VisitMakes, Settles, fresh_steps, is_fresh_killed, return_all_steps, settle_steps, open_steps, shut_steps}
 use Rattle.mem_machine.specs.{drain_list_steps, drain_steps}
 use Rattle.boot_words.specs.Pasts.{IsHeld}
 use Rattle.mem_machine.proofs.DrainingAll.{drained_now, drained_still}
@@ -28,7 +28,7 @@ pub same_settle : (t : KnownTable) (m entered : KnownMachine) (c : KnownCpuLists
 same_settle t m entered c opened is first =
     let groups = groups_kept t m entered (open_steps c.number) is first refl c.number in
     let killed : is_fresh_killed t (visit_state entered c) ≡ is_fresh_killed t (visit_state m c) =
-    λ i. is_killed (ap (λ (k : KnownMachine). k.killed) opened i) (number_or_0 (groups i)) in
+    λ i. is_killed (ap (λ (k : KnownMachine). k.killed) opened i) (unwrap_or (groups i) 0) in
     ap (λ (b : Bool). flat_map (fresh_steps b c.number) c.fresh ++ return_all_steps (visit_state m c)) killed
 
 -- the whole visit in which a CPU is settled, from its three parts

@@ -1,5 +1,5 @@
 -- A whole visit under the lock, from what its calls say. Serves `serve_outcome` and `serve_frame_outcome`.
-use Rattle.std.proofs.Common.{◌≡◌, ℕ, true, false, ◌++◌, refl, sym, ap, ◌∙◌, subst}
+use Rattle.std.proofs.Common.{◌≡◌, ℕ, true, false, ◌++◌, refl, sym, ap, ◌∙◌, subst, unwrap_or}
 use Rattle.std.specs.List.{flat_map}
 use Rattle.std.proofs.lemmas.Bool.{false≢true}
 use Rattle.frame_word.specs.Tables.{KnownTable}
@@ -9,7 +9,7 @@ use Rattle.step_rules.specs.{Part, is_unheld, visits, Run, state_of}
 use Rattle.boot_words.specs.{KnownCpuSeat, IsHeld, Unlocks, own_past, zone_of_boot}
 use Rattle.boot_words.specs.Pasts.{Locks}
 use Rattle.cpu_part.specs.{KnownCpuLists, KnowsItsPart}
-use Rattle.mem_machine.specs.{KnownMachine, is_killed, with_past, with_run, without_notes, Holds, IsShut, Makes, number_or_0, visit_state, Rests}
+use Rattle.mem_machine.specs.{KnownMachine, is_killed, with_past, with_run, without_notes, Holds, IsShut, Makes, visit_state, Rests}
 use Rattle.mem_machine.specs.{Settles, fresh_steps, return_all_steps, settle_steps, open_steps, shut_steps, transition}
 use Rattle.mem_machine.proofs.Followed.{makes_both}
 use Rattle.mem_reclaim.proofs.Grown.{held_after, misses_after}
@@ -84,7 +84,7 @@ module _ (t : KnownTable) (m : KnownMachine) (c : KnownCpuLists) (seat : KnownCp
   settle_same =
       same_settle t v.begun v.entered c v.opens begun_held v.opening
       ∙ ap (λ (x : KnownMachine). settle_steps t (visit_state x c)) (v.forgets ∙ ap without_notes v.locks)
-      ∙ ap (λ (q : Part). flat_map (fresh_steps (is_killed m.killed (number_or_0 q.stock.group)) c.number) c.fresh ++ return_all_steps (visit_state m c))
+      ∙ ap (λ (q : Part). flat_map (fresh_steps (is_killed m.killed (unwrap_or q.stock.group 0)) c.number) c.fresh ++ return_all_steps (visit_state m c))
       (part_locked t m.run.past seat.past v.found.run.past v.takes c.number)
 
   -- the machine found, and what it is when the visit is opened and when it is shut
