@@ -18,7 +18,7 @@ use Rattle.mem_machine.specs.{VisitState, KnownMachine}
 use Rattle.mem_system.specs.{CpuInRun, between_locks, parts_of, pasts_of, IsSound, KnownLocked, Empties, ForEachCpu, SettlesInVisit, VisitsUnderLock}
 use Rattle.mem_system.specs.{machine_and_cpu, pins_of_all, steps_of_visits, EndsCpu, PutsAndEnds, EachPuts, MadePut, PutsPins, frames_put}
 use Rattle.mem_system.specs.{unpin_steps}
-use Rattle.mem_system.specs.declared.ending.SystemEnd.{SystemEnd}
+use Rattle.mem_system.specs.declared.end_with_pins.SystemEnd.{SystemEnd}
 use Rattle.mem_system.specs.Commands.{Transition}
 use Rattle.mem_system.specs.Ends.{Ends}
 

@@ -5,7 +5,7 @@ use Rattle.std.specs.Prelude.{ℕ, Bool, IsSome, IsSomeAnd, Option}
 use Rattle.std.specs.Global.{Global, Box}
 use Rattle.host_memory.specs.Cells.{KnownLoan}
 use Rattle.mem_system.specs.{CpuInRun, HasEnded}
-use Rattle.mem_system.specs.declared.ending.SystemEnd.{SystemEnd}
+use Rattle.mem_system.specs.declared.end_with_pins.SystemEnd.{SystemEnd}
 use Rattle.frame_word.specs.Tables.{KnownTable}
 use Rattle.zone_threads.specs.Homes.{EndsParked, HasCpu, HasNoCpu, IfNotEntered, KnownBehind, KnownHome}
 use Rattle.zone_threads.specs.declared.home.NotEntered.{NotEntered}

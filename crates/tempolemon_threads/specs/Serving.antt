@@ -2,7 +2,7 @@
 use Rattle.std.specs.Prelude.{◌≡◌, Option, None, Some, IsSomeAnd}
 use Rattle.frame_word.specs.Tables.{KnownTable}
 use Rattle.zone_blocks.specs.declared.config.Config.{Config}
-use Rattle.mem_system.specs.Ending.{HasEnded}
+use Rattle.mem_system.specs.EndsWithPins.{HasEnded}
 use Rattle.zone_threads.specs.{HasCpu, HasNoCpu, IfNotEntered, KnownHome, TakesCpu, ReadsText}
 use Rattle.zone_threads.specs.declared.home.NotLeft.TheVariants as not_left
 use Rattle.tempolemon_threads.specs.declared.requests.Request.{Request}

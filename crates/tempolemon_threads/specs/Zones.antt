@@ -4,7 +4,7 @@ use Rattle.frame_word.specs.Tables.{KnownTable}
 use Rattle.zone_blocks.specs.declared.config.Config.{Config}
 use Rattle.mem_system.specs.{IsSizedAs, HasEnded}
 use Rattle.zone_threads.specs.Homes.{HasCpu, HasCpuAsParked, HasNoCpu, IsCpu, KnownHome}
-use Rattle.mem_system.specs.declared.ending.SystemEnd.{SystemEnd}
+use Rattle.mem_system.specs.declared.end_with_pins.SystemEnd.{SystemEnd}
 use Rattle.host_memory.specs.declared.report.Report.{Report}
 
 -- what a host reads of the end of a zone, as the zone reported it

@@ -6,7 +6,7 @@ use Rattle.host_memory.specs.Cells.{KnownChange, KnownLoan}
 use Rattle.frame_word.specs.Tables.{KnownTable}
 use Rattle.zone_blocks.specs.declared.config.Config.{Config}
 use Rattle.mem_system.specs.{CpuInRun, PutsAndEnds, KnownLocked}
-use Rattle.mem_system.specs.declared.ending.SystemEnd.{SystemEnd}
+use Rattle.mem_system.specs.declared.end_with_pins.SystemEnd.{SystemEnd}
 use Rattle.zone_threads.specs.declared.home.NotEntered.{NotEntered}
 use Rattle.zone_threads.specs.declared.home.NotEntered.TheVariants as not_entered
 use Rattle.zone_threads.specs.declared.home.NotLeft.{NotLeft}

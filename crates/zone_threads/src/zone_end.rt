@@ -1,7 +1,7 @@
 //! The end of a zone, once no thread has a CPU.
 
 ghost use Rattle.std.specs.Prelude.{◌≢◌, IfNone, IfSome, length};
-ghost use Rattle.mem_system.specs.Ending.{PutsAndEnds};
+ghost use Rattle.mem_system.specs.EndsWithPins.{PutsAndEnds};
 
 use crate::behind::Behind;
 use cpu_part::{BootName, Tables};

@@ -2,7 +2,7 @@ use Rattle.std.proofs.Common.{◌≡◌, ◌∙◌, List, ap, arith, length, sub
 use Rattle.mem_system.specs.{CpuInRun, parts_of, pins_of_all, EachPuts}
 use Rattle.mem_system.proofs.Closing.{written_back}
 use Rattle.mem_system.proofs.Putting.{puts_and_ends}
-use Rattle.mem_system.proofs.ending.put_and_end.Goals as goal
+use Rattle.mem_system.proofs.end_with_pins.put_and_end.Goals as goal
 
 pub unreachable-requires : goal.unreachable-requires
 unreachable-requires g c =

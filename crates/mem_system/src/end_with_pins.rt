@@ -1,7 +1,7 @@
 //! The end of a system whose CPUs may still have pins: each pin is put, and then the boot ends.
 
 ghost use Rattle.std.specs.Prelude.{◌≡◌, length};
-ghost use Rattle.mem_system.specs.Ending.{PutsAndEnds};
+ghost use Rattle.mem_system.specs.EndsWithPins.{PutsAndEnds};
 ghost use Rattle.mem_system.specs.Locked.{BehindLock};
 
 use crate::audit::Audit;

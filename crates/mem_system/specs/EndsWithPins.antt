@@ -5,7 +5,7 @@ use Rattle.frame_word.specs.Tables.{KnownTable}
 use Rattle.step_rules.specs.After.{Run}
 use Rattle.boot_words.specs.{GrewByAll, own_past, zone_of_boot, AllOf, BeginsRun}
 use Rattle.boot_words.specs.declared.past.Past.{Past}
-use Rattle.mem_system.specs.declared.ending.SystemEnd.{SystemEnd}
+use Rattle.mem_system.specs.declared.end_with_pins.SystemEnd.{SystemEnd}
 use Rattle.mem_system.specs.Cpus.{CpuInRun, between_locks, parts_of}
 use Rattle.mem_system.specs.Ends.{Ends, pins_of_all}
 use Rattle.mem_system.specs.Locked.{BehindLock, IsSound, KnownLocked}
