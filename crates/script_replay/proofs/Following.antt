@@ -38,8 +38,8 @@ use Rattle.reply_texts.specs.declared.steps.UnlockedAnswer.{UnlockedAnswer}
 use Rattle.reply_texts.specs.declared.steps.UnlockedAnswer.TheVariants as unlocked
 use Rattle.script_lines.specs.declared.line.Command.{Command}
 use Rattle.script_lines.specs.declared.line.Command.TheVariants as command
-use Rattle.script_replay.specs.Answers.{AnswersAlone, AnswersCommand, AnswersUnlocked, CanNotList, IsServedUnderLock, IsTriedInVain, OnlySaw, OnlyWatched}
-use Rattle.script_replay.specs.Answers.{steps_alone}
+use Rattle.script_replay.specs.Answers.{AnswersUnlocked, AnswersCommand, ServesUnlocked, CanNotList, IsServedUnderLock, IsTriedInVain, OnlySaw, OnlyWatched}
+use Rattle.script_replay.specs.Answers.{steps_unlocked}
 use Rattle.script_replay.proofs.Gaining.{saw_none}
 
 -- ---- what is tried in vain
@@ -184,33 +184,33 @@ module _ (t : KnownTable) (run : Run) (locked : KnownLocked) (cpus : List KnownC
       (fast_calls_lead.got t run m cpus k c.part after.cpu.part this_part g f c.last after.cpu.last is) legal
 
   -- without the lock
-  alone_follows : (command : Command) (said : UnlockedAnswer) (after : LockedState) → AnswersAlone command c after.cpu said
-      → OnlySaw t (steps_alone p command said) locked after.locked → IsLegalOn (steps_alone p command said) → Follows (steps_alone p command said) after
-  alone_follows (command.Fast g) (unlocked.Fast (Got f)) after is kept legal = got_follows g f after is kept legal
-  alone_follows (command.Fast g) (unlocked.Fast fast) after is kept legal =
+  unlocked_follows : (command : Command) (said : UnlockedAnswer) (after : LockedState) → AnswersUnlocked command c after.cpu said
+      → OnlySaw t (steps_unlocked p command said) locked after.locked → IsLegalOn (steps_unlocked p command said) → Follows (steps_unlocked p command said) after
+  unlocked_follows (command.Fast g) (unlocked.Fast (Got f)) after is kept legal = got_follows g f after is kept legal
+  unlocked_follows (command.Fast g) (unlocked.Fast fast) after is kept legal =
       unseen_follows after kept (fast_same g fast c.last c.part after.cpu.last after.cpu.part is (λ f e. cc))
-  alone_follows (command.Get f) (unlocked.Got Held) after is kept legal =
+  unlocked_follows (command.Get f) (unlocked.Got Held) after is kept legal =
       step_follows (step.Get f) step_answer.Held after kept tt (fast_calls_lead.held t run m cpus k c.part after.cpu.part this_part f is.1) legal
-  alone_follows (command.Get f) (unlocked.Got got) after is kept legal = unseen_follows after kept is.1
-  alone_follows (command.Get f) (unlocked.Refused PinsFull) after is kept legal = unseen_follows after kept is.1.1
-  alone_follows (command.Put f) (unlocked.Put putted) after is kept legal =
+  unlocked_follows (command.Get f) (unlocked.Got got) after is kept legal = unseen_follows after kept is.1
+  unlocked_follows (command.Get f) (unlocked.Refused PinsFull) after is kept legal = unseen_follows after kept is.1.1
+  unlocked_follows (command.Put f) (unlocked.Put putted) after is kept legal =
       step_follows (step.Put f) (put_answer putted) after kept tt (fast_calls_lead.is_put t run m cpus k c.part after.cpu.part this_part f putted is.1) legal
-  alone_follows (command.Put f) (unlocked.Refused NotPinned) after is kept legal = unseen_follows after kept is.1.1
-  alone_follows (command.Release f) unlocked.Listed after is kept legal =
+  unlocked_follows (command.Put f) (unlocked.Refused NotPinned) after is kept legal = unseen_follows after kept is.1.1
+  unlocked_follows (command.Release f) unlocked.Listed after is kept legal =
       step_follows (step.Credit f) step_answer.Stocked after kept tt
       (fast_calls_lead.listed t run m cpus k c.part after.cpu.part this_part f c.last after.cpu.last is.listed) legal
-  alone_follows command said after is kept legal = absurd is
+  unlocked_follows command said after is kept legal = absurd is
 
-  unlocked_follows : (command : Command) (steps : Run) (after : LockedState) (said : UnlockedAnswer)
-      → AnswersUnlocked command (transition t before steps after) said → IsLegalOn steps → Follows steps after
-  unlocked_follows (command.Alloc path zero) steps after (unlocked.Fast (Got f)) is legal =
-      as_made steps _ after is.alone.steps_are (λ all. got_follows is.gets.group f after is.gets.got is.alone.locked all) legal
-  unlocked_follows (command.Alloc path zero) steps after (unlocked.Refused NoGroup) none legal =
+  serves_unlocked_follows : (command : Command) (steps : Run) (after : LockedState) (said : UnlockedAnswer)
+      → ServesUnlocked command (transition t before steps after) said → IsLegalOn steps → Follows steps after
+  serves_unlocked_follows (command.Alloc path zero) steps after (unlocked.Fast (Got f)) is legal =
+      as_made steps _ after is.takes_no_lock.steps_are (λ all. got_follows is.gets.group f after is.gets.got is.takes_no_lock.locked all) legal
+  serves_unlocked_follows (command.Alloc path zero) steps after (unlocked.Refused NoGroup) none legal =
       as_made steps [] after none.1 (λ all. unseen_follows after (not_watched t locked after.locked none.0.same_locked)
       (ap (λ (x : CpuInRun). x.part) none.0.same_cpu)) legal
-  unlocked_follows (command.Alloc path zero) steps after said is legal = absurd is.0
-  unlocked_follows command steps after said is legal =
-      as_made steps (steps_alone p command said) after is.1.steps_are (λ all. alone_follows command said after is.0 is.1.locked all) legal
+  serves_unlocked_follows (command.Alloc path zero) steps after said is legal = absurd is.0
+  serves_unlocked_follows command steps after said is legal =
+      as_made steps (steps_unlocked p command said) after is.1.steps_are (λ all. unlocked_follows command said after is.0 is.1.locked all) legal
 
   -- served under the lock
   locked_follows : (is_explained : Bool) (seen : LockedState) → OnlySaw t [] locked seen.locked → seen.cpu.part ≡ c.part → (command : Command)
@@ -231,4 +231,4 @@ module _ (t : KnownTable) (run : Run) (locked : KnownLocked) (cpus : List KnownC
       locked_follows is_explained is.seen is.only_saw (vain_same command before is.seen.cpu is.tried) command (answer.Served reply) steps after is.served legal
   answer_follows is_explained command steps after answer.Settled is legal =
       locked_follows is_explained before (saw_none t locked) refl command answer.Settled steps after is legal
-  answer_follows is_explained command steps after (answer.Unlocked said) is legal = unlocked_follows command steps after said is legal
+  answer_follows is_explained command steps after (answer.Unlocked said) is legal = serves_unlocked_follows command steps after said is legal

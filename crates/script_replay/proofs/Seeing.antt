@@ -20,7 +20,7 @@ use Rattle.script_lines.specs.declared.line.Command.{Command}
 use Rattle.script_lines.specs.declared.line.Command.TheVariants as command
 use Rattle.script_lines.specs.declared.line.Line.{Line}
 use Rattle.script_lines.specs.declared.line.Line.TheVariants.{Go, At}
-use Rattle.script_replay.specs.{AnswersCommand, AnswersUnlocked, IsServedUnderLock, OnlySaw, WritesCommand, ReplaysLegally, SystemState, ServesAll}
+use Rattle.script_replay.specs.{AnswersCommand, ServesUnlocked, IsServedUnderLock, OnlySaw, WritesCommand, ReplaysLegally, SystemState, ServesAll}
 use Rattle.script_replay.specs.{WritesLine, steps_of_served}
 use Rattle.script_replay.proofs.Gaining.{saw_none}
 use Rattle.script_replay.specs.Terms.{Terms}
@@ -40,8 +40,8 @@ module _ (t : KnownTable) (before : LockedState) (steps : Run) (after : LockedSt
   abbrev SeesAll : Type 0
   SeesAll = Sees steps before.locked after.locked
 
-  alone_seen : (made : Run) → steps ≡ made → OnlySaw t made before.locked after.locked → SeesAll
-  alone_seen made are only = subst (λ (r : Run). Sees r before.locked after.locked) (sym are) only.watched
+  made_seen : (made : Run) → steps ≡ made → OnlySaw t made before.locked after.locked → SeesAll
+  made_seen made are only = subst (λ (r : Run). Sees r before.locked after.locked) (sym are) only.watched
 
   locked_seen : (is_explained : Bool) (command : Command) (seen : LockedState) (answer : LineAnswer) → OnlySaw t [] before.locked seen.locked
       → IsServedUnderLock is_explained command answer (transition t seen steps after) → SeesAll
@@ -60,11 +60,11 @@ module _ (t : KnownTable) (before : LockedState) (steps : Run) (after : LockedSt
       watches_both before.locked.machine.run.watch [] a steps e saw.watched
       (subst (λ (r : Run). Watches a r e) (sym is.steps_are) (watches_both a first b (served.steps ++ last) e is.lock.watched rest))
 
-  unlocked_seen : (command : Command) (said : UnlockedAnswer) → AnswersUnlocked command (transition t before steps after) said → SeesAll
-  unlocked_seen (command.Alloc path zero) (unlocked.Fast (Got f)) is = alone_seen _ is.alone.steps_are is.alone.locked
+  unlocked_seen : (command : Command) (said : UnlockedAnswer) → ServesUnlocked command (transition t before steps after) said → SeesAll
+  unlocked_seen (command.Alloc path zero) (unlocked.Fast (Got f)) is = made_seen _ is.takes_no_lock.steps_are is.takes_no_lock.locked
   unlocked_seen (command.Alloc path zero) (unlocked.Refused NoGroup) none = stays_seen steps before.locked after.locked none.1 none.0.same_locked
   unlocked_seen (command.Alloc path zero) said is = absurd is.0
-  unlocked_seen command said is = alone_seen _ is.1.steps_are is.1.locked
+  unlocked_seen command said is = made_seen _ is.1.steps_are is.1.locked
 
   answer_seen : (is_explained : Bool) (command : Command) (answer : LineAnswer)
       → AnswersCommand is_explained command (transition t before steps after) answer → SeesAll

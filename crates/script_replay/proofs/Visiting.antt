@@ -15,10 +15,10 @@ use Rattle.script_lines.specs.declared.line.Command.{Command}
 use Rattle.script_lines.specs.declared.line.Command.TheVariants.{Alloc}
 use Rattle.script_lines.specs.declared.line.Line.{Line}
 use Rattle.script_lines.specs.declared.line.Line.TheVariants.{At}
-use Rattle.script_replay.specs.{AddsText, AnswersAlone, AnswersLocked, IsAnswerText, MakesAlone, NeedsLock, steps_alone, steps_tried, OnlySettles}
-use Rattle.script_replay.specs.{locked_command_of, frame_path, is_tried, AnswersAloneBySteps, AnswersWithoutVisit, GrewByChanges, NeedsVisit}
+use Rattle.script_replay.specs.{AddsText, AnswersUnlocked, AnswersLocked, IsAnswerText, MakesUnlocked, NeedsLock, steps_unlocked, steps_tried, OnlySettles}
+use Rattle.script_replay.specs.{locked_command_of, frame_path, is_tried, AnswersWithoutVisitBySteps, AnswersWithoutVisit, GrewByChanges, NeedsVisit}
 use Rattle.script_replay.specs.{ServesByVisits, TriesInVain, WritesByVisit, VisitsLine, VisitsAll, StopsAt, LineInRange}
-use Rattle.script_replay.proofs.Growing.{all_grew, alone_grew, grew_both}
+use Rattle.script_replay.proofs.Growing.{all_grew, unlocked_grew, grew_both}
 use Rattle.script_replay.proofs.InOrder.{in_order_line}
 use Rattle.script_replay.proofs.Serving.{only_settles, untried}
 
@@ -31,40 +31,40 @@ served_grew t cmd reply l m c d is = all_grew c.past (between_locks c.part.numbe
 
 -- ---- one command
 
-alone_is : (on : KnownSystem) (command : Command) (c d : CpuInRun) (said : UnlockedAnswer) → AnswersAlone command c d said
-    → AnswersWithoutVisit on command (steps_alone c.part.number command said) c d said
-alone_is on (Alloc path order) c d said is = absurd is
-alone_is on command c d said is = (is, refl)
+unlocked_is : (on : KnownSystem) (command : Command) (c d : CpuInRun) (said : UnlockedAnswer) → AnswersUnlocked command c d said
+    → AnswersWithoutVisit on command (steps_unlocked c.part.number command said) c d said
+unlocked_is on (Alloc path order) c d said is = absurd is
+unlocked_is on command c d said is = (is, refl)
 
 vain_is : (on : KnownSystem) (command : Command) (c seen : CpuInRun) → frame_path command ≡ None → NeedsLock command c seen
-    → MakesAlone c.part.number [] c.past seen.past → TriesInVain on command c seen
+    → MakesUnlocked c.part.number [] c.past seen.past → TriesInVain on command c seen
 vain_is on (Alloc path zero) c seen none is alone = absurd (none-some path (sym none))
 vain_is on command c seen none is alone = (is, alone)
 
 module _ (on : KnownSystem) (command : Command) (c d : CpuInRun) where
   -- what was tried of a command that allocates no single frame gave an answer
-  pub tried_alone : (o : Option UnlockedAnswer) → IfSome o (AnswersAlone command c d)
-      → MakesAlone c.part.number (steps_tried c.part.number command o) c.past d.past → IfSome o (AnswersAloneBySteps on command c d)
-  tried_alone (Some said) is makes = let steps = steps_alone c.part.number command said in record {
+  pub tried_unlocked : (o : Option UnlockedAnswer) → IfSome o (AnswersUnlocked command c d)
+      → MakesUnlocked c.part.number (steps_tried c.part.number command o) c.past d.past → IfSome o (AnswersWithoutVisitBySteps on command c d)
+  tried_unlocked (Some said) is makes = let steps = steps_unlocked c.part.number command said in record {
     steps = steps;
-    answers = alone_is on command c d said is;
-    grew = alone_grew c.part.number steps c.past d.past makes;
+    answers = unlocked_is on command c d said is;
+    grew = unlocked_grew c.part.number steps c.past d.past makes;
   }
-  tried_alone None is makes = tt
+  tried_unlocked None is makes = tt
 
   -- or it gave none
   pub tried_in_vain : (o : Option UnlockedAnswer) → frame_path command ≡ None → IfNone o (NeedsLock command c d)
-      → MakesAlone c.part.number (steps_tried c.part.number command o) c.past d.past → (is_tried command ≡ false → d ≡ c)
+      → MakesUnlocked c.part.number (steps_tried c.part.number command o) c.past d.past → (is_tried command ≡ false → d ≡ c)
       → IfNone o (NeedsVisit on command c d)
   tried_in_vain (Some said) other needs makes stays = tt
   tried_in_vain None other needs makes stays = record {
     tried = vain_is on command c d other needs makes;
-    grew = alone_grew c.part.number [] c.past d.past makes;
+    grew = unlocked_grew c.part.number [] c.past d.past makes;
     untried = λ settles. stays (untried command settles);
   }
 
-  pub said_alone : (said : UnlockedAnswer) → AnswersAloneBySteps on command c d said → ServesByVisits on command c d (unlocked_text said)
-  said_alone said is = (is.steps, record { tells = inl (record { said = said; answers = is.answers; text_is = refl }); grew = is.grew })
+  pub said_unlocked : (said : UnlockedAnswer) → AnswersWithoutVisitBySteps on command c d said → ServesByVisits on command c d (unlocked_text said)
+  said_unlocked said is = (is.steps, record { tells = inl (record { said = said; answers = is.answers; text_is = refl }); grew = is.grew })
 
   -- the text of a command that was tried in vain
   pub said_by_visit : (seen : CpuInRun) (text : List ℕ) → NeedsVisit on command c seen → (steps : Run) × WritesByVisit on command steps seen d text

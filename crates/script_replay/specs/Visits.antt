@@ -19,7 +19,7 @@ use Rattle.script_lines.specs.declared.line.Command.TheVariants.{Alloc, Fast}
 use Rattle.step_rules.specs.After.{Run}
 use Rattle.script_lines.specs.declared.line.Line.{Line}
 use Rattle.script_lines.specs.declared.line.Line.TheVariants.{Go, At}
-use Rattle.script_replay.specs.Answers.{AnswersAlone, AnswersLocked, GetsFast, GetsNoneFast, MakesAlone, IsAnswerText, NeedsLock, steps_alone}
+use Rattle.script_replay.specs.Answers.{AnswersUnlocked, AnswersLocked, GetsFast, GetsNoneFast, MakesUnlocked, IsAnswerText, NeedsLock, steps_unlocked}
 use Rattle.script_replay.specs.Commands.{OnlySettles}
 use Rattle.script_replay.specs.Lines.{AtPart, InOrder}
 
@@ -36,7 +36,7 @@ pub record GrewByChanges (before : KnownPasts) (steps : Run) (after : KnownPasts
 pub record GetsFastBySteps (path : List ℕ) (steps : Run) (before : LockedState) (after : CpuInRun) (frame : ℕ)
     : Type 0 where
   pub gets : GetsFast path before after frame
-  pub steps_are : steps ≡ steps_alone before.cpu.part.number (Fast gets.group) (unlocked.Fast (Got frame))
+  pub steps_are : steps ≡ steps_unlocked before.cpu.part.number (Fast gets.group) (unlocked.Fast (Got frame))
 
 -- What a command is answered without a visit. The group of an Alloc of a single frame is found under the lock, by the
 -- run that the CPU has seen then (`met`). If there is none, the command is refused; else the CPU may get a frame of its
@@ -50,10 +50,10 @@ AnswersWithoutVisit tables (Alloc path zero) steps before after (unlocked.Refuse
     SeenBehindLock tables.frames
     (λ locked. number_at locked.machine.ledger.groups path.now ≡ None) before after × (steps ≡ [])
 AnswersWithoutVisit tables command steps before after answer =
-    AnswersAlone command before after answer × (steps ≡ steps_alone before.part.number command answer)
+    AnswersUnlocked command before after answer × (steps ≡ steps_unlocked before.part.number command answer)
 
 -- a command was answered without a visit, by some steps, by which the CPU's past has grown
-pub record AnswersAloneBySteps (tables : KnownSystem) (command : Command) (before after : CpuInRun)
+pub record AnswersWithoutVisitBySteps (tables : KnownSystem) (command : Command) (before after : CpuInRun)
     (answer : UnlockedAnswer) : Type 0 where
   pub steps : Run
   pub answers : AnswersWithoutVisit tables command steps before after answer
@@ -65,13 +65,13 @@ pub record TriesFrame (tables : KnownSystem) (path : List ℕ) (before seen : Cp
   pub met : CpuInRun
   pub found : SeenBehindLock tables.frames
       (λ locked. GetsNoneFast path (locked_state locked met) seen) before met
-  pub alone : MakesAlone before.part.number [] met.past seen.past
+  pub makes : MakesUnlocked before.part.number [] met.past seen.past
 
 -- what was tried for a command without a visit gave no answer, and left the CPU `seen` by steps that change nothing
 abbrev pub TriesInVain : KnownSystem → Command → (before seen : CpuInRun) → Type 0
 TriesInVain tables (Alloc path zero) before seen = TriesFrame tables path.now before seen
 TriesInVain tables command before seen =
-    NeedsLock command before seen × MakesAlone before.part.number [] before.past seen.past
+    NeedsLock command before seen × MakesUnlocked before.part.number [] before.past seen.past
 
 -- the command is served by a visit, after tries that left the CPU `seen`
 pub record NeedsVisit (tables : KnownSystem) (command : Command) (before seen : CpuInRun) : Type 0 where
@@ -90,7 +90,7 @@ pub record WritesByVisit (tables : KnownSystem) (command : Command) (steps : Run
   pub told : IsAnswerText tables.frames false command answer text (locked_state visited.left after)
 
 -- the text of a command that was answered without a visit
-pub record SaysAlone (tables : KnownSystem) (command : Command) (steps : Run) (before after : CpuInRun)
+pub record SaysWithoutVisit (tables : KnownSystem) (command : Command) (steps : Run) (before after : CpuInRun)
     (text : List ℕ) : Type 0 where
   pub said : UnlockedAnswer
   pub answers : AnswersWithoutVisit tables command steps before after said
@@ -106,7 +106,7 @@ pub record SaysByVisit (tables : KnownSystem) (command : Command) (steps : Run) 
 -- the answer of a script's command for a CPU, as text, and the CPU after it
 abbrev pub VisitsCommand : KnownSystem → Command → (steps : Run) (before after : CpuInRun) (text : List ℕ) → Type 0
 VisitsCommand tables command steps before after text =
-    SaysAlone tables command steps before after text ⊎ SaysByVisit tables command steps before after text
+    SaysWithoutVisit tables command steps before after text ⊎ SaysByVisit tables command steps before after text
 
 -- the answer of a command, as text, by these steps, by which the CPU's past has grown
 pub record VisitsBySteps (tables : KnownSystem) (command : Command) (steps : Run) (before after : CpuInRun)

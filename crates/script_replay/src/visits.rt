@@ -9,7 +9,7 @@ ghost use Rattle.script_replay.specs.Lines.{StopsAt};
 ghost use Rattle.script_replay.specs.Numbers.{SaysNumbered};
 ghost use Rattle.script_replay.specs.Ranges.{CommandInRange, LineInRange};
 ghost use Rattle.script_replay.specs.Terms.{boot_tables};
-ghost use Rattle.script_replay.specs.Visits.{AnswersAloneBySteps, NeedsVisit, ServesByVisits, VisitsAll};
+ghost use Rattle.script_replay.specs.Visits.{AnswersWithoutVisitBySteps, NeedsVisit, ServesByVisits, VisitsAll};
 ghost use Rattle.script_replay.specs.Visits.{VisitsLine, WritesByVisit};
 
 use crate::commands::frame_path;
@@ -88,7 +88,7 @@ pub(crate) fn visit_text<N: BootName, R: Wait, G: Gate>(
     ensures answered { AddsText result text.old text.new
         (ServesByVisits (boot_tables N.table visitor.now.system.now.sizes) command.now cpu.old cpu.new) }
 {
-    match answer_alone(visitor, cpu, command) {
+    match answer_without_visit(visitor, cpu, command) {
         Some(said) => write_unlocked(&said, text),
         None => write_by_visit(visitor, cpu, command, text),
     }
@@ -96,13 +96,13 @@ pub(crate) fn visit_text<N: BootName, R: Wait, G: Gate>(
 
 // Answers a command without a visit, if that is possible.
 #[inline(always)]
-fn answer_alone<N: BootName, R: Wait, G: Gate>(
+fn answer_without_visit<N: BootName, R: Wait, G: Gate>(
     visitor: &Visitor<'_, N, R, G>,
     cpu: &mut Cpu<N>,
     command: &Command<'_>,
 ) -> Option<UnlockedAnswer>
     requires in_range { CommandInRange N.table.frames command.now }
-    ensures answers { IfSome result (AnswersAloneBySteps (boot_tables N.table visitor.now.system.now.sizes) command.now cpu.old cpu.new) }
+    ensures answers { IfSome result (AnswersWithoutVisitBySteps (boot_tables N.table visitor.now.system.now.sizes) command.now cpu.old cpu.new) }
     ensures needs_visit { IfNone result (NeedsVisit (boot_tables N.table visitor.now.system.now.sizes) command.now cpu.old cpu.new) }
 {
     match frame_path(command) {
@@ -118,7 +118,7 @@ fn take_listed<N: BootName, R: Wait, G: Gate>(
     path: &[u8],
 ) -> Option<UnlockedAnswer>
     ensures answers { IfSome result
-        (AnswersAloneBySteps (boot_tables N.table visitor.now.system.now.sizes) (Alloc path.entry 0) cpu.old cpu.new) }
+        (AnswersWithoutVisitBySteps (boot_tables N.table visitor.now.system.now.sizes) (Alloc path.entry 0) cpu.old cpu.new) }
     ensures needs_visit { IfNone result
         (NeedsVisit (boot_tables N.table visitor.now.system.now.sizes) (Alloc path.entry 0) cpu.old cpu.new) }
 {

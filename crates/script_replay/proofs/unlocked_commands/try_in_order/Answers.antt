@@ -1,12 +1,12 @@
 use Rattle.std.proofs.Common.{ℕ}
 use Rattle.script_replay.specs.Answers.{steps_tried}
-use Rattle.script_replay.proofs.Gaining.{alone_met, both_saw, met_gains, vain_met}
+use Rattle.script_replay.proofs.Gaining.{unlocked_met, both_saw, met_gains, vain_met}
 use Rattle.script_replay.proofs.unlocked_commands.try_in_order.Goals as goal
 
 pub returns-clause-answered : goal.returns-clause-answered
 returns-clause-answered g c =
     let tried = c.try_unlocked-said in
-    alone_met c.args.command.now c.args.cpu.now c.meet.new.cpu tried.new.cpu c.meet-2.new.cpu c.meet.ensures.part c.meet.ensures.last c.meet-2.ensures.part
+    unlocked_met c.args.command.now c.args.cpu.now c.meet.new.cpu tried.new.cpu c.meet-2.new.cpu c.meet.ensures.part c.meet.ensures.last c.meet-2.ensures.part
     c.meet-2.ensures.last tried.result tried.ensures.answered
 
 pub returns-clause-needs_lock : goal.returns-clause-needs_lock

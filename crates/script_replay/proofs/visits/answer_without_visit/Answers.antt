@@ -1,10 +1,10 @@
 use Rattle.std.proofs.Common.{◌≡◌, Some, rules, subst, sym}
 use Rattle.std.specs.Prelude.{IfNone, IfSome}
 use Rattle.script_lines.specs.declared.line.Command.{Command}
-use Rattle.script_replay.specs.{frame_path, boot_tables, AnswersAloneBySteps, NeedsVisit}
+use Rattle.script_replay.specs.{frame_path, boot_tables, AnswersWithoutVisitBySteps, NeedsVisit}
 use Rattle.script_replay.proofs.Serving.{frame_is}
-use Rattle.script_replay.proofs.Visiting.{tried_alone, tried_in_vain}
-use Rattle.script_replay.proofs.visits.answer_alone.Goals as goal
+use Rattle.script_replay.proofs.Visiting.{tried_unlocked, tried_in_vain}
+use Rattle.script_replay.proofs.visits.answer_without_visit.Goals as goal
 
 pub returns-in-Some : goal.returns-in-Some
 returns-in-Some g c =
@@ -13,7 +13,7 @@ returns-in-Some g c =
     let found : frame_path c.args.command.now ≡ Some path = search rules in
     let taken = c.take_listed in
     let is = sym (frame_is c.args.command.now path found) in record {
-      answers = subst (λ (x : Command). IfSome taken.result (AnswersAloneBySteps on x c.args.cpu.now taken.new.cpu)) is taken.ensures.answers;
+      answers = subst (λ (x : Command). IfSome taken.result (AnswersWithoutVisitBySteps on x c.args.cpu.now taken.new.cpu)) is taken.ensures.answers;
       needs_visit = subst (λ (x : Command). IfNone taken.result (NeedsVisit on x c.args.cpu.now taken.new.cpu)) is taken.ensures.needs_visit;
     }
 
@@ -21,7 +21,7 @@ pub returns-in-None : goal.returns-in-None
 returns-in-None g c =
     let on = boot_tables g.N.BootName.table c.args.visitor.now.system.now.sizes in
     let tried = c.try_unlocked in record {
-      answers = tried_alone on c.args.command.now c.args.cpu.now tried.new.cpu tried.result tried.ensures.answered tried.ensures.run;
+      answers = tried_unlocked on c.args.command.now c.args.cpu.now tried.new.cpu tried.result tried.ensures.answered tried.ensures.run;
       needs_visit = tried_in_vain on c.args.command.now c.args.cpu.now tried.new.cpu tried.result (search rules) tried.ensures.needs_lock
           tried.ensures.run tried.ensures.stays;
     }
