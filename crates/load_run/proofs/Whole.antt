@@ -3,7 +3,7 @@
 use Rattle.std.proofs.Common.{◌∙◌, ℕ, List, [], ◌∷◌, ◌++◌, subst, sym}
 use Rattle.std.proofs.lemmas.List.{length-map}
 use Rattle.frame_word.specs.Tables.{KnownTable}
-use Rattle.boot_words.specs.declared.past.Past.{Past as SeatPast}
+use Rattle.boot_words.specs.declared.past.Past.{Past}
 use Rattle.boot_words.specs.{own_past, AllOf, BeginsRun, IsPastOf, AreFrameWords, AreStockWords, zone_of_boot}
 use Rattle.boot_words.proofs.Gaining.{the_run_so_far_is_legal}
 use Rattle.boot_words.proofs.Growing.{past_of_run}
@@ -12,20 +12,20 @@ use Rattle.step_rules.specs.After.{Run}
 use Rattle.mem_core.proofs.Keeping.{always_keeps}
 use Rattle.mem_system.specs.Cpus.{CpuInRun, pasts_of}
 use Rattle.script_lines.specs.declared.line.Line.{Line}
-use Rattle.script_replay.specs.{KeepsHistory, Past, past_line, HasRun, SystemState}
+use Rattle.script_replay.specs.{KeepsHistory, LinesSoFar, past_line, HasRun, SystemState}
 use Rattle.script_replay.specs.Terms.{Terms}
 use Rattle.load_run.specs.declared.boot_end.BootEnd.{BootEnd}
 use Rattle.load_run.specs.Ending.{EndsHeld, IsWholeRun, last_words}
 
 -- the run so far goes on by the lines of a history that keeps the promise
-pub kept_goes_on : (on : Terms) (lines : List Line) (before last : Past) (text : List ℕ) → KeepsHistory on lines before last text → HasRun before.run before.now
+pub kept_goes_on : (on : Terms) (lines : List Line) (before last : LinesSoFar) (text : List ℕ) → KeepsHistory on lines before last text → HasRun before.run before.now
     → HasRun last.run last.now
-kept_goes_on on [] before last text keeps has = subst (λ (p : Past). HasRun p.run p.now) (sym keeps.1) has
+kept_goes_on on [] before last text keeps has = subst (λ (p : LinesSoFar). HasRun p.run p.now) (sym keeps.1) has
 kept_goes_on on (line ∷ lines) before last text keeps has =
     kept_goes_on on lines (past_line before keeps.steps keeps.between) last keeps.rest keeps.keeps (keeps.goes_on before.run has)
 
 -- the pasts at the end of a table
-all_begin : (zone : Zone) (run : Run) (pasts : List SeatPast) → AllOf (BeginsRun zone run) pasts → AllOf (IsPastOf run) pasts
+all_begin : (zone : Zone) (run : Run) (pasts : List Past) → AllOf (BeginsRun zone run) pasts → AllOf (IsPastOf run) pasts
 all_begin zone run [] all = tt
 all_begin zone run (p ∷ pasts) all = (past_of_run zone run p all.0, all_begin zone run pasts all.1)
 

@@ -17,17 +17,17 @@ use Rattle.script_replay.specs.Lines.{SystemState, RunGoesOn, ServesAll, ServesL
 use Rattle.script_replay.specs.Terms.{Terms}
 
 -- ---- the history
--- the past of a line: the run of all steps so far, and what it led to
-pub record Past : Type 0 where
+-- the run of all steps of the lines so far, and what it led to
+pub record LinesSoFar : Type 0 where
   pub run : Run
   pub now : SystemState
 
 -- the past with this run and this state after it
-abbrev pub past : Run → SystemState → Past
+abbrev pub past : Run → SystemState → LinesSoFar
 past run now = record { run = run; now = now }
 
 -- the past after one more line, which was served by these steps
-abbrev pub past_line : (past : Past) (steps : Run) (after : SystemState) → Past
+abbrev pub past_line : (past : LinesSoFar) (steps : Run) (after : SystemState) → LinesSoFar
 past_line past steps after = record { run = past.run ++ steps; now = after }
 
 -- the promise holds after the run, of what the machine and the CPUs show, and the ledger has the peaks and event counts
@@ -38,8 +38,8 @@ pub record KeepsPromise (table : KnownTable) (run : Run) (now : SystemState) : T
 
 -- The first line is served by these steps, by which the run so far goes on, and the promise holds after them. The other
 -- lines have such a history from there on.
-pub record KeepsFirstAndRest (terms : Terms) (line : Line) (past : Past) (text : List ℕ)
-    (keeps_rest : Past → List ℕ → Type 0) : Type 0 where
+pub record KeepsFirstAndRest (terms : Terms) (line : Line) (past : LinesSoFar) (text : List ℕ)
+    (keeps_rest : LinesSoFar → List ℕ → Type 0) : Type 0 where
   pub first : List ℕ
   pub rest : List ℕ
   pub between : SystemState
@@ -52,7 +52,7 @@ pub record KeepsFirstAndRest (terms : Terms) (line : Line) (past : Past) (text :
 
 -- The history of lines that keep the promise: they are served one after the other, as `ServesAll` says, and after each
 -- line the promise holds. `last` is the run of all their steps, and what it led to.
-abbrev pub KeepsHistory : Terms → List Line → Past → (last : Past) (text : List ℕ) → Type 0
+abbrev pub KeepsHistory : Terms → List Line → LinesSoFar → (last : LinesSoFar) (text : List ℕ) → Type 0
 KeepsHistory terms [] past last text = (text ≡ []) × (last ≡ past)
 KeepsHistory terms (line ∷ lines) past last text =
     KeepsFirstAndRest terms line past text (λ later rest. KeepsHistory terms lines later last rest)

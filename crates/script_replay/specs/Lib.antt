@@ -17,7 +17,7 @@ pub use Rattle.script_replay.specs.Answers.{IsServedUnderLock, IsSettledText, Is
 pub use Rattle.script_replay.specs.Answers.{ServesAnswer, ServesCommand, ServesUnderLock, TakesNoLock, WritesCommand, explanation_if, is_noted}
 pub use Rattle.script_replay.specs.Answers.{locked_with_unit_notes, locked_with_watch, steps_unlocked, steps_tried}
 pub use Rattle.script_replay.specs.Commands.{HasValueAnswer, OnlySettles, frame_path, head_named, is_tried, locked_command_of, path_removed}
-pub use Rattle.script_replay.specs.History.{HasLegalHistory, KeepsHistory, KeepsPromise, LegalLinesAreShown, LegalLinesKeepIt, Past, ReplaysLegally}
+pub use Rattle.script_replay.specs.History.{HasLegalHistory, KeepsHistory, KeepsPromise, LegalLinesAreShown, LegalLinesKeepIt, LinesSoFar, ReplaysLegally}
 pub use Rattle.script_replay.specs.History.{StopsFor, past, past_line}
 pub use Rattle.script_replay.specs.Lines.{AtPart, HasRun, InOrder, RunGoesOn, ServesAll, ServesLine, StopsAt, SystemState, WritesLine}
 pub use Rattle.script_replay.specs.Lines.{number_in_script, steps_of_served, system_state}
