@@ -10,7 +10,7 @@ ghost use Rattle.tempolemon_c.specs.Serving.{IsFit, OnRaw, ServesRaw};
 use crate::calls::{Call, CallAnswer, FileText};
 use crate::live_pointer::LivePointer;
 use crate::requests::{Request, RequestAnswer};
-use crate::serving::{serve, serve_call, show_file};
+use crate::serving::{call_pointer, serve, show_file};
 use control_files::file::File;
 use group_tree::group::GroupId;
 use std::alloc::Global;
@@ -74,7 +74,7 @@ pub fn serve_raw(raw: RawBoot, request: Request) -> (RawBoot, RequestAnswer)
     (RawBoot::of(pointer), answer)
 }
 
-/// Serves a call of the CPU of this number, as `serve_call` does, under the name that it picks for the table. Only a
+/// Serves a call of the CPU of this number, as `call_pointer` does, under the name that it picks for the table. Only a
 /// pointer to the call crosses, and no memory is taken.
 ///
 /// It is inlined, so that a caller that names the call has its steps alone: see `serve_value`.
@@ -85,7 +85,7 @@ pub fn call_raw(raw: RawBoot, cpu: u32, call: &Call<'_>) -> (RawBoot, CallAnswer
     ensures serves { OnRaw (λ from to. CallsLive raw.frames cpu call.now from to result.1)
         raw.frames raw.live result.0.frames result.0.live }
 {
-    let (pointer, answer) = serve_call::<Brand>(raw.into_pointer(), cpu, call);
+    let (pointer, answer) = call_pointer::<Brand>(raw.into_pointer(), cpu, call);
     (RawBoot::of(pointer), answer)
 }
 

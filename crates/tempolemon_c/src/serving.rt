@@ -43,7 +43,7 @@ pub fn serve<N: BootName>(
 
 /// Serves a call of the CPU of this number, on the parts of a boot.
 #[inline(always)]
-pub fn serve_call<N: BootName>(
+pub fn call_pointer<N: BootName>(
     pointer: LivePointer<N>,
     cpu: u32,
     call: &Call<'_>,

@@ -36,7 +36,7 @@ pub fn serve<N: BootName>(
 
 /// Serves a call of the home's CPU.
 #[inline(always)]
-pub fn serve_call<N: BootName>(
+pub fn call_pointer<N: BootName>(
     pointer: HomePointer<N>,
     call: &Call<'_>,
 ) -> (HomePointer<N>, CallAnswer)
