@@ -56,7 +56,7 @@ fn measure_on<N: BootName, R: Wait + Print + Clock>(
 
 // Starts the boot, measures the unit, and shuts down.
 fn live<N: BootName, R: Wait + Print + Clock + Alloc<A = Global>>(rt: &R, boot: Boot) -> Result<f64>
-    requires { boot.frames ≡ N.table }
+    requires { boot.table ≡ N.table }
 {
     let (system, mut cpus) = boot.start::<N>(rt.alloc())?;
     let unit = measure_on(rt, &system, &mut cpus);

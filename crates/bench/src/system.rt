@@ -303,7 +303,7 @@ fn live<N: BootName + Send + Sync, R: Threads + Wait + Print + Clock + Alloc<A =
     table: Table,
     boot: Boot,
 ) -> Result<()>
-    requires { boot.frames ≡ N.table }
+    requires { boot.table ≡ N.table }
 {
     let (system, mut cpus) = boot.start::<N>(rt.alloc())?;
     let told = print_on(rt, pace, table, &system, &mut cpus);

@@ -113,7 +113,7 @@ fn shutdown_is_refused<N: BootName>(
 // The life of a system that is taken apart and put together again. Then a pin prevents its shutdown. Neither changes
 // it.
 fn stays_unchanged<N: BootName, R: Wait + Abort>(rt: &R, alloc: Global, boot: Boot)
-    requires { boot.frames ≡ N.table }
+    requires { boot.table ≡ N.table }
 {
     let (system, mut cpus) = boot.start::<N>(alloc).expect(rt, "memory");
     charges_and_pins(rt, &system, &mut cpus);

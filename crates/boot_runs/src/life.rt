@@ -145,7 +145,7 @@ pub fn nothing_was_charged() -> Audit {
 
 // The whole life of a system, in which each of the two CPUs is served.
 fn serves_each_cpu<N: BootName, R: Wait + Abort>(rt: &R, alloc: Global, boot: Boot)
-    requires { boot.frames ≡ N.table }
+    requires { boot.table ≡ N.table }
 {
     let (system, mut cpus) = boot.start::<N>(alloc).expect(rt, "memory");
     expect_true(rt, cpus.len() == 2);

@@ -149,7 +149,7 @@ pub fn steps_on_boot<N: BootName>(
     script: &[u8],
     lines: &[Line<'_>],
 ) -> Result<Vec<u8>, AllocError>
-    requires frames { boot.frames ≡ N.table }
+    requires frames { boot.table ≡ N.table }
     requires sizes { boot.sizes ≡ sizes }
     requires lines { All (LineInRange boot.sizes.frames boot.sizes.cpus) lines.now }
     ensures steps { IfOk result (λ text. AreLoggedSteps boot.sizes script.now lines.now text.items) }

@@ -98,7 +98,7 @@ fn serve_on_boot<N: BootName, I: Read, O: Write>(
     input: &mut I,
     output: &mut O,
 ) -> Result<(), ProgramFault>
-    requires frames { boot.frames ≡ N.table }
+    requires frames { boot.table ≡ N.table }
     requires sizes { boot.sizes ≡ options.now.sizes }
     requires valid { IsValidConfig options.now.sizes }
     requires in_range { HasSizesInRange options.now.sizes }

@@ -29,7 +29,7 @@ pub fn run_by_threads<N: BootName + Send + Sync, R: Threads + Wait + Sync>(
     is_numbered: bool,
     is_audited: bool,
 ) -> Result<Vec<u8>, AllocError>
-    requires frames { boot.frames ≡ N.table }
+    requires frames { boot.table ≡ N.table }
     requires lines { All (LineInRange boot.sizes.frames boot.sizes.cpus) lines.now }
     ensures answers { IfOk result (λ text. AreThreadAnswers boot.sizes is_numbered is_audited lines.now text.items) }
 {

@@ -10,7 +10,7 @@ use Rattle.zone_blocks.specs.Config.{IsValidConfig}
 -- a boot: its sizes and its table
 pub record KnownBoot : Type 0 where
   pub sizes : Config
-  pub frames : KnownTable
+  pub table : KnownTable
 
 -- What CPUs share of a system: the table of its boot, and the boot's sizes. No clause sees what lies behind its lock.
 pub record KnownSystem : Type 0 where
@@ -26,10 +26,10 @@ pub record IsSizedAs (sizes : Config) (table : KnownTable) : Type 0 where
 -- table, and none has made a step. No CPU holds the lock.
 pub record IsBooted (boot : KnownBoot) (zone : KnownPasts) (cpus : List KnownCpuSeat) : Type 0 where
   pub valid : IsValidConfig boot.sizes
-  pub sized : IsSizedAs boot.sizes boot.frames
-  pub zone_is : zone ≡ seat_at_first boot.frames.table 0
-  pub cpus_are : cpus ≡ cpus_at_first boot.frames.table 1 boot.sizes.cpus
-  pub away : AllOf (IsAwayCpu boot.frames) cpus
+  pub sized : IsSizedAs boot.sizes boot.table
+  pub zone_is : zone ≡ seat_at_first boot.table.table 0
+  pub cpus_are : cpus ≡ cpus_at_first boot.table.table 1 boot.sizes.cpus
+  pub away : AllOf (IsAwayCpu boot.table) cpus
 
 -- the first parts of this many CPUs, from number `first` on: no frame is listed, fresh or back, and there is no pin
 abbrev pub first_cpus : (first count : ℕ) → List KnownCpuLists

@@ -39,7 +39,7 @@ fn run_system<N: BootName, R: Wait>(
     boot: Boot,
     text: &mut String,
 ) -> Result<SystemEnd>
-    requires { boot.frames ≡ N.table }
+    requires { boot.table ≡ N.table }
     ensures { IfOk result (HasEnded N.table) }
 {
     let (system, mut cpus) = boot.start::<N>(alloc)?;

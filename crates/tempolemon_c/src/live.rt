@@ -58,7 +58,7 @@ impl<N: BootName> Live<N> {
     /// Starts a boot of these sizes under a name of its table. `AllocError` means that memory ran out: nothing is left
     /// then.
     pub fn start(alloc: Global, boot: Boot, sizes: Config) -> Result<Live<N>, AllocError>
-        requires frames { boot.frames ≡ N.table }
+        requires frames { boot.table ≡ N.table }
         requires sizes { boot.sizes ≡ sizes }
         ensures first { IfOk result (λ live. IsNewBootState sizes N.table live.state) }
         ensures sizes { IfOk result (λ live. live.sizes ≡ sizes) }

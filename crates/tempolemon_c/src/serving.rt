@@ -83,7 +83,7 @@ fn start<N: BootName>(
     sizes: Config,
 ) -> (LivePointer<N>, RequestAnswer)
     requires none { _pointer.live ≡ None }
-    requires frames { boot.frames ≡ N.table }
+    requires frames { boot.table ≡ N.table }
     requires sizes { boot.sizes ≡ sizes }
     ensures named { result.0.frames ≡ N.table }
     ensures serves { ServesRequest N.table _pointer.live (Start alloc boot sizes) result.0.live result.1 }

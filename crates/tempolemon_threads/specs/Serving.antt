@@ -14,7 +14,7 @@ use Rattle.tempolemon_threads.specs.declared.requests.Forked.TheVariants as fork
 
 -- the table after a request: a start brings its own, else it stays
 abbrev pub home_frames_after : KnownTable → Request → KnownTable
-home_frames_after frames (Start alloc boot) = boot.frames
+home_frames_after frames (Start alloc boot) = boot.table
 home_frames_after frames (Enter number) = frames
 home_frames_after frames (Leave alloc) = frames
 home_frames_after frames (Text alloc asked) = frames

@@ -27,7 +27,7 @@ impl Zone {
     /// Starts this boot. Returns false if memory ran out: nothing is left then.
     pub(crate) fn start(&mut self, alloc: Global, boot: Boot) -> bool
         requires none { zone_behind self.old ≡ None }
-        requires sized { IsSizedAs boot.sizes boot.frames }
+        requires sized { IsSizedAs boot.sizes boot.table }
         ensures { MatchBool result (BootsZone boot.sizes (zone_behind self.new)) (zone_behind self.new ≡ None) }
     {
         let raw = self.raw.take(alloc);

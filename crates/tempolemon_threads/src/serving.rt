@@ -96,7 +96,7 @@ fn start<N: BootName>(
     boot: Boot,
 ) -> (HomePointer<N>, RequestAnswer)
     requires none { pointer.home ≡ None }
-    requires frames { boot.frames ≡ N.table }
+    requires frames { boot.table ≡ N.table }
     ensures named { result.0.frames ≡ N.table }
     ensures serves { ServesHomeRequest N.table pointer.home (Start alloc boot) result.0.home result.1 }
 {

@@ -72,8 +72,8 @@ fn live_by_threads<N: BootName + Send + Sync, R: Threads + Wait + Sync, G: Gate 
     last: &[Line<'_>],
     gate: &G,
 ) -> Result<ThreadAnswers, AllocError>
-    requires names { boot.frames ≡ N.table }
-    requires sized { IsSizedAs boot.sizes boot.frames }
+    requires names { boot.table ≡ N.table }
+    requires sized { IsSizedAs boot.sizes boot.table }
     requires count { boot.sizes.cpus < 2 ^ 31 }
     requires lines { All (LineInRange boot.sizes.frames boot.sizes.cpus) lines.now }
     requires last { All (LineInRange boot.sizes.frames boot.sizes.cpus) last.now }

@@ -30,7 +30,7 @@ pub struct Zone<N: BootName> {
 impl<N: BootName> Zone<N> {
     /// Starts a boot, with all CPUs parked. `AllocError` means that memory ran out: nothing is left then.
     pub fn start(alloc: Global, boot: Boot) -> Result<Zone<N>, AllocError>
-        requires frames { boot.frames ≡ N.table }
+        requires frames { boot.table ≡ N.table }
         ensures { IfOk result (λ zone. zone.sizes ≡ boot.sizes) }
     {
         let (locked, tables, parked) = boot.into_parts::<N>(alloc)?;
