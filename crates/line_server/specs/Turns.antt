@@ -30,7 +30,7 @@ ServesInForm Steps frames text line before after answer =
 abbrev pub AnswersServed : SessionTerms → (text : List ℕ) → Line → (before after : SystemState) → (answer : List ℕ)
     → Type 0
 AnswersServed on text line before after answer =
-    ServesInForm on.form on.frames text line before after answer
+    ServesInForm on.form on.table text line before after answer
 
 -- Nothing is served: the line is empty or a comment, and has no answer; or it is bad, and the answer says why.
 abbrev pub AnswersUnserved : SessionForm → Config → (text answer : List ℕ) → Type 0

@@ -14,7 +14,7 @@ pub record KnownBoot : Type 0 where
 
 -- What CPUs share of a system: the table of its boot, and the boot's sizes. No clause sees what lies behind its lock.
 pub record KnownSystem : Type 0 where
-  pub frames : KnownTable
+  pub table : KnownTable
   pub sizes : Config
 
 -- the table has these sizes

@@ -40,7 +40,7 @@ impl<N: BootName> Model for System<N> {
 
     ghost Value = { KnownSystem };
 
-    ghost view = { λ s. record { frames = s.tables.words; sizes = s.sizes } };
+    ghost view = { λ s. record { table = s.tables.words; sizes = s.sizes } };
 
     ghost invariant = { λ s. IsValidConfig s.sizes × IsSizedAs s.sizes N.table };
 }
@@ -61,7 +61,7 @@ impl<N: BootName> System<N> {
     /// The system with this behind its lock and with these tables; from now on CPUs share it. Clauses speak only of its
     /// tables and sizes, because none can look through the lock.
     pub fn of(locked: Locked<N>, tables: Tables<N>) -> System<N>
-        ensures frames { result.frames ≡ tables.words }
+        ensures frames { result.table ≡ tables.words }
         ensures sizes { result.sizes ≡ locked.sizes }
     {
         let sizes = locked.sizes();
@@ -80,7 +80,7 @@ impl<N: BootName> System<N> {
         ensures consistent { IsConsistent N.table result.0.machine }
         ensures charges { AreCharges result.0.machine.ledger }
         ensures sizes { result.0.sizes ≡ self.sizes }
-        ensures frames { result.1.words ≡ self.frames }
+        ensures frames { result.1.words ≡ self.table }
     {
         let System {
             locked,

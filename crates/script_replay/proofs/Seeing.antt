@@ -92,7 +92,7 @@ all_seen on (line ∷ lines) s e text served =
     let one = served.serves_first in
     let mid = served.between in
     watches_both s.locked.machine.run.watch one.steps mid.locked.machine.run.watch (steps_of_served on lines mid e served.rest served.serves_rest)
-    e.locked.machine.run.watch (line_seen on.frames on.is_explained line s one.steps mid one.tells.plain one.tells.so)
+    e.locked.machine.run.watch (line_seen on.table on.is_explained line s one.steps mid one.tells.plain one.tells.so)
     (all_seen on lines mid e served.rest served.serves_rest)
 
 -- if the watch was new before the lines and allowed all steps, the lines have a legal history
@@ -102,7 +102,7 @@ replayed_legally on lines s e text served allowed = record {
   served = served;
   history = λ shows told new.
       let steps = steps_of_served on lines s e text served in
-      let saw : SawRun (zone_of_boot on.frames) steps e.locked.machine.run.watch =
-      watched_runs_are_legal (zone_of_boot on.frames) s.locked.machine.run.watch steps e.locked.machine.run.watch new (all_seen on lines s e text served) allowed in
+      let saw : SawRun (zone_of_boot on.table) steps e.locked.machine.run.watch =
+      watched_runs_are_legal (zone_of_boot on.table) s.locked.machine.run.watch steps e.locked.machine.run.watch new (all_seen on lines s e text served) allowed in
       record { run = steps; saw = saw; history = legal_lines_keep_it on lines s e text served [] shows saw.legal told };
 }

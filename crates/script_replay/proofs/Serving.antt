@@ -45,20 +45,20 @@ then_watched t l mid m cpu number is told saw watched =
 
 module _ (on : Terms) (command : Command) (l m : KnownLocked) (c d : CpuInRun) where
   -- without the lock
-  pub unlocked_served : (mid : KnownLocked) (cpu : ℕ) (said : UnlockedAnswer) → cpu ≡ c.part.number → AnswersUnlocked command c d said → OnlySaw on.frames [] l mid
+  pub unlocked_served : (mid : KnownLocked) (cpu : ℕ) (said : UnlockedAnswer) → cpu ≡ c.part.number → AnswersUnlocked command c d said → OnlySaw on.table [] l mid
       → Gains (steps_unlocked c.part.number command said) (locked_state l c) (locked_state mid d) → OnlyWatched (steps_unlocked cpu command said) mid m
       → ServesAnswer on command (locked_state l c) (locked_state m d) (answer.Unlocked said)
   unlocked_served mid cpu said is alone saw gains watched = let steps = steps_unlocked c.part.number command said in record {
     steps = steps;
-    answered = unlocked_is command (transition on.frames (locked_state l c) steps (locked_state m d)) said alone
-        (record { locked = then_watched on.frames l mid m cpu c.part.number is (λ (n : ℕ). steps_unlocked n command said) saw watched; steps_are = refl });
+    answered = unlocked_is command (transition on.table (locked_state l c) steps (locked_state m d)) said alone
+        (record { locked = then_watched on.table l mid m cpu c.part.number is (λ (n : ℕ). steps_unlocked n command said) saw watched; steps_are = refl });
     gains = watched_gains steps (steps_unlocked cpu command said) (locked_state l c) mid m d gains watched;
   }
 
   -- under the lock, after it was tried in vain
-  pub lock_served : (seen : LockedState) (answer : LineAnswer) → IsTriedInVain command (locked_state l c) seen.cpu → OnlySaw on.frames [] l seen.locked
+  pub lock_served : (seen : LockedState) (answer : LineAnswer) → IsTriedInVain command (locked_state l c) seen.cpu → OnlySaw on.table [] l seen.locked
       → Gains [] (locked_state l c) seen → (OnlySettles command → seen ≡ locked_state l c)
-      → ServesUnderLock on.frames on.is_explained command answer seen (locked_state m d) → ServesAnswer on command (locked_state l c) (locked_state m d) answer
+      → ServesUnderLock on.table on.is_explained command answer seen (locked_state m d) → ServesAnswer on command (locked_state l c) (locked_state m d) answer
   lock_served seen (answer.Served reply) tried saw gains stays under = record {
     steps = under.steps;
     answered = record { seen = seen; tried = tried; only_saw = saw; served = under.served };
@@ -66,7 +66,7 @@ module _ (on : Terms) (command : Command) (l m : KnownLocked) (c d : CpuInRun) w
         (own_past m.machine.run.past) (own_past d.past) gains under.gains;
   }
   lock_served seen answer.Settled tried saw gains stays under =
-      let here = subst (λ (x : LockedState). ServesUnderLock on.frames on.is_explained command answer.Settled x (locked_state m d))
+      let here = subst (λ (x : LockedState). ServesUnderLock on.table on.is_explained command answer.Settled x (locked_state m d))
       (stays under.served.answers.is_answer.0) under in record { steps = here.steps; answered = here.served; gains = here.gains }
   lock_served seen (answer.Unlocked said) tried saw gains stays under = absurd under.served.answers.is_answer
 
@@ -126,7 +126,7 @@ is_settle command settles blocks show stock units = absurd settles
 pub value_settles : (on : Terms) (command : Command) (before after : LockedState) (ledger : Ledger) (said : AnswerValue)
     → ServesAnswer on command before after (answer_of ledger said) → said ≡ value.Settled → OnlySettles command
 value_settles on command before after ledger said serves is =
-    (subst (λ (v : AnswerValue). AnswersCommand on.is_explained command (transition on.frames before serves.steps after) (answer_of ledger v)) is serves.answered).answers.is_answer.0
+    (subst (λ (v : AnswerValue). AnswersCommand on.is_explained command (transition on.table before serves.steps after) (answer_of ledger v)) is serves.answered).answers.is_answer.0
 
 -- the same of one that was answered under the lock
 pub locked_settles : (t : KnownTable) (command : Command) (before after : LockedState) (ledger : Ledger) (said : AnswerValue)

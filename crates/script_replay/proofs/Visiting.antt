@@ -76,14 +76,14 @@ module _ (on : KnownSystem) (command : Command) (c d : CpuInRun) where
           tells = inr (record { seen = seen; needs = needs; writes = is.1 });
           grew = grew_both c.past [] seen.past is.0 d.past needs.grew
               (subst (λ (r : Run). GrewByChanges seen.past r d.past) (sym is.1.steps_are)
-              (served_grew on.frames visit.served.asked visit.served.reply visit.found visit.left seen d visit.served.served));
+              (served_grew on.table visit.served.asked visit.served.reply visit.found visit.left seen d visit.served.served));
         },
       )
 
 -- a text that was written from what a visit left
 pub visit_written : (on : KnownSystem) (command : Command) (l m : KnownLocked) (c d : CpuInRun) (answer : LineAnswer) (text : List ℕ)
-    → l.sizes ≡ on.sizes → IsSound on.frames l → AnswersLocked on.frames command answer (locked_state l c) (locked_state m d) → IsSound on.frames m
-    → IsAnswerText on.frames false command answer text (locked_state m d) → (steps : Run) × WritesByVisit on command steps c d text
+    → l.sizes ≡ on.sizes → IsSound on.table l → AnswersLocked on.table command answer (locked_state l c) (locked_state m d) → IsSound on.table m
+    → IsAnswerText on.table false command answer text (locked_state m d) → (steps : Run) × WritesByVisit on command steps c d text
 visit_written on command l m c d answer text sized before answers left told = (
   between_locks c.part.number answers.served.steps,
   record {
@@ -104,12 +104,12 @@ visit_settles on command c seen tried none = only_settles command c seen none tr
 
 -- a command that was answered at the part that was read
 pub part_visited : (on : KnownSystem) (cpus : List CpuInRun) (line : Line) (cpu : ℕ) (command : Command) (c d : CpuInRun)
-    {number : ℕ} {Z U E : Type 0} (r : Result U E) (old new : String Z) → line ≡ At number cpu command → LineInRange on.frames.frames (length cpus) line →
+    {number : ℕ} {Z U E : Type 0} (r : Result U E) (old new : String Z) → line ≡ At number cpu command → LineInRange on.table.frames (length cpus) line →
     c ≡ get_or cpus (cpu - 1) c →
     AddsText r old new (ServesByVisits on command c d) →
     AddsText r old new (VisitsLine on line cpus (slice_set cpus (cpu - 1) d))
 part_visited on cpus line cpu command c d {number = number} r old new is there read answered =
-    let named : LineInRange on.frames.frames (length cpus) (At number cpu command) = subst (LineInRange on.frames.frames (length cpus)) is there in
+    let named : LineInRange on.table.frames (length cpus) (At number cpu command) = subst (LineInRange on.table.frames (length cpus)) is there in
     let low = named.low in
     let high = named.high in record {
       text = answered.text;

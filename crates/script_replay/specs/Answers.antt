@@ -262,7 +262,7 @@ AnswersCommand is_explained command call (answer.Unlocked said) = ServesUnlocked
 pub record ServesAnswer (terms : Terms) (command : Command) (before after : LockedState) (answer : LineAnswer)
     : Type 0 where
   pub steps : Run
-  pub answered : AnswersCommand terms.is_explained command (transition terms.frames before steps after) answer
+  pub answered : AnswersCommand terms.is_explained command (transition terms.table before steps after) answer
   pub gains : Gains steps before after
 
 -- ---- the text of an answer
@@ -318,5 +318,5 @@ pub record WritesCommand (is_explained : Bool) (command : Command) (call : Trans
 pub record ServesCommand (terms : Terms) (command : Command) (before after : LockedState) (text : List ℕ)
     : Type 0 where
   pub steps : Run
-  pub writes : WritesCommand terms.is_explained command (transition terms.frames before steps after) text
+  pub writes : WritesCommand terms.is_explained command (transition terms.table before steps after) text
   pub gains : Gains steps before after

@@ -44,9 +44,9 @@ pub record KeepsFirstAndRest (terms : Terms) (line : Line) (past : LinesSoFar) (
   pub rest : List ℕ
   pub between : SystemState
   pub steps : Run
-  pub writes_first : WritesLineOnTerms terms line (transition terms.frames past.now steps between) first
+  pub writes_first : WritesLineOnTerms terms line (transition terms.table past.now steps between) first
   pub goes_on : RunGoesOn steps past.now between
-  pub kept : KeepsPromise terms.frames (past.run ++ steps) between
+  pub kept : KeepsPromise terms.table (past.run ++ steps) between
   pub keeps : keeps_rest (past_line past steps between) rest
   pub text_is : text ≡ first ++ rest
 
@@ -62,18 +62,18 @@ KeepsHistory terms (line ∷ lines) past last text =
 abbrev pub LegalLinesAreShown : Type 0
 LegalLinesAreShown = (terms : Terms) (lines : List Line) (before after : SystemState) (text : List ℕ)
     (served : ServesAll terms lines before after text) (run : Run)
-    → ShowsAll terms.frames run before.locked.machine (parts_of before.cpus)
-    → IsLegalRun (zone_of_boot terms.frames) (run ++ steps_of_served terms lines before after text served)
-    → GoesOnTo terms.frames run before.locked.machine (run ++ steps_of_served terms lines before after text served)
+    → ShowsAll terms.table run before.locked.machine (parts_of before.cpus)
+    → IsLegalRun (zone_of_boot terms.table) (run ++ steps_of_served terms lines before after text served)
+    → GoesOnTo terms.table run before.locked.machine (run ++ steps_of_served terms lines before after text served)
     after.locked.machine (parts_of after.cpus)
 
 -- If besides the ledger before has the peaks and event counts of that run, the lines keep the promise.
 abbrev pub LegalLinesKeepIt : Type 0
 LegalLinesKeepIt = (terms : Terms) (lines : List Line) (before after : SystemState) (text : List ℕ)
     (served : ServesAll terms lines before after text) (run : Run)
-    → ShowsAll terms.frames run before.locked.machine (parts_of before.cpus)
-    → IsLegalRun (zone_of_boot terms.frames) (run ++ steps_of_served terms lines before after text served)
-    → AgreesWithRun terms.frames run before.locked.machine.ledger
+    → ShowsAll terms.table run before.locked.machine (parts_of before.cpus)
+    → IsLegalRun (zone_of_boot terms.table) (run ++ steps_of_served terms lines before after text served)
+    → AgreesWithRun terms.table run before.locked.machine.ledger
     → KeepsHistory terms lines (past run before)
     (past (run ++ steps_of_served terms lines before after text served) after) text
 
@@ -82,7 +82,7 @@ LegalLinesKeepIt = (terms : Terms) (lines : List Line) (before after : SystemSta
 pub record HasLegalHistory (terms : Terms) (lines : List Line) (before after : SystemState) (text : List ℕ)
     : Type 0 where
   pub run : Run
-  pub saw : SawRun (zone_of_boot terms.frames) run after.locked.machine.run.watch
+  pub saw : SawRun (zone_of_boot terms.table) run after.locked.machine.run.watch
   pub history : KeepsHistory terms lines (past [] before) (past run after) text
 
 -- The result of a replay. If it succeeds, all lines were served and these are their answers. If memory runs out for the
@@ -97,9 +97,9 @@ pub record ReplaysOrStops {Z E : Type 0} (terms : Terms) (lines : List Line) (be
 pub record ReplaysLegally (terms : Terms) (lines : List Line) (before after : SystemState)
     (text : List ℕ) : Type 0 where
   pub served : ServesAll terms lines before after text
-  pub history : ShowsAll terms.frames [] before.locked.machine (parts_of before.cpus)
-      → AgreesWithRun terms.frames [] before.locked.machine.ledger
-      → IsNewWatch (zone_of_boot terms.frames) before.locked.machine.run.watch
+  pub history : ShowsAll terms.table [] before.locked.machine (parts_of before.cpus)
+      → AgreesWithRun terms.table [] before.locked.machine.ledger
+      → IsNewWatch (zone_of_boot terms.table) before.locked.machine.run.watch
       → HasLegalHistory terms lines before after text
 
 -- The last of so many lines is the first one with a step that the watch doesn't allow: it allowed all steps of the

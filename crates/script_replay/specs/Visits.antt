@@ -44,10 +44,10 @@ pub record GetsFastBySteps (path : List ℕ) (steps : Run) (before : LockedState
 abbrev pub AnswersWithoutVisit : KnownSystem → Command → (steps : Run) (before after : CpuInRun) → UnlockedAnswer
     → Type 0
 AnswersWithoutVisit tables (Alloc path zero) steps before after (unlocked.Fast (Got frame)) =
-    (met : CpuInRun) × SeenBehindLock tables.frames
+    (met : CpuInRun) × SeenBehindLock tables.table
     (λ locked. GetsFastBySteps path.now steps (locked_state locked met) after frame) before met
 AnswersWithoutVisit tables (Alloc path zero) steps before after (unlocked.Refused NoGroup) =
-    SeenBehindLock tables.frames
+    SeenBehindLock tables.table
     (λ locked. number_at locked.machine.ledger.groups path.now ≡ None) before after × (steps ≡ [])
 AnswersWithoutVisit tables command steps before after answer =
     AnswersUnlocked command before after answer × (steps ≡ steps_unlocked before.part.number command answer)
@@ -63,7 +63,7 @@ pub record AnswersWithoutVisitBySteps (tables : KnownSystem) (command : Command)
 -- frame for it, and left the CPU `seen` by steps that change nothing.
 pub record TriesFrame (tables : KnownSystem) (path : List ℕ) (before seen : CpuInRun) : Type 0 where
   pub met : CpuInRun
-  pub found : SeenBehindLock tables.frames
+  pub found : SeenBehindLock tables.table
       (λ locked. GetsNoneFast path (locked_state locked met) seen) before met
   pub makes : MakesUnlocked before.part.number [] met.past seen.past
 
@@ -84,10 +84,10 @@ pub record NeedsVisit (tables : KnownSystem) (command : Command) (before seen : 
 pub record WritesByVisit (tables : KnownSystem) (command : Command) (steps : Run) (before after : CpuInRun)
     (text : List ℕ) : Type 0 where
   pub answer : LineAnswer
-  pub visited : IsVisited tables.frames tables.sizes (AnswersLocked tables.frames command answer)
+  pub visited : IsVisited tables.table tables.sizes (AnswersLocked tables.table command answer)
       before after
   pub steps_are : steps ≡ between_locks before.part.number visited.served.served.steps
-  pub told : IsAnswerText tables.frames false command answer text (locked_state visited.left after)
+  pub told : IsAnswerText tables.table false command answer text (locked_state visited.left after)
 
 -- the text of a command that was answered without a visit
 pub record SaysWithoutVisit (tables : KnownSystem) (command : Command) (steps : Run) (before after : CpuInRun)
