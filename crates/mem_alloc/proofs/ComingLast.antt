@@ -5,7 +5,7 @@ use Rattle.std.proofs.lemmas.Bool.{cases_lt, false≢true}
 use Rattle.std.proofs.lemmas.List.{append_assoc, append-nil}
 use Rattle.frame_word.specs.Tables.{KnownTable}
 use Rattle.group_tree.specs.declared.group.Group.{Group}
-use Rattle.group_charge.specs.declared.settings.Settings.{Settings}
+use Rattle.group_charge.specs.declared.settings.ReclaimSettings.{ReclaimSettings}
 use Rattle.group_charge.specs.Charges.{Ledger}
 use Rattle.group_protection.specs.Protections.{min_key, setting}
 use Rattle.cpu_part.specs.Cpus.{KnownCpuLists}
@@ -57,7 +57,7 @@ kills_come_last MayAsk t start steps before rest made g none is kills =
 
 -- what is set for a group is so in each ledger with these settings
 same_min : (a b : Ledger) (g : ℕ) → a.settings ≡ b.settings → setting min_key a g ≡ setting min_key b g
-same_min a b g is = ap (λ (l : List Settings). setting min_key (record a { settings = l }) g) is
+same_min a b g is = ap (λ (l : List ReclaimSettings). setting min_key (record a { settings = l }) g) is
 
 pub tries_all_without_min : (MayAsk : List Group → ℕ → ℕ → Type 0) → TriesAllWithoutMin MayAsk
 tries_all_without_min MayAsk t start tried killed last none f home below kept clean = elim (last.frozen f home below kept clean) [

@@ -9,7 +9,7 @@ use Rattle.group_tree.specs.declared.event.EventKey.TheVariants.{OomKill, OomGro
 use Rattle.group_tree.specs.declared.fault.Fault.{Fault}
 use Rattle.group_tree.specs.declared.group.Group.{Group}
 use Rattle.group_tree.specs.{most_groups, has_child, has_group, make_fault, IsLeastFreeNumber}
-use Rattle.group_charge.specs.declared.settings.Settings.{Settings}
+use Rattle.group_charge.specs.declared.settings.ReclaimSettings.{ReclaimSettings}
 use Rattle.group_charge.specs.Charges.{Ledger, AreCharges, CountsEvent, SamePages, SamePeaks, account_at, current_of, pages_of, with_settings}
 use Rattle.group_charge.specs.Charges.{with_new_group, with_group_removed, with_group_limit, with_oom_flag}
 use Rattle.frame_word.specs.Tables.{KnownTable}
@@ -229,7 +229,7 @@ module _ (t : KnownTable) (m now : KnownMachine) (same : m ≡ now) (ok : IsCons
 -- ---- no step
 
 -- what is set for a group binds no step
-pub settings_consistent : (t : KnownTable) (m : KnownMachine) (l : Ledger) (g : ℕ) (settings : Settings) → l ≡ with_settings m.ledger g settings
+pub settings_consistent : (t : KnownTable) (m : KnownMachine) (l : Ledger) (g : ℕ) (settings : ReclaimSettings) → l ≡ with_settings m.ledger g settings
     → IsConsistent t m → IsConsistent t (record m { ledger = l })
 unfolding pages_of account_at
 settings_consistent t m l g settings set ok = subst (λ (k : Ledger). IsConsistent t (record m { ledger = k })) (sym set) (record {
@@ -251,7 +251,7 @@ settings_consistent t m l g settings set ok = subst (λ (k : Ledger). IsConsiste
   };
 })
 
-pub settings_make : (t : KnownTable) (m : KnownMachine) (g : ℕ) (settings : Settings) → Makes t m [] (record m { ledger = with_settings m.ledger g settings })
+pub settings_make : (t : KnownTable) (m : KnownMachine) (g : ℕ) (settings : ReclaimSettings) → Makes t m [] (record m { ledger = with_settings m.ledger g settings })
 settings_make t m g settings = record {
   holder = refl;
   leads = refl;

@@ -14,7 +14,7 @@ use Rattle.group_tree.specs.{one_more}
 use Rattle.group_tree.proofs.EventLemmas.{counted, none_counted}
 use Rattle.group_tree.proofs.GroupLemmas.{find-filter, is_some-find}
 use Rattle.group_charge.specs.declared.account.Account.{Account}
-use Rattle.group_charge.specs.declared.settings.Settings.{Settings}
+use Rattle.group_charge.specs.declared.settings.ReclaimSettings.{ReclaimSettings}
 use Rattle.group_charge.specs.Charges.{Ledger, AreCharges, SamePeaks, SameEvents, CountsEvent, current_of, peak_of, events_of, events_local_of, account_at}
 use Rattle.group_charge.specs.Charges.{with_settings, empty_account, with_charge, with_new_group, with_group_removed, with_group_limit, with_oom_flag}
 use Rattle.group_charge.proofs.CallerLemmas.{charge_rises, charge_peaks, charge_events, has_account}
@@ -127,7 +127,7 @@ unfolding peak_of events_of events_local_of account_at
 follows_limit s l g limit = follows_still s l (set_max_steps g limit) (with_group_limit l g limit) refl (λ m. refl)
     (record { events = λ m. refl; events_local = λ m. refl })
 
-pub follows_settings : (s : State) (l : Ledger) (g : ℕ) (settings : Settings) → FollowsSteps s l [] (with_settings l g settings)
+pub follows_settings : (s : State) (l : Ledger) (g : ℕ) (settings : ReclaimSettings) → FollowsSteps s l [] (with_settings l g settings)
 unfolding peak_of events_of events_local_of account_at
 follows_settings s l g settings = follows_still s l [] (with_settings l g settings) refl (λ m. refl)
     (record { events = λ m. refl; events_local = λ m. refl })

@@ -16,7 +16,7 @@ use crate::machine::Machine;
 use crate::proving::prove_charges;
 use crate::stepping::make_step;
 use cpu_part::{BootName, Tables};
-use group_charge::settings::Settings;
+use group_charge::settings::ReclaimSettings;
 use group_tree::event::EventKey;
 use group_tree::fault::Fault;
 use group_tree::group::GroupId;
@@ -165,7 +165,7 @@ impl<N: BootName> Machine<N> {
     }
 
     /// Sets memory.high, memory.low and memory.min of a group. This is no step: no rule reads them.
-    pub fn set_settings(&mut self, group: GroupId, settings: Settings)
+    pub fn set_settings(&mut self, group: GroupId, settings: ReclaimSettings)
         ensures machine { self.new ≡ record self.old { ledger = with_settings self.old.ledger group settings } }
         ensures visit { StaysVisited N.table self.old self.new }
         ensures steps { Makes N.table self.old [] self.new }

@@ -11,7 +11,7 @@ use Rattle.group_tree.specs.declared.event.EventKey.TheVariants as event
 use Rattle.group_tree.specs.declared.group.Group.{Group}
 use Rattle.group_tree.specs.Groups.{AreGroups, in_subtree}
 use Rattle.group_tree.proofs.CallerLemmas.{in_subtree-below}
-use Rattle.group_charge.specs.declared.settings.Settings.{Settings}
+use Rattle.group_charge.specs.declared.settings.ReclaimSettings.{ReclaimSettings}
 use Rattle.group_charge.specs.Charges.{Ledger, are_protecting, current_of, with_noted}
 use Rattle.group_charge.specs.declared.note.Note.{Note}
 use Rattle.group_charge.specs.declared.note.Note.TheVariants as note
@@ -184,7 +184,7 @@ low_broken t of_min of_low usage g want freed m x n last leads held is runs visi
 
 -- ---- a turn
 
-last_not_first : (pass : Pass) (settings : List Settings) → is_last pass settings ≡ true → is_first pass ≡ false
+last_not_first : (pass : Pass) (settings : List ReclaimSettings) → is_last pass settings ≡ true → is_first pass ≡ false
 last_not_first First settings last = absurd (false≢true last)
 last_not_first Second settings last = refl
 last_not_first Third settings last = refl
@@ -420,5 +420,5 @@ as_reclaim t g want freed m n passes are leads = record {
 }
 
 -- the third pass is made if something is protected
-pub with_third : (b : Bool) (settings : List Settings) → are_protecting settings ≡ b → passes_of settings ≡ First ∷ Second ∷ cond b (Third ∷ []) []
+pub with_third : (b : Bool) (settings : List ReclaimSettings) → are_protecting settings ≡ b → passes_of settings ≡ First ∷ Second ∷ cond b (Third ∷ []) []
 with_third b settings is = ap (λ (x : Bool). First ∷ Second ∷ cond x (Third ∷ []) []) is

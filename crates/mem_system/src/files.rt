@@ -16,7 +16,7 @@ use control_files::flag::read_flag;
 use control_files::limit::{Limit, read_amount, read_limit};
 use cpu_part::{BootName, Tables};
 use group_charge::charges::Charges;
-use group_charge::settings::Settings;
+use group_charge::settings::ReclaimSettings;
 use group_tree::fault::Fault;
 use group_tree::group::GroupId;
 use machine_texts::memory_stat;
@@ -111,7 +111,7 @@ fn write_high<N: BootName>(
     match read_limit(value) {
         Ok(high) => {
             let settings = machine.charges().settings(group);
-            machine.set_settings(group, Settings { high, ..settings });
+            machine.set_settings(group, ReclaimSettings { high, ..settings });
             lower_to_high(machine, tables, group, high);
             Outcome::Done
         }
@@ -128,7 +128,7 @@ fn write_low<N: BootName>(machine: &mut Machine<N>, group: GroupId, value: &[u8]
     match read_limit(value) {
         Ok(low) => {
             let settings = machine.charges().settings(group);
-            machine.set_settings(group, Settings { low, ..settings });
+            machine.set_settings(group, ReclaimSettings { low, ..settings });
             Outcome::Done
         }
         Err(fault) => Outcome::Refused(fault),
@@ -144,7 +144,7 @@ fn write_min<N: BootName>(machine: &mut Machine<N>, group: GroupId, value: &[u8]
     match read_limit(value) {
         Ok(min) => {
             let settings = machine.charges().settings(group);
-            machine.set_settings(group, Settings { min, ..settings });
+            machine.set_settings(group, ReclaimSettings { min, ..settings });
             Outcome::Done
         }
         Err(fault) => Outcome::Refused(fault),

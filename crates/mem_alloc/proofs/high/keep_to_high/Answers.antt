@@ -1,7 +1,7 @@
 use Rattle.std.proofs.Common.{◌≡◌, ℕ, Some, None, sym, ap, ◌∙◌, subst, arith}
 use Rattle.group_tree.specs.Groups.{has_group}
 use Rattle.group_charge.specs.Charges.{Ledger}
-use Rattle.group_charge.specs.declared.settings.Settings.{Settings}
+use Rattle.group_charge.specs.declared.settings.ReclaimSettings.{ReclaimSettings}
 use Rattle.group_charge.specs.declared.note.Note.TheVariants.{High}
 use Rattle.step_rules.specs.declared.step.NoteKey.TheVariants as key
 use Rattle.mem_machine.specs.{KnownMachine, with_note, note_steps}
@@ -15,14 +15,14 @@ pub returns-in_default : goal.returns-in_default
 returns-in_default g c =
     let t = g.N.BootName.table in
     let none : high_of c.args.machine.now.ledger c.args.group ≡ None =
-    ap (λ (l : Ledger). high_of l c.args.group) (sym c.charges.ensures) ∙ ap (λ (s : Settings). s.high) (sym c.settings.ensures) ∙ c.in_default.is in
+    ap (λ (l : Ledger). high_of l c.args.group) (sym c.charges.ensures) ∙ ap (λ (s : ReclaimSettings). s.high) (sym c.settings.ensures) ∙ c.in_default.is in
     record { high = no_high t c.args.group c.args.need c.args.machine.now none; keeps = keeps_none t c.args.machine.now }
 
 pub returns-then-from : goal.returns-then-from
 returns-then-from g c =
     let t = g.N.BootName.table in
     let some : high_of c.args.machine.now.ledger c.args.group ≡ Some c.in-Some.high =
-    ap (λ (l : Ledger). high_of l c.args.group) (sym c.charges.ensures) ∙ ap (λ (s : Settings). s.high) (sym c.settings.ensures) ∙ c.in-Some.is in
+    ap (λ (l : Ledger). high_of l c.args.group) (sym c.charges.ensures) ∙ ap (λ (s : ReclaimSettings). s.high) (sym c.settings.ensures) ∙ c.in-Some.is in
     let usage = c.current-usage.ensures in
     let low = c.if-from.true in
     record {
@@ -49,7 +49,7 @@ returns-clause-high g c =
     let m = c.args.machine.now in
     let high = c.in-Some.high in
     let some : high_of m.ledger c.args.group ≡ Some high =
-    ap (λ (l : Ledger). high_of l c.args.group) (sym c.charges.ensures) ∙ ap (λ (s : Settings). s.high) (sym c.settings.ensures) ∙ c.in-Some.is in
+    ap (λ (l : Ledger). high_of l c.args.group) (sym c.charges.ensures) ∙ ap (λ (s : ReclaimSettings). s.high) (sym c.settings.ensures) ∙ c.in-Some.is in
     let usage = c.current-usage.ensures in
     let more = c.if-from.false in
     high_reclaimed g.N.BootName.table c.args.group c.args.need m high some (omega (arith, usage, more, c.from.ensures, c.from-2.ensures, c.from-3.ensures)) c.note.new.self c.note_event.new.self

@@ -1,7 +1,7 @@
 use Rattle.std.proofs.Common.{ap, refl, ◌∙◌, [], Err}
 use Rattle.group_tree.specs.Groups.{has_group}
 use Rattle.control_files.specs.declared.file.File.TheVariants.{High}
-use Rattle.group_charge.specs.declared.settings.Settings.{Settings}
+use Rattle.group_charge.specs.declared.settings.ReclaimSettings.{ReclaimSettings}
 use Rattle.group_charge.specs.Charges.{Ledger, settings_of, with_settings}
 use Rattle.mem_machine.specs.Machines.{KnownMachine}
 use Rattle.mem_reclaim.proofs.Grown.{held_after}
@@ -23,7 +23,7 @@ returns-in-Ok-clause-written g c =
     let kept = c.settings-settings.ensures ∙ ap (λ (l : Ledger). settings_of l c.args.group) c.charges.ensures in
     high_written g.N.BootName.table c.args.value.now c.args.group c.in-Ok.high c.args.machine.now c.set_settings.new.self c.lower_to_high.new.machine
     ((c.in-Ok.ensures.ok c.in-Ok.high).0 refl)
-    (set.machine ∙ ap (λ (s : Settings). record m { ledger = with_settings m.ledger c.args.group (record s { high = c.in-Ok.high }) }) kept) set.steps c.lower_to_high.ensures.lowers
+    (set.machine ∙ ap (λ (s : ReclaimSettings). record m { ledger = with_settings m.ledger c.args.group (record s { high = c.in-Ok.high }) }) kept) set.steps c.lower_to_high.ensures.lowers
 
 pub returns-in-Ok-clause-visit : goal.returns-in-Ok-clause-visit
 returns-in-Ok-clause-visit g c = λ y v. c.lower_to_high.ensures.visit y (c.set_settings.ensures.visit y v)
