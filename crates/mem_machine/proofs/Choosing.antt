@@ -11,7 +11,7 @@ use Rattle.group_tree.specs.declared.group.Group.{Group}
 use Rattle.group_tree.specs.Groups.{in_subtree}
 use Rattle.group_tree.proofs.GroupLemmas.{group_at-contains, has_group-is}
 use Rattle.group_tree.proofs.CallerLemmas.{in_subtree-below}
-use Rattle.step_rules.specs.Usage.{is_in_subtree}
+use Rattle.group_tree.specs.{is_in_subtree}
 use Rattle.mem_machine.specs.{KnownMachine, IsSubtree, stock_group, of_group, of_subtree, AreChosen}
 
 -- after k of these groups: the word has the places that those in the subtree own

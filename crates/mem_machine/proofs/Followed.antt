@@ -6,7 +6,7 @@ use Rattle.std.proofs.lemmas.List.Sums.{fold-append}
 use Rattle.std.proofs.lemmas.Bool.{cases_eq, cases_Bool, and_parts, true≢false, false≢true}
 use Rattle.group_tree.specs.declared.event.EventKey.{EventKey}
 use Rattle.group_tree.specs.declared.group.Group.{Group}
-use Rattle.group_tree.specs.{EventCounts, count_of, has_group, without_group, one_more}
+use Rattle.group_tree.specs.{EventCounts, count_of, has_group, without_group, one_more, is_in_subtree}
 use Rattle.group_tree.proofs.CallerLemmas.{has_group-with, has_group-limited, has_group-flagged, has_group-without}
 use Rattle.group_charge.specs.Charges.{Ledger, SamePeaks, SameEvents}
 use Rattle.frame_word.specs.Tables.{KnownTable}
@@ -16,7 +16,7 @@ use Rattle.step_rules.specs.declared.step.Action.TheVariants.{Lock, Grant, SetMa
 use Rattle.step_rules.specs.declared.step.Answer.{Answer}
 use Rattle.step_rules.specs.declared.step.Answer.TheVariants.{Illegal, Done, Granted, Number}
 use Rattle.step_rules.specs.State.{State}
-use Rattle.step_rules.specs.{Run, after, peak_follows, IsLocalRun, event_of, noted_at, is_noted_at, is_noted_in_subtree, makes_group, is_in_subtree}
+use Rattle.step_rules.specs.{Run, after, peak_follows, IsLocalRun, event_of, noted_at, is_noted_at, is_noted_in_subtree, makes_group}
 use Rattle.step_rules.specs.{is_of_group}
 use Rattle.step_rules.proofs.CallerLemmas.{noted_nowhere}
 use Rattle.step_rules.proofs.Moving.{gone_itself}

@@ -11,11 +11,12 @@ use Rattle.stock_word.specs.declared.stock.Stock.{Stock}
 use Rattle.stock_word.specs.declared.stock.Stock.TheVariants.{HeldBy}
 use Rattle.stock_word.specs.Stock.{group_of, is_held, stock_pages_of}
 use Rattle.group_charge.specs.Charges.{AreCharges, current_of}
+use Rattle.group_tree.specs.{is_in_subtree}
 use Rattle.step_rules.specs.declared.phase.Way.TheVariants.{OnList}
 use Rattle.step_rules.specs.declared.phase.Phase.TheVariants.{Lent}
 use Rattle.step_rules.specs.declared.step.Action.TheVariants.{Consume}
 use Rattle.step_rules.specs.declared.step.Answer.TheVariants.{Took}
-use Rattle.step_rules.specs.{Part, Zone, front_of, is_cpu, one_if, times, visits, is_in_subtree, Run, after, consumed, paid, with_part, with_phase}
+use Rattle.step_rules.specs.{Part, Zone, front_of, is_cpu, one_if, times, visits, Run, after, consumed, paid, with_part, with_phase}
 use Rattle.step_rules.specs.{IsAnswer, is_legal, IsLocalStep, other_part_seen}
 use Rattle.step_rules.specs.State.{State, sum_to}
 use Rattle.step_rules.proofs.Basics.{at_each, at_same}

@@ -6,12 +6,13 @@ use Rattle.group_tree.specs.declared.group.Group.{Group}
 use Rattle.group_tree.specs.Groups.{in_subtree}
 use Rattle.group_charge.specs.Charges.{AreCharges, current_of}
 use Rattle.frame_word.specs.Tables.{KnownTable}
+use Rattle.group_tree.specs.{is_in_subtree}
 use Rattle.step_rules.specs.declared.phase.ChargedUnit.{ChargedUnit}
 use Rattle.step_rules.specs.declared.phase.Stage.TheVariants.{FreshAt, Live, BackAt}
 use Rattle.step_rules.specs.declared.phase.Way.TheVariants.{OnList}
 use Rattle.step_rules.specs.declared.phase.Phase.{Phase}
 use Rattle.step_rules.specs.declared.phase.Phase.TheVariants as phase
-use Rattle.step_rules.specs.{KeepsInvariant, PhasePaid, groups_in, told_pages, keeper_of, Part, one_if, sum_to, Run, state_of, is_in_subtree}
+use Rattle.step_rules.specs.{KeepsInvariant, PhasePaid, groups_in, told_pages, keeper_of, Part, one_if, sum_to, Run, state_of}
 use Rattle.step_rules.specs.{frames_kept, stock_in_subtree, pages_prepaid, pages_pending, usage_of, other_part_seen, parts_seen_by, phase_seen_by}
 use Rattle.step_rules.specs.{seen_by}
 use Rattle.step_rules.specs.State.{State}

@@ -6,7 +6,8 @@ use Rattle.group_tree.specs.Room.{PathHasRoom}
 use Rattle.group_charge.specs.{Ledger, current_of, with_charge, with_uncharge, noted}
 use Rattle.group_tree.specs.declared.group.Group.{Group}
 use Rattle.group_charge.specs.declared.note.Note.TheVariants.{Stock}
-use Rattle.step_rules.specs.{Part, is_in_subtree, is_of_group, drained, filled, with_part}
+use Rattle.group_tree.specs.{is_in_subtree}
+use Rattle.step_rules.specs.{Part, is_of_group, drained, filled, with_part}
 use Rattle.mem_machine.specs.Machines.{KnownMachine, left_by, part_at}
 use Rattle.mem_machine.specs.Local.{Makes}
 use Rattle.mem_machine.specs.Steps.{Drain, drain_stocks_steps, over_steps, pages_drained}

@@ -9,7 +9,7 @@ use Rattle.std.proofs.lemmas.List.FromFn.{get_or-map-range_with_len, length-map-
 use Rattle.zone_blocks.specs.Areas.{IsFree}
 use Rattle.zone_blocks.proofs.Unique.{in_one_block, in_a_block_is_free}
 use Rattle.group_tree.specs.declared.group.Group.{Group}
-use Rattle.group_tree.specs.{has_group, in_subtree, limit_of, fits_limit}
+use Rattle.group_tree.specs.{has_group, in_subtree, limit_of, fits_limit, is_in_subtree}
 use Rattle.group_tree.proofs.CallerLemmas.{in_subtree-above}
 use Rattle.step_rules.specs.declared.phase.ChargedUnit.{ChargedUnit}
 use Rattle.step_rules.specs.declared.phase.Way.TheVariants.{OnList}
@@ -24,7 +24,7 @@ use Rattle.step_rules.specs.declared.step.Answer.{Answer}
 use Rattle.step_rules.specs.declared.step.Answer.TheVariants.{Done, Held, Last, Took, Stocked, Granted, Placed}
 use Rattle.step_rules.specs.Phases.{FreshFrame}
 use Rattle.step_rules.specs.{is_free, is_live_phase, has_as, unit_of, keeper_of, is_head_in_hand, is_returnable, Zone, Stock, one_if, front_of}
-use Rattle.step_rules.specs.{is_cpu, free_in, live_references, times, is_in_subtree, usage_of, frames_kept, stock_in_subtree, pages_prepaid, is_legal}
+use Rattle.step_rules.specs.{is_cpu, free_in, live_references, times, usage_of, frames_kept, stock_in_subtree, pages_prepaid, is_legal}
 use Rattle.step_rules.specs.{Allows, Run, state_of, IsLegalRun, limit_given, was_killed, InHand, units_after_run, is_same_frame_place, place_in}
 use Rattle.step_rules.specs.{phase_awaits_return, is_killed_return_phase, IsAllPlaced, ReturnsOnce, charged_in_subtree, StockIsKept, lent_to, Shown}
 use Rattle.step_rules.specs.{IsShown, Has, HasOnce, IsInUnit, IsInOnePlace, IsPrepaid, kept_in_subtree, prepaid_in_subtree, KeepsLimits}

@@ -36,7 +36,7 @@ pub use Rattle.step_rules.specs.Phases.{passed_back, passes_back, passes_out, st
 pub use Rattle.step_rules.specs.Phases.{unit_of}
 pub use Rattle.step_rules.specs.State.{Part, Stock, Zone, all_to, at_boot, frames_of, free_in, front_of, is_cpu, is_frame, is_held_by, is_unheld}
 pub use Rattle.step_rules.specs.State.{live_references, may_zone_act, no_part, one_if, pins_of, sum_to, times, visits, with_at, with_last, without}
-pub use Rattle.step_rules.specs.Usage.{frames_kept, is_in_subtree, pages_pending, pages_prepaid, stock_in_subtree, usage_of}
+pub use Rattle.step_rules.specs.Usage.{frames_kept, pages_pending, pages_prepaid, stock_in_subtree, usage_of}
 pub use Rattle.step_rules.specs.Legal.{Allows, IsAnswer, IsCounted, IsMade, get_answer, is_legal, is_of_group, is_passable, is_removable}
 pub use Rattle.step_rules.specs.Legal.{no_frame_passes, no_page_pends, nothing_passes, rests, takes_fill}
 pub use Rattle.step_rules.specs.After.{IsLegalRun, Run, absorbed, after, after_last, consumed, credited, drained, filled, is_within, paid, part_after}
@@ -44,7 +44,7 @@ pub use Rattle.step_rules.specs.After.{placed_phase, state_of, unit_size, with_b
 pub use Rattle.step_rules.specs.After.{with_phase, with_references, with_report, with_unlisted, without_frame, without_unit}
 pub use Rattle.step_rules.specs.Views.{holds_lock, other_part_seen, parts_seen_by, phase_seen_by, references_seen_by, seen_by, stage_seen_by}
 pub use Rattle.step_rules.specs.Invariant.{FrameFits, Homes, IsBooked, IsHomed, IsPaid, KeepsInvariant, PhasePaid, StateInvariant, groups_in}
-pub use Rattle.step_rules.specs.Invariant.{some_there, there_or_none, told_pages}
+pub use Rattle.step_rules.specs.Invariant.{some_there, told_pages}
 pub use Rattle.step_rules.specs.Laws.{IsLocalStep, OtherStepIsHidden, OwnStepIsLegal, ShowsLocal, is_of_lock, pushed}
 pub use Rattle.step_rules.specs.Counts.{BooksAreCounted, ReferencesAreCounted, StocksAreCounted, book_gained, book_lost, count_at, counted}
 pub use Rattle.step_rules.specs.Counts.{references_gained, references_lost, stock_gained, stock_lost}
