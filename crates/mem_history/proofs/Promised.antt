@@ -19,7 +19,7 @@ use Rattle.step_rules.specs.declared.phase.Phase.{Phase}
 use Rattle.step_rules.specs.declared.phase.Phase.TheVariants as phase
 use Rattle.step_rules.specs.Phases.{ListFrame, FreshFrame, has_as, keeper_of}
 use Rattle.step_rules.specs.Phases as phases
-use Rattle.step_rules.specs.{Zone, Part, Stock, one_if, is_cpu, free_in, times, Run, state_of, lent_to, IsShown, other_part_seen, PhasePaid}
+use Rattle.step_rules.specs.{Zone, Part, PartStock, one_if, is_cpu, free_in, times, Run, state_of, lent_to, IsShown, other_part_seen, PhasePaid}
 use Rattle.step_rules.specs.{groups_in, KeepsInvariant}
 use Rattle.step_rules.specs.State.{State}
 use Rattle.step_rules.proofs.PhaseLemmas.{listed_is, fresh_is}
@@ -189,7 +189,7 @@ module _ (t : KnownTable) (run : Run) (m : KnownMachine) (cpus : List KnownCpuLi
       let paid : PhasePaid whole.zone.cpus (groups_in whole.parts) (phase.Head u (FreshAt q)) =
       subst (PhasePaid whole.zone.cpus (groups_in whole.parts)) e (sound.frames f).paid in
       ap (keeper_by t m cpus f) (any_lent_plain x q OnList same) ∙ lent_keeper f q true (ap (has_as FreshFrame q) e ∙ eq-eqb q q refl)
-      ∙ ap (λ (s : Stock). s.group) (stock_is q) ∙ paid.group
+      ∙ ap (λ (s : PartStock). s.group) (stock_is q) ∙ paid.group
   keeper_is f x (phase.Head u (BackAt q)) e same = ap (keeper_by t m cpus f) (any_head_plain x u Live same)
   keeper_is f x (phase.Head u stage) e same = ap (keeper_by t m cpus f) (any_head_plain x u stage same)
 

@@ -5,7 +5,7 @@ use Rattle.frame_word.specs.Tables.{KnownTable}
 use Rattle.group_charge.specs.Charges.{AreCharges, current_of}
 use Rattle.boot_words.specs.{zone_of_boot}
 use Rattle.cpu_part.specs.Cpus.{KnownCpuLists, first_cpu}
-use Rattle.step_rules.specs.{Stock, times, frames_kept, pages_prepaid, Run, state_of, Shown}
+use Rattle.step_rules.specs.{PartStock, times, frames_kept, pages_prepaid, Run, state_of, Shown}
 use Rattle.step_rules.specs.Promise.{Promise}
 use Rattle.mem_machine.specs.declared.frame_state.FrameState.{FrameState}
 use Rattle.mem_machine.specs.declared.frame_state.FrameState.TheVariants.{Free, Lent, Head, Tail}
@@ -63,7 +63,7 @@ keeper_by table machine cpus frame (Head unit) = Some unit.group
 keeper_by table machine cpus frame (Tail group) = Some group
 
 -- the stock of the CPU: what the machine's past left of it, less the pages that paid for the fresh frames
-abbrev pub stock_by : KnownTable → KnownMachine → List KnownCpuLists → ℕ → Stock
+abbrev pub stock_by : KnownTable → KnownMachine → List KnownCpuLists → ℕ → PartStock
 stock_by table machine cpus cpu = record ((part_at table machine cpu).stock) {
   pages = (part_at table machine cpu).stock.pages - length (fresh_frames_by cpus cpu);
 }

@@ -10,7 +10,7 @@ use Rattle.step_rules.specs.declared.step.Action.{Action}
 use Rattle.step_rules.specs.declared.step.Action.TheVariants.{Put, TakeIn, PassBack, Consume, Credit, Report, Absorb, DrainStock, Fill, Lock}
 use Rattle.step_rules.specs.declared.step.Answer.{Answer}
 use Rattle.step_rules.specs.declared.step.Answer.TheVariants.{Illegal, Done, Last, Pages}
-use Rattle.step_rules.specs.State.{Part, State, Stock, with_at}
+use Rattle.step_rules.specs.State.{Part, State, PartStock, with_at}
 use Rattle.step_rules.specs.After.{Run, after, filled, with_back}
 use Rattle.step_rules.proofs.Basics.{at_each, at_same}
 use Rattle.step_rules.proofs.Runs.{after_illegal}
@@ -72,7 +72,7 @@ module _ (t : KnownTable) (m n : KnownMachine) (steps : Run) (is : IsHeld t m.ru
   pub groups_kept : (p : ℕ) → stock_group t n p ≡ stock_group t m p
   groups_kept p =
       ap (λ (s : State). (s.parts p).stock.group) (left_seen t n.run.past (makes.noted.grew.held is))
-      ∙ ap (λ (stock : Stock). stock.group) (stock_seen p)
+      ∙ ap (λ (stock : PartStock). stock.group) (stock_seen p)
       ∙ ap (λ (s : State). (s.parts p).stock.group) (sym (left_seen t m.run.past is))
 
   -- each drained one still is
@@ -80,7 +80,7 @@ module _ (t : KnownTable) (m n : KnownMachine) (steps : Run) (is : IsHeld t m.ru
   drained_kept p was =
       let seen : HasDrained ((local_of t m).parts p) = subst (λ (s : State). HasDrained (s.parts p)) (left_seen t m.run.past is) was in
       let here : HasDrained ((local_of t n).parts p) =
-      subst (λ (stock : Stock). (stock.group ≡ None) ⊎ (stock.is_drained ≡ true)) (sym (stock_seen p)) seen in
+      subst (λ (stock : PartStock). (stock.group ≡ None) ⊎ (stock.is_drained ≡ true)) (sym (stock_seen p)) seen in
       subst (λ (s : State). HasDrained (s.parts p)) (sym (left_seen t n.run.past (makes.noted.grew.held is))) here
 
   -- so those of a subtree, or of a group, stay drained
@@ -92,7 +92,7 @@ module _ (t : KnownTable) (m n : KnownMachine) (steps : Run) (is : IsHeld t m.ru
   pub stock_kept : (c d : KnownCpuLists) → d.number ≡ c.number → stock_now t n d.number ≡ stock_now t m c.number
   stock_kept c d number =
       ap (λ (k : ℕ). stock_in ((local_of t n).parts k)) number
-      ∙ ap (λ (stock : Stock). stock_said stock.group stock.pages stock.is_drained) (stock_seen c.number)
+      ∙ ap (λ (stock : PartStock). stock_said stock.group stock.pages stock.is_drained) (stock_seen c.number)
 
 -- ---- a stock that is filled
 

@@ -16,7 +16,7 @@ pub record Zone : Type 0 where
   pub cpus : ℕ
 
 -- a CPU's stock: the group of its last fill, the pages that it holds, and whether it was drained since
-pub record Stock : Type 0 where
+pub record PartStock : Type 0 where
   pub group : Option ℕ
   pub pages : ℕ
   pub is_drained : Bool
@@ -28,7 +28,7 @@ pub record Part : Type 0 where
   pub list : List ℕ
   pub fresh : List ℕ
   pub back : List ℕ
-  pub stock : Stock
+  pub stock : PartStock
   pub book : ℕ
   pub unreported : ℕ
   pub reported : ℕ
@@ -46,7 +46,7 @@ pub record State : Type 0 where
   pub pending : ℕ → ℕ
 
 -- a stock that was never filled
-abbrev pub no_stock : Stock
+abbrev pub no_stock : PartStock
 no_stock = record { group = None; pages = 0; is_drained = false }
 
 -- a CPU's part at boot
