@@ -6,11 +6,10 @@ ghost use Rattle.machine_texts.specs.Stat.{counted_pages, is_counted, memory_sta
 ghost use Rattle.machine_texts.specs.Stat.{pages_at};
 
 use control_files::stat::MemoryStat;
-use control_files::text::PAGE_BYTES;
 use cpu_part::BootName;
 use group_tree::group::GroupId;
 use lru_lists::record::{Entry, LruList};
-use mem_machine::{FrameState, Machine};
+use mem_machine::{FrameState, Machine, prove_charges};
 
 /// What memory.stat shows of a group: what it and those below it keep. The units are counted anew, list by list, since
 /// nothing else needs these sums.
@@ -22,11 +21,13 @@ pub fn memory_stat<N: BootName>(machine: &Machine<N>, group: GroupId) -> MemoryS
     let active = pages_below(machine, group, LruList::Active, false);
     let inactive_dirty = pages_below(machine, group, LruList::Inactive, true);
     let active_dirty = pages_below(machine, group, LruList::Active, true);
+    machine.prove_consistent();
+    machine.prove_usage(group); // Below 2^32, and no less than what is kept.
+    prove_charges(machine.charges());
     MemoryStat {
-        file: (inactive + active) * PAGE_BYTES,
-        file_dirty: (inactive_dirty + active_dirty) * PAGE_BYTES,
-        inactive_file: inactive * PAGE_BYTES,
-        active_file: active * PAGE_BYTES,
+        inactive: inactive as u32,
+        active: active as u32,
+        dirty: (inactive_dirty + active_dirty) as u32,
     }
 }
 
