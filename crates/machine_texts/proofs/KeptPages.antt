@@ -57,6 +57,7 @@ module _ (m : KnownMachine) (units : AreUnits m.frame_states) (only_dirty : Bool
     abbrev left : ℕ → ℕ
     left x = cond (is_mine x) 0 (h x)
 
+    -- the frames of other units still count
     still : (es : List Entry) → has_unit e es ≡ false → AllCount h es → AllCount left es
     still es none all f is =
         let his = all f is in
@@ -78,11 +79,9 @@ module _ (m : KnownMachine) (units : AreUnits m.frame_states) (only_dirty : Bool
           | inl w ↦ mine.whole x w.1 w.2 ∙ sym (ap (λ (b : Bool). cond b 0 (h x) + one_if b) w.0)
           | inr out ↦ let one = ap (λ (b : Bool). cond b 0 (h x) + one_if b) out.0 in omega (arith, one)
         ]) in
-        let both = sum_both n left (λ x. one_if (is_mine x)) in
-        let block = sum_within n e (2 ^ mine.unit.order) in
-        let inside = (units.heads e mine.unit mine.heads).block.inside in
-        omega (arith, same, both, block, inside)
+        omega (arith, same, sum_both n left (λ x. one_if (is_mine x)), sum_within n e (2 ^ mine.unit.order), (units.heads e mine.unit mine.heads).block.inside)
 
+  -- the pages of the first entries, and a sum that counts those of the others, are at most all that counts
   fit : (ys : List Entry) (sum : ℕ) → ((h : ℕ → ℕ) → AllCount h ys → sum ≤ sum_to (length m.frame_states) h) → (xs : List Entry)
       → AreApartUnits xs → ((f : ℕ) → has_unit f xs ≡ true → has_unit f ys ≡ false) → (h : ℕ → ℕ) → AllCount h xs → AllCount h ys
       → sum_by (counted_pages m only_dirty) xs + sum ≤ sum_to (length m.frame_states) h
@@ -93,12 +92,10 @@ module _ (m : KnownMachine) (units : AreUnits m.frame_states) (only_dirty : Bool
       let a = fit ys sum more xs apart.1 (λ f is. others f (or_right (x.number == f) (has_unit f xs) is)) (left h x.number mine)
       (still h x.number mine xs apart.0 (λ f is. all f (or_right (x.number == f) (has_unit f xs) is)))
       (still h x.number mine ys (others x.number first) rest) in
-      let b = split h x.number mine in
       let pages : pages_at m x.number ≡ 2 ^ mine.unit.order =
       ap (λ (s : FrameState). option_map_or (λ (u : ChargedUnit). 2 ^ u.order) (headed_unit s) 0) mine.heads in
-      let c = few_if (is_counted only_dirty x) (pages_at m x.number) (2 ^ mine.unit.order) (omega (arith, pages)) in
-      let d = sum_by-cons (counted_pages m only_dirty) x xs in
-      omega (arith, a, b, c, d)
+      let b = few_if (is_counted only_dirty x) (pages_at m x.number) (2 ^ mine.unit.order) (omega (arith, pages)) in
+      omega (arith, a, b, split h x.number mine, sum_by-cons (counted_pages m only_dirty) x xs)
 
 -- ---- the two lists of a group
 
@@ -110,6 +107,7 @@ module _ (t : KnownTable) (m : KnownMachine) (ok : IsConsistent t m) (only_dirty
   abbrev one_of : FrameState → ℕ
   one_of s = one_if_is g (frame_state_group s)
 
+  -- each frame of a unit of the group counts once
   headed : (f : ℕ) (s : FrameState) → frame_state_at m.frame_states f ≡ s → head_group_of s ≡ Some g
       → Counts m.frame_states (λ x. one_of (frame_state_at m.frame_states x)) f
   headed f Free is own = absurd (none-some g own)
@@ -132,6 +130,7 @@ module _ (t : KnownTable) (m : KnownMachine) (ok : IsConsistent t m) (only_dirty
       let there = ok.frame_states f (home_inside t m ok f (record { owner = g; list = list }) home) in
       headed f (frame_state_at m.frame_states f) refl (subst (λ (o : Option Home). FitsFrameState o (frame_state_at m.frame_states f)) home there).1
 
+  -- what is on its lists is charged to it
   kept_of : pages_on m Inactive only_dirty g + pages_on m Active only_dirty g ≤ pages_of m.ledger g
   kept_of =
       let inactive = listed_is t m ok g fits Inactive in
@@ -146,8 +145,7 @@ module _ (t : KnownTable) (m : KnownMachine) (ok : IsConsistent t m) (only_dirty
         | inr out ↦ out
       ])
       (λ x. one_of (frame_state_at m.frame_states x)) (owned Inactive) (owned Active) in
-      let b = ok.shown.charged g in
-      omega (arith, a, b)
+      omega (arith, a, ok.shown.charged g)
 
 -- ---- the groups of a subtree
 
@@ -163,17 +161,14 @@ rows_few f h most (row ∷ rows) (a ∷ accounts) same small few =
     let rest = rows_few f h most rows accounts (ap (drop 1) same) (λ k d lt. small (suc k) d (omega arith)) (λ k d lt. few (suc k) d (omega arith)) in
     let low : row.number < 64 = small 0 row (omega arith) in
     let one : f a.group + h a.group ≤ most a = few 0 a (omega arith) (omega (arith, number, low)) in
-    let first = ap f number in
-    let second = ap h number in
-    let fs = sum_by-cons (λ (r : Group). f r.number) row rows in
-    let hs = sum_by-cons (λ (r : Group). h r.number) row rows in
-    let all = sum_by-cons most a accounts in
-    omega (arith, rest, one, first, second, fs, hs, all)
+    omega (arith, rest, one, ap f number, ap h number, sum_by-cons (λ (r : Group). f r.number) row rows, sum_by-cons (λ (r : Group). h r.number) row rows,
+    sum_by-cons most a accounts)
 
 both_if : (b : Bool) (n k most : ℕ) → n + k ≤ most → cond b n 0 + cond b k 0 ≤ cond b most 0
 both_if true n k most few = few
 both_if false n k most few = omega arith
 
+-- what a subtree keeps is at most its usage
 pub kept_below : (t : KnownTable) (m : KnownMachine) → IsConsistent t m → AreCharges m.ledger → (only_dirty : Bool) (g : ℕ)
     → pages_below m Inactive only_dirty g + pages_below m Active only_dirty g ≤ current_of m.ledger g
 unfolding usage_charged pages_of
@@ -184,5 +179,5 @@ kept_below t m ok legal only_dirty g =
     let a : Account = get_or m.ledger.accounts k d in
     let own : pages_of m.ledger a.group ≡ a.pages =
     ap (λ (o : Option Account). option_map_or (λ (x : Account). x.pages) o 0) (account_at-there m.ledger a legal (Contains-get_or m.ledger.accounts k d lt)) in
-    let kept = kept_of t m ok only_dirty a.group low in
-    both_if (in_subtree m.ledger.groups g a.group) (pages_on m Inactive only_dirty a.group) (pages_on m Active only_dirty a.group) a.pages (omega (arith, own, kept)))
+    both_if (in_subtree m.ledger.groups g a.group) (pages_on m Inactive only_dirty a.group) (pages_on m Active only_dirty a.group) a.pages
+    (omega (arith, own, kept_of t m ok only_dirty a.group low)))
