@@ -58,8 +58,8 @@ abbrev pub without_notes : KnownMachine → KnownMachine
 without_notes machine = record machine { notes = forgotten machine.notes }
 
 -- the machine with details noted from now on, or not
-abbrev pub with_unit_notes : KnownMachine → (is_on : Bool) → KnownMachine
-with_unit_notes machine is_on = record machine { notes = record machine.notes { notes_units = is_on } }
+abbrev pub with_detail_notes : KnownMachine → (is_on : Bool) → KnownMachine
+with_detail_notes machine is_on = record machine { notes = record machine.notes { notes_details = is_on } }
 
 -- the machine with another run
 abbrev pub with_run : KnownMachine → KnownRun → KnownMachine

@@ -17,7 +17,7 @@ use step_rules::step::{Action, Answer};
 
 impl<N: BootName> Machine<N> {
     /// Tries to take a kept unit out of use. If the zone's reference is the only one, nobody can get the unit any more:
-    /// it is freed, and noted if `set_unit_notes` asked for that, and the result is its number of pages. Else the
+    /// it is freed, and noted if `set_detail_notes` asked for that, and the result is its number of pages. Else the
     /// result is None, a miss, and the unit stays kept. `head` is the unit's head.
     pub fn evict(&mut self, tables: &Tables<N>, head: Frame) -> Option<u32>
         requires frame { head < N.table.frames }

@@ -5,7 +5,7 @@ ghost use Rattle.group_tree.specs.Groups.{number_at};
 ghost use Rattle.group_charge.specs.Charges.{AreCharges};
 ghost use Rattle.boot_words.specs.Pasts.{Meets};
 ghost use Rattle.step_watch.specs.Watched.{Watches};
-ghost use Rattle.mem_machine.specs.Machines.{IsConsistent, with_past, with_unit_notes, with_watch};
+ghost use Rattle.mem_machine.specs.Machines.{IsConsistent, with_past, with_detail_notes, with_watch};
 ghost use Rattle.mem_machine.specs.Steps.{cpu_makes};
 ghost use Rattle.mem_system.specs.Boots.{IsSizedAs};
 ghost use Rattle.mem_system.specs.Locked.{IsQuiet};
@@ -98,10 +98,10 @@ impl<N: BootName> Locked<N> {
     }
 
     /// Notes details from now on, or no longer. Nothing else changes.
-    pub fn set_unit_notes(&mut self, is_on: bool)
-        ensures { self.new ≡ record self.old { machine = with_unit_notes self.old.machine is_on } }
+    pub fn set_detail_notes(&mut self, is_on: bool)
+        ensures { self.new ≡ record self.old { machine = with_detail_notes self.old.machine is_on } }
     {
-        self.machine.set_unit_notes(is_on);
+        self.machine.set_detail_notes(is_on);
     }
 
     /// Puts a watch into the machine. A boot does this before the first step.

@@ -19,7 +19,7 @@ use Rattle.mem_system.specs.{CpuInRun, KnownLocked, IsServed, locked_state}
 use Rattle.reply_texts.specs.LineAnswer.{LineAnswer}
 use Rattle.script_lines.specs.declared.line.Command.{Command}
 use Rattle.script_replay.specs.declared.answer_value.AnswerValue.{AnswerValue}
-use Rattle.script_replay.specs.{AnswersLocked, Gains, OnlyWatched, ServesUnderLock, locked_with_unit_notes, NamesItsGroups, answer_of}
+use Rattle.script_replay.specs.{AnswersLocked, Gains, OnlyWatched, ServesUnderLock, locked_with_detail_notes, NamesItsGroups, answer_of}
 
 -- ---- the seats of the steps under the lock
 
@@ -42,7 +42,7 @@ under_lock_own cpu steps all = (inr refl, and_unlock cpu steps all)
 
 module _ (t : KnownTable) (is_explained : Bool) (command : Command) (before found left after : KnownLocked) (c d : CpuInRun) (number : ℕ) (named : number ≡ c.part.number)
     (in_run : (own_past c.past).number ≡ c.part.number) (zone : (own_past before.machine.run.past).number ≡ 0)
-    (lock : OnlyWatched (cpu_makes number Lock step_answer.Done ∷ []) (locked_with_unit_notes before is_explained) found) (unlock : OnlyWatched (cpu_makes number Unlock step_answer.Done ∷ []) left after) where
+    (lock : OnlyWatched (cpu_makes number Lock step_answer.Done ∷ []) (locked_with_detail_notes before is_explained) found) (unlock : OnlyWatched (cpu_makes number Unlock step_answer.Done ∷ []) left after) where
   -- the zone's past and the CPU's gained the steps, which the watch took
   visit_made : (asked : LockedCommand) (reply : ReplyWithText) → (served : IsServed t asked reply (locked_state found c) (locked_state left d))
       → Gains (under_lock c.part.number served.steps) (locked_state before c) (locked_state after d)
@@ -65,7 +65,7 @@ module _ (t : KnownTable) (is_explained : Bool) (command : Command) (before foun
     served = record {
       found = found;
       left = left;
-      lock = subst (λ (n : ℕ). OnlyWatched (cpu_makes n Lock step_answer.Done ∷ []) (locked_with_unit_notes before is_explained) found) named lock;
+      lock = subst (λ (n : ℕ). OnlyWatched (cpu_makes n Lock step_answer.Done ∷ []) (locked_with_detail_notes before is_explained) found) named lock;
       answers = answers;
       unlock = subst (λ (n : ℕ). OnlyWatched (cpu_makes n Unlock step_answer.Done ∷ []) left after) named unlock;
       steps_are = refl;

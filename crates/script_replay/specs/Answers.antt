@@ -20,7 +20,7 @@ use Rattle.step_rules.specs.declared.step.Answer.TheVariants as step_answer
 use Rattle.step_rules.specs.After.{Run}
 use Rattle.step_watch.specs.Watched.{KnownWatch, Watches}
 use Rattle.machine_texts.specs.{explanation_text, blocks_text, show_text, stock_line_text}
-use Rattle.mem_machine.specs.{KnownMachine, left_by, with_run, with_unit_notes, with_watch, KnownRun}
+use Rattle.mem_machine.specs.{KnownMachine, left_by, with_run, with_detail_notes, with_watch, KnownRun}
 use Rattle.mem_machine.specs.Steps.{cpu_makes}
 use Rattle.mem_history.specs.{under_lock, put_answer}
 use Rattle.mem_system.specs.declared.command.LockedCommand.{LockedCommand}
@@ -60,8 +60,8 @@ abbrev pub locked_with_run : KnownLocked → KnownRun → KnownLocked
 locked_with_run locked run = record locked { machine = with_run locked.machine run }
 
 -- the same behind the lock, with details noted from now on, or not
-abbrev pub locked_with_unit_notes : KnownLocked → (is_on : Bool) → KnownLocked
-locked_with_unit_notes locked is_on = record locked { machine = with_unit_notes locked.machine is_on }
+abbrev pub locked_with_detail_notes : KnownLocked → (is_on : Bool) → KnownLocked
+locked_with_detail_notes locked is_on = record locked { machine = with_detail_notes locked.machine is_on }
 
 -- the watch of the machine takes these steps, and nothing else changes behind the lock
 pub record OnlyWatched (steps : Run) (before after : KnownLocked) : Type 0 where
@@ -222,7 +222,7 @@ pub record IsServedUnderLock (is_explained : Bool) (command : Command) (answer :
   pub found : KnownLocked
   pub left : KnownLocked
   pub lock : OnlyWatched (cpu_makes call.before.cpu.part.number step.Lock step_answer.Done ∷ [])
-      (locked_with_unit_notes call.before.locked is_explained) found
+      (locked_with_detail_notes call.before.locked is_explained) found
   pub answers : AnswersLocked call.table command answer
       (locked_state found call.before.cpu) (locked_state left call.after.cpu)
   pub unlock : OnlyWatched (cpu_makes call.before.cpu.part.number step.Unlock step_answer.Done ∷ [])

@@ -10,7 +10,7 @@ ghost use Rattle.mem_machine.specs.Showing.{stock_left};
 ghost use Rattle.mem_machine.specs.Steps.{cpu_makes};
 ghost use Rattle.mem_system.specs.Visits.{locked_state};
 ghost use Rattle.script_lines.specs.declared.line.Command.TheVariants.{Alloc};
-ghost use Rattle.script_replay.specs.Answers.{AnswersLocked, OnlyWatched, ServesUnderLock, locked_with_unit_notes};
+ghost use Rattle.script_replay.specs.Answers.{AnswersLocked, OnlyWatched, ServesUnderLock, locked_with_detail_notes};
 ghost use Rattle.script_replay.specs.Commands.{OnlySettles, locked_command_of};
 ghost use Rattle.script_replay.specs.Ranges.{CommandInRange};
 ghost use Rattle.script_replay.specs.ValueAnswers.{NamesItsGroups, answer_of};
@@ -39,12 +39,12 @@ fn watch_lock<N: BootName>(locked: &mut Locked<N>, cpu: u32)
 // This CPU takes the lock for a command. Details are noted from now on exactly if the command is explained.
 #[inline(always)]
 fn begin_command<N: BootName>(locked: &mut Locked<N>, cpu: u32, is_explained: bool)
-    ensures watched { OnlyWatched (cpu_makes cpu Lock Done ∷ []) (locked_with_unit_notes locked.old is_explained)
+    ensures watched { OnlyWatched (cpu_makes cpu Lock Done ∷ []) (locked_with_detail_notes locked.old is_explained)
         locked.new }
     ensures zone { (own_past locked.old.machine.run.past).number ≡ 0 }
 {
     locked.prove_quiet();
-    locked.set_unit_notes(is_explained);
+    locked.set_detail_notes(is_explained);
     watch_lock(locked, cpu);
 }
 
