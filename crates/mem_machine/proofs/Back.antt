@@ -22,7 +22,7 @@ use Rattle.mem_machine.specs.declared.frame_state.FrameState.{FrameState}
 use Rattle.mem_machine.specs.declared.frame_state.FrameState.TheVariants.{Head}
 use Rattle.mem_machine.specs.declared.counts.Counts.{Counts}
 use Rattle.mem_machine.specs.{AreBooked, AreOwners, frame_state_at, free_of, phase_hidden, KnownMachine, IsConsistent, IsShownBy, BalancesCounts}
-use Rattle.mem_machine.specs.{home_of, left_by, pages_booked, Visits, local_of, AreLocal, KnownRun, MayTake, Notes, FreesFrames, ReturnsBack}
+use Rattle.mem_machine.specs.{home_of, left_by, pages_booked, Visits, local_of, AreLocal, KnownRun, MayTake, Records, FreesFrames, ReturnsBack}
 use Rattle.mem_machine.specs.{return_steps, with_last_put}
 use Rattle.mem_machine.specs.Steps.{zone_makes, cpu_makes}
 use Rattle.mem_machine.proofs.Balances.{balanced_last_put}
@@ -91,7 +91,7 @@ module _ (t : KnownTable) (m : KnownMachine) (c : KnownCpuLists) (ok : IsConsist
     books = books_stay t.cpus (local_of t m).parts c.number (number_range t m c visit).1 part refl refl
 
     module _ (new : List FrameState) (frees : FreesFrames f (2 ^ unit.order) m.frame_states new) (blocks : List Block) (areas : AreMaximalBlocks (free_of new) blocks)
-        (counts : Counts) (counted : counts ≡ with_last_put m.counts) (run : KnownRun) (noted : Notes t m.run (return_steps c.number f) run) where
+        (counts : Counts) (counted : counts ≡ with_last_put m.counts) (run : KnownRun) (noted : Records t m.run (return_steps c.number f) run) where
       abbrev returned : KnownMachine
       returned = record m {
         blocks = blocks;
@@ -176,7 +176,7 @@ module _ (t : KnownTable) (m now : KnownMachine) (same : m ≡ now) (c : KnownCp
 
     module _ (q : ℕ) (number : q ≡ c.number) (i : ℕ) (index : i ≡ f) (mid : KnownRun) (made : MakesStep t m.run.past c.number (PassBack f) Done mid.past)
         (saw : Watches m.run.watch (cpu_makes q (PassBack i) Done ∷ []) mid.watch) where
-      passed : Notes t m.run (cpu_makes c.number (PassBack f) Done ∷ []) mid
+      passed : Records t m.run (cpu_makes c.number (PassBack f) Done ∷ []) mid
       passed = notes_one t m.run (cpu_makes c.number (PassBack f) Done) mid made
           (subst (λ (x : ℕ × ℕ). Watches m.run.watch (cpu_makes x.1 (PassBack x.0) Done ∷ []) mid.watch) (λ j. (index j, number j)) saw)
 
@@ -190,7 +190,7 @@ module _ (t : KnownTable) (m now : KnownMachine) (same : m ≡ now) (c : KnownCp
 
       module _ (u : KnownTable) (words : u ≡ t) (later : KnownRun) (collected : MakesStep u mid.past 0 (Collect f q) Done later.past)
           (saw_too : Watches mid.watch (zone_makes (Collect i q) Done ∷ []) later.watch) where
-        taken : Notes t m.run (cpu_makes c.number (PassBack f) Done ∷ zone_makes (Collect f c.number) Done ∷ []) later
+        taken : Records t m.run (cpu_makes c.number (PassBack f) Done ∷ zone_makes (Collect f c.number) Done ∷ []) later
         taken = notes_both t m.run (cpu_makes c.number (PassBack f) Done ∷ []) mid (zone_makes (Collect f c.number) Done ∷ []) later passed
             (notes_one t mid (zone_makes (Collect f c.number) Done) later
             (subst (λ (x : KnownTable × ℕ). MakesStep x.0 mid.past 0 (Collect f x.1) Done later.past) (λ j. (words j, number j)) collected)
@@ -204,17 +204,17 @@ module _ (t : KnownTable) (m now : KnownMachine) (same : m ≡ now) (c : KnownCp
             (may_next t m.run later (cpu_makes c.number (PassBack f) Done ∷ zone_makes (Collect f c.number) Done ∷ []) [] (zone_makes (Return f) Done) c.number
             visit.held visit.who taken local)
 
-        pub returned_notes : (last : KnownRun) → Notes t later (zone_makes (Return i) Done ∷ []) last → Notes t m.run (return_steps c.number f) last
+        pub returned_notes : (last : KnownRun) → Records t later (zone_makes (Return i) Done ∷ []) last → Records t m.run (return_steps c.number f) last
         returned_notes last returned =
             notes_both t m.run (cpu_makes c.number (PassBack f) Done ∷ zone_makes (Collect f c.number) Done ∷ []) later (zone_makes (Return f) Done ∷ []) last taken
-            (subst (λ (x : ℕ). Notes t later (zone_makes (Return x) Done ∷ []) last) index returned)
+            (subst (λ (x : ℕ). Records t later (zone_makes (Return x) Done ∷ []) last) index returned)
 
   pub return_all : (f : ℕ) (h : KnownCpuLists) → PassesBackUnit f c h → (free now_free : List Bool) (sums : List ℕ) (owners : List (Option ℕ)) → free ≡ free_of m.frame_states
       → AreBooked t.cpus (left_by t m.run.past).parts sums → AreOwners t.cpus (left_by t m.run.past).parts owners → (i : ℕ) → i ≡ f
       → (unit : ChargedUnit) → frame_state_at m.frame_states i ≡ Head unit → (new : List FrameState) → FreesFrames i (2 ^ unit.order) m.frame_states new
       → (blocks : List Block) → GivesFrames free (record { at = i; order = unit.order }) now_free → AreMaximalBlocks now_free blocks
       → (ledger : Ledger) → ledger ≡ with_uncharge m.ledger unit.group (2 ^ unit.order) → (counts : Counts) → counts ≡ with_last_put m.counts
-      → (run : KnownRun) → Notes t m.run (return_steps c.number f) run
+      → (run : KnownRun) → Records t m.run (return_steps c.number f) run
       → AllMoved t now c (ReturnsBack f) (return_steps c.number f)
       (record m { blocks = blocks; frame_states = new; ledger = ledger; counts = counts; run = run }) h now_free sums owners
   return_all f h hands free now_free sums owners was are own i index unit heads_i new frees_i blocks gives_i areas ledger uncharges counts counted run noted =

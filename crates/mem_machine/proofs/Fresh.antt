@@ -31,7 +31,7 @@ use Rattle.mem_machine.specs.declared.frame_state.FrameState.TheVariants.{Free, 
 use Rattle.mem_machine.specs.declared.counts.Counts.{Counts}
 use Rattle.mem_machine.specs.{AreBooked, AreOwners, frame_state_at, is_free_state, free_of, frame_state_group, AreUnits, KnownMachine, FitsFrameState}
 use Rattle.mem_machine.specs.{IsConsistent, IsShownBy, BalancesCounts, frames_charged, home_of, is_killed, left_by, pages_booked, stock_group, Visits}
-use Rattle.mem_machine.specs.{local_of, AreLocal, KnownRun, MayTake, Notes, PlacesUnit, with_killed_fresh, FreesFrames, HandsOver, KeepsFresh}
+use Rattle.mem_machine.specs.{local_of, AreLocal, KnownRun, MayTake, Records, PlacesUnit, with_killed_fresh, FreesFrames, HandsOver, KeepsFresh}
 use Rattle.mem_machine.specs.{DropsFresh, collect_steps, keep_steps, drop_steps}
 use Rattle.mem_machine.specs.Steps.{zone_makes}
 use Rattle.mem_machine.proofs.Balances.{balanced_killed_fresh}
@@ -204,7 +204,7 @@ module _ (t : KnownTable) (m : KnownMachine) (c : KnownCpuLists) (ok : IsConsist
   -- ---- kept
 
   module _ (links : List Link) (lists : List Lru) (run : KnownRun) (joined : AllJoin m.links m.lists g f links lists) (fits : g < most_groups)
-      (noted : Notes t m.run (keep_steps c.number f) run) where
+      (noted : Records t m.run (keep_steps c.number f) run) where
     abbrev kept : KnownMachine
     kept = record m { frame_states = slice_set m.frame_states f (Head (record { group = g; order = 0 })); links = links; lists = lists; run = run }
 
@@ -301,7 +301,7 @@ module _ (t : KnownTable) (m : KnownMachine) (c : KnownCpuLists) (ok : IsConsist
 
   module _ (new : List FrameState) (frees : FreesFrames f (2 ^ 0) m.frame_states new) (blocks : List Block) (areas : AreMaximalBlocks (free_of new) blocks)
       (counts : Counts) (counted : counts ≡ with_killed_fresh m.counts) (killed : is_killed m.killed g ≡ true) (run : KnownRun)
-      (noted : Notes t m.run (drop_steps c.number f) run) where
+      (noted : Records t m.run (drop_steps c.number f) run) where
     abbrev dropped : KnownMachine
     dropped = record m { blocks = blocks; frame_states = new; ledger = with_uncharge m.ledger g 1; counts = counts; run = run }
 
@@ -372,7 +372,7 @@ module _ (t : KnownTable) (m : KnownMachine) (c : KnownCpuLists) (ok : IsConsist
 -- ---- the run
 
 pub unfrozen_notes : (t u : KnownTable) → u ≡ t → (mid later : KnownRun) (f i : ℕ) → i ≡ f → MakesStep u mid.past 0 (Unfreeze f 1) Done later.past
-    → Watches mid.watch (zone_makes (Unfreeze i 1) Done ∷ []) later.watch → Notes t mid (zone_makes (Unfreeze f 1) Done ∷ []) later
+    → Watches mid.watch (zone_makes (Unfreeze i 1) Done ∷ []) later.watch → Records t mid (zone_makes (Unfreeze f 1) Done ∷ []) later
 unfrozen_notes t u words mid later f i index made saw = notes_one t mid (zone_makes (Unfreeze f 1) Done) later
     (subst (λ (x : KnownTable). MakesStep x mid.past 0 (Unfreeze f 1) Done later.past) words made)
     (subst (λ (x : ℕ). Watches mid.watch (zone_makes (Unfreeze x 1) Done ∷ []) later.watch) index saw)
@@ -423,14 +423,14 @@ module _ (t : KnownTable) (m now : KnownMachine) (same : m ≡ now) (c : KnownCp
         let one : 2 ^ k ≡ 1 = ap (λ (j : ℕ). 2 ^ j) zero_is in
         omega (arith, a, index, one)
 
-    module _ (mid : KnownRun) (collected : Notes t m.run (collect_steps c.number f) mid) where
+    module _ (mid : KnownRun) (collected : Records t m.run (collect_steps c.number f) mid) where
       pub may_unfreeze : (u : KnownTable) → u ≡ t → MayMake u mid.past 0 (Unfreeze f 1)
       may_unfreeze u words = subst (λ (x : KnownTable). MayMake x mid.past 0 (Unfreeze f 1)) (sym words)
           (may_next t m.run mid (collect_steps c.number f) (zone_makes (Publish f) Done ∷ []) (zone_makes (Unfreeze f 1) Done) c.number visit.held visit.who collected
           keep_local).legal
 
-      module _ (later : KnownRun) (unfrozen : Notes t mid (zone_makes (Unfreeze f 1) Done ∷ []) later) where
-        both : Notes t m.run (collect_steps c.number f ++ zone_makes (Unfreeze f 1) Done ∷ []) later
+      module _ (later : KnownRun) (unfrozen : Records t mid (zone_makes (Unfreeze f 1) Done ∷ []) later) where
+        both : Records t m.run (collect_steps c.number f ++ zone_makes (Unfreeze f 1) Done ∷ []) later
         both = notes_both t m.run (collect_steps c.number f) mid (zone_makes (Unfreeze f 1) Done ∷ []) later collected unfrozen
 
         pub may_publish : (i : ℕ) → i ≡ f → MayTake t later.past (zone_makes (Publish i) Done)
@@ -438,9 +438,9 @@ module _ (t : KnownTable) (m now : KnownMachine) (same : m ≡ now) (c : KnownCp
             (may_next t m.run later (collect_steps c.number f ++ zone_makes (Unfreeze f 1) Done ∷ []) [] (zone_makes (Publish f) Done) c.number visit.held visit.who both
             keep_local)
 
-        pub kept_notes : (last : KnownRun) (i : ℕ) → i ≡ f → Notes t later (zone_makes (Publish i) Done ∷ []) last → Notes t m.run (keep_steps c.number f) last
+        pub kept_notes : (last : KnownRun) (i : ℕ) → i ≡ f → Records t later (zone_makes (Publish i) Done ∷ []) last → Records t m.run (keep_steps c.number f) last
         kept_notes last i index published = notes_both t m.run (collect_steps c.number f ++ zone_makes (Unfreeze f 1) Done ∷ []) later (zone_makes (Publish f) Done ∷ []) last both
-            (subst (λ (x : ℕ). Notes t later (zone_makes (Publish x) Done ∷ []) last) index published)
+            (subst (λ (x : ℕ). Records t later (zone_makes (Publish x) Done ∷ []) last) index published)
 
       pub may_return : is_killed now.killed g ≡ true → (i : ℕ) → i ≡ f → MayTake t mid.past (zone_makes (Return i) Done)
       may_return killed i index = subst (λ (x : ℕ). MayTake t mid.past (zone_makes (Return x) Done)) (sym index)
@@ -448,15 +448,15 @@ module _ (t : KnownTable) (m now : KnownMachine) (same : m ≡ now) (c : KnownCp
           (run_steps c.number (local_of t m) (drop_steps c.number f) _
           (drop_leads t m c ok visit f g rest front of (ap (λ (x : KnownMachine). is_killed x.killed g) same ∙ killed))))
 
-      pub dropped_notes : (last : KnownRun) (i : ℕ) → i ≡ f → Notes t mid (zone_makes (Return i) Done ∷ []) last → Notes t m.run (drop_steps c.number f) last
+      pub dropped_notes : (last : KnownRun) (i : ℕ) → i ≡ f → Records t mid (zone_makes (Return i) Done ∷ []) last → Records t m.run (drop_steps c.number f) last
       dropped_notes last i index returned = notes_both t m.run (collect_steps c.number f) mid (zone_makes (Return f) Done ∷ []) last collected
-          (subst (λ (x : ℕ). Notes t mid (zone_makes (Return x) Done ∷ []) last) index returned)
+          (subst (λ (x : ℕ). Records t mid (zone_makes (Return x) Done ∷ []) last) index returned)
 
     -- all of it, if it is kept
     pub keep_all : (free : List Bool) (sums sums' : List ℕ) (owners : List (Option ℕ)) → free ≡ free_of m.frame_states
         → AreBooked t.cpus (left_by t m.run.past).parts sums → AreOwners t.cpus (left_by t m.run.past).parts owners → g < most_groups
         → (h : KnownCpuLists) → HandsOver f c h → sums' ≡ slice_set sums g (get_or sums g 0 - 1) → (i k : ℕ) → i ≡ f → k ≡ 0
-        → (links : List Link) (lists : List Lru) → AllJoin m.links m.lists g i links lists → (run : KnownRun) → Notes t m.run (keep_steps c.number f) run
+        → (links : List Link) (lists : List Lru) → AllJoin m.links m.lists g i links lists → (run : KnownRun) → Records t m.run (keep_steps c.number f) run
         → AllMoved t now c (KeepsFresh g f) (keep_steps c.number f)
         (record m { frame_states = slice_set m.frame_states i (Head (record { group = g; order = k })); links = links; lists = lists; run = run }) h free sums' owners
     keep_all free sums sums' owners is are own fits h hands fell i k index zero_is links lists joined_i run noted =
@@ -477,7 +477,7 @@ module _ (t : KnownTable) (m now : KnownMachine) (same : m ≡ now) (c : KnownCp
         → is_killed now.killed g ≡ true → (h : KnownCpuLists) → HandsOver f c h → sums' ≡ slice_set sums g (get_or sums g 0 - 1) → (i k : ℕ) → i ≡ f → k ≡ 0
         → (new : List FrameState) → FreesFrames i (2 ^ k) m.frame_states new → (blocks : List Block) → GivesFrames free (record { at = i; order = k }) now_free
         → AreMaximalBlocks now_free blocks → (ledger : Ledger) → ledger ≡ with_uncharge m.ledger g (2 ^ k)
-        → (counts : Counts) → counts ≡ with_killed_fresh m.counts → (run : KnownRun) → Notes t m.run (drop_steps c.number f) run
+        → (counts : Counts) → counts ≡ with_killed_fresh m.counts → (run : KnownRun) → Records t m.run (drop_steps c.number f) run
         → AllMoved t now c (DropsFresh g f) (drop_steps c.number f)
         (record m { blocks = blocks; frame_states = new; ledger = ledger; counts = counts; run = run }) h now_free sums' owners
     drop_all free now_free sums sums' owners is are own fits killed_now h hands fell i k index zero_is new frees_i blocks gives_i areas ledger uncharges counts counted run noted =

@@ -27,7 +27,7 @@ use Rattle.cpu_part.proofs.Owning.{own_took}
 use Rattle.step_watch.specs.Watched.{KnownWatch, Watches, cpu_makes}
 use Rattle.mem_machine.specs.declared.machine.Machine.TheInside.{Inside}
 use Rattle.mem_machine.specs.{frame_state_at, frame_state_group, IsSoundMachine, machine_of, Makes, Visits, local_of, visit_state, KnownMachine}
-use Rattle.mem_machine.specs.{IsConsistent, left_by, KnownRun, Notes, after_made, HasRoomFor, HoldsPage, IsOfSize, PaysForFront, stock_now}
+use Rattle.mem_machine.specs.{IsConsistent, left_by, KnownRun, Records, after_made, HasRoomFor, HoldsPage, IsOfSize, PaysForFront, stock_now}
 use Rattle.mem_machine.specs.{take_front_steps}
 use Rattle.mem_machine.proofs.Followed.{follows_same}
 use Rattle.mem_machine.proofs.Ledgers.{ledger_visit_state}
@@ -150,7 +150,7 @@ module _ (t : KnownTable) (m : KnownMachine) (c : KnownCpuLists) (visit : Visits
       let listed = has.listed in
       omega (arith, listed, one, count, own)
 
-  module _ (run : KnownRun) (noted : Notes t m.run (take_front_steps c.number g) run) where
+  module _ (run : KnownRun) (noted : Records t m.run (take_front_steps c.number g) run) where
     front_left : left_by t run.past ≡ left_by t m.run.past
     front_left =
         left_then t m (take_front_steps c.number g) run visit.held noted
@@ -195,7 +195,7 @@ pub record FrontPaid (t : KnownTable) (now : KnownMachine) (g f : ℕ) (c : Know
   pub steps : Makes t now (take_front_steps c.number g) n
 
 pub front_paid : (t : KnownTable) (m now : KnownMachine) → m ≡ now → (c : KnownCpuLists) → Visits t now c → (g f : ℕ) → HoldsPage t now c.number g → c.fresh ≡ []
-    → 1 ≤ length c.list → (d : KnownCpuLists) → TakesFront f c d → (run : KnownRun) → Notes t m.run (take_front_steps c.number g) run → FrontPaid t now g f c (record m { run = run }) d
+    → 1 ≤ length c.list → (d : KnownCpuLists) → TakesFront f c d → (run : KnownRun) → Records t m.run (take_front_steps c.number g) run → FrontPaid t now g f c (record m { run = run }) d
 front_paid t m now same c visit_now g f page_now none some d takes run noted =
     let visit : Visits t m c = subst (λ (x : KnownMachine). Visits t x c) (sym same) visit_now in
     let page : HoldsPage t m c.number g = subst (λ (x : KnownMachine). HoldsPage t x c.number g) (sym same) page_now in
@@ -207,7 +207,7 @@ front_paid t m now same c visit_now g f page_now none some d takes run noted =
 
 -- the step as it was made
 pub front_noted : (t : KnownTable) (run : KnownRun) (p g n h : ℕ) → n ≡ p → h ≡ g → (later : KnownPasts) (watch : KnownWatch) → MakesStep t run.past p (Consume h) Took later
-    → Watches run.watch (cpu_makes n (Consume g) Took ∷ []) watch → Notes t run (take_front_steps p g) (record { past = later; watch = watch })
+    → Watches run.watch (cpu_makes n (Consume g) Took ∷ []) watch → Records t run (take_front_steps p g) (record { past = later; watch = watch })
 front_noted t run p g n h number group later watch made saw =
     notes_one t run (cpu_makes p (Consume g) Took) (record { past = later; watch = watch })
     (subst (λ (k : ℕ). MakesStep t run.past p (Consume k) Took later) group made)
@@ -215,7 +215,7 @@ front_noted t run p g n h number group later watch made saw =
 
 -- the fields after it
 pub front_sound : {N : Type 0} (t : KnownTable) (fields : Inside N) → IsSoundMachine t fields → (now : KnownMachine) → machine_of fields ≡ now → (c : KnownCpuLists) → Visits t now c
-    → (g : ℕ) → HoldsPage t now c.number g → c.fresh ≡ [] → 1 ≤ length c.list → (run : KnownRun) → Notes t (machine_of fields).run (take_front_steps c.number g) run
+    → (g : ℕ) → HoldsPage t now c.number g → c.fresh ≡ [] → 1 ≤ length c.list → (run : KnownRun) → Records t (machine_of fields).run (take_front_steps c.number g) run
     → IsSoundMachine {N = N} t (record fields { past = run.past; watch = run.watch })
 front_sound {N} t fields ok now same c visit g page none some run noted =
     sound_same t fields ok run (front_left t (machine_of fields) c (subst (λ (x : KnownMachine). Visits t x c) (sym same) visit) g

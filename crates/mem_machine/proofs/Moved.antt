@@ -34,7 +34,7 @@ use Rattle.mem_machine.specs.declared.frame_state.FrameState.{FrameState}
 use Rattle.mem_machine.specs.declared.frame_state.FrameState.TheVariants.{Free, Lent, Head, Tail}
 use Rattle.mem_machine.specs.{frame_state_at, free_of, is_free_state, one_if_is, phase_hidden, AreBooked, AreOwners, counts_along, FollowsSteps}
 use Rattle.mem_machine.specs.{FreesFrames, KnownMachine, VisitState, IsConsistent, IsShownBy, booked, frames_charged, home_of, left_by, pages_booked}
-use Rattle.mem_machine.specs.{stock_group, AreLocal, KnownRun, MayTake, Notes, after_made, Makes, Visits, lock_holder, local_of, visit_state}
+use Rattle.mem_machine.specs.{stock_group, AreLocal, KnownRun, MayTake, Records, after_made, Makes, Visits, lock_holder, local_of, visit_state}
 use Rattle.mem_machine.proofs.HandOvers.{IsVisited}
 use Rattle.mem_machine.proofs.Made.{holder_is_cpu, zone_acts, zone_seen}
 use Rattle.mem_machine.proofs.Noted.{run_ends}
@@ -277,7 +277,7 @@ module _ (t : KnownTable) (m : KnownMachine) (c : KnownCpuLists) (visit : Visits
   booked_here = subst (λ (p : ℕ). IsBooked ((local_of t m).parts p)) visit.who
       (own_booked (zone_of_boot t) (cpu_past m.run.past).seen (lock_holder m) visit.held.holds.shows.legal)
 
-  module _ (n : KnownMachine) (d : KnownCpuLists) (steps : Run) (x : State) (noted : Notes t m.run steps n.run) (leads : IsLocalRun c.number (local_of t m) steps x) where
+  module _ (n : KnownMachine) (d : KnownCpuLists) (steps : Run) (x : State) (noted : Records t m.run steps n.run) (leads : IsLocalRun c.number (local_of t m) steps x) where
     sees_then : local_of t n ≡ x
     sees_then = noted.grew.sees visit.held ∙ run_ends c.number (local_of t m) steps x leads
 
@@ -310,7 +310,7 @@ local_behind p a (e ∷ rest) second all = local_behind p (after_made a e) rest 
 
 -- once the first steps were made, the next may be taken
 pub may_next : (t : KnownTable) (run later : KnownRun) (first rest : Run) (e : Step × Answer) (p : ℕ) → IsHeld t run.past → (cpu_past run.past).number ≡ p
-    → Notes t run first later → AreLocal p (local_by_pasts t run.past) (first ++ e ∷ rest) → MayTake t later.past e
+    → Records t run first later → AreLocal p (local_by_pasts t run.past) (first ++ e ∷ rest) → MayTake t later.past e
 may_next t run later first rest e p held who noted all =
     subst (λ (x : ℕ × State). IsLocalStep x.1 x.0 e.0.seat e.0.action e.1) (λ i. (sym (noted.grew.holder held ∙ who) i, sym (noted.grew.sees held) i))
     (local_behind p (local_by_pasts t run.past) first (e ∷ rest) all).0

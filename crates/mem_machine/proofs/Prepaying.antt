@@ -24,7 +24,7 @@ use Rattle.step_watch.specs.Watched.{KnownWatch, Watches}
 use Rattle.mem_machine.specs.declared.machine.Machine.TheInside.{Inside}
 use Rattle.mem_machine.specs.{AreBooked, AreOwners, FollowsSteps, IsSoundMachine, machine_of, Makes, StaysVisited, Visits, lock_holder, local_of}
 use Rattle.mem_machine.specs.{KnownMachine, IsConsistent, IsShownBy, frames_charged, is_killed, left_by, pages_booked, KnownRun, MayTake, MayTakeAll}
-use Rattle.mem_machine.specs.{Notes, after_made, HasRoomFor, MayCharge, fill_steps, over_steps, Fills, HasDrained, IsDrained, RefusesGrant}
+use Rattle.mem_machine.specs.{Records, after_made, HasRoomFor, MayCharge, fill_steps, over_steps, Fills, HasDrained, IsDrained, RefusesGrant}
 use Rattle.mem_machine.specs.Steps.{zone_makes}
 use Rattle.mem_machine.proofs.AtTable.{made_at}
 use Rattle.mem_machine.proofs.Booking.{books_more, sums_more}
@@ -157,7 +157,7 @@ module _ (t : KnownTable) (m : KnownMachine) (c : KnownCpuLists) (ok : IsConsist
       fill_may = may_all t m.run.past c.number (local_of t m) (fill_steps c.number g k) visit.who refl
           (run_steps c.number (local_of t m) (fill_steps c.number g k) (fill_state (local_of t m) c.number g k) fill_leads)
 
-      module _ (run : KnownRun) (noted : Notes t m.run (fill_steps c.number g k) run) where
+      module _ (run : KnownRun) (noted : Records t m.run (fill_steps c.number g k) run) where
         ends : fold after_made (local_of t m) (fill_steps c.number g k) ≡ fill_state (local_of t m) c.number g k
         ends = run_ends c.number (local_of t m) (fill_steps c.number g k) (fill_state (local_of t m) c.number g k) fill_leads
 
@@ -208,7 +208,7 @@ module _ (t : KnownTable) (m : KnownMachine) (ok : IsConsistent t m) (facts : Ar
   pub refused_may : MayTake t m.run.past (zone_makes (Grant g k) (Over over))
   refused_may = is_over t m ok facts is (lock_holder m) g there alive k over low
 
-  module _ (run : KnownRun) (noted : Notes t m.run (over_steps g k over) run) where
+  module _ (run : KnownRun) (noted : Records t m.run (over_steps g k over) run) where
     refused_left : left_by t run.past ≡ left_by t m.run.past
     refused_left = left_then t m (over_steps g k over) run is noted ∙ sym (left_seen t m.run.past is)
 
@@ -237,9 +237,9 @@ knows_fill t m now same c g k visit charges drained =
     subst (λ (x : KnownMachine). KnowsFill t x c g k) (sym same) (record { visit = visit; drained = drained; there = charges.there; alive = charges.alive })
 
 -- the steps as they were made
-pub fill_noted : (t u : KnownTable) → u ≡ t → (run : KnownRun) (p g k n h : ℕ) → n ≡ p → h ≡ g → (mid : KnownRun) → Notes t run (zone_makes (Grant g k) Granted ∷ []) mid
+pub fill_noted : (t u : KnownTable) → u ≡ t → (run : KnownRun) (p g k n h : ℕ) → n ≡ p → h ≡ g → (mid : KnownRun) → Records t run (zone_makes (Grant g k) Granted ∷ []) mid
     → (later : KnownPasts) (watch : KnownWatch) → MakesStep u mid.past 0 (Fill n h k) Done later → Watches mid.watch (zone_makes (Fill n g k) Done ∷ []) watch
-    → Notes t run (fill_steps p g k) (record { past = later; watch = watch })
+    → Records t run (fill_steps p g k) (record { past = later; watch = watch })
 fill_noted t u at run p g k n h number group mid granted later watch made saw =
     notes_both t run (zone_makes (Grant g k) Granted ∷ []) mid (zone_makes (Fill p g k) Done ∷ []) (record { past = later; watch = watch }) granted
     (notes_one t mid (zone_makes (Fill p g k) Done) (record { past = later; watch = watch })
@@ -259,7 +259,7 @@ module _ {N : Type 0} (t : KnownTable) (fields : Inside N) (ok : IsSoundMachine 
       let sum = ok.sums.each i low in
       omega (arith, booked, sum)
 
-  module _ (has : room.PathHasRoom fields.charges.groups (current_of fields.charges) g k) (run : KnownRun) (noted : Notes t (machine_of fields).run (fill_steps c.number g k) run) where
+  module _ (has : room.PathHasRoom fields.charges.groups (current_of fields.charges) g k) (run : KnownRun) (noted : Records t (machine_of fields).run (fill_steps c.number g k) run) where
     pub filled_sound : k < 65536 → (i : ℕ) → i ≡ g → i < 64 → (n : ℕ) → n ≡ c.number → (charges : Ledger) → charges ≡ with_charge fields.charges g k → (owners : List (Option ℕ))
         → owners ≡ slice_set fields.owners (n - 1) (Some g)
         → IsSoundMachine {N = N} t (record fields {
@@ -285,7 +285,7 @@ pub record AllFilled (t : KnownTable) (now : KnownMachine) (c : KnownCpuLists) (
   pub visit : Visits t after c
 
 pub filled_now : (t : KnownTable) (m now : KnownMachine) → m ≡ now → (c : KnownCpuLists) (g k : ℕ) → IsConsistent t m → AreCharges m.ledger → KnowsFill t m c g k → c.fresh ≡ []
-    → room.PathHasRoom m.ledger.groups (current_of m.ledger) g k → (run : KnownRun) → Notes t m.run (fill_steps c.number g k) run → (l : Ledger) → l ≡ with_charge m.ledger g k
+    → room.PathHasRoom m.ledger.groups (current_of m.ledger) g k → (run : KnownRun) → Records t m.run (fill_steps c.number g k) run → (l : Ledger) → l ≡ with_charge m.ledger g k
     → AllFilled t now c g k (record m { ledger = l; run = run })
 filled_now t m now same c g k ok facts knows none has run noted l charged =
     subst (λ (x : KnownMachine × Ledger). AllFilled t x.0 c g k (record m { ledger = x.1; run = run })) (λ i. (same i, sym charged i)) (record {
@@ -297,7 +297,7 @@ filled_now t m now same c g k ok facts knows none has run noted l charged =
 -- what a refusal leaves
 module _ {N : Type 0} (t : KnownTable) (fields : Inside N) (ok : IsSoundMachine t fields) (c : KnownCpuLists) (g k over : ℕ) (facts : AreCharges fields.charges)
     (knows : KnowsFill t (machine_of fields) c g k) (low : room.IsLowestOver fields.charges.groups (current_of fields.charges) g k over) (run : KnownRun)
-    (noted : Notes t (machine_of fields).run (over_steps g k over) run) (charges : Ledger) (same : charges ≡ fields.charges) where
+    (noted : Records t (machine_of fields).run (over_steps g k over) run) (charges : Ledger) (same : charges ≡ fields.charges) where
   abbrev before : KnownMachine
   before = machine_of fields
 

@@ -16,7 +16,7 @@ use Rattle.boot_words.specs.{hide_phase, KnownPasts, MakesStep, MayMake}
 use Rattle.step_watch.specs.Watched.{KnownWatch, Watches}
 use Rattle.mem_machine.specs.declared.frame_state.FrameState.TheVariants.{Free, Lent}
 use Rattle.mem_machine.specs.{AreBooked, AreOwners, frame_state_at, frame_state_group, free_of, is_free_state, UnlistsOne, Visits, local_of}
-use Rattle.mem_machine.specs.{KnownMachine, IsConsistent, left_by, KnownRun, MayTakeAll, Notes, unlist_steps}
+use Rattle.mem_machine.specs.{KnownMachine, IsConsistent, left_by, KnownRun, MayTakeAll, Records, unlist_steps}
 use Rattle.mem_machine.specs.Steps.{cpu_makes, zone_makes}
 use Rattle.mem_machine.proofs.Counted.{collects_none}
 use Rattle.mem_machine.proofs.HandOvers.{IsVisited, part_without, unlist_run, unlisted_state}
@@ -59,7 +59,7 @@ module _ (t : KnownTable) (m : KnownMachine) (c : KnownCpuLists) (ok : IsConsist
   within : f < length m.frame_states
   within = let low = front_inside in let sized = ok.sizes.frame_states in omega (arith, low, sized)
 
-  pub unlisted_moved : (blocks : List Block) → AreMaximalBlocks (free_of (slice_set m.frame_states f Free)) blocks → (run : KnownRun) → Notes t m.run (unlist_steps c.number f) run
+  pub unlisted_moved : (blocks : List Block) → AreMaximalBlocks (free_of (slice_set m.frame_states f Free)) blocks → (run : KnownRun) → Records t m.run (unlist_steps c.number f) run
       → (sums : List ℕ) (owners : List (Option ℕ)) → AreBooked t.cpus (left_by t m.run.past).parts sums → AreOwners t.cpus (left_by t m.run.past).parts owners
       → AllMoved t m c (UnlistsOne f) (unlist_steps c.number f) (record m { blocks = blocks; frame_states = slice_set m.frame_states f Free; run = run })
       (record c { list = rest }) (free_of (slice_set m.frame_states f Free)) sums owners
@@ -102,7 +102,7 @@ module _ (t : KnownTable) (m now : KnownMachine) (same : m ≡ now) (c : KnownCp
 
     pub unlisted_all : (before free : List Bool) (k : ℕ) (blocks : List Block) (i : ℕ) (sums : List ℕ) (owners : List (Option ℕ)) → before ≡ free_of m.frame_states
         → AreBooked t.cpus (left_by t m.run.past).parts sums → AreOwners t.cpus (left_by t m.run.past).parts owners → k ≡ 0
-        → GivesFrames before (record { at = i; order = k }) free → AreMaximalBlocks free blocks → i ≡ f → (run : KnownRun) → Notes t m.run (unlist_steps c.number f) run
+        → GivesFrames before (record { at = i; order = k }) free → AreMaximalBlocks free blocks → i ≡ f → (run : KnownRun) → Records t m.run (unlist_steps c.number f) run
         → AllMoved t now c (UnlistsOne f) (unlist_steps c.number f) (record m { blocks = blocks; frame_states = slice_set m.frame_states i Free; run = run }) h free sums owners
     unlisted_all before free k blocks i sums owners was are own zero_is gives areas index run noted =
         let gives_f : GivesFrames before (record { at = f; order = 0 }) free =
@@ -120,7 +120,7 @@ module _ (t : KnownTable) (m now : KnownMachine) (same : m ≡ now) (c : KnownCp
   pub taken_notes : (f i p q : ℕ) → i ≡ f → p ≡ c.number → q ≡ c.number → (back later : KnownPasts) (mid watch : KnownWatch)
       → MakesStep t m.run.past c.number (PassBack f) Done back → MakesStep t back 0 (Collect f p) Done later
       → Watches m.run.watch (cpu_makes q (PassBack i) Done ∷ []) mid → Watches mid (zone_makes (Collect i q) Done ∷ []) watch
-      → Notes t m.run (unlist_steps c.number f) (record { past = later; watch = watch })
+      → Records t m.run (unlist_steps c.number f) (record { past = later; watch = watch })
   taken_notes f i p q index handed number back later mid watch passed collected saw saw_too =
       notes_both t m.run (cpu_makes c.number (PassBack f) Done ∷ []) (record { past = back; watch = mid }) (zone_makes (Collect f c.number) Done ∷ [])
       (record { past = later; watch = watch })

@@ -34,7 +34,7 @@ use Rattle.step_watch.specs.Watched.{Watches}
 use Rattle.mem_machine.specs.declared.frame_state.FrameState.{FrameState}
 use Rattle.mem_machine.specs.declared.frame_state.FrameState.TheVariants.{Free, Head, Tail}
 use Rattle.mem_machine.specs.{frame_state_at, is_free_state, free_of, frame_state_group, head_group_of, phase_hidden, KnownMachine, FitsFrameState}
-use Rattle.mem_machine.specs.{IsConsistent, IsShownBy, home_of, is_killed, KnownRun, MayTakeAll, Notes, after_made, MayCharge, over_steps, PlacesUnit}
+use Rattle.mem_machine.specs.{IsConsistent, IsShownBy, home_of, is_killed, KnownRun, MayTakeAll, Records, after_made, MayCharge, over_steps, PlacesUnit}
 use Rattle.mem_machine.specs.{TakesBlock, TakesNoBlock, taken_steps, unplaced_steps, Makes, StaysVisited, lock_holder, local_of}
 use Rattle.mem_machine.specs.Steps.{zone_makes}
 use Rattle.mem_machine.proofs.BlockCharges.{charges_rise}
@@ -255,7 +255,7 @@ module _ (t : KnownTable) (m : KnownMachine) (ok : IsConsistent t m) (facts : Ar
     ]
 
     module _ (blocks : List Block) (areas : AreMaximalBlocks (free_of frame_states) blocks) (rise : PagesRise m.ledger (with_charge m.ledger g (2 ^ b.order)) g (2 ^ b.order))
-        (run : KnownRun) (noted : Notes t m.run (taken_steps g b.order b.at) run) where
+        (run : KnownRun) (noted : Records t m.run (taken_steps g b.order b.at) run) where
       abbrev then : KnownMachine
       then = record m { blocks = blocks; frame_states = frame_states; ledger = with_charge m.ledger g (2 ^ b.order); links = links; lists = lists; run = run }
 
@@ -315,7 +315,7 @@ pub taken_all : (t : KnownTable) (m now : KnownMachine) → m ≡ now → IsCons
     → PagesRise m.ledger ledger g pages → (before free : List Bool) (b : Block) (blocks : List Block) → before ≡ free_of m.frame_states
     → IsFrontOfSmallest m.blocks k b → TakesFrames before b free → AreMaximalBlocks free blocks → (frame_states : List FrameState) → PlacesUnit g b m.frame_states frame_states
     → (f u : ℕ) → f ≡ b.at → u ≡ f → (links : List Link) (lists : List Lru) → AllJoin m.links m.lists g u links lists
-    → (run : KnownRun) → Notes t m.run (taken_steps g k f) run
+    → (run : KnownRun) → Records t m.run (taken_steps g k f) run
     → AllTaken t now (record m { blocks = blocks; frame_states = frame_states; ledger = ledger; links = links; lists = lists; run = run }) g k f free
 taken_all t m now same ok facts held_now g fits k pages size may_now room ledger charged rise before free b blocks was front takes areas_free frame_states placed f u at named links lists
     joined run noted =
@@ -329,7 +329,7 @@ taken_all t m now same ok facts held_now g fits k pages size may_now room ledger
     subst (λ (x : Ledger × ℕ). PagesRise m.ledger x.0 g x.1) (λ j. (ledger_is j, so_many j)) rise in
     let front_here : IsFrontOfSmallest m.blocks b.order b = subst (λ (x : ℕ). IsFrontOfSmallest m.blocks x b) order front in
     let joined_here : AllJoin m.links m.lists g b.at links lists = subst (λ (x : ℕ). AllJoin m.links m.lists g x links lists) (named ∙ at) joined in
-    let noted_here : Notes t m.run (taken_steps g b.order b.at) run = subst (λ (x : ℕ × ℕ). Notes t m.run (taken_steps g x.0 x.1) run) (λ j. (order j, at j)) noted in
+    let noted_here : Records t m.run (taken_steps g b.order b.at) run = subst (λ (x : ℕ × ℕ). Records t m.run (taken_steps g x.0 x.1) run) (λ j. (order j, at j)) noted in
     let block = taken_inside m.frame_states m.blocks ok.areas before free was b.order b front_here takes in
     let were_free = taken_free m.frame_states m.blocks ok.areas before free was b.order b front_here takes in
     let frees : free ≡ free_of frame_states = free_then m.frame_states m.blocks ok.areas before free was b.order b front_here takes frame_states g placed in
@@ -387,15 +387,15 @@ taken_may t m now same ok facts held g k pages size may_now room before free b w
     (taken_inside m.frame_states m.blocks ok.areas before free was b.order b front_b takes) (taken_free m.frame_states m.blocks ok.areas before free was b.order b front_b takes)))
 
 -- the table takes the third step of frame f, which the code names u elsewhere
-pub taken_notes : (t : KnownTable) (a b d e s : KnownRun) (g k pages f u : ℕ) → pages ≡ 2 ^ k → u ≡ f → Notes t a (zone_makes (Grant g pages) Granted ∷ []) b
-    → Notes t b (zone_makes (PlaceBlock g k) (Placed (record { at = u; order = k })) ∷ []) d → MakesStep t d.past 0 (Unfreeze f 1) Done e.past
-    → Watches d.watch (zone_makes (Unfreeze u 1) Done ∷ []) e.watch → Notes t e (zone_makes (Publish u) Done ∷ []) s → Notes t a (taken_steps g k f) s
+pub taken_notes : (t : KnownTable) (a b d e s : KnownRun) (g k pages f u : ℕ) → pages ≡ 2 ^ k → u ≡ f → Records t a (zone_makes (Grant g pages) Granted ∷ []) b
+    → Records t b (zone_makes (PlaceBlock g k) (Placed (record { at = u; order = k })) ∷ []) d → MakesStep t d.past 0 (Unfreeze f 1) Done e.past
+    → Watches d.watch (zone_makes (Unfreeze u 1) Done ∷ []) e.watch → Records t e (zone_makes (Publish u) Done ∷ []) s → Records t a (taken_steps g k f) s
 taken_notes t a b d e s g k pages f u size named grants places made watched publishes =
     let third = notes_of_zone t d e f u named (λ x. Unfreeze x 1) Done made watched in
-    let last : Notes t e (zone_makes (Publish f) Done ∷ []) s = subst (λ (x : ℕ). Notes t e (zone_makes (Publish x) Done ∷ []) s) named publishes in
-    let second : Notes t b (zone_makes (PlaceBlock g k) (Placed (record { at = f; order = k })) ∷ []) d =
-    subst (λ (x : ℕ). Notes t b (zone_makes (PlaceBlock g k) (Placed (record { at = x; order = k })) ∷ []) d) named places in
-    let first : Notes t a (zone_makes (Grant g (2 ^ k)) Granted ∷ []) b = subst (λ (x : ℕ). Notes t a (zone_makes (Grant g x) Granted ∷ []) b) size grants in
+    let last : Records t e (zone_makes (Publish f) Done ∷ []) s = subst (λ (x : ℕ). Records t e (zone_makes (Publish x) Done ∷ []) s) named publishes in
+    let second : Records t b (zone_makes (PlaceBlock g k) (Placed (record { at = f; order = k })) ∷ []) d =
+    subst (λ (x : ℕ). Records t b (zone_makes (PlaceBlock g k) (Placed (record { at = x; order = k })) ∷ []) d) named places in
+    let first : Records t a (zone_makes (Grant g (2 ^ k)) Granted ∷ []) b = subst (λ (x : ℕ). Records t a (zone_makes (Grant g x) Granted ∷ []) b) size grants in
     notes_both t a _ b _ s first (notes_both t b _ d _ s second (notes_both t d _ e _ s third last))
 
 -- ---- no block
@@ -412,7 +412,7 @@ module _ (t : KnownTable) (m : KnownMachine) (ok : IsConsistent t m) (facts : Ar
     (is_not_placed t m ok held facts (lock_holder m) g there (2 ^ k) k (omega arith) none, (is_taken_back t m ok facts held (lock_holder m) g there (2 ^ k), refl)),
   )
 
-  module _ (rise : PagesRise m.ledger (with_charge m.ledger g (2 ^ k)) g (2 ^ k)) (run : KnownRun) (noted : Notes t m.run (unplaced_steps g k) run) where
+  module _ (rise : PagesRise m.ledger (with_charge m.ledger g (2 ^ k)) g (2 ^ k)) (run : KnownRun) (noted : Records t m.run (unplaced_steps g k) run) where
     abbrev unplaced : KnownMachine
     unplaced = record m { ledger = with_uncharge (with_charge m.ledger g (2 ^ k)) g (2 ^ k); run = run }
 
@@ -463,7 +463,7 @@ pub record NoneTaken (t : KnownTable) (now n : KnownMachine) (g k : ℕ) : Type 
 pub none_all : (t : KnownTable) (m now : KnownMachine) → m ≡ now → IsConsistent t m → AreCharges m.ledger → IsHeld t now.run.past → (g k pages : ℕ) → pages ≡ 2 ^ k
     → MayCharge now g (2 ^ k) → PathHasRoom m.ledger.groups (current_of m.ledger) g pages → (charged ledger : Ledger) → charged ≡ with_charge m.ledger g pages
     → PagesRise m.ledger charged g pages → ledger ≡ with_uncharge charged g pages
-    → (blocks : List Block) → blocks ≡ m.blocks → HasNoneFrom m.blocks k → (run : KnownRun) → Notes t m.run (unplaced_steps g k) run
+    → (blocks : List Block) → blocks ≡ m.blocks → HasNoneFrom m.blocks k → (run : KnownRun) → Records t m.run (unplaced_steps g k) run
     → NoneTaken t now (record m { blocks = blocks; ledger = ledger; run = run }) g k
 none_all t m now same ok facts held_now g k pages size may_now room charged ledger rises rise falls blocks kept none run noted =
     let held = held_here t m now same held_now in
@@ -486,10 +486,10 @@ none_all t m now same ok facts held_now g k pages size may_now room charged ledg
 abbrev pub unplaced_as : (g pages k : ℕ) → Run
 unplaced_as g pages k = zone_makes (Grant g pages) Granted ∷ zone_makes (PlaceBlock g k) NoFreeBlock ∷ zone_makes (Ungrant g pages) Done ∷ []
 
-pub unplaced_notes : (t : KnownTable) (a b d s : KnownRun) (g k pages : ℕ) → pages ≡ 2 ^ k → Notes t a (zone_makes (Grant g pages) Granted ∷ []) b
-    → Notes t b (zone_makes (PlaceBlock g k) NoFreeBlock ∷ []) d → Notes t d (zone_makes (Ungrant g pages) Done ∷ []) s → Notes t a (unplaced_steps g k) s
+pub unplaced_notes : (t : KnownTable) (a b d s : KnownRun) (g k pages : ℕ) → pages ≡ 2 ^ k → Records t a (zone_makes (Grant g pages) Granted ∷ []) b
+    → Records t b (zone_makes (PlaceBlock g k) NoFreeBlock ∷ []) d → Records t d (zone_makes (Ungrant g pages) Done ∷ []) s → Records t a (unplaced_steps g k) s
 unplaced_notes t a b d s g k pages size grants places takes =
-    subst (λ (x : ℕ). Notes t a (unplaced_as g x k) s) size (notes_both t a _ b _ s grants (notes_both t b _ d _ s places takes))
+    subst (λ (x : ℕ). Records t a (unplaced_as g x k) s) size (notes_both t a _ b _ s grants (notes_both t b _ d _ s places takes))
 
 -- they may be made, if there is none
 pub unplaced_may : (t : KnownTable) (m now : KnownMachine) → m ≡ now → IsConsistent t m → AreCharges m.ledger → IsHeld t now.run.past
@@ -522,7 +522,7 @@ refused_step t m now same ok facts held_now g k pages over may_now low l unchang
 
 pub refused_all : (t : KnownTable) (m now : KnownMachine) → m ≡ now → IsConsistent t m → AreCharges m.ledger → IsHeld t now.run.past → (g k pages over : ℕ)
     → MayCharge now g k → IsLowestOver m.ledger.groups (current_of m.ledger) g pages over → (l : Ledger) → l ≡ m.ledger
-    → (run : KnownRun) → Notes t m.run (over_steps g pages over) run
+    → (run : KnownRun) → Records t m.run (over_steps g pages over) run
     → AllGrouped t m now (zone_makes (Grant g pages) (Over over)) (record m { ledger = l; run = run })
 refused_all t m now same ok facts held g k pages over may low l unchanged run noted =
     grouped t m ok (held_here t m now same held) (zone_makes (Grant g pages) (Over over)) l m.killed

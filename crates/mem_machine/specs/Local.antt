@@ -11,7 +11,7 @@ use Rattle.step_rules.specs.declared.phase.Phase.TheVariants as phase
 use Rattle.step_rules.specs.State.{State, times, visits}
 use Rattle.step_rules.specs.After.{Run}
 use Rattle.boot_words.specs.Pasts.{IsHeld, cpu_past, local_by_pasts}
-use Rattle.mem_machine.specs.Noted.{Notes}
+use Rattle.mem_machine.specs.Noted.{Records}
 -- the lists of local steps that lead from one local state to another
 pub use Rattle.step_rules.specs.Reaches.{IsLocalRun}
 -- the machine, and the part of the CPU that holds its lock
@@ -39,7 +39,7 @@ pub record Makes (table : KnownTable) (before : KnownMachine) (steps : Run) (aft
   pub leads : IsLocalRun (lock_holder before) (local_of table before) steps (local_of table after)
   pub follows : FollowsSteps (local_of table before) before.ledger steps after.ledger
   pub counts : after.counts ≡ counts_along (local_of table before) steps before.counts
-  pub noted : Notes table before.run steps after.run
+  pub noted : Records table before.run steps after.run
 
 -- these steps lead from the machine of one visit state to that of another
 abbrev pub VisitMakes : KnownTable → VisitState → Run → VisitState → Type 0

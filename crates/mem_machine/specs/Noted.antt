@@ -28,7 +28,7 @@ pub record PastsGrowBy (table : KnownTable) (before : KnownPasts) (steps : Run) 
   pub cpu_grew : IsHeld table before → GrewByAll (cpu_past before) steps (cpu_past later)
 
 -- the pasts have grown by these steps, and the watch took them
-pub record Notes (table : KnownTable) (before : KnownRun) (steps : Run) (later : KnownRun) : Type 0 where
+pub record Records (table : KnownTable) (before : KnownRun) (steps : Run) (later : KnownRun) : Type 0 where
   pub grew : PastsGrowBy table before.past steps later.past
   pub watched : Watches before.watch steps later.watch
 

@@ -5,7 +5,7 @@ ghost use Rattle.std.specs.List.{slice_index_or};
 ghost use Rattle.boot_words.specs.{AreLegal, local_by_pasts, IsHeld, IsHolder};
 ghost use Rattle.mem_machine.specs.Machines.{is_killed, stock_group};
 ghost use Rattle.mem_machine.specs.Local.{Makes, Visits, visit_state};
-ghost use Rattle.mem_machine.specs.Noted.{Notes};
+ghost use Rattle.mem_machine.specs.Noted.{Records};
 ghost use Rattle.mem_machine.specs.Settling.{HandsOver, KeepsFresh, DropsFresh, SettlesNext, SettlesAllFresh, Settles};
 ghost use Rattle.mem_machine.specs.Settling.{ReturnsNext, ReturnsAllBack, LeavesOthers};
 ghost use Rattle.mem_machine.specs.Settling.{MakesFreshSteps, MakesReturnSteps, keep_steps, drop_steps};
@@ -55,7 +55,7 @@ fn collect_fresh<N: BootName>(
     ensures cpu { HandsOver result cpu.old cpu.new }
     ensures sums { sums.new ≡ slice_set sums.old group (slice_index_or sums.old group 0 - 1) }
     ensures held { IsHeld N.table past.new }
-    ensures notes { Notes N.table (record { past = past.old; watch = watch.old })
+    ensures notes { Records N.table (record { past = past.old; watch = watch.old })
         (collect_steps cpu.old.number result) (record { past = past.new; watch = watch.new }) }
 {
     let cpu_number = cpu.number();

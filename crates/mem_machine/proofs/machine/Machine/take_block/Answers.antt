@@ -5,7 +5,7 @@ use Rattle.zone_blocks.specs.Zone.{BuddyZone}
 use Rattle.boot_words.specs.Pasts.{MakesStep}
 use Rattle.step_rules.specs.declared.step.Action.TheVariants.{Grant, Unfreeze}
 use Rattle.step_rules.specs.declared.step.Answer.TheVariants.{Done, Over}
-use Rattle.mem_machine.specs.{machine_of, KnownMachine, MayTake, Notes, over_steps, taken_steps, unplaced_steps}
+use Rattle.mem_machine.specs.{machine_of, KnownMachine, MayTake, Records, over_steps, taken_steps, unplaced_steps}
 use Rattle.mem_machine.specs.Steps.{zone_makes}
 use Rattle.mem_machine.proofs.AtTable.{made_at, may_at}
 use Rattle.mem_machine.proofs.GroupSteps.{may_group}
@@ -42,7 +42,7 @@ returns-in-Err-clause-steps g c =
     c.in-Err.over.group c.requires.charges
     (subst (λ (n : ℕ). IsLowestOver m.ledger.groups (current_of m.ledger) c.args.group n c.in-Err.over.group) c.frames-pages.ensures.frames c.in-Err.ensures.over) _
     c.in-Err.ensures.unchanged _
-    (subst (λ (n : ℕ). Notes t m.run (over_steps c.args.group n c.in-Err.over.group) (record { past = c.make_step.new.past; watch = c.make_step.new.watch }))
+    (subst (λ (n : ℕ). Records t m.run (over_steps c.args.group n c.in-Err.over.group) (record { past = c.make_step.new.past; watch = c.make_step.new.watch }))
     c.frames-pages.ensures.frames (c.make_step.ensures.notes _ _ (search rules)))).steps
 
 pub returns-in-Err-clause-visit : goal.returns-in-Err-clause-visit
