@@ -1,12 +1,15 @@
--- The steps by which the zone takes over a fresh frame. Serves `collect_fresh`.
-use Rattle.std.proofs.Common.{◌≡◌, ℕ, List, ◌∷◌, sym, ap, ◌∙◌, subst}
+-- The steps by which the zone takes over frames of a CPU. Serves `collect_fresh` and the callers of `collect_passed`.
+use Rattle.std.proofs.Common.{◌≡◌, ℕ, List, [], ◌∷◌, sym, ap, ◌∙◌, subst}
 use Rattle.frame_word.specs.Tables.{KnownTable}
-use Rattle.boot_words.specs.{MakesInTurn, take_back_run, KnownPasts, IsHeld}
+use Rattle.step_rules.specs.declared.step.Action.TheVariants.{Collect, PassBack}
+use Rattle.step_rules.specs.declared.step.Answer.TheVariants.{Done}
+use Rattle.boot_words.specs.{MakesInTurn, take_back_run, KnownPasts, IsHeld, MakesStep}
 use Rattle.cpu_part.specs.{PassesFresh, KnownCpuLists}
 use Rattle.cpu_part.proofs.CallerLemmas.{makes_each}
 use Rattle.step_watch.specs.Watched.{KnownWatch, Watches}
-use Rattle.mem_machine.specs.{KnownRun, Records, HandsOver, collect_steps}
-use Rattle.mem_machine.proofs.Noted.{all_grow}
+use Rattle.mem_machine.specs.{KnownRun, Records, HandsOver, collect_steps, unlist_steps}
+use Rattle.mem_machine.specs.Steps.{cpu_makes, zone_makes}
+use Rattle.mem_machine.proofs.Noted.{all_grow, grows_both, made_grows}
 
 -- they were made, and the watch took them
 pub collect_notes : (t : KnownTable) (run : KnownRun) (p f i q : ℕ) → i ≡ f → q ≡ p → (later : KnownPasts) (watch : KnownWatch) → IsHeld t run.past
@@ -23,3 +26,13 @@ hands_over f c d passes =
       front = passes.1 ∙ ap (λ (l : List ℕ). f ∷ l) (sym rest);
       cpu = passes.2 ∙ ap (λ (l : List ℕ). record c { fresh = l }) (sym rest);
     }
+
+-- the CPU passed the frame back, and the zone collected it
+pub passed_notes : (t : KnownTable) (run : KnownRun) (p q f : ℕ) → q ≡ p → (mid : KnownPasts) (later : KnownRun) → MakesStep t run.past p (PassBack f) Done mid
+    → MakesStep t mid 0 (Collect f q) Done later.past → Watches run.watch (unlist_steps q f) later.watch → Records t run (unlist_steps p f) later
+passed_notes t run p q f number mid later passed collected saw = record {
+  grew = grows_both t run.past (cpu_makes p (PassBack f) Done ∷ []) mid (zone_makes (Collect f p) Done ∷ []) later.past
+      (made_grows t run.past p (PassBack f) Done mid passed)
+      (made_grows t mid 0 (Collect f p) Done later.past (subst (λ (x : ℕ). MakesStep t mid 0 (Collect f x) Done later.past) number collected));
+  watched = subst (λ (x : ℕ). Watches run.watch (unlist_steps x f) later.watch) number saw;
+}

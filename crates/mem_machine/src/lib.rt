@@ -40,6 +40,7 @@ mod machine;
 mod marks;
 mod noting;
 mod owners;
+mod passed;
 mod paying;
 mod proving;
 mod readers;

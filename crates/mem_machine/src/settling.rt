@@ -16,6 +16,7 @@ use crate::frame_state::{FrameState, single_order};
 use crate::freed::free_unit;
 use crate::lists::join_list;
 use crate::machine::Machine;
+use crate::passed::collect_passed;
 use crate::stepping::make_step;
 use boot_words::PastSeat;
 use cpu_part::{BootName, CpuLists, Tables};
@@ -145,22 +146,8 @@ impl<N: BootName> Machine<N> {
         let Some(frame) = cpu.pass_back_unit(tables, &mut self.past) else {
             return None;
         };
+        collect_passed(tables, &mut self.past, &mut self.watch, cpu_number, frame);
         let at = frame.number();
-        self.watch.take(
-            cpu_number,
-            || (Action::PassBack { frame: at }, Answer::Done),
-        );
-        tables.words.collect(&mut self.past, cpu_number, frame);
-        self.watch.take(
-            0,
-            || (
-                Action::Collect {
-                    frame: at,
-                    cpu: cpu_number,
-                },
-                Answer::Done,
-            ),
-        );
         let FrameState::Head(unit) = self.frame_states[at as usize] else {
             unreachable!()
         };
