@@ -304,7 +304,7 @@ module _ (t : KnownTable) (m : KnownMachine) (c : KnownCpuLists) (visit : Visits
 -- ---- the run
 
 -- what is local after the first steps
-local_behind : (p : ℕ) (a : State) (first second : Run) → AreLocal p a (first ++ second) → AreLocal p (fold after_made a first) second
+pub local_behind : (p : ℕ) (a : State) (first second : Run) → AreLocal p a (first ++ second) → AreLocal p (fold after_made a first) second
 local_behind p a [] second all = all
 local_behind p a (e ∷ rest) second all = local_behind p (after_made a e) rest second all.1
 

@@ -29,14 +29,13 @@ use Rattle.step_rules.specs.State.{State}
 use Rattle.step_rules.specs.{Zone, free_in, is_frame, one_if, Run, after, is_within, placed_phase, is_legal, IsLocalRun}
 use Rattle.step_rules.proofs.Basics.{at_same, at_other}
 use Rattle.step_rules.proofs.Placing.{within_cases}
-use Rattle.boot_words.specs.{hide, hide_phase, IsHeld, MakesStep}
-use Rattle.step_watch.specs.Watched.{Watches}
+use Rattle.boot_words.specs.{hide, hide_phase, IsHeld}
 use Rattle.mem_machine.specs.declared.frame_state.FrameState.{FrameState}
 use Rattle.mem_machine.specs.declared.frame_state.FrameState.TheVariants.{Free, Head, Tail}
 use Rattle.mem_machine.specs.{frame_state_at, is_free_state, free_of, frame_state_group, head_group_of, phase_hidden, KnownMachine, FitsFrameState}
 use Rattle.mem_machine.specs.{IsConsistent, IsShownBy, home_of, is_killed, KnownRun, MayTakeAll, Records, after_made, MayCharge, over_steps, PlacesUnit}
 use Rattle.mem_machine.specs.{TakesBlock, TakesNoBlock, taken_steps, unplaced_steps, Makes, StaysVisited, lock_holder, local_of}
-use Rattle.mem_machine.specs.Steps.{zone_makes}
+use Rattle.mem_machine.specs.Steps.{publish_steps, zone_makes}
 use Rattle.mem_machine.proofs.BlockCharges.{charges_rise}
 use Rattle.mem_machine.proofs.Followed.{follows_same, same_events}
 use Rattle.mem_machine.proofs.Grants.{is_granted, is_not_placed, is_over, is_taken_back, may_place, none_pends, with_granted}
@@ -49,7 +48,6 @@ use Rattle.mem_machine.proofs.Noted.{may_all, notes_both, run_steps}
 use Rattle.mem_machine.proofs.PlacesUnits.{head_of_block, in_block, off_block, tail_of_block}
 use Rattle.mem_machine.proofs.Reaching.{zone_step}
 use Rattle.mem_machine.proofs.Records.{length_free, free_at, free_is, free_inside}
-use Rattle.mem_machine.proofs.Releases.{notes_of_zone}
 use Rattle.mem_machine.proofs.Sight.{left_then, shown_seen}
 use Rattle.mem_machine.proofs.Units.{units_placed}
 use Rattle.mem_machine.proofs.Usage.{usage_is}
@@ -295,7 +293,7 @@ module _ (t : KnownTable) (m : KnownMachine) (ok : IsConsistent t m) (facts : Ar
           (record m { blocks = blocks; frame_states = frame_states; ledger = with_charge m.ledger g (2 ^ b.order); links = links; lists = lists; run = run })
       taken_makes = makes t m then (taken_steps g b.order b.at) held noted taken_leads
           (follows_grant (local_of t m) m.ledger shown.groups facts (usage_is t m ok facts held) g (2 ^ b.order) there
-          (zone_makes (PlaceBlock g b.order) (Placed b) ∷ zone_makes (Unfreeze b.at 1) Done ∷ zone_makes (Publish b.at) Done ∷ []) refl
+          (zone_makes (PlaceBlock g b.order) (Placed b) ∷ publish_steps b.at) refl
           (with_charge m.ledger g (2 ^ b.order)) (λ h. refl) (same_events (with_charge m.ledger g (2 ^ b.order)))) refl
 
       pub taken_visits : StaysVisited t m
@@ -367,36 +365,32 @@ granted_may t m now same ok facts held g k pages may_now room =
     may_steps t m (zone_makes (Grant g pages) Granted ∷ []) _
     (is_granted t m ok facts (held_here t m now same held) (lock_holder m) g may.there may.alive pages room, refl)
 
--- the steps, with the pages and the frame as the code names them
-abbrev pub taken_as : (g pages k at : ℕ) → Run
-taken_as g pages k at =
-    zone_makes (Grant g pages) Granted ∷ zone_makes (PlaceBlock g k) (Placed (record { at = at; order = k })) ∷ zone_makes (Unfreeze at 1) Done ∷ zone_makes (Publish at) Done ∷ []
+-- the steps, with the pages, the block and the frame as the code names them
+abbrev pub taken_as : (g pages k : ℕ) → Block → ℕ → Run
+taken_as g pages k b at = zone_makes (Grant g pages) Granted ∷ zone_makes (PlaceBlock g k) (Placed b) ∷ publish_steps at
 
 -- they may be made, once the block is known
 pub taken_may : (t : KnownTable) (m now : KnownMachine) → m ≡ now → IsConsistent t m → AreCharges m.ledger → IsHeld t now.run.past → (g k pages : ℕ) → pages ≡ 2 ^ k
     → MayCharge now g (2 ^ k) → PathHasRoom m.ledger.groups (current_of m.ledger) g pages → (before free : List Bool) (b : Block) → before ≡ free_of m.frame_states
-    → IsFrontOfSmallest m.blocks k b → TakesFrames before b free → (f u : ℕ) → f ≡ b.at → u ≡ f → MayTakeAll t m.run.past (taken_as g pages k u)
-taken_may t m now same ok facts held g k pages size may_now room before free b was front takes f u head named =
+    → IsFrontOfSmallest m.blocks k b → TakesFrames before b free → (f : ℕ) → f ≡ b.at → MayTakeAll t m.run.past (taken_as g pages k b f)
+taken_may t m now same ok facts held g k pages size may_now room before free b was front takes f head =
     let may = charge_here m now same g (2 ^ k) may_now in
     let order : k ≡ b.order = sym front.order_is in
     let so_many : pages ≡ 2 ^ b.order = size ∙ ap (λ (x : ℕ). 2 ^ x) order in
     let front_b : IsFrontOfSmallest m.blocks b.order b = subst (λ (x : ℕ). IsFrontOfSmallest m.blocks x b) order front in
-    subst (λ (x : ℕ × ℕ × ℕ). MayTakeAll t m.run.past (taken_as g x.0 x.1 x.2)) (λ j. (sym so_many j, sym order j, sym (named ∙ head) j))
+    subst (λ (x : ℕ × ℕ × ℕ). MayTakeAll t m.run.past (taken_as g x.0 x.1 b x.2)) (λ j. (sym so_many j, sym order j, sym head j))
     (may_steps t m (taken_steps g b.order b.at) _
     (taken_leads t m ok facts (held_here t m now same held) g b may.there may.alive (subst (PathHasRoom m.ledger.groups (current_of m.ledger) g) so_many room)
     (taken_inside m.frame_states m.blocks ok.areas before free was b.order b front_b takes) (taken_free m.frame_states m.blocks ok.areas before free was b.order b front_b takes)))
 
--- the table takes the third step of frame f, which the code names u elsewhere
-pub taken_notes : (t : KnownTable) (a b d e s : KnownRun) (g k pages f u : ℕ) → pages ≡ 2 ^ k → u ≡ f → Records t a (zone_makes (Grant g pages) Granted ∷ []) b
-    → Records t b (zone_makes (PlaceBlock g k) (Placed (record { at = u; order = k })) ∷ []) d → MakesStep t d.past 0 (Unfreeze f 1) Done e.past
-    → Watches d.watch (zone_makes (Unfreeze u 1) Done ∷ []) e.watch → Records t e (zone_makes (Publish u) Done ∷ []) s → Records t a (taken_steps g k f) s
-taken_notes t a b d e s g k pages f u size named grants places made watched publishes =
-    let third = notes_of_zone t d e f u named (λ x. Unfreeze x 1) Done made watched in
-    let last : Records t e (zone_makes (Publish f) Done ∷ []) s = subst (λ (x : ℕ). Records t e (zone_makes (Publish x) Done ∷ []) s) named publishes in
-    let second : Records t b (zone_makes (PlaceBlock g k) (Placed (record { at = f; order = k })) ∷ []) d =
-    subst (λ (x : ℕ). Records t b (zone_makes (PlaceBlock g k) (Placed (record { at = x; order = k })) ∷ []) d) named places in
-    let first : Records t a (zone_makes (Grant g (2 ^ k)) Granted ∷ []) b = subst (λ (x : ℕ). Records t a (zone_makes (Grant g x) Granted ∷ []) b) size grants in
-    notes_both t a _ b _ s first (notes_both t b _ d _ s second (notes_both t d _ e _ s third last))
+pub taken_notes : (t : KnownTable) (a m d s : KnownRun) (g k pages f : ℕ) (b : Block) → pages ≡ 2 ^ k → f ≡ b.at → b.order ≡ k
+    → Records t a (zone_makes (Grant g pages) Granted ∷ []) m → Records t m (zone_makes (PlaceBlock g k) (Placed b) ∷ []) d → Records t d (publish_steps f) s
+    → Records t a (taken_steps g k f) s
+taken_notes t a m d s g k pages f b size head order grants places published =
+    let second : Records t m (zone_makes (PlaceBlock g k) (Placed (record { at = f; order = k })) ∷ []) d =
+    subst (λ (x : Block). Records t m (zone_makes (PlaceBlock g k) (Placed x) ∷ []) d) (λ j. record { at = sym head j; order = order j }) places in
+    let first : Records t a (zone_makes (Grant g (2 ^ k)) Granted ∷ []) m = subst (λ (x : ℕ). Records t a (zone_makes (Grant g x) Granted ∷ []) m) size grants in
+    notes_both t a _ m _ s first (notes_both t m _ d _ s second published)
 
 -- ---- no block
 

@@ -5,7 +5,7 @@ use Rattle.zone_blocks.specs.Areas.{AreMaximalBlocks}
 use Rattle.frame_word.specs.Tables.{KnownTable}
 use Rattle.group_charge.specs.Charges.{with_uncharge}
 use Rattle.step_rules.specs.declared.phase.ChargedUnit.{ChargedUnit}
-use Rattle.step_rules.specs.declared.step.Action.TheVariants.{PassBack, Collect, Report, Absorb, Unfreeze, Publish, Return}
+use Rattle.step_rules.specs.declared.step.Action.TheVariants.{PassBack, Collect, Report, Absorb, Return}
 use Rattle.step_rules.specs.declared.step.Answer.TheVariants.{Done, Pages}
 use Rattle.step_rules.specs.After.{Run}
 use Rattle.cpu_part.specs.Cpus.{KnownCpuLists}
@@ -13,7 +13,7 @@ use Rattle.mem_machine.specs.declared.frame_state.FrameState.TheVariants.{Head}
 use Rattle.mem_machine.specs.FrameStates.{frame_state_at, free_of}
 use Rattle.mem_machine.specs.Machines.{OneByOne, VisitState, VisitStateStays, is_killed}
 use Rattle.mem_machine.specs.Local.{VisitMakes, group_of_fresh}
-use Rattle.mem_machine.specs.Steps.{zone_makes, cpu_makes}
+use Rattle.mem_machine.specs.Steps.{publish_steps, zone_makes, cpu_makes}
 use Rattle.mem_machine.specs.Lists.{ListsUnit}
 use Rattle.mem_machine.specs.Counts.{with_killed_fresh, with_last_put}
 use Rattle.mem_machine.specs.Freeing.{FreesFrames}
@@ -133,8 +133,7 @@ collect_steps cpu frame =
 
 -- the steps of a fresh frame that is kept
 abbrev pub keep_steps : ℕ → ℕ → Run
-keep_steps cpu frame =
-    collect_steps cpu frame ++ zone_makes (Unfreeze frame 1) Done ∷ zone_makes (Publish frame) Done ∷ []
+keep_steps cpu frame = collect_steps cpu frame ++ publish_steps frame
 
 -- the steps of a fresh frame that is dropped
 abbrev pub drop_steps : ℕ → ℕ → Run

@@ -9,6 +9,7 @@ use crate::frame_state::FrameState;
 use crate::lists::join_list;
 use crate::machine::Machine;
 use crate::proving::prove_charges;
+use crate::publishing::publish;
 use crate::stepping::make_step;
 use cpu_part::{BootName, CpuLists, Tables};
 use frame_word::Frame;
@@ -93,18 +94,10 @@ impl<N: BootName> Machine<N> {
         let frame = head.number();
         place_unit(&mut self.frame_states, block, group);
         make_step(tables, &mut self.past, &mut self.watch, || {
-            (
-                Action::PlaceBlock { group, order },
-                Answer::Placed(Block { at: frame, order }),
-            )
+            (Action::PlaceBlock { group, order }, Answer::Placed(block))
         });
-        tables.words.unfreeze(&mut self.past, head, 1);
-        self.watch
-            .take(0, || (Action::Unfreeze { frame, count: 1 }, Answer::Done));
         join_list(&mut self.links, &mut self.lists, group, frame);
-        make_step(tables, &mut self.past, &mut self.watch, || {
-            (Action::Publish { frame }, Answer::Done)
-        });
+        publish(tables, &mut self.past, &mut self.watch, head);
         Ok(head)
     }
 }

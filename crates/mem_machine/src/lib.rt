@@ -43,6 +43,7 @@ mod owners;
 mod passed;
 mod paying;
 mod proving;
+mod publishing;
 mod readers;
 mod releasing;
 mod settling;

@@ -17,6 +17,7 @@ use crate::freed::free_unit;
 use crate::lists::join_list;
 use crate::machine::Machine;
 use crate::passed::collect_passed;
+use crate::publishing::publish;
 use crate::stepping::make_step;
 use boot_words::PastSeat;
 use cpu_part::{BootName, CpuLists, Tables};
@@ -88,15 +89,10 @@ impl<N: BootName> Machine<N> {
             group,
         );
         let frame = head.number();
-        tables.words.unfreeze(&mut self.past, head, 1);
-        self.watch
-            .take(0, || (Action::Unfreeze { frame, count: 1 }, Answer::Done));
         let order = single_order();
         self.frame_states[frame as usize] = FrameState::Head(ChargedUnit { group, order });
         join_list(&mut self.links, &mut self.lists, group, frame);
-        make_step(tables, &mut self.past, &mut self.watch, || {
-            (Action::Publish { frame }, Answer::Done)
-        });
+        publish(tables, &mut self.past, &mut self.watch, head);
         head
     }
 
