@@ -19,10 +19,8 @@ use Rattle.step_rules.specs.Phases as phases
 use Rattle.step_rules.specs.{told_pages, Part, Zone, is_frame, with_at, is_legal, Run, after, with_listed, IsLocalRun}
 use Rattle.step_rules.specs.State.{State}
 use Rattle.step_rules.proofs.Basics.{at_other, at_same}
-use Rattle.boot_words.specs.{AreLegal, MakesInTurn, hide, hide_phase, KnownPasts, IsHeld}
+use Rattle.boot_words.specs.{AreLegal, hide, hide_phase}
 use Rattle.cpu_part.specs.Cpus.{KnownCpuLists}
-use Rattle.cpu_part.proofs.CallerLemmas.{makes_each}
-use Rattle.step_watch.specs.Watched.{KnownWatch, Watches}
 use Rattle.mem_machine.specs.declared.frame_state.FrameState.{FrameState}
 use Rattle.mem_machine.specs.declared.frame_state.FrameState.TheVariants.{Free, Lent, Head, Tail}
 use Rattle.mem_machine.specs.{AreBooked, AreOwners, counts_along, frame_state_at, frame_state_group, free_of, head_group_of, is_free_state}
@@ -33,7 +31,7 @@ use Rattle.mem_machine.proofs.HandOvers.{IsVisited}
 use Rattle.mem_machine.proofs.Hiding.{is_free_seen}
 use Rattle.mem_machine.proofs.Made.{visits_here, zone_seen}
 use Rattle.mem_machine.proofs.Moved.{AllMoved, books_stay, is_visited, left_moved, makes_moved, number_range, own_moved, owners_moved, shown_moved, sums_moved, visit_moved}
-use Rattle.mem_machine.proofs.Noted.{all_grow, local_legal}
+use Rattle.mem_machine.proofs.Noted.{local_legal}
 use Rattle.mem_machine.proofs.Reaching.{cpu_step, zone_step}
 use Rattle.mem_machine.proofs.Records.{charges_stay, covers_one, free_at, free_inside, free_is, free_taken, units_stay}
 use Rattle.mem_machine.proofs.Sight.{left_seen, shown_seen}
@@ -213,15 +211,6 @@ module _ (t : KnownTable) (m now : KnownMachine) (same : m ≡ now) (c : KnownCp
 -- the number of a visited CPU fits a byte
 pub number_low : (t : KnownTable) (m now : KnownMachine) → m ≡ now → (c : KnownCpuLists) → Visits t now c → c.number ≤ t.cpus
 number_low t m now same c visit = (number_range t m c (visits_here t m now same c visit)).1
-
--- the steps were made, and the watch took them
-pub lent_notes : (t : KnownTable) (run : KnownRun) (p f i q : ℕ) → i ≡ f → q ≡ p → (later : KnownPasts) (watch : KnownWatch) → IsHeld t run.past
-    → MakesInTurn t run.past (lend_steps p f) later → Watches run.watch (lend_steps q i) watch
-    → Records t run (lend_steps p f) (record { past = later; watch = watch })
-lent_notes t run p f i q index number later watch held turn saw = record {
-  grew = all_grow t run.past (lend_steps p f) later (makes_each t run.past (lend_steps p f) later held turn);
-  watched = subst (λ (x : ℕ × ℕ). Watches run.watch (lend_steps x.1 x.0) watch) (λ j. (index j, number j)) saw;
-}
 
 -- ---- the first of the free frames
 

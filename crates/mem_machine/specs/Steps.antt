@@ -3,10 +3,11 @@ use Rattle.std.specs.Prelude.{ℕ, zero, suc, Bool, Option, Some, None, List, []
 use Rattle.std.specs.List.{flat_map}
 use Rattle.step_rules.specs.declared.step.NoteKey.{NoteKey}
 use Rattle.step_rules.specs.declared.step.NoteKey.TheVariants.{Max, Oom}
-use Rattle.step_rules.specs.declared.step.Action.TheVariants.{OpenVisit, ShutVisit, PassOut, TakeIn, PassBack, Collect, Fill, DrainStock, Grant, Ungrant, Consume, Note, Kill}
+use Rattle.step_rules.specs.declared.step.Action.TheVariants.{OpenVisit, ShutVisit, PassBack, Collect, Fill, DrainStock, Grant, Ungrant, Consume, Note, Kill}
 use Rattle.step_rules.specs.declared.step.Action.TheVariants.{Unfreeze, Publish, NoteGroupKill, SetMax, SetFlag, Make, Remove}
 use Rattle.step_rules.specs.declared.step.Answer.TheVariants.{Done, Took, Pages, Granted, Over, Number}
 use Rattle.step_rules.specs.After.{Run}
+use Rattle.boot_words.specs.Composed.{lend_run}
 -- a step of the zone's seat or of a CPU's, with its answer
 pub use Rattle.step_watch.specs.Watched.{zone_makes, cpu_makes}
 
@@ -20,7 +21,7 @@ shut_steps cpu = zone_makes (ShutVisit cpu) Done ∷ []
 
 -- the zone passes the free frame to the CPU, which adds it to the end of its list
 abbrev pub lend_steps : ℕ → ℕ → Run
-lend_steps cpu frame = zone_makes (PassOut frame cpu) Done ∷ cpu_makes cpu (TakeIn frame) Done ∷ []
+lend_steps cpu frame = lend_run cpu frame
 
 -- these frames are added to the end of the CPU's list, one after the other
 abbrev pub refill_steps : ℕ → List ℕ → Run
