@@ -312,10 +312,10 @@ pub taken_all : (t : KnownTable) (m now : KnownMachine) → m ≡ now → IsCons
     → (k pages : ℕ) → pages ≡ 2 ^ k → MayCharge now g (2 ^ k) → PathHasRoom m.ledger.groups (current_of m.ledger) g pages → (ledger : Ledger) → ledger ≡ with_charge m.ledger g pages
     → PagesRise m.ledger ledger g pages → (before free : List Bool) (b : Block) (blocks : List Block) → before ≡ free_of m.frame_states
     → IsFrontOfSmallest m.blocks k b → TakesFrames before b free → AreMaximalBlocks free blocks → (frame_states : List FrameState) → PlacesUnit g b m.frame_states frame_states
-    → (f u : ℕ) → f ≡ b.at → u ≡ f → (links : List Link) (lists : List Lru) → AllJoin m.links m.lists g u links lists
+    → (f : ℕ) → f ≡ b.at → (links : List Link) (lists : List Lru) → AllJoin m.links m.lists g b.at links lists
     → (run : KnownRun) → Records t m.run (taken_steps g k f) run
     → AllTaken t now (record m { blocks = blocks; frame_states = frame_states; ledger = ledger; links = links; lists = lists; run = run }) g k f free
-taken_all t m now same ok facts held_now g fits k pages size may_now room ledger charged rise before free b blocks was front takes areas_free frame_states placed f u at named links lists
+taken_all t m now same ok facts held_now g fits k pages size may_now room ledger charged rise before free b blocks was front takes areas_free frame_states placed f at links lists
     joined run noted =
     let held = held_here t m now same held_now in
     let may = charge_here m now same g (2 ^ k) may_now in
@@ -326,7 +326,6 @@ taken_all t m now same ok facts held_now g fits k pages size may_now room ledger
     let rise_here : PagesRise m.ledger (with_charge m.ledger g (2 ^ b.order)) g (2 ^ b.order) =
     subst (λ (x : Ledger × ℕ). PagesRise m.ledger x.0 g x.1) (λ j. (ledger_is j, so_many j)) rise in
     let front_here : IsFrontOfSmallest m.blocks b.order b = subst (λ (x : ℕ). IsFrontOfSmallest m.blocks x b) order front in
-    let joined_here : AllJoin m.links m.lists g b.at links lists = subst (λ (x : ℕ). AllJoin m.links m.lists g x links lists) (named ∙ at) joined in
     let noted_here : Records t m.run (taken_steps g b.order b.at) run = subst (λ (x : ℕ × ℕ). Records t m.run (taken_steps g x.0 x.1) run) (λ j. (order j, at j)) noted in
     let block = taken_inside m.frame_states m.blocks ok.areas before free was b.order b front_here takes in
     let were_free = taken_free m.frame_states m.blocks ok.areas before free was b.order b front_here takes in
@@ -340,21 +339,20 @@ taken_all t m now same ok facts held_now g fits k pages size may_now room ledger
       sym at j,
     ))
     (record {
-      consistent = taken_consistent t m ok facts held g b may.there may.alive room_here block were_free frame_states placed links lists joined_here fits blocks areas rise_here run noted_here;
+      consistent = taken_consistent t m ok facts held g b may.there may.alive room_here block were_free frame_states placed links lists joined fits blocks areas rise_here run noted_here;
       free_is = frees;
-      takes = record { room = room_here; front = front_here; areas = areas; unit = placed; listed = joined_here.joins; machine = refl };
-      visit = taken_visits t m ok facts held g b may.there may.alive room_here block were_free frame_states placed links lists joined_here fits blocks areas rise_here run noted_here;
-      steps = taken_makes t m ok facts held g b may.there may.alive room_here block were_free frame_states placed links lists joined_here fits blocks areas rise_here run noted_here;
+      takes = record { room = room_here; front = front_here; areas = areas; unit = placed; listed = joined.joins; machine = refl };
+      visit = taken_visits t m ok facts held g b may.there may.alive room_here block were_free frame_states placed links lists joined fits blocks areas rise_here run noted_here;
+      steps = taken_makes t m ok facts held g b may.there may.alive room_here block were_free frame_states placed links lists joined fits blocks areas rise_here run noted_here;
     })
 
 -- the head was on no list
 pub was_away : (t : KnownTable) (m : KnownMachine) → IsConsistent t m → (before free : List Bool) (b : Block) → before ≡ free_of m.frame_states → (k : ℕ)
-    → IsFrontOfSmallest m.blocks k b → TakesFrames before b free → (f u : ℕ) → f ≡ b.at → u ≡ f → home_of m.links u ≡ None
-was_away t m ok before free b was k front takes f u head named =
+    → IsFrontOfSmallest m.blocks k b → TakesFrames before b free → home_of m.links b.at ≡ None
+was_away t m ok before free b was k front takes =
     let sized = ok.sizes.frame_states in
     let low = head_inside m.frame_states m.blocks ok.areas before free was k b front takes in
-    ap (home_of m.links) (named ∙ head)
-    ∙ homeless (home_of m.links b.at) (frame_state_at m.frame_states b.at) (head_free m.frame_states m.blocks ok.areas before free was k b front takes)
+    homeless (home_of m.links b.at) (frame_state_at m.frame_states b.at) (head_free m.frame_states m.blocks ok.areas before free was k b front takes)
     (ok.frame_states b.at (omega (arith, sized, low)))
 
 -- the grant may be made, if there is room

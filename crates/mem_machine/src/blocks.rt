@@ -69,9 +69,8 @@ impl<N: BootName> Machine<N> {
         let pages = order.frames();
         prove_charges(&self.charges);
         if let Err(over) = self.charges.try_charge(group, pages) {
-            let full = over.group;
             make_step(tables, &mut self.past, &mut self.watch, || {
-                (Action::Grant { group, pages }, Answer::Over(full))
+                (Action::Grant { group, pages }, Answer::Over(over.group))
             });
             return Err(TakeFault::Over(over));
         }
@@ -91,12 +90,11 @@ impl<N: BootName> Machine<N> {
         let Some(head) = tables.words.frame(block.at) else {
             unreachable!()
         };
-        let frame = head.number();
         place_unit(&mut self.frame_states, block, group);
         make_step(tables, &mut self.past, &mut self.watch, || {
             (Action::PlaceBlock { group, order }, Answer::Placed(block))
         });
-        join_list(&mut self.links, &mut self.lists, group, frame);
+        join_list(&mut self.links, &mut self.lists, group, block.at);
         publish(tables, &mut self.past, &mut self.watch, head);
         Ok(head)
     }

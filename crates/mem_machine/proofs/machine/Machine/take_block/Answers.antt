@@ -110,7 +110,7 @@ place_unit-requires g c =
 pub join_list-requires-clause-away : goal.join_list-requires-clause-away
 join_list-requires-clause-away g c =
     was_away g.N.BootName.table (machine_of c.self.inside) c.self.invariant.consistent _ _ c.in-Some.block c.self.invariant.free _ c.in-Some.ensures.taken
-    c.in-Some.ensures.frames c.in-Some-frame.head _ c.in-Some-frame.ensures.0 c.number-frame.ensures
+    c.in-Some.ensures.frames
 
 pub make_step-requires-3-clause-legal : goal.make_step-requires-3-clause-legal
 make_step-requires-3-clause-legal g c =
@@ -136,8 +136,8 @@ invariant_of-self-2 g c =
     c.in-Some.ensures.taken.order_is (c.make_step-2.ensures.notes _ _ (search rules)) (c.make_step-3.ensures.notes _ _ (search rules)) c.publish.ensures in
     let all = taken_all t m _ c.self.view_is c.self.invariant.consistent c.prove_charges.ensures.legal c.requires.visit.held c.args.group fits c.args.order _
     c.frames-pages.ensures.frames c.requires.charges (c.in_default.ensures.granted.0 refl) _ c.in_default.ensures.charged c.in_default.ensures.pages _ _ c.in-Some.block _
-    c.self.invariant.free c.in-Some.ensures.taken c.in-Some.ensures.frames c.in-Some.ensures.areas _ c.place_unit.ensures c.in-Some-frame.head _ c.in-Some-frame.ensures.0
-    c.number-frame.ensures _ _ (record { joins = j.joins; stand = j.lists.stand; frames = j.frames; groups = j.lists.groups }) _ noted in
+    c.self.invariant.free c.in-Some.ensures.taken c.in-Some.ensures.frames c.in-Some.ensures.areas _ c.place_unit.ensures c.in-Some-frame.head c.in-Some-frame.ensures.0
+    _ _ (record { joins = j.joins; stand = j.lists.stand; frames = j.frames; groups = j.lists.groups }) _ noted in
     let held = held_here t m _ c.self.view_is c.requires.visit.held in
     record {
       consistent = all.consistent;
@@ -154,8 +154,8 @@ returns g c =
     let j = c.join_list.ensures in
     let all = taken_all t m _ c.self.view_is c.self.invariant.consistent c.prove_charges.ensures.legal c.requires.visit.held c.args.group fits c.args.order _
     c.frames-pages.ensures.frames c.requires.charges (c.in_default.ensures.granted.0 refl) _ c.in_default.ensures.charged c.in_default.ensures.pages _ _ c.in-Some.block _
-    c.self.invariant.free c.in-Some.ensures.taken c.in-Some.ensures.frames c.in-Some.ensures.areas _ c.place_unit.ensures c.in-Some-frame.head _ c.in-Some-frame.ensures.0
-    c.number-frame.ensures _ _ (record { joins = j.joins; stand = j.lists.stand; frames = j.frames; groups = j.lists.groups }) _
+    c.self.invariant.free c.in-Some.ensures.taken c.in-Some.ensures.frames c.in-Some.ensures.areas _ c.place_unit.ensures c.in-Some-frame.head c.in-Some-frame.ensures.0
+    _ _ (record { joins = j.joins; stand = j.lists.stand; frames = j.frames; groups = j.lists.groups }) _
     (taken_notes t _ _ _ _ c.args.group c.args.order _ c.in-Some-frame.head c.in-Some.block c.frames-pages.ensures.frames c.in-Some-frame.ensures.0
     c.in-Some.ensures.taken.order_is (c.make_step-2.ensures.notes _ _ (search rules)) (c.make_step-3.ensures.notes _ _ (search rules)) c.publish.ensures) in
     record { takes = all.takes; refuses = search rules; cpu = search rules; visit = all.visit _ c.requires.visit; steps = all.steps }
