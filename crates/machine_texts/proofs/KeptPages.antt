@@ -12,7 +12,7 @@ use Rattle.group_tree.specs.declared.group.Group.{Group}
 use Rattle.group_charge.specs.declared.account.Account.{Account}
 use Rattle.group_charge.specs.Charges.{AreCharges, current_of, pages_of, usage_charged}
 use Rattle.group_charge.proofs.ChargeLemmas.{account_at-there}
-use Rattle.frame_word.specs.Seats.{KnownTable}
+use Rattle.frame_word.specs.Tables.{KnownTable}
 use Rattle.lru_lists.specs.declared.record.Home.{Home}
 use Rattle.lru_lists.specs.declared.record.Entry.{Entry}
 use Rattle.lru_lists.specs.declared.record.LruList.{LruList}
