@@ -3,12 +3,11 @@ use Rattle.std.proofs.Common.{◌≡◌, ◌∙◌, ℕ, zero, suc, ◌+◌, Boo
 use Rattle.std.specs.Prelude.{option_map, slice_get}
 use Rattle.std.proofs.lemmas.List.Elements.{All-take, All-drop}
 use Rattle.std.proofs.lemmas.Option.{get_or_from_slice_get, slice_get-map}
-use Rattle.frame_word.specs.Tables.{KnownTable}
 use Rattle.zone_blocks.specs.declared.config.Config.{Config}
 use Rattle.step_rules.specs.After.{Run}
 use Rattle.step_rules.proofs.PhaseLemmas.{none_some}
 use Rattle.boot_words.specs.declared.past.Past.{Past}
-use Rattle.boot_words.specs.{IsRunSoFar, own_past, AllOf, OthersFollow}
+use Rattle.boot_words.specs.{IsRunSoFar, own_past, AllOf, OthersFollow, KnownTable}
 use Rattle.mem_system.specs.{IsSizedAs, KnownSystem, CpuInRun, pasts_of}
 use Rattle.script_lines.specs.declared.line.Line.{Line}
 use Rattle.script_replay.specs.{HasRun, ServesAll, SystemState, steps_of_served, LineInRange, boot_tables, numbered_terms, AreAllAnswers}

@@ -2,9 +2,8 @@
 -- `steps_on_boot`, `run_by_threads`, `serve_on_boot`.
 use Rattle.std.proofs.Common.{◌∙◌, ℕ, List, [], ◌∷◌, ◌++◌, subst, sym}
 use Rattle.std.proofs.lemmas.List.{length-map}
-use Rattle.frame_word.specs.Tables.{KnownTable}
 use Rattle.boot_words.specs.declared.past.Past.{Past}
-use Rattle.boot_words.specs.{own_past, AllOf, BeginsRun, IsPastOf, AreFrameWords, AreStockWords, zone_of_boot}
+use Rattle.boot_words.specs.{own_past, AllOf, BeginsRun, IsPastOf, AreFrameWords, AreStockWords, zone_of_boot, KnownTable}
 use Rattle.boot_words.proofs.Gaining.{the_run_so_far_is_legal}
 use Rattle.boot_words.proofs.Growing.{past_of_run}
 use Rattle.step_rules.specs.State.{State, Zone}

@@ -1,11 +1,10 @@
 -- What a script is answered.
 use Rattle.std.specs.Prelude.{◌≡◌, ℕ, suc, ◌+◌, Bool, false, true, ⊤, Option, Some, List, [], ◌++◌, codes, decimal, drop, length, slice_get, take}
 use Rattle.std.specs.Io.KnownBytes.{Appends}
-use Rattle.frame_word.specs.Tables.{KnownTable}
 use Rattle.zone_blocks.specs.declared.config.Config.{Config}
 use Rattle.zone_blocks.specs.Config.{IsValidConfig}
 use Rattle.step_rules.specs.After.{Run as StepRun}
-use Rattle.boot_words.specs.{AreChangesOf, own_past, OthersFollow, zone_of_boot}
+use Rattle.boot_words.specs.{AreChangesOf, own_past, OthersFollow, zone_of_boot, KnownTable}
 use Rattle.mem_machine.specs.{AgreesWithRun}
 use Rattle.mem_system.specs.{CpuInRun, IsQuiet}
 use Rattle.script_lines.specs.declared.line.Line.{Line}

@@ -12,7 +12,6 @@ use Rattle.group_tree.specs.declared.group.Group.{Group}
 use Rattle.group_charge.specs.declared.account.Account.{Account}
 use Rattle.group_charge.specs.Charges.{AreCharges, current_of, pages_of, usage_charged}
 use Rattle.group_charge.proofs.ChargeLemmas.{account_at-there}
-use Rattle.frame_word.specs.Tables.{KnownTable}
 use Rattle.lru_lists.specs.declared.record.Home.{Home}
 use Rattle.lru_lists.specs.declared.record.Entry.{Entry}
 use Rattle.lru_lists.specs.declared.record.LruList.{LruList}
@@ -22,6 +21,7 @@ use Rattle.step_rules.specs.{is_within, one_if}
 use Rattle.step_rules.specs.State.{sum_to}
 use Rattle.step_rules.proofs.Placing.{within_cases}
 use Rattle.step_rules.proofs.Sums.{sum_both, sum_same}
+use Rattle.boot_words.specs.Tables.{KnownTable}
 use Rattle.mem_machine.specs.declared.frame_state.FrameState.{FrameState}
 use Rattle.mem_machine.specs.declared.frame_state.FrameState.TheVariants.{Free, Lent, Head, Tail}
 use Rattle.mem_machine.specs.{AreUnits, FitsFrameState, IsConsistent, KnownMachine, entries_in, frame_state_at, frame_state_group, head_group_of}

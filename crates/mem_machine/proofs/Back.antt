@@ -3,17 +3,16 @@ use Rattle.std.proofs.Common.{true, false, ◌≡◌, ℕ, ◌^◌, ◌<◌, ◌
 use Rattle.std.proofs.lemmas.List.{get_or_default}
 use Rattle.zone_blocks.specs.declared.block.Block.{Block}
 use Rattle.zone_blocks.specs.{AreMaximalBlocks, GivesFrames}
-use Rattle.frame_word.specs.Tables.{KnownTable}
 use Rattle.group_charge.specs.Charges.{Ledger, with_uncharge}
 use Rattle.group_charge.proofs.CallerLemmas.{uncharge_peaks, uncharge_events}
-use Rattle.boot_words.specs.{hide, hide_phase, IsHolder, KnownPasts, MakesStep, MayMake}
+use Rattle.boot_words.specs.{hide, hide_phase, IsHolder, KnownPasts, MakesStep, MayMake, KnownTable}
 use Rattle.cpu_part.specs.{PassesBackUnit, KnownCpuLists}
 use Rattle.step_rules.specs.declared.phase.ChargedUnit.{ChargedUnit}
 use Rattle.step_rules.specs.declared.phase.Stage.TheVariants.{AwaitsReturn, BackAt}
 use Rattle.step_rules.specs.declared.phase.Phase.TheVariants as phase
 use Rattle.step_rules.specs.declared.step.Action.TheVariants.{PassBack, Collect, Return}
 use Rattle.step_rules.specs.declared.step.Answer.TheVariants.{Done}
-use Rattle.step_rules.specs.{told_pages, Part, Zone, one_if, times, with_at, without_unit, IsLocalRun}
+use Rattle.step_rules.specs.{told_pages, Part, Zone, one_if, times, with_at, without_unit, IsLocalRun, zone_makes}
 use Rattle.step_rules.specs.State.{State}
 use Rattle.step_rules.proofs.Lists.{times_same, without_front, without_none}
 use Rattle.step_rules.proofs.SoundSteps.{below_frames}
@@ -24,7 +23,7 @@ use Rattle.mem_machine.specs.declared.counts.Counts.{Counts}
 use Rattle.mem_machine.specs.{AreBooked, AreOwners, frame_state_at, free_of, phase_hidden, KnownMachine, IsConsistent, IsShownBy, BalancesCounts}
 use Rattle.mem_machine.specs.{home_of, left_by, pages_booked, Visits, local_of, AreLocal, KnownRun, MayTake, MayTakeAll, Records, FreesFrames, ReturnsBack}
 use Rattle.mem_machine.specs.{return_steps, with_last_put}
-use Rattle.mem_machine.specs.Steps.{unlist_steps, zone_makes}
+use Rattle.mem_machine.specs.Steps.{unlist_steps}
 use Rattle.mem_machine.proofs.Balances.{balanced_last_put}
 use Rattle.mem_machine.proofs.Collecting.{passed_notes}
 use Rattle.mem_machine.proofs.Counted.{comes_back}

@@ -1,15 +1,13 @@
 -- The steps by which a frame is handed over. Serves `lend`, `lend_one`, `collect_fresh` and the callers of `collect_passed`.
 use Rattle.std.proofs.Common.{◌≡◌, ℕ, List, [], ◌∷◌, sym, ap, ◌∙◌, subst}
-use Rattle.frame_word.specs.Tables.{KnownTable}
 use Rattle.step_rules.specs.declared.step.Action.TheVariants.{Collect, PassBack}
 use Rattle.step_rules.specs.declared.step.Answer.TheVariants.{Done}
-use Rattle.step_rules.specs.After.{Run}
-use Rattle.boot_words.specs.{MakesInTurn, KnownPasts, IsHeld, MakesStep}
+use Rattle.step_rules.specs.After.{Run, cpu_makes, zone_makes}
+use Rattle.boot_words.specs.{MakesInTurn, KnownPasts, IsHeld, MakesStep, KnownTable}
 use Rattle.cpu_part.specs.{PassesFresh, KnownCpuLists}
 use Rattle.cpu_part.proofs.CallerLemmas.{makes_each}
 use Rattle.step_watch.specs.Watched.{KnownWatch, Watches}
 use Rattle.mem_machine.specs.{KnownRun, Records, HandsOver, unlist_steps}
-use Rattle.mem_machine.specs.Steps.{cpu_makes, zone_makes}
 use Rattle.mem_machine.proofs.Noted.{all_grow, grows_both, made_grows}
 
 -- the steps of a list were made in turn, and the watch took them

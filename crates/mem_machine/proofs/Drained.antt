@@ -2,23 +2,22 @@
 use Rattle.std.proofs.Common.{◌≡◌, ℕ, ◌+◌, ◌-◌, ◌<◌, ◌≤◌, ◌==◌, true, Option, Some, None, List, [], ◌∷◌, cond, get_or, refl, sym, ap, ◌∙◌, subst, inl, inr, arith}
 use Rattle.std.specs.List.{fold}
 use Rattle.std.specs.Prelude.{slice_set}
-use Rattle.frame_word.specs.Tables.{KnownTable}
 use Rattle.group_tree.specs.Groups.{has_group}
 use Rattle.group_charge.specs.declared.note.Note.TheVariants.{Stock}
 use Rattle.group_charge.specs.{Ledger, pages_of, KnownNotes, noted}
 use Rattle.group_charge.proofs.CallerLemmas.{uncharge_pages}
+use Rattle.stock_word.specs.Stock.{group_base}
 use Rattle.step_rules.specs.declared.step.Action.TheVariants.{DrainStock, Ungrant}
 use Rattle.step_rules.specs.declared.step.Answer.TheVariants.{Done, Pages}
-use Rattle.step_rules.specs.{told_pages, Part, with_at, Run, drained, IsLocalRun}
+use Rattle.step_rules.specs.{told_pages, Part, with_at, Run, drained, IsLocalRun, zone_makes}
 use Rattle.step_rules.specs.State.{State}
 use Rattle.step_rules.proofs.Basics.{at_each}
-use Rattle.boot_words.specs.{hide, KnownPasts, IsHeld, MakesStep, MayMake, cpu_past, HasSameLists}
+use Rattle.boot_words.specs.{hide, KnownPasts, IsHeld, MakesStep, MayMake, cpu_past, HasSameLists, KnownTable}
 use Rattle.step_watch.specs.Watched.{KnownWatch, Watches}
 use Rattle.mem_machine.specs.declared.machine.Machine.TheInside.{Inside}
 use Rattle.mem_machine.specs.{AreBooked, AreOwners, IsSoundMachine, machine_of, Makes, StaysVisited, lock_holder, local_of, KnownMachine}
 use Rattle.mem_machine.specs.{IsConsistent, IsCpuOf, IsShownBy, frames_charged, left_by, pages_booked, stock_group, AreLocal, KnownRun, MayTake}
 use Rattle.mem_machine.specs.{MayTakeAll, Records, after_made, drain_steps, Drains, DrainsNoted, uncharged}
-use Rattle.mem_machine.specs.Steps.{zone_makes}
 use Rattle.mem_machine.proofs.AtTable.{made_at}
 use Rattle.mem_machine.proofs.Behind.{FitsDrain, fits_drain}
 use Rattle.mem_machine.proofs.Booking.{book_within, books_less, books_none, books_same, sums_less, sums_same}
@@ -57,7 +56,7 @@ module _ (t : KnownTable) (m : KnownMachine) (u : State) (ok : IsShownBy t m u) 
     references = ok.references;
     settled = ok.settled;
     absorbed = at_each u.parts q (drained (u.parts q) n) (λ j x. told_pages x ≡ 0) (ok.absorbed q) (λ j ne. ok.absorbed j);
-    bounded = at_each u.parts q (drained (u.parts q) n) (λ j x. x.book < 65536) (let a = ok.bounded q in omega (arith, a)) (λ j ne. ok.bounded j);
+    bounded = at_each u.parts q (drained (u.parts q) n) (λ j x. x.book < group_base) (let a = ok.bounded q in omega (arith, a)) (λ j ne. ok.bounded j);
     charged = charged_after o group;
   }
 

@@ -3,7 +3,6 @@ use Rattle.std.proofs.Common.{◌≡◌, ◌≢◌, ℕ, ◌^◌, ◌<◌, Bool,
 use Rattle.std.specs.Prelude.{IfSome}
 use Rattle.zone_blocks.specs.declared.block.Block.{Block}
 use Rattle.zone_blocks.specs.{AreMaximalBlocks, GivesFrames}
-use Rattle.frame_word.specs.Tables.{KnownTable}
 use Rattle.group_charge.specs.{Ledger, UsageRises, with_uncharge, KnownNotes, unit_noted}
 use Rattle.group_charge.proofs.CallerLemmas.{uncharge_events, uncharge_peaks}
 use Rattle.lru_lists.specs.declared.record.Link.{Link}
@@ -16,6 +15,7 @@ use Rattle.step_rules.specs.declared.step.Answer.TheVariants as answer
 use Rattle.step_rules.specs.{Run, after, is_legal}
 use Rattle.step_rules.proofs.Basics.{at_other}
 use Rattle.boot_words.specs.Pasts.{IsHeld, MayMake, cpu_past, local_by_pasts}
+use Rattle.boot_words.specs.Tables.{KnownTable}
 use Rattle.mem_machine.specs.declared.counts.Counts.{Counts}
 use Rattle.mem_machine.specs.declared.frame_state.FrameState.{FrameState}
 use Rattle.mem_machine.specs.declared.frame_state.FrameState.TheVariants.{Head}

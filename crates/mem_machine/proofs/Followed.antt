@@ -9,7 +9,6 @@ use Rattle.group_tree.specs.declared.group.Group.{Group}
 use Rattle.group_tree.specs.{EventCounts, count_of, has_group, without_group, one_more, is_in_subtree}
 use Rattle.group_tree.proofs.CallerLemmas.{has_group-with, has_group-limited, has_group-flagged, has_group-without}
 use Rattle.group_charge.specs.Charges.{Ledger, SamePeaks, SameEvents}
-use Rattle.frame_word.specs.Tables.{KnownTable}
 use Rattle.step_rules.specs.declared.step.Step.{Step}
 use Rattle.step_rules.specs.declared.step.Action.{Action}
 use Rattle.step_rules.specs.declared.step.Action.TheVariants.{Lock, Grant, SetMax, SetFlag, Make, Remove}
@@ -21,6 +20,7 @@ use Rattle.step_rules.specs.{is_of_group}
 use Rattle.step_rules.proofs.CallerLemmas.{noted_nowhere}
 use Rattle.step_rules.proofs.Moving.{gone_itself}
 use Rattle.boot_words.specs.Pasts.{cpu_past, local_by_pasts}
+use Rattle.boot_words.specs.Tables.{KnownTable}
 use Rattle.mem_machine.specs.{Moves, moved_along, moves_peak, moves_count, ExistsAfter, FollowsSteps, counts_after, counts_along, KnownMachine, Makes}
 use Rattle.mem_machine.specs.{lock_holder, local_of, KnownRun, Records, after_made}
 use Rattle.mem_machine.specs.declared.counts.Counts.{Counts}

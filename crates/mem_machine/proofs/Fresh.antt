@@ -6,21 +6,20 @@ use Rattle.std.proofs.lemmas.Bool.{cases_eq, ne_eqb, false≢true}
 use Rattle.std.proofs.lemmas.List.{get_or-set_same, get_or-set_other, length-set, ext_get_or}
 use Rattle.zone_blocks.specs.declared.block.Block.{Block}
 use Rattle.zone_blocks.specs.{IsBlock, AreMaximalBlocks, GivesFrames, IsInUse}
-use Rattle.frame_word.specs.Tables.{KnownTable}
 use Rattle.group_charge.specs.Charges.{Ledger, pages_of, with_uncharge}
 use Rattle.group_charge.proofs.CallerLemmas.{uncharge_pages, uncharge_peaks, uncharge_events}
 use Rattle.group_tree.specs.Bounds.{most_groups}
 use Rattle.lru_lists.specs.declared.record.Home.{Home}
 use Rattle.lru_lists.specs.declared.record.Link.{Link}
 use Rattle.lru_lists.specs.declared.lru.Lru.{Lru}
-use Rattle.boot_words.specs.{AreLegal, hide, hide_phase}
+use Rattle.boot_words.specs.{AreLegal, hide, hide_phase, KnownTable}
 use Rattle.cpu_part.specs.Cpus.{KnownCpuLists}
 use Rattle.step_rules.specs.declared.phase.ChargedUnit.{ChargedUnit}
 use Rattle.step_rules.specs.declared.phase.Stage.TheVariants.{FreshAt, Collected, Live}
 use Rattle.step_rules.specs.declared.phase.Phase.TheVariants as phase
 use Rattle.step_rules.specs.declared.step.Action.TheVariants.{Return}
 use Rattle.step_rules.specs.declared.step.Answer.TheVariants.{Done}
-use Rattle.step_rules.specs.{told_pages, Part, Zone, one_if, times, with_at, without_unit, IsLocalRun}
+use Rattle.step_rules.specs.{told_pages, Part, Zone, one_if, times, with_at, without_unit, IsLocalRun, zone_makes}
 use Rattle.step_rules.specs.State.{State}
 use Rattle.step_rules.proofs.Basics.{at_other, at_same}
 use Rattle.step_rules.proofs.SoundSteps.{below_frames}
@@ -32,7 +31,7 @@ use Rattle.mem_machine.specs.{AreBooked, AreOwners, frame_state_at, is_free_stat
 use Rattle.mem_machine.specs.{IsConsistent, IsShownBy, BalancesCounts, frames_charged, home_of, is_killed, left_by, pages_booked, stock_group, Visits}
 use Rattle.mem_machine.specs.{local_of, AreLocal, KnownRun, MayTake, MayTakeAll, Records, PlacesUnit, with_killed_fresh, FreesFrames, HandsOver, KeepsFresh}
 use Rattle.mem_machine.specs.{DropsFresh, collect_steps, keep_steps, drop_steps}
-use Rattle.mem_machine.specs.Steps.{publish_steps, zone_makes}
+use Rattle.mem_machine.specs.Steps.{publish_steps}
 use Rattle.mem_machine.proofs.Balances.{balanced_killed_fresh}
 use Rattle.mem_machine.proofs.BlockCharges.{charges_rise}
 use Rattle.mem_machine.proofs.Counted.{collects_none, comes_back}

@@ -6,25 +6,24 @@ use Rattle.std.specs.List.{fold}
 use Rattle.std.specs.Prelude.{nat_le, nat_lt}
 use Rattle.std.proofs.lemmas.Bool.{and_from, false≢true, le-leb}
 use Rattle.std.proofs.lemmas.Option.{none-some}
-use Rattle.frame_word.specs.Tables.{KnownTable}
 use Rattle.stock_word.specs.declared.stock.Stock.{Stock}
 use Rattle.stock_word.specs.declared.stock.Stock.TheVariants.{HeldBy}
-use Rattle.stock_word.specs.Stock.{group_of, is_held, stock_pages_of}
+use Rattle.stock_word.specs.Stock.{group_of, is_held, stock_pages_of, group_base}
 use Rattle.group_charge.specs.Charges.{AreCharges, current_of}
 use Rattle.group_tree.specs.{is_in_subtree}
 use Rattle.step_rules.specs.declared.phase.Way.TheVariants.{OnList}
 use Rattle.step_rules.specs.declared.phase.Phase.TheVariants.{Lent}
 use Rattle.step_rules.specs.declared.step.Action.TheVariants.{Consume}
 use Rattle.step_rules.specs.declared.step.Answer.TheVariants.{Took}
-use Rattle.step_rules.specs.{Part, Zone, front_of, is_cpu, one_if, times, visits, Run, after, consumed, paid, with_part, with_phase}
+use Rattle.step_rules.specs.{Part, Zone, front_of, is_cpu, one_if, times, visits, Run, after, consumed, paid, with_part, with_phase, cpu_makes}
 use Rattle.step_rules.specs.{IsAnswer, is_legal, IsLocalStep, other_part_seen}
 use Rattle.step_rules.specs.State.{State, sum_to}
 use Rattle.step_rules.proofs.Basics.{at_each, at_same}
 use Rattle.step_rules.proofs.Lists.{front_stands, length_last, times_same}
-use Rattle.boot_words.specs.{hide, hide_phase, KnownPasts, MakesStep, MayMake, cpu_past, zone_of_boot, stock_in, stock_said}
+use Rattle.boot_words.specs.{hide, hide_phase, KnownPasts, MakesStep, MayMake, cpu_past, zone_of_boot, stock_in, stock_said, KnownTable}
 use Rattle.cpu_part.specs.{TakesFront, KnownCpuLists, HasOwn}
 use Rattle.cpu_part.proofs.Owning.{own_took}
-use Rattle.step_watch.specs.Watched.{KnownWatch, Watches, cpu_makes}
+use Rattle.step_watch.specs.Watched.{KnownWatch, Watches}
 use Rattle.mem_machine.specs.declared.machine.Machine.TheInside.{Inside}
 use Rattle.mem_machine.specs.{frame_state_at, frame_state_group, IsSoundMachine, machine_of, Makes, Visits, local_of, visit_state, KnownMachine}
 use Rattle.mem_machine.specs.{IsConsistent, left_by, KnownRun, Records, after_made, HasRoomFor, HoldsPage, IsOfSize, PaysForFront, stock_now}
@@ -65,7 +64,7 @@ usage_small t m ok charges g =
     let both = ledger_visit_state t m ok charges g in
     omega (arith, charged, booked, both)
 
-pub room_for : (t : KnownTable) (m now : KnownMachine) → m ≡ now → IsConsistent t m → AreCharges m.ledger → IsOfSize t → (pages : ℕ) → pages < 65536 → HasRoomFor now pages
+pub room_for : (t : KnownTable) (m now : KnownMachine) → m ≡ now → IsConsistent t m → AreCharges m.ledger → IsOfSize t → (pages : ℕ) → pages < group_base → HasRoomFor now pages
 room_for t m now same ok charges size pages few =
     let small = subst (λ (x : KnownMachine). current_of x.ledger 0 ≤ t.frames * 1 + (t.cpus + 1) * 65535) same (usage_small t m ok charges 0) in
     let frames = size.frames in

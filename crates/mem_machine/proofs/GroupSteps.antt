@@ -12,20 +12,18 @@ use Rattle.group_tree.specs.{most_groups, has_child, has_group, make_fault, IsLe
 use Rattle.group_charge.specs.declared.settings.ReclaimSettings.{ReclaimSettings}
 use Rattle.group_charge.specs.Charges.{Ledger, AreCharges, CountsEvent, SamePages, SamePeaks, account_at, current_of, pages_of, with_settings}
 use Rattle.group_charge.specs.Charges.{with_new_group, with_group_removed, with_group_limit, with_oom_flag}
-use Rattle.frame_word.specs.Tables.{KnownTable}
 use Rattle.step_rules.specs.declared.step.Step.{Step}
 use Rattle.step_rules.specs.declared.step.NoteKey.{NoteKey}
 use Rattle.step_rules.specs.declared.step.Action.{Action}
 use Rattle.step_rules.specs.declared.step.Action.TheVariants.{Kill, Make, Note, NoteGroupKill, Remove, SetFlag, SetMax}
 use Rattle.step_rules.specs.declared.step.Answer.{Answer}
 use Rattle.step_rules.specs.declared.step.Answer.TheVariants.{Done, Number}
-use Rattle.step_rules.specs.{event_key, event_of, IsLocalStep, is_removable, with_at, usage_of}
+use Rattle.step_rules.specs.{event_key, event_of, IsLocalStep, is_removable, with_at, usage_of, zone_makes}
 use Rattle.step_rules.specs.State.{State}
 use Rattle.step_rules.proofs.Basics.{at_each}
-use Rattle.boot_words.specs.{hide, IsHeld, HasSameLists}
+use Rattle.boot_words.specs.{hide, IsHeld, HasSameLists, KnownTable}
 use Rattle.mem_machine.specs.{AreBooked, AreOwners, counts_along, FollowsSteps, Makes, StaysVisited, lock_holder, local_of, KnownMachine, AddsGroup}
 use Rattle.mem_machine.specs.{IsConsistent, IsShownBy, is_killed, left_by, KnownRun, MayTake, Records, after_made}
-use Rattle.mem_machine.specs.Steps.{zone_makes}
 use Rattle.mem_machine.proofs.LedgerMoves.{follows_flag, follows_limit, follows_make, follows_note, follows_remove, follows_settings}
 use Rattle.mem_machine.proofs.Made.{makes, one_leads, stays_visited, zone_acts}
 use Rattle.mem_machine.proofs.Noted.{notes_none}

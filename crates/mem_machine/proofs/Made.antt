@@ -2,7 +2,6 @@
 use Rattle.std.proofs.Common.{◌≡◌, ℕ, true, [], ◌∷◌, refl, ap, sym, ◌∙◌, subst}
 use Rattle.std.specs.List.{fold}
 use Rattle.std.proofs.lemmas.Bool.{false≢true}
-use Rattle.frame_word.specs.Tables.{KnownTable}
 use Rattle.step_rules.specs.declared.phase.Hold.{Hold}
 use Rattle.step_rules.specs.declared.phase.Hold.TheVariants.{Unheld, HeldBy, Visiting}
 use Rattle.step_rules.specs.declared.step.Step.{Step}
@@ -11,7 +10,7 @@ use Rattle.step_rules.specs.State.{State}
 use Rattle.step_rules.specs.{Zone, is_cpu, may_zone_act, visits, IsLocalStep, Run, IsLocalRun, holds_lock}
 use Rattle.step_rules.proofs.Freeing.{zone_of_run}
 use Rattle.step_rules.proofs.Keeping.{keepers_are_there}
-use Rattle.boot_words.specs.{KnownPasts, IsHeld, cpu_past, local_by_pasts, zone_of_boot, HasSameLists}
+use Rattle.boot_words.specs.{KnownPasts, IsHeld, cpu_past, local_by_pasts, zone_of_boot, HasSameLists, KnownTable}
 use Rattle.cpu_part.specs.{KnownCpuLists, HasOwn}
 use Rattle.mem_machine.specs.{counts_along, FollowsSteps, KnownRun, Records, after_made, KnownMachine, Holds, Makes, StaysVisited, Visits, lock_holder}
 use Rattle.mem_machine.specs.{local_of}

@@ -8,10 +8,10 @@ use Rattle.std.proofs.lemmas.Nat.{pow_pos}
 use Rattle.std.proofs.lemmas.Option.{none-some}
 use Rattle.std.proofs.lemmas.List.{get_or-set_same, get_or-set_other}
 use Rattle.zone_blocks.specs.Zone.{IsInUse}
-use Rattle.frame_word.specs.Tables.{KnownTable}
 use Rattle.group_charge.specs.Charges.{pages_of}
 use Rattle.group_tree.specs.Bounds.{most_groups}
 use Rattle.lru_lists.specs.declared.record.Home.{Home}
+use Rattle.stock_word.specs.Stock.{group_base}
 use Rattle.step_rules.specs.declared.phase.ChargedUnit.{ChargedUnit}
 use Rattle.step_rules.specs.declared.phase.Stage.{Stage}
 use Rattle.step_rules.specs.declared.phase.Stage.TheVariants.{BackAt, FreshAt, Live}
@@ -28,7 +28,7 @@ use Rattle.step_rules.proofs.Lists.{times_same}
 use Rattle.step_rules.proofs.Placing.{within_cases}
 use Rattle.step_rules.proofs.Sums.{sum_change}
 use Rattle.step_rules.proofs.SoundSteps.{cpu_range}
-use Rattle.boot_words.specs.{hide, hide_phase, IsHeld, cpu_past, local_by_pasts, zone_of_boot}
+use Rattle.boot_words.specs.{hide, hide_phase, IsHeld, cpu_past, local_by_pasts, zone_of_boot, KnownTable}
 use Rattle.cpu_part.specs.{KnownCpuLists, HasOwn}
 use Rattle.mem_machine.specs.declared.frame_state.FrameState.{FrameState}
 use Rattle.mem_machine.specs.declared.frame_state.FrameState.TheVariants.{Free, Lent, Head, Tail}
@@ -187,7 +187,7 @@ module _ (t : KnownTable) (m n : KnownMachine) (s : State) (shown : IsShownBy t 
     references = refs;
     settled = shown.settled;
     absorbed = at_each s.parts p part (λ k x. told_pages x ≡ 0) (told ∙ shown.absorbed p) (λ k ne. shown.absorbed k);
-    bounded = at_each s.parts p part (λ k x. x.book < 65536) (let a = shown.bounded p in omega (arith, a, book)) (λ k ne. shown.bounded k);
+    bounded = at_each s.parts p part (λ k x. x.book < group_base) (let a = shown.bounded p in omega (arith, a, book)) (λ k ne. shown.bounded k);
     charged = charged;
   }
 

@@ -2,15 +2,14 @@
 use Rattle.std.proofs.Common.{◌≡◌, ℕ, ◌++◌, [], ◌∷◌, refl, sym, ◌∙◌, ap, subst}
 use Rattle.std.specs.List.{fold}
 use Rattle.std.proofs.lemmas.List.Sums.{fold-append}
-use Rattle.frame_word.specs.Tables.{KnownTable}
 use Rattle.step_rules.specs.declared.step.Step.{Step}
 use Rattle.step_rules.specs.declared.step.Action.{Action}
 use Rattle.step_rules.specs.declared.step.Answer.{Answer}
 use Rattle.step_rules.specs.State.{State}
 use Rattle.step_rules.specs.{Run, IsLocalStep, IsLocalRun}
-use Rattle.boot_words.specs.{KnownPasts, MakesStep, cpu_past, local_by_pasts, own_past, AreLegal, IsPlain}
+use Rattle.boot_words.specs.{KnownPasts, MakesStep, cpu_past, local_by_pasts, own_past, AreLegal, IsPlain, KnownTable}
 use Rattle.boot_words.proofs.Grown.{all_grew_both}
-use Rattle.cpu_part.specs.Made.{MakesAll}
+use Rattle.cpu_part.proofs.Made.{MakesAll}
 use Rattle.step_watch.specs.Watched.{Builds, Watches}
 use Rattle.step_watch.proofs.Watching.{watches_none, watches_both}
 use Rattle.mem_machine.specs.Noted.{AreLocal, PastsGrowBy, KnownRun, MayTake, MayTakeAll, Records, after_made}

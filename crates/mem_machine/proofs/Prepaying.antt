@@ -3,21 +3,21 @@ use Rattle.std.proofs.Common.{◌≡◌, ℕ, ◌+◌, ◌-◌, ◌<◌, ◌≤�
 use Rattle.std.specs.List.{fold}
 use Rattle.std.specs.Prelude.{slice_set}
 use Rattle.std.proofs.lemmas.Bool.{and_from, le-leb}
-use Rattle.frame_word.specs.Tables.{KnownTable}
 use Rattle.group_tree.specs.declared.group.Group.{Group}
 use Rattle.group_tree.specs.Groups.{has_group}
 use Rattle.group_tree.specs.Room as room
 use Rattle.group_charge.specs.Charges.{Ledger, AreCharges, current_of, pages_of, with_charge}
 use Rattle.group_charge.proofs.CallerLemmas.{charge_pages}
+use Rattle.stock_word.specs.Stock.{group_base}
 use Rattle.step_rules.specs.declared.step.Action.TheVariants.{Fill, Grant}
 use Rattle.step_rules.specs.declared.step.Answer.TheVariants.{Done, Granted, Over}
-use Rattle.step_rules.specs.{told_pages, Part, with_at, is_legal, is_of_group, takes_fill, Run, filled, state_of, with_part, IsLocalRun}
+use Rattle.step_rules.specs.{told_pages, Part, with_at, is_legal, is_of_group, takes_fill, Run, filled, state_of, with_part, IsLocalRun, zone_makes}
 use Rattle.step_rules.specs.{other_part_seen}
 use Rattle.step_rules.specs.State.{State}
 use Rattle.step_rules.proofs.Basics.{at_each}
 use Rattle.step_rules.proofs.CoverParts.{own_part}
 use Rattle.step_rules.proofs.SoundSteps.{cpu_range}
-use Rattle.boot_words.specs.{hide, IsHeld, KnownPasts, MakesStep, cpu_past, zone_of_boot, HasSameLists}
+use Rattle.boot_words.specs.{hide, IsHeld, KnownPasts, MakesStep, cpu_past, zone_of_boot, HasSameLists, KnownTable}
 use Rattle.boot_words.proofs.Returning.{none_booked}
 use Rattle.cpu_part.specs.Cpus.{KnownCpuLists}
 use Rattle.step_watch.specs.Watched.{KnownWatch, Watches}
@@ -25,7 +25,6 @@ use Rattle.mem_machine.specs.declared.machine.Machine.TheInside.{Inside}
 use Rattle.mem_machine.specs.{AreBooked, AreOwners, FollowsSteps, IsSoundMachine, machine_of, Makes, StaysVisited, Visits, lock_holder, local_of}
 use Rattle.mem_machine.specs.{KnownMachine, IsConsistent, IsShownBy, frames_charged, is_killed, left_by, pages_booked, KnownRun, MayTake, MayTakeAll}
 use Rattle.mem_machine.specs.{Records, after_made, HasRoomFor, MayCharge, fill_steps, over_steps, Fills, HasDrained, IsDrained, RefusesGrant}
-use Rattle.mem_machine.specs.Steps.{zone_makes}
 use Rattle.mem_machine.proofs.AtTable.{made_at}
 use Rattle.mem_machine.proofs.Booking.{books_more, sums_more}
 use Rattle.mem_machine.proofs.Followed.{follows_same, same_events}
@@ -57,7 +56,7 @@ module _ (t : KnownTable) (m : KnownMachine) (u : State) (ok : IsShownBy t m u) 
   more : (filled (u.parts p) g k).book ≡ k
   more = omega (arith, empty)
 
-  fill_shown : (facts : AreCharges m.ledger) → has_group m.ledger.groups g ≡ true → k < 65536 → (run : KnownRun)
+  fill_shown : (facts : AreCharges m.ledger) → has_group m.ledger.groups g ≡ true → k < group_base → (run : KnownRun)
       → IsShownBy t (record m { ledger = with_charge m.ledger g k; run = run }) (fill_state u p g k)
   fill_shown facts there small run = record {
     groups = ok.groups;
@@ -66,7 +65,7 @@ module _ (t : KnownTable) (m : KnownMachine) (u : State) (ok : IsShownBy t m u) 
     references = ok.references;
     settled = ok.settled;
     absorbed = at_each u.parts p (filled (u.parts p) g k) (λ j x. told_pages x ≡ 0) (ok.absorbed p) (λ j ne. ok.absorbed j);
-    bounded = at_each u.parts p (filled (u.parts p) g k) (λ j x. x.book < 65536) (omega (arith, empty, small)) (λ j ne. ok.bounded j);
+    bounded = at_each u.parts p (filled (u.parts p) g k) (λ j x. x.book < group_base) (omega (arith, empty, small)) (λ j ne. ok.bounded j);
     charged = λ h.
         let all = ok.charged h in
         let rise = charge_pages m.ledger g k facts there h in
@@ -167,7 +166,7 @@ module _ (t : KnownTable) (m : KnownMachine) (c : KnownCpuLists) (ok : IsConsist
             ∙ fill_hidden (local_of t m) c.number g k (visit.own.fresh ∙ none)
             ∙ ap (λ (s : State). fill_state s c.number g k) (sym seen)
 
-        pub filled_consistent : k < 65536 → (l : Ledger) → l ≡ with_charge m.ledger g k → IsConsistent t (record m { ledger = l; run = run })
+        pub filled_consistent : k < group_base → (l : Ledger) → l ≡ with_charge m.ledger g k → IsConsistent t (record m { ledger = l; run = run })
         filled_consistent small l charged = subst (λ (x : Ledger). IsConsistent t (record m { ledger = x; run = run })) (sym charged) (record {
           sizes = record { frame_states = ok.sizes.frame_states; links = ok.sizes.links; lists = ok.sizes.lists; killed = ok.sizes.killed };
           areas = ok.areas;
@@ -260,7 +259,7 @@ module _ {N : Type 0} (t : KnownTable) (fields : Inside N) (ok : IsSoundMachine 
       omega (arith, booked, sum)
 
   module _ (has : room.PathHasRoom fields.charges.groups (current_of fields.charges) g k) (run : KnownRun) (noted : Records t (machine_of fields).run (fill_steps c.number g k) run) where
-    pub filled_sound : k < 65536 → (i : ℕ) → i ≡ g → i < 64 → (n : ℕ) → n ≡ c.number → (charges : Ledger) → charges ≡ with_charge fields.charges g k → (owners : List (Option ℕ))
+    pub filled_sound : k < group_base → (i : ℕ) → i ≡ g → i < 64 → (n : ℕ) → n ≡ c.number → (charges : Ledger) → charges ≡ with_charge fields.charges g k → (owners : List (Option ℕ))
         → owners ≡ slice_set fields.owners (n - 1) (Some g)
         → IsSoundMachine {N = N} t (record fields {
           charges = charges;

@@ -7,7 +7,6 @@ use Rattle.std.proofs.lemmas.List.{get_or_default}
 use Rattle.std.proofs.lemmas.Option.{none-some}
 use Rattle.zone_blocks.specs.declared.block.Block.{Block}
 use Rattle.zone_blocks.specs.{AreMaximalBlocks, GivesFrames}
-use Rattle.frame_word.specs.Tables.{KnownTable}
 use Rattle.group_charge.specs.{Ledger, with_uncharge, KnownNotes}
 use Rattle.group_charge.proofs.CallerLemmas.{uncharge_events, uncharge_peaks}
 use Rattle.lru_lists.specs.declared.record.Link.{Link}
@@ -24,13 +23,13 @@ use Rattle.step_rules.specs.declared.step.Action.TheVariants.{Freeze, Put, Retur
 use Rattle.step_rules.specs.declared.step.Answer.{Answer}
 use Rattle.step_rules.specs.declared.step.Answer.TheVariants as answer
 use Rattle.step_rules.specs.{at_stage, is_live_phase, is_returnable, unit_of, Zone, is_frame, one_if, with_at, is_legal, Run, after, state_of}
-use Rattle.step_rules.specs.{IsLocalStep}
+use Rattle.step_rules.specs.{IsLocalStep, zone_makes}
 use Rattle.step_rules.specs.State.{State}
 use Rattle.step_rules.proofs.Basics.{at_same, at_other}
 use Rattle.step_rules.proofs.Living.{live_are_referenced}
 use Rattle.step_rules.proofs.Referring.{live_from_references}
 use Rattle.step_rules.proofs.Runs.{sound_run}
-use Rattle.boot_words.specs.{hide, hide_phase, KnownPasts, IsHeld, MakesStep, MayMake, cpu_past, local_by_pasts, zone_of_boot}
+use Rattle.boot_words.specs.{hide, hide_phase, KnownPasts, IsHeld, MakesStep, MayMake, cpu_past, local_by_pasts, zone_of_boot, KnownTable}
 use Rattle.step_watch.specs.Watched.{Watches}
 use Rattle.mem_machine.specs.declared.counts.Counts.{Counts}
 use Rattle.mem_machine.specs.declared.frame_state.FrameState.{FrameState}
@@ -40,7 +39,6 @@ use Rattle.mem_machine.specs.{one_more_last_put, Makes, StaysVisited, lock_holde
 use Rattle.mem_machine.specs.{IsConsistent, IsShownBy, group_lists, home_of, left_by, lists_of, pages_booked, KnownRun, MayTake, Records}
 use Rattle.mem_machine.specs.declared.releasing.Released.{Released}
 use Rattle.mem_machine.specs.declared.releasing.Released.TheVariants.{Left, Returned}
-use Rattle.mem_machine.specs.Steps.{zone_makes}
 use Rattle.mem_machine.proofs.Balances.{balanced_last_put}
 use Rattle.mem_machine.proofs.Behind.{behind}
 use Rattle.mem_machine.proofs.Counted.{returned_ended}

@@ -2,13 +2,12 @@
 -- the lock.
 use Rattle.std.proofs.Common.{◌≡◌, ℕ, ◌+◌, ◌==◌, ◌||◌, Bool, true, false, length, cond, refl, ap, sym, ◌∙◌, subst, arith}
 use Rattle.std.specs.List.{fold}
-use Rattle.frame_word.specs.Tables.{KnownTable}
 use Rattle.step_rules.specs.{Part, Run, state_of, with_part, other_part_seen, references_seen_by, seen_by}
 use Rattle.step_rules.specs.State.{State}
 use Rattle.step_rules.proofs.Basics.{cond-ap}
 use Rattle.step_rules.proofs.CoverParts.{part_seen}
 use Rattle.step_rules.proofs.CoverPhases.{seen_through}
-use Rattle.boot_words.specs.{hide, hide_phase, zone_references, KnownPasts, IsHeld, cpu_past, local_by_pasts, zone_of_boot}
+use Rattle.boot_words.specs.{hide, hide_phase, zone_references, KnownPasts, IsHeld, cpu_past, local_by_pasts, zone_of_boot, KnownTable}
 use Rattle.mem_machine.specs.{local_of, KnownMachine, IsConsistent, IsShownBy, left_by, KnownRun, Records, after_made}
 
 twice_seen : (part : Part) → other_part_seen (other_part_seen part) ≡ other_part_seen part

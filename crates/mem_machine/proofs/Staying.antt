@@ -3,13 +3,12 @@
 use Rattle.std.proofs.Common.{◌≡◌, ℕ, ◌+◌, ◌<◌, ◌^◌, false, true, Option, List, sym, ap, ◌∙◌, subst, inl, inr, arith}
 use Rattle.std.specs.List.{fold}
 use Rattle.std.proofs.lemmas.Bool.{cases_lt, false≢true}
-use Rattle.frame_word.specs.Tables.{KnownTable}
 use Rattle.group_tree.specs.Groups.{has_group}
 use Rattle.group_charge.specs.Charges.{AreCharges, current_of, pages_of}
 use Rattle.group_charge.proofs.CallerLemmas.{pages-le-current, usage-le-root}
 use Rattle.step_rules.specs.State.{Part, State}
 use Rattle.step_rules.specs.After.{Run}
-use Rattle.boot_words.specs.{hide, IsHeld}
+use Rattle.boot_words.specs.{hide, IsHeld, KnownTable}
 use Rattle.mem_machine.specs.declared.machine.Machine.TheInside.{Inside}
 use Rattle.mem_machine.specs.{AreBooked, AreOwners, IsSoundMachine, machine_of, local_of, KnownMachine, IsConsistent, IsShownBy, frames_charged}
 use Rattle.mem_machine.specs.{left_by, pages_booked, KnownRun, Records, after_made}

@@ -3,7 +3,6 @@ use Rattle.std.proofs.Common.{◌≡◌, ℕ, ◌<◌, ◌==◌, Bool, Option, L
 use Rattle.std.specs.Prelude.{slice_set}
 use Rattle.zone_blocks.specs.declared.block.Block.{Block}
 use Rattle.zone_blocks.specs.{AreMaximalBlocks, GivesFrames, IsInUse}
-use Rattle.frame_word.specs.Tables.{KnownTable}
 use Rattle.cpu_part.specs.{KnownCpuLists, PassesFront}
 use Rattle.step_rules.specs.declared.phase.Way.TheVariants.{OnList}
 use Rattle.step_rules.specs.declared.phase.Phase.TheVariants as phase
@@ -12,7 +11,7 @@ use Rattle.step_rules.specs.declared.step.Answer.TheVariants.{Done}
 use Rattle.step_rules.specs.{told_pages, Part, Zone, front_of, one_if, times, with_at, IsLocalRun}
 use Rattle.step_rules.proofs.Lists.{times_same, without_front, without_none}
 use Rattle.step_rules.proofs.SoundSteps.{below_frames}
-use Rattle.boot_words.specs.{hide_phase, KnownPasts, MakesStep, MayMake}
+use Rattle.boot_words.specs.{hide_phase, KnownPasts, MakesStep, MayMake, KnownTable}
 use Rattle.mem_machine.specs.declared.frame_state.FrameState.TheVariants.{Free, Lent}
 use Rattle.mem_machine.specs.{AreBooked, AreOwners, frame_state_at, frame_state_group, free_of, is_free_state, UnlistsOne, Visits, local_of}
 use Rattle.mem_machine.specs.{KnownMachine, IsConsistent, left_by, KnownRun, MayTakeAll, Records, unlist_steps}

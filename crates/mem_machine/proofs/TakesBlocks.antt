@@ -11,7 +11,6 @@ use Rattle.std.proofs.lemmas.Option.{none-some}
 use Rattle.zone_blocks.specs.declared.block.Block.{Block}
 use Rattle.zone_blocks.specs.{IsBlock, IsFree, IsFreeBlock, AreMaximalBlocks, HasNoneFrom, IsFrontOfSmallest, TakesFrames, block_at}
 use Rattle.zone_blocks.proofs.Halves.{lower_half}
-use Rattle.frame_word.specs.Tables.{KnownTable}
 use Rattle.group_tree.specs.{has_group, PathHasRoom, IsLowestOver}
 use Rattle.group_charge.specs.Charges.{Ledger, current_of, pages_of, with_charge, with_uncharge, PagesRise, AreCharges}
 use Rattle.group_charge.proofs.CallerLemmas.{uncharge_events, uncharge_pages, uncharge_peaks}
@@ -26,16 +25,16 @@ use Rattle.step_rules.specs.declared.step.Answer.TheVariants.{Done, Granted, NoF
 use Rattle.step_rules.specs.Phases.{at_stage, is_head, is_head_in_hand}
 use Rattle.step_rules.specs.Phases as phases
 use Rattle.step_rules.specs.State.{State}
-use Rattle.step_rules.specs.{Zone, free_in, is_frame, one_if, Run, after, is_within, placed_phase, is_legal, IsLocalRun}
+use Rattle.step_rules.specs.{Zone, free_in, is_frame, one_if, Run, after, is_within, placed_phase, is_legal, IsLocalRun, zone_makes}
 use Rattle.step_rules.proofs.Basics.{at_same, at_other}
 use Rattle.step_rules.proofs.Placing.{within_cases}
-use Rattle.boot_words.specs.{hide, hide_phase, IsHeld}
+use Rattle.boot_words.specs.{hide, hide_phase, IsHeld, KnownTable}
 use Rattle.mem_machine.specs.declared.frame_state.FrameState.{FrameState}
 use Rattle.mem_machine.specs.declared.frame_state.FrameState.TheVariants.{Free, Head, Tail}
 use Rattle.mem_machine.specs.{frame_state_at, is_free_state, free_of, frame_state_group, head_group_of, phase_hidden, KnownMachine, FitsFrameState}
 use Rattle.mem_machine.specs.{IsConsistent, IsShownBy, home_of, is_killed, KnownRun, MayTakeAll, Records, after_made, MayCharge, over_steps, PlacesUnit}
 use Rattle.mem_machine.specs.{TakesBlock, TakesNoBlock, taken_steps, unplaced_steps, Makes, StaysVisited, lock_holder, local_of}
-use Rattle.mem_machine.specs.Steps.{publish_steps, zone_makes}
+use Rattle.mem_machine.specs.Steps.{publish_steps}
 use Rattle.mem_machine.proofs.BlockCharges.{charges_rise}
 use Rattle.mem_machine.proofs.Followed.{follows_same, same_events}
 use Rattle.mem_machine.proofs.Grants.{is_granted, is_not_placed, is_over, is_taken_back, may_place, none_pends, with_granted}

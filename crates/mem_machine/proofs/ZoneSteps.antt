@@ -2,7 +2,7 @@
 -- blocks.
 use Rattle.std.proofs.Common.{◌≡◌, ◌≢◌, ℕ, true, sym, ap, ◌∙◌, subst}
 use Rattle.std.specs.List.{fold}
-use Rattle.frame_word.specs.Tables.{KnownTable}
+use Rattle.boot_words.specs.Tables.{KnownTable}
 use Rattle.cpu_part.specs.Known.{HasOwn}
 use Rattle.step_rules.specs.State.{State, Part, visits}
 use Rattle.step_rules.specs.After.{Run}

@@ -1,7 +1,7 @@
 -- What the CPU that holds the lock sees of the machine and its own part, in the words of the rules, and which steps
 -- lead from one machine to another.
 use Rattle.std.specs.Prelude.{◌≡◌, ℕ, ◌==◌, ◌&&◌, nat_le, true, if◌then◌else◌, unwrap_or}
-use Rattle.frame_word.specs.Tables.{KnownTable}
+use Rattle.boot_words.specs.Tables.{KnownTable}
 use Rattle.cpu_part.specs.{KnownCpuLists, HasOwn}
 use Rattle.step_rules.specs.declared.phase.Hold.TheVariants.{HeldBy}
 use Rattle.step_rules.specs.declared.phase.Way.TheVariants.{OnList}

@@ -1,12 +1,11 @@
 -- What the machine has of the run: the pasts and the watch. Under the lock both go on with each step.
 use Rattle.std.specs.Prelude.{◌≡◌, ℕ, [], ◌∷◌, ⊤}
 use Rattle.std.specs.List.{fold}
-use Rattle.frame_word.specs.Tables.{KnownTable}
 use Rattle.step_rules.specs.declared.step.Step.{Step}
 use Rattle.step_rules.specs.declared.step.Answer.{Answer}
 use Rattle.step_rules.specs.State.{State}
 use Rattle.step_rules.specs.{Run, after, IsLocalStep}
-use Rattle.boot_words.specs.{KnownPasts, IsHeld, MakesStep, cpu_past, local_by_pasts, own_past, GrewByAll}
+use Rattle.boot_words.specs.{KnownPasts, IsHeld, MakesStep, cpu_past, local_by_pasts, own_past, GrewByAll, KnownTable}
 use Rattle.step_watch.specs.Watched.{KnownWatch, Watches}
 
 -- the zone's past, which has that of the lock's holder too, and the watch

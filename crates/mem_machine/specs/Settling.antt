@@ -2,19 +2,19 @@
 use Rattle.std.specs.Prelude.{◌≡◌, ℕ, ◌^◌, Bool, true, false, Option, Some, None, IfSome, List, [], ◌∷◌, ◌++◌, slice_set, if◌then◌else◌}
 use Rattle.std.specs.List.{flat_map}
 use Rattle.zone_blocks.specs.Areas.{AreMaximalBlocks}
-use Rattle.frame_word.specs.Tables.{KnownTable}
 use Rattle.group_charge.specs.Charges.{with_uncharge}
 use Rattle.step_rules.specs.declared.phase.ChargedUnit.{ChargedUnit}
 use Rattle.step_rules.specs.declared.step.Action.TheVariants.{Return}
 use Rattle.step_rules.specs.declared.step.Answer.TheVariants.{Done}
-use Rattle.step_rules.specs.After.{Run}
+use Rattle.step_rules.specs.After.{Run, zone_makes}
 use Rattle.boot_words.specs.Composed.{take_back_run}
+use Rattle.boot_words.specs.Tables.{KnownTable}
 use Rattle.cpu_part.specs.Cpus.{KnownCpuLists}
 use Rattle.mem_machine.specs.declared.frame_state.FrameState.TheVariants.{Head}
 use Rattle.mem_machine.specs.FrameStates.{frame_state_at, free_of}
 use Rattle.mem_machine.specs.Machines.{OneByOne, VisitState, VisitStateStays, is_killed}
 use Rattle.mem_machine.specs.Local.{VisitMakes, group_of_fresh}
-use Rattle.mem_machine.specs.Steps.{publish_steps, unlist_steps, zone_makes}
+use Rattle.mem_machine.specs.Steps.{publish_steps, unlist_steps}
 use Rattle.mem_machine.specs.Lists.{ListsUnit}
 use Rattle.mem_machine.specs.Counts.{with_killed_fresh, with_last_put}
 use Rattle.mem_machine.specs.Freeing.{FreesFrames}

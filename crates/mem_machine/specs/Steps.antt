@@ -9,7 +9,6 @@ use Rattle.step_rules.specs.declared.step.Answer.TheVariants.{Done, Took, Pages,
 use Rattle.step_rules.specs.After.{Run}
 use Rattle.boot_words.specs.Composed.{lend_run}
 -- a step of the zone's seat or of a CPU's, with its answer
-pub use Rattle.step_watch.specs.Watched.{zone_makes, cpu_makes}
 
 -- the CPU's visit begins
 abbrev pub open_steps : ℕ → Run

@@ -1,12 +1,12 @@
 //! Making the steps that no word is of.
 
 ghost use Rattle.std.specs.Prelude.{◌∷◌, []};
+ghost use Rattle.step_rules.specs.After.{zone_makes};
 ghost use Rattle.boot_words.specs.{IsHeld, MakesStep, IsPlain};
 ghost use Rattle.step_rules.specs.declared.step.Action.{Action};
 ghost use Rattle.step_rules.specs.declared.step.Answer.{Answer};
 ghost use Rattle.step_watch.specs.Watched.{Builds};
 ghost use Rattle.mem_machine.specs.Noted.{MayTake, Records};
-ghost use Rattle.mem_machine.specs.Steps.{zone_makes};
 
 use boot_words::PastSeat;
 use cpu_part::{BootName, Tables};

@@ -3,17 +3,16 @@
 use Rattle.std.specs.Prelude.{◌≡◌, ℕ, ◌+◌, ◌≤◌, ◌<◌, is_some, true, List, [], ◌∷◌, ◌++◌, length, min, sum_by, slice_index, All}
 use Rattle.step_rules.specs.declared.step.Action.TheVariants.{Lock, Unlock}
 use Rattle.step_rules.specs.declared.step.Answer.TheVariants.{Done}
-use Rattle.step_rules.specs.{is_unheld, one_if, Run, state_of}
-use Rattle.frame_word.specs.Tables.{KnownTable}
+use Rattle.step_rules.specs.{is_unheld, one_if, Run, state_of, cpu_makes}
 use Rattle.stock_word.specs.declared.stock.Stock.{Stock}
 use Rattle.stock_word.specs.{word_of, stock_pages_of, stock_index, report_index}
 use Rattle.group_tree.specs.Room.{max_count}
 use Rattle.boot_words.specs.{zone_of_boot, cpu_past, own_past, hide, words_in, IsClosedRun, IsEndOfRun, pasts_of_cpus, KnownCpuSeat, IsRunSoFar}
+use Rattle.boot_words.specs.Tables.{KnownTable}
 use Rattle.cpu_part.specs.Cpus.{KnownCpuLists, IsIdle}
 use Rattle.mem_machine.specs.{KnownMachine, IsConsistent, IsShownBy, home_of, part_at, with_run, KnownRun, Settles, UnlistsMany, Drains, IsDrained}
 use Rattle.mem_machine.specs.{stock_group, open_steps, shut_steps, drain_list_steps, drain_steps, frames_free, frames_in_groups, NoneLentTo}
 use Rattle.mem_machine.specs.{VisitState, visit_state, VisitMakes}
-use Rattle.mem_machine.specs.Steps.{cpu_makes}
 use Rattle.mem_system.specs.declared.audit.Audit.{Audit}
 use Rattle.mem_system.specs.Locked.{KnownLocked, IsQuiet}
 use Rattle.mem_system.specs.Commands.{Transition, BySteps}

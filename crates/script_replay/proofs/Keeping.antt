@@ -6,9 +6,8 @@ use Rattle.std.specs.Option.{option_map}
 use Rattle.std.specs.List.{slice_get}
 use Rattle.std.proofs.lemmas.List.{map-set}
 use Rattle.std.proofs.lemmas.Option.{slice_get-map}
-use Rattle.frame_word.specs.Tables.{KnownTable}
 use Rattle.step_rules.specs.After.{Run, IsLegalRun}
-use Rattle.boot_words.specs.{zone_of_boot}
+use Rattle.boot_words.specs.{zone_of_boot, KnownTable}
 use Rattle.mem_machine.specs.{AgreesWithRun}
 use Rattle.mem_history.specs.Whole.{GoesOnTo, ShowsAll}
 use Rattle.mem_history.proofs.Along.{legal_front}

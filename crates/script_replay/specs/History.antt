@@ -1,9 +1,8 @@
 -- The history of lines: what their steps are, and what holds after each line.
 use Rattle.std.specs.Prelude.{◌≡◌, ℕ, ◌-◌, true, false, List, [], ◌∷◌, ◌++◌, Result, Vec, IfErr, IfOk, OnErr, get_or, take, ⊤}
-use Rattle.frame_word.specs.Tables.{KnownTable}
 use Rattle.step_rules.specs.After.{Run, IsLegalRun}
 use Rattle.step_rules.specs.Promise.{Promise}
-use Rattle.boot_words.specs.{zone_of_boot}
+use Rattle.boot_words.specs.{zone_of_boot, KnownTable}
 use Rattle.step_watch.specs.Watched.{IsNewWatch, SawRun, has_legal_steps}
 use Rattle.mem_machine.specs.{AgreesWithRun}
 use Rattle.mem_history.specs.{GoesOnTo, ShowsAll, shown_of}

@@ -3,11 +3,11 @@
 ghost use Rattle.std.specs.Prelude.{◌≡◌, ◌∷◌, [], IsTrue, List, None, Some, ℕ};
 ghost use Rattle.std.specs.Borrow.{Bor};
 ghost use Rattle.group_tree.specs.Groups.{has_group, number_at};
+ghost use Rattle.step_rules.specs.After.{cpu_makes};
 ghost use Rattle.boot_words.specs.Pasts.{own_past};
 ghost use Rattle.step_rules.specs.declared.step.Action.TheVariants.{Lock, Unlock};
 ghost use Rattle.step_rules.specs.declared.step.Answer.TheVariants.{Done};
 ghost use Rattle.mem_machine.specs.Showing.{stock_left};
-ghost use Rattle.mem_machine.specs.Steps.{cpu_makes};
 ghost use Rattle.mem_system.specs.Visits.{locked_state};
 ghost use Rattle.script_lines.specs.declared.line.Command.TheVariants.{Alloc};
 ghost use Rattle.script_replay.specs.Answers.{AnswersLocked, OnlyWatched, ServesUnderLock, locked_with_detail_notes};

@@ -1,7 +1,7 @@
 //! A pointer to the parts of a boot, or to nothing, without a name.
 
 ghost use Rattle.std.specs.Prelude.{◌≡◌, IsSome, IsSomeAnd, None, Option};
-ghost use Rattle.frame_word.specs.Tables.{KnownTable};
+ghost use Rattle.boot_words.specs.Tables.{KnownTable};
 ghost use Rattle.tempolemon_c.specs.HandleCalls.{CallsLive, GroupHasFiles, IsTypedCall, ShowsFile};
 ghost use Rattle.tempolemon_c.specs.Known.{KnownLive};
 ghost use Rattle.tempolemon_c.specs.Owned.{brand, frames_coded, known_coded, live_owns};

@@ -1,6 +1,6 @@
 -- What is done with what a handle leads to.
 use Rattle.std.specs.Prelude.{◌≡◌, ℕ, Option, None, Some, IsSome}
-use Rattle.frame_word.specs.Tables.{KnownTable}
+use Rattle.boot_words.specs.Tables.{KnownTable}
 use Rattle.mem_system.specs.EndsWithPins.{HasEnded}
 use Rattle.zone_threads.specs.Homes.{HasNoCpu, IsCpu, KnownHome}
 use Rattle.zone_threads.specs.declared.home.NotEntered.{NotEntered}

@@ -1,7 +1,6 @@
 -- What each call does to the CPU of a thread, by its answer, and by which steps of the run.
 use Rattle.std.specs.Prelude.{◌≡◌, ◌+◌, ◌<◌, ◌≤◌, ◌⊎◌, ℕ, true, false, List, length, None, Ok, Option, Some}
 use Rattle.std.specs.Borrow.{Bor}
-use Rattle.frame_word.specs.Tables.{KnownTable}
 use Rattle.frame_word.specs.declared.answers.Get.{Get}
 use Rattle.frame_word.specs.declared.answers.Put.{Put}
 use Rattle.zone_blocks.specs.declared.config.Config.{Config}
@@ -11,9 +10,9 @@ use Rattle.group_tree.specs.declared.fault.Fault.TheVariants.{NotPinned, PinsFul
 use Rattle.group_charge.specs.Charges.{Ledger, current_of, peak_of, settings_of}
 use Rattle.control_files.specs.declared.file.File.{File}
 use Rattle.control_files.specs.Files.{limit_text, name_of_file}
-use Rattle.boot_words.specs.{GrewByAll, own_past}
-use Rattle.step_rules.specs.State.{times}
-use Rattle.cpu_part.specs.{DropAnswers, FastAnswers, PinAnswers, UnpinAnswers, most_pins, steps_of_drop, steps_of_fast, steps_of_get, steps_of_put}
+use Rattle.boot_words.specs.{GrewByAll, own_past, KnownTable}
+use Rattle.step_rules.specs.State.{times, most_pins}
+use Rattle.cpu_part.specs.{DropAnswers, FastAnswers, PinAnswers, UnpinAnswers, steps_of_drop, steps_of_fast, steps_of_get, steps_of_put}
 use Rattle.cpu_part.specs.declared.answers.Dropped.{Dropped}
 use Rattle.cpu_part.specs.declared.answers.Dropped.TheVariants.{Listed, NeedVisit}
 use Rattle.cpu_part.specs.declared.answers.Fast.{Fast}

@@ -1,8 +1,8 @@
 use Rattle.std.proofs.Common.{ℕ, [], ◌∷◌, refl, rules, subst, sym}
 use Rattle.step_rules.specs.declared.step.Action.TheVariants.{Publish, Unfreeze}
 use Rattle.step_rules.specs.declared.step.Answer.TheVariants.{Done}
+use Rattle.step_rules.specs.After.{zone_makes}
 use Rattle.mem_machine.specs.Noted.{KnownRun, MayTake, Records}
-use Rattle.mem_machine.specs.Steps.{zone_makes}
 use Rattle.mem_machine.proofs.AtTable.{held_at, made_at, may_at}
 use Rattle.mem_machine.proofs.Noted.{legal_step, notes_both}
 use Rattle.mem_machine.proofs.Releases.{notes_of_zone}

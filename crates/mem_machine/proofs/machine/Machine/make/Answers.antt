@@ -4,8 +4,8 @@ use Rattle.std.proofs.lemmas.List.{length-set}
 use Rattle.group_tree.proofs.GroupLemmas.{can_make}
 use Rattle.step_rules.specs.declared.step.Action.TheVariants.{Make}
 use Rattle.step_rules.specs.declared.step.Answer.TheVariants.{Number}
+use Rattle.step_rules.specs.After.{zone_makes}
 use Rattle.mem_machine.specs.{machine_of, MayTake, Records}
-use Rattle.mem_machine.specs.Steps.{zone_makes}
 use Rattle.mem_machine.proofs.GroupSteps.{adds, grouped, makes_group}
 use Rattle.mem_machine.proofs.Made.{held_here}
 use Rattle.mem_machine.proofs.Noted.{legal_step}

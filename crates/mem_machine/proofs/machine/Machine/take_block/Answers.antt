@@ -4,8 +4,8 @@ use Rattle.group_charge.specs.Charges.{current_of}
 use Rattle.zone_blocks.specs.Zone.{BuddyZone}
 use Rattle.step_rules.specs.declared.step.Action.TheVariants.{Grant}
 use Rattle.step_rules.specs.declared.step.Answer.TheVariants.{Over}
+use Rattle.step_rules.specs.After.{zone_makes}
 use Rattle.mem_machine.specs.{machine_of, KnownMachine, Records, over_steps, taken_steps, unplaced_steps}
-use Rattle.mem_machine.specs.Steps.{zone_makes}
 use Rattle.mem_machine.proofs.GroupSteps.{may_group}
 use Rattle.mem_machine.proofs.Made.{held_here}
 use Rattle.mem_machine.proofs.Noted.{legal_step}

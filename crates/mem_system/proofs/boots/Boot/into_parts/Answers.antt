@@ -1,9 +1,8 @@
 use Rattle.std.proofs.Common.{◌≡◌, ◌+◌, suc, Some, List, All, arith, length, sym, ap, ◌∙◌, subst}
 use Rattle.std.specs.Prelude.{slice_get}
 use Rattle.std.proofs.lemmas.List.{length-map}
-use Rattle.frame_word.specs.Tables.{KnownTable}
 use Rattle.boot_words.specs.declared.past.Past.{Past}
-use Rattle.boot_words.specs.{IsAwayCpu, cpus_at_first, KnownPasts, own_past, AllOf}
+use Rattle.boot_words.specs.{IsAwayCpu, cpus_at_first, KnownPasts, own_past, AllOf, KnownTable}
 use Rattle.boot_words.proofs.Gaining.{a_boot_has_no_steps}
 use Rattle.cpu_part.specs.Cpus.{IsIdle}
 use Rattle.mem_system.specs.{KnownBoot, CpuInRun, pasts_of}
