@@ -16,7 +16,7 @@ use Rattle.step_rules.specs.declared.phase.Way.TheVariants.{OnList}
 use Rattle.step_rules.specs.declared.step.Step.{Step}
 use Rattle.step_rules.specs.declared.step.Action.TheVariants.{Absorb, Collect, PassBack, PassOut, Report, TakeIn}
 use Rattle.step_rules.specs.declared.step.Answer.{Answer}
-use Rattle.step_rules.specs.declared.step.Answer.TheVariants.{Pages}
+use Rattle.step_rules.specs.declared.step.Answer.TheVariants.{Done, Pages}
 use Rattle.step_rules.specs.{Kind, has_as, is_free, is_live_phase, Part, Zone, front_of, is_cpu, live_references, is_legal, is_passable, Run}
 use Rattle.step_rules.specs.{state_of, is_of_lock, zone_makes, cpu_makes}
 use Rattle.step_rules.specs.Phases.{ListFrame, FreshFrame, BackFrame}
