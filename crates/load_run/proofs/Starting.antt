@@ -53,7 +53,7 @@ module _ (sizes : Config) (t : KnownTable) (start : SystemState) (new : IsNewBoo
   pub boot_agrees : AgreesWithRun t [] start.locked.machine.ledger
   boot_agrees = a_boot_agrees t start.locked.machine new.machine
 
--- what lines name is there, also as the tables and the CPUs' parts have it
+-- what lines name is there, also as the system and the CPUs' parts have it
 pub lines_there : (sizes : Config) (t : KnownTable) (parts : ℕ) (lines : List Line) → IsSizedAs sizes t → parts ≡ t.cpus
     → All (LineInRange sizes.frames sizes.cpus) lines → All (LineInRange t.frames parts) lines
 lines_there sizes t parts lines sized long all =
@@ -83,7 +83,7 @@ watched_first t m watch first = record {
   past = first.past;
 }
 
--- a new watch of a boot's sizes is one of its tables
+-- a new watch of a boot's sizes is one of its system
 pub new_watch : (booted sizes : Config) (t : KnownTable) → IsSizedAs booted t → booted ≡ sizes → (watch : KnownWatch)
     → IsNewWatch (core.zone_of_config sizes) watch → IsNewWatch (zone_of_boot t) watch
 new_watch booted sizes t sized same watch new =

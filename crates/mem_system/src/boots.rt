@@ -65,7 +65,7 @@ impl Boot {
         self,
         alloc: Global,
     ) -> Result<(Locked<N>, Tables<N>, Vec<Cpu<N>>), AllocError>
-        requires frames { self.table ≡ N.table }
+        requires table { self.table ≡ N.table }
         ensures machine { IfOk result (λ parts. IsFirst N.table parts.0.machine) }
         ensures sizes { IfOk result (λ parts. parts.0.sizes ≡ self.sizes) }
         ensures cpus { IfOk result (λ parts. parts_of parts.2.items ≡ first_cpus 1 self.sizes.cpus) }
@@ -95,7 +95,7 @@ impl Boot {
     /// `AllocError` if memory runs out; nothing is left then. A clause can't look through the lock: `Boot::into_parts`
     /// says what lies behind it.
     pub fn start<N: BootName>(self, alloc: Global) -> Result<(System<N>, Vec<Cpu<N>>), AllocError>
-        requires frames { self.table ≡ N.table }
+        requires table { self.table ≡ N.table }
         ensures sizes { IfOk result (λ started. started.0.sizes ≡ self.sizes) }
         ensures cpus { IfOk result (λ started.
             parts_of started.1.items ≡ first_cpus 1 self.sizes.cpus) }

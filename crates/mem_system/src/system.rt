@@ -61,7 +61,7 @@ impl<N: BootName> System<N> {
     /// The system with this behind its lock and with these tables; from now on CPUs share it. Clauses speak only of its
     /// tables and sizes, because none can look through the lock.
     pub fn of(locked: Locked<N>, tables: Tables<N>) -> System<N>
-        ensures frames { result.table ≡ tables.words }
+        ensures table { result.table ≡ tables.words }
         ensures sizes { result.sizes ≡ locked.sizes }
     {
         let sizes = locked.sizes();
@@ -80,7 +80,7 @@ impl<N: BootName> System<N> {
         ensures consistent { IsConsistent N.table result.0.machine }
         ensures charges { AreCharges result.0.machine.ledger }
         ensures sizes { result.0.sizes ≡ self.sizes }
-        ensures frames { result.1.words ≡ self.table }
+        ensures table { result.1.words ≡ self.table }
     {
         let System {
             locked,
@@ -95,7 +95,7 @@ impl<N: BootName> System<N> {
 
     /// The tables that N names, for the calls that take no lock.
     pub fn tables(&self) -> &Tables<N>
-        ensures frames { result.now.words ≡ N.table }
+        ensures table { result.now.words ≡ N.table }
     {
         &self.tables
     }

@@ -16,7 +16,7 @@ use Rattle.mem_system.specs.Cpus.{CpuInRun, parts_of}
 use Rattle.mem_system.specs.Visits.{transition, locked_state}
 use Rattle.script_lines.specs.declared.line.Line.{Line}
 use Rattle.script_lines.specs.declared.line.Line.TheVariants.{Go, At}
-use Rattle.script_replay.specs.{WritesCommand, KeepsHistory, KeepsPromise, LegalLinesAreShown, LegalLinesKeepIt, past, AtPart, ServesAll, ServesLine}
+use Rattle.script_replay.specs.{WritesCommand, KeepsHistory, KeepsPromise, LegalLinesAreShown, LegalLinesKeepIt, lines_so_far, AtPart, ServesAll, ServesLine}
 use Rattle.script_replay.specs.{SystemState, steps_of_served}
 use Rattle.script_replay.specs.Terms.{Terms}
 use Rattle.script_replay.proofs.Following.{answer_follows}
@@ -84,8 +84,8 @@ line_kept on run line s e text serves goes told = record {
 
 all_kept : (on : Terms) (lines : List Line) (s e : SystemState) (text : List ℕ) (served : ServesAll on lines s e text) (run : Run)
     → ShowsAll on.table run s.locked.machine (parts_of s.cpus) → (whole : Run) → whole ≡ run ++ steps_of_served on lines s e text served
-    → IsLegalRun (zone_of_boot on.table) whole → AgreesWithRun on.table run s.locked.machine.ledger → KeepsHistory on lines (past run s) (past whole e) text
-all_kept on [] s e text served run shows whole is legal told = (served.0, λ i. past ((is ∙ append-nil run) i) (served.1 i))
+    → IsLegalRun (zone_of_boot on.table) whole → AgreesWithRun on.table run s.locked.machine.ledger → KeepsHistory on lines (lines_so_far run s) (lines_so_far whole e) text
+all_kept on [] s e text served run shows whole is legal told = (served.0, λ i. lines_so_far ((is ∙ append-nil run) i) (served.1 i))
 all_kept on (line ∷ lines) s e text served run shows whole is legal told =
     let one = served.serves_first in
     let mid = served.between in
