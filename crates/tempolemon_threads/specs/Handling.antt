@@ -9,7 +9,7 @@ use Rattle.tempolemon_threads.specs.declared.requests.Forked.{Forked}
 use Rattle.tempolemon_threads.specs.declared.requests.Forked.TheVariants as forked
 use Rattle.tempolemon_threads.specs.declared.requests.RequestAnswer.{RequestAnswer}
 use Rattle.tempolemon_threads.specs.declared.requests.RequestAnswer.TheVariants as returned
-use Rattle.tempolemon_threads.specs.Zones.{Led, led}
+use Rattle.tempolemon_threads.specs.Handles.{Led, led}
 
 -- a second pointer leads to the same zone, without a CPU
 pub record ForksTo (zone : Option Led) (frames : KnownTable) (home : Option KnownHome)
