@@ -1,4 +1,4 @@
-//! A boot: the table of its words with all its seats, and the machine, tables and CPUs' parts that it becomes.
+//! A boot: the table of its words with all its seats, and the machine, table and CPUs' parts that it becomes.
 
 ghost use Rattle.std.specs.Prelude.{◌≡◌, [], length, All, IfOk};
 ghost use Rattle.boot_words.specs.{IsRunSoFar, IsAwayCpu, cpus_at_first, seat_at_first, AllOf, own_past};
@@ -58,7 +58,7 @@ impl Model for Boot {
 }
 
 impl Boot {
-    /// Makes the parts of the boot, under a name of its tables: what lies behind the lock, the tables, and a part for
+    /// Makes the parts of the boot, under a name of its table: what lies behind the lock, the table, and a part for
     /// each CPU, in order. This call reserves all memory that later calls need. It returns `AllocError` if memory runs
     /// out; nothing is left then.
     pub fn into_parts<N: BootName>(
@@ -91,7 +91,7 @@ impl Boot {
         }
     }
 
-    /// Starts the boot under a name of its tables: returns the system, and a part for each CPU, in order. It returns
+    /// Starts the boot under a name of its table: returns the system, and a part for each CPU, in order. It returns
     /// `AllocError` if memory runs out; nothing is left then. A clause can't look through the lock: `Boot::into_parts`
     /// says what lies behind it.
     pub fn start<N: BootName>(self, alloc: Global) -> Result<(System<N>, Vec<Cpu<N>>), AllocError>

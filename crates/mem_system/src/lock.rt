@@ -44,7 +44,7 @@ impl<N: BootName> Model for Locked<N> {
 
 impl<N: BootName> Locked<N> {
     /// Shows what always holds behind the lock. No visit is open, the machine rests, the sizes are in their ranges
-    /// and are those of the tables, the machine is consistent, and the groups make up a tree. It does nothing.
+    /// and are those of the table, the machine is consistent, and the groups make up a tree. It does nothing.
     pub fn prove_quiet(&self)
         ensures quiet { IsQuiet N.table self.now }
         ensures consistent { IsConsistent N.table self.now.machine }
