@@ -6,9 +6,8 @@ use Rattle.step_rules.specs.declared.step.NoteKey.TheVariants.{Max, Oom}
 use Rattle.step_rules.specs.declared.step.Action.TheVariants.{OpenVisit, ShutVisit, PassBack, Collect, Fill, DrainStock, Grant, Ungrant, Consume, Note, Kill}
 use Rattle.step_rules.specs.declared.step.Action.TheVariants.{Unfreeze, Publish, NoteGroupKill, SetMax, SetFlag, Make, Remove}
 use Rattle.step_rules.specs.declared.step.Answer.TheVariants.{Done, Took, Pages, Granted, Over, Number}
-use Rattle.step_rules.specs.After.{Run}
+use Rattle.step_rules.specs.After.{Run, cpu_makes, zone_makes}
 use Rattle.boot_words.specs.Composed.{lend_run}
--- a step of the zone's seat or of a CPU's, with its answer
 
 -- the CPU's visit begins
 abbrev pub open_steps : ℕ → Run

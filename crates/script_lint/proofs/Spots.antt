@@ -16,17 +16,17 @@ use Rattle.script_lint.specs.declared.finding.Cause.TheVariants.{InputTooLong, L
 use Rattle.script_lint.specs.declared.finding.Spot.{Spot}
 
 -- what goes on after more of a text goes on after less of it
-goes_on_sooner : (ArgumentForm : List ℕ → Type 0) (text : List ℕ) (m n : ℕ) → m ≤ n → GoesOn ArgumentForm (take n text) → GoesOn ArgumentForm (take m text)
-goes_on_sooner ArgumentForm text m n le on =
+goes_on_sooner : (Form : List ℕ → Type 0) (text : List ℕ) (m n : ℕ) → m ≤ n → GoesOn Form (take n text) → GoesOn Form (take m text)
+goes_on_sooner Form text m n le on =
     let front : take m (take n text) ≡ take m text = take-take m n text le in
     let whole : take m text ++ drop m (take n text) ≡ take n text = rw (← front) (take-append-drop m (take n text)) in
     let same : take m text ++ (drop m (take n text) ++ on.0) ≡ take n text ++ on.0
     = sym (append_assoc (take m text) (drop m (take n text)) on.0) ∙ ap (λ (t : List ℕ). t ++ on.0) whole in
-    (drop m (take n text) ++ on.0, subst ArgumentForm (sym same) on.1)
+    (drop m (take n text) ++ on.0, subst Form (sym same) on.1)
 
 -- every beginning of a text of the form goes on
-good_goes_on : (ArgumentForm : List ℕ → Type 0) (text : List ℕ) (n : ℕ) → ArgumentForm text → GoesOn ArgumentForm (take n text)
-good_goes_on ArgumentForm text n good = (drop n text, subst ArgumentForm (sym (take-append-drop n text)) good)
+good_goes_on : (Form : List ℕ → Type 0) (text : List ℕ) (n : ℕ) → Form text → GoesOn Form (take n text)
+good_goes_on Form text n good = (drop n text, subst Form (sym (take-append-drop n text)) good)
 
 -- a cause that isn't a length
 abbrev IsLocal : Cause → Type 0

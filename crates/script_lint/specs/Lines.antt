@@ -27,15 +27,15 @@ pub record IsGoodText (sizes : Config) (had_go : Bool) (text : List ℕ) : Type 
 
 -- a text of this form begins so
 abbrev pub GoesOn : (List ℕ → Type 0) → List ℕ → Type 0
-GoesOn ArgumentForm front = (rest : List ℕ) × ArgumentForm (front ++ rest)
+GoesOn Form front = (rest : List ℕ) × Form (front ++ rest)
 
 -- the text isn't of this form: its first `place` bytes can be continued to one that is, and with one byte more they
 -- can't; or all of its bytes can be continued, and the text ends too early
-pub record IsStuck (ArgumentForm : List ℕ → Type 0) (text : List ℕ) (place : ℕ) : Type 0 where
+pub record IsStuck (Form : List ℕ → Type 0) (text : List ℕ) (place : ℕ) : Type 0 where
   pub inside : place ≤ length text
-  pub goes_on : GoesOn ArgumentForm (take place text)
-  pub stuck : place < length text → ¬ GoesOn ArgumentForm (take (place + 1) text)
-  pub bad : ¬ ArgumentForm text
+  pub goes_on : GoesOn Form (take place text)
+  pub stuck : place < length text → ¬ GoesOn Form (take (place + 1) text)
+  pub bad : ¬ Form text
 
 -- a good text that is short enough, if the line is within the script (the fact `Within`)
 pub record IsGoodHere (sizes : Config) (had_go : Bool) (Within : Type 0) (text : List ℕ) : Type 0 where
