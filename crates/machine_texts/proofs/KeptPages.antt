@@ -161,8 +161,16 @@ rows_few f h most (row ∷ rows) (a ∷ accounts) same small few =
     let rest = rows_few f h most rows accounts (ap (drop 1) same) (λ k d lt. small (suc k) d (omega arith)) (λ k d lt. few (suc k) d (omega arith)) in
     let low : row.number < 64 = small 0 row (omega arith) in
     let one : f a.group + h a.group ≤ most a = few 0 a (omega arith) (omega (arith, number, low)) in
-    omega (arith, rest, one, ap f number, ap h number, sum_by-cons (λ (r : Group). f r.number) row rows, sum_by-cons (λ (r : Group). h r.number) row rows,
-    sum_by-cons most a accounts)
+    omega (
+      arith,
+      rest,
+      one,
+      ap f number,
+      ap h number,
+      sum_by-cons (λ (r : Group). f r.number) row rows,
+      sum_by-cons (λ (r : Group). h r.number) row rows,
+      sum_by-cons most a accounts,
+    )
 
 both_if : (b : Bool) (n k most : ℕ) → n + k ≤ most → cond b n 0 + cond b k 0 ≤ cond b most 0
 both_if true n k most few = few
