@@ -10,6 +10,8 @@ use Rattle.group_tree.specs.Room.{max_count}
 use Rattle.boot_words.specs.{zone_of_boot, cpu_past, own_past, hide, words_in, IsClosedRun, IsEndOfRun, pasts_of_cpus, KnownCpuSeat, IsRunSoFar}
 use Rattle.boot_words.specs.Tables.{KnownTable}
 use Rattle.cpu_part.specs.Cpus.{KnownCpuLists, IsIdle}
+use Rattle.cpu_part.specs.declared.boot_name.Tables.{Tables}
+use Rattle.mem_system.specs.declared.boot_end.Pinned.{Pinned}
 use Rattle.mem_machine.specs.{KnownMachine, IsConsistent, IsShownBy, home_of, part_at, with_run, KnownRun, Settles, UnlistsMany, Drains, IsDrained}
 use Rattle.mem_machine.specs.{stock_group, open_steps, shut_steps, drain_list_steps, drain_steps, frames_free, frames_in_groups, NoneLentTo}
 use Rattle.mem_machine.specs.{VisitState, visit_state, VisitMakes}
@@ -27,6 +29,15 @@ pins_of_all cpus = sum_by (λ cpu. length cpu.pins) cpus
 -- how many fresh frames the CPUs put back on their own lists
 abbrev pub drops_of : List KnownCpuLists → ℕ
 drops_of cpus = sum_by (λ cpu. cpu.drops) cpus
+
+-- pins remain at these CPUs, and all parts of the boot are returned as they were
+pub record IsPinned {N : Type 0} {boot : _} (behind : KnownLocked) (table : Tables N boot) (all : List CpuInRun)
+    (pinned : Pinned N boot) : Type 0 where
+  pub pins : pinned.pins ≡ pins_of_all (parts_of all)
+  pub some_pin : 1 ≤ pinned.pins
+  pub locked : pinned.locked ≡ behind
+  pub tables : pinned.tables ≡ table
+  pub cpus : pinned.cpus.items ≡ all
 
 -- the CPU is settled in a visit
 pub record SettlesInVisit (call : Transition VisitState) : Type 0 where
