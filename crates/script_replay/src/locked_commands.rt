@@ -36,7 +36,8 @@ fn watch_lock<N: BootName>(locked: &mut Locked<N>, cpu: u32)
     locked.take_step(cpu, Action::Lock, Answer::Done);
 }
 
-// This CPU takes the lock for a command. Details are noted from now on exactly if the command is explained.
+// The watch takes the step by which this CPU gets the lock for a command. Details are noted from now on exactly if the
+// command is explained.
 #[inline(always)]
 fn begin_command<N: BootName>(locked: &mut Locked<N>, cpu: u32, is_explained: bool)
     ensures watched { OnlyWatched (cpu_makes cpu Lock Done ∷ []) (locked_with_detail_notes locked.old is_explained)
@@ -48,7 +49,7 @@ fn begin_command<N: BootName>(locked: &mut Locked<N>, cpu: u32, is_explained: bo
     watch_lock(locked, cpu);
 }
 
-// The CPU of this number releases the lock.
+// The watch takes the step by which the CPU of this number gives the lock back.
 #[inline(always)]
 #[tactic(auto, using(crate::proofs::Taking::unwatched))]
 fn end_command<N: BootName>(locked: &mut Locked<N>, cpu: u32)
@@ -60,7 +61,8 @@ fn end_command<N: BootName>(locked: &mut Locked<N>, cpu: u32)
     locked.take_step(cpu, Action::Unlock, Answer::Done);
 }
 
-// Serves a command, whose CPU holds the lock: carries out its `LockedCommand`, or only settles the CPU.
+// Serves a command while no other CPU can: carries out its `LockedCommand`, or only settles the CPU. In the run the
+// CPU takes the lock and gives it back here.
 #[inline(always)]
 #[tactic(auto, using(crate::proofs::InRange::locked_command_in_zone))]
 pub(crate) fn serve_locked<N: BootName>(

@@ -102,8 +102,10 @@ fn answer_without_visit<N: BootName, R: Wait, G: Gate>(
     command: &Command<'_>,
 ) -> Option<UnlockedAnswer>
     requires in_range { CommandInRange N.table.frames command.now }
-    ensures answers { IfSome result (AnswersWithoutVisitBySteps (known_system N.table visitor.now.system.now.sizes) command.now cpu.old cpu.new) }
-    ensures needs_visit { IfNone result (NeedsVisit (known_system N.table visitor.now.system.now.sizes) command.now cpu.old cpu.new) }
+    ensures answers { IfSome result
+        (AnswersWithoutVisitBySteps (known_system N.table visitor.now.system.now.sizes) command.now cpu.old cpu.new) }
+    ensures needs_visit { IfNone result
+        (NeedsVisit (known_system N.table visitor.now.system.now.sizes) command.now cpu.old cpu.new) }
 {
     match frame_path(command) {
         Some(path) => take_listed(visitor, cpu, path),
@@ -118,7 +120,8 @@ fn take_listed<N: BootName, R: Wait, G: Gate>(
     path: &[u8],
 ) -> Option<UnlockedAnswer>
     ensures answers { IfSome result
-        (AnswersWithoutVisitBySteps (known_system N.table visitor.now.system.now.sizes) (Alloc path.entry 0) cpu.old cpu.new) }
+        (AnswersWithoutVisitBySteps (known_system N.table visitor.now.system.now.sizes) (Alloc path.entry 0)
+        cpu.old cpu.new) }
     ensures needs_visit { IfNone result
         (NeedsVisit (known_system N.table visitor.now.system.now.sizes) (Alloc path.entry 0) cpu.old cpu.new) }
 {
