@@ -210,10 +210,10 @@ uint8_t tempolemon_alloc(tempolemon_handle *handle, uint32_t cpu, uint32_t group
 uint8_t tempolemon_alloc_dirty(tempolemon_handle *handle, uint32_t cpu, uint32_t group, uint32_t order,
                                tempolemon_result *out);
 
-/* Allocates a block of order 1 to 10 and pins it, as tempolemon_get: FRAME with the first frame of a unit that is kept and has
- * a reference of this CPU. Before all but NOT_LIVE and BAD_CPU come 9 PinsFull, if this CPU's pins and its last puts that
- * aren't settled are 256 together, and then 19 BadOrder. Nothing was done then. If the pin weren't held, the block would be
- * released again: 21 NotPinned. A script does the same by an alloc and a get. */
+/* Allocates a block of order 1 to 10 and pins it, as tempolemon_get: FRAME with the first frame of a unit that is kept
+ * and has a reference of this CPU. Before all but NOT_LIVE and BAD_CPU come 9 PinsFull, if this CPU's pins and its last
+ * puts that aren't settled are 256 together, and then 19 BadOrder. Nothing was done then. If the pin weren't held, the
+ * block would be released again: 21 NotPinned. A script does the same by an alloc and a get. */
 uint8_t tempolemon_alloc_pinned(tempolemon_handle *handle, uint32_t cpu, uint32_t group, uint32_t order,
                                 tempolemon_result *out);
 

@@ -97,8 +97,8 @@ uint8_t tempolemon_try_release(tempolemon_cpu_part *part, uint32_t frame, tempol
  * the lock: when it is DONE, the unit is kept and dirty, whatever its order. */
 uint8_t tempolemon_try_alloc_dirty(tempolemon_cpu_part *part, uint32_t group, uint32_t order, tempolemon_result *out);
 
-/* Allocates a block of order 1 to 10 and pins it before another thread gets the lock: when it is DONE, the unit is kept,
- * and this CPU has a reference on it. FRAME with its first frame, or a refusal:
+/* Allocates a block of order 1 to 10 and pins it before another thread gets the lock: when it is DONE, the unit is
+ * kept, and this CPU has a reference on it. FRAME with its first frame, or a refusal:
  *
  *   9 PinsFull    the CPU's pins and its last puts that aren't settled are 256 together. This comes first
  *   19 BadOrder   the order is 0 or above 10. This comes second

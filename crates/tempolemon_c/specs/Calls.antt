@@ -186,8 +186,8 @@ pub record PinsGiven (cpu : ℕ) (given : TypedResult) (before after : Option Li
   pub out_is : out ≡ given
 
 -- the CPU asked for a pin of that frame, and doesn't hold it; the block was released again
-pub record ReleasesGiven (cpu : ℕ) (given : TypedResult) (before after : Option LiveBoot) (status : ℕ) (out : TypedResult)
-    : Type 0 where
+pub record ReleasesGiven (cpu : ℕ) (given : TypedResult) (before after : Option LiveBoot) (status : ℕ)
+    (out : TypedResult) : Type 0 where
   pub missed : Option LiveBoot
   pub asked : ℕ
   pub got : TypedResult
@@ -207,8 +207,8 @@ pub record AllocatesThenPins (cpu group order : ℕ) (before after : Option Live
   pub allocates : CallsBehind cpu (call.Alloc group order) before between done given
   pub then : PinsGiven cpu given between after status out ⊎ ReleasesGiven cpu given between after status out
 
--- What an allocation of a pinned block does. Whether the CPU may have one more pin is looked at first, and if not, nothing
--- is done.
+-- What an allocation of a pinned block does. Whether the CPU may have one more pin is looked at first, and if not,
+-- nothing is done.
 abbrev pub AllocatesPinnedBehind : (cpu group order : ℕ) → (before after : Option LiveBoot) (status : ℕ)
     → TypedResult → Type 0
 AllocatesPinnedBehind cpu group order before after status out =

@@ -61,7 +61,7 @@ pub extern "C" fn tempolemon_alloc_dirty(
 }
 
 /// Takes a block of 2^order frames, of order 1 to 10, charged to the group of this number, and pins it for the CPU: two
-/// calls in one. If the CPU can't have one more pin, nothing is done. If the pin isn't held, the block is released again.
+/// calls in one. If the CPU can't have one more pin, nothing is done. If the pin isn't held, the block is released.
 #[unsafe(no_mangle)]
 pub extern "C" fn tempolemon_alloc_pinned(
     alloc: Global,

@@ -47,8 +47,8 @@ pub extern "C" fn tempolemon_try_alloc_dirty(
     serve_call(alloc, part, &Call::AllocDirty { group, order }, out)
 }
 
-/// Takes a block of 2^order frames, of order 1 to 10, charged to the group of this number, and pins it for the CPU, before
-/// another thread gets the lock, which the call tries. If the CPU can't have one more pin, that is said first.
+/// Takes a block of 2^order frames, of order 1 to 10, charged to the group of this number, and pins it for the CPU,
+/// before another thread gets the lock, which the call tries. If the CPU can't have one more pin, that is said first.
 #[unsafe(no_mangle)]
 pub extern "C" fn tempolemon_try_alloc_pinned(
     alloc: Global,

@@ -32,8 +32,8 @@ pub enum Call<'a> {
         group: u32,
         order: u32,
     },
-    /// Takes a block of 2^order frames, of order 1 to 10, charged to the group of this number, and pins it, under the lock:
-    /// no other CPU is served in between.
+    /// Takes a block of 2^order frames, of order 1 to 10, charged to the group of this number, and pins it, under the
+    /// lock: no other CPU is served in between.
     AllocPinned {
         group: u32,
         order: u32,
@@ -103,7 +103,7 @@ pub enum CallAnswer {
     Put(Put),
     /// The CPU was settled.
     Settled,
-    /// It is refused for this reason, and nothing was done; except that a block that couldn't be pinned was released again.
+    /// It is refused for this reason, and nothing was done; except that a block that wasn't pinned was released again.
     Refused(Fault),
 }
 

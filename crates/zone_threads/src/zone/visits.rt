@@ -60,8 +60,8 @@ impl<N: BootName> Home<N> {
         }
     }
 
-    /// Allocates a block under the lock, and pins it there. Whether the CPU may have one more pin is looked at first, then
-    /// the order, and then the lock is tried.
+    /// Allocates a block under the lock, and pins it there. Whether the CPU may have one more pin is looked at first,
+    /// then the order, and then the lock is tried.
     pub fn alloc_pinned(&mut self, group: u32, order: u32) -> CallAnswer
         requires some { IsSome self.old.cpu }
         ensures { Calls N.table (AllocPinned group order) self.old self.new result }
