@@ -85,7 +85,8 @@ pub extern "C" fn tempolemon_alloc_pinned(
     let frame = (block.number % (1 << 32)) as u32;
     let get = Call::Script(Command::Get { frame });
     let _asked = serve_call(alloc, handle, cpu, &get, out);
-    if out.kind == HELD {
+    let is_held = out.kind == HELD;
+    if is_held {
         *out = block;
         return DONE;
     }
