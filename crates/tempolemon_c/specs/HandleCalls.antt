@@ -5,7 +5,7 @@ use Rattle.group_tree.specs.declared.group.Group.{Group}
 use Rattle.group_charge.specs.Charges.{Ledger}
 use Rattle.control_files.specs.declared.file.File.{File}
 use Rattle.boot_words.specs.Tables.{KnownTable}
-use Rattle.cpu_part.specs.{most_pins}
+use Rattle.step_rules.specs.State.{most_pins}
 use Rattle.mem_system.specs.{CpuInRun}
 use Rattle.mem_system.specs.declared.command.ReplyWithText.{ReplyWithText}
 use Rattle.mem_system.specs.declared.command.ReplyWithText.TheVariants as reply
