@@ -11,7 +11,7 @@ use Rattle.step_rules.specs.After.{Run}
 use Rattle.mem_core.proofs.Keeping.{always_keeps}
 use Rattle.mem_system.specs.Cpus.{CpuInRun, pasts_of}
 use Rattle.script_lines.specs.declared.line.Line.{Line}
-use Rattle.script_replay.specs.{KeepsHistory, LinesSoFar, past_line, HasRun, SystemState}
+use Rattle.script_replay.specs.{KeepsHistory, LinesSoFar, with_line, HasRun, SystemState}
 use Rattle.script_replay.specs.Terms.{Terms}
 use Rattle.load_run.specs.declared.boot_end.BootEnd.{BootEnd}
 use Rattle.load_run.specs.Ending.{EndsHeld, IsWholeRun, last_words}
@@ -21,7 +21,7 @@ pub kept_goes_on : (on : Terms) (lines : List Line) (before last : LinesSoFar) (
     → HasRun last.run last.now
 kept_goes_on on [] before last text keeps has = subst (λ (p : LinesSoFar). HasRun p.run p.now) (sym keeps.1) has
 kept_goes_on on (line ∷ lines) before last text keeps has =
-    kept_goes_on on lines (past_line before keeps.steps keeps.between) last keeps.rest keeps.keeps (keeps.goes_on before.run has)
+    kept_goes_on on lines (with_line before keeps.steps keeps.between) last keeps.rest keeps.keeps (keeps.goes_on before.run has)
 
 -- the pasts at the end of a table
 all_begin : (zone : Zone) (run : Run) (pasts : List Past) → AllOf (BeginsRun zone run) pasts → AllOf (IsPastOf run) pasts
