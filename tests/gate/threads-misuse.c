@@ -147,18 +147,23 @@ static void refusals(void) {
         is("its kind", result.kind, TEMPOLEMON_FRAME);
         pinned[at] = (uint32_t)result.number;
     }
-    is("a reclaim of pinned pages", tempolemon_on_reclaim(&one, group, 1, &result), 17);
+    is("a reclaim", tempolemon_on_reclaim(&one, group, 64, &result), 17);
     is("order 0, pinned", tempolemon_on_alloc_pinned(&one, group, 0, &result), 19);
     is("order 11, pinned", tempolemon_on_alloc_pinned(&one, group, 11, &result), 19);
-    for (int pins = 2; pins < 256; pins++)
-        is("get", tempolemon_on_get(&one, pinned[pins % 2], &result) + result.kind, TEMPOLEMON_HELD);
+    for (int pins = 2; pins < 256; pins++) {
+        is("get", tempolemon_on_get(&one, pinned[pins % 2], &result), TEMPOLEMON_DONE);
+        is("held", result.kind, TEMPOLEMON_HELD);
+    }
+    look(&one, before);
     is("pin 257", tempolemon_on_alloc_pinned(&one, group, 1, &result), 9);
     is("its kind", result.kind, TEMPOLEMON_REFUSED);
     is("pin 257, order 0", tempolemon_on_alloc_pinned(&one, group, 0, &result), 9);
-    is("the usage", tempolemon_on_usage(&one, group, &result), TEMPOLEMON_DONE);
-    is("its pages", result.number, 4);
-    for (int pins = 0; pins < 256; pins++)
-        is("put", tempolemon_on_put(&one, pinned[pins % 2], &result) + result.kind, TEMPOLEMON_LEFT);
+    look(&one, after);
+    is("what these calls changed", (unsigned long)strcmp(before, after), 0);
+    for (int pins = 0; pins < 256; pins++) {
+        is("put", tempolemon_on_put(&one, pinned[pins % 2], &result), TEMPOLEMON_DONE);
+        is("left", result.kind, TEMPOLEMON_LEFT);
+    }
     for (int at = 0; at < 2; at++) is("release", tempolemon_on_release(&one, pinned[at], &result), TEMPOLEMON_DONE);
 
     /* a returned CPU keeps its pins: whoever takes it next puts them */
