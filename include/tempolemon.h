@@ -72,6 +72,7 @@ typedef struct {
     uint32_t batch;  /* frames by which a CPU's list is refilled or cut: 1 to 64 */
     uint32_t high;   /* frames at which a CPU's list is cut: batch to 256 */
     uint32_t stock;  /* pages that a CPU prepays at once: 1 to 64 */
+    uint32_t reclaim_batch; /* pages that a round of reclaim for a charge wants at least: 0 to 64; 0 is 1 */
 } tempolemon_sizes;
 
 /* Boots a zone, replays a script on it, and ends the boot. The answers are those of `memcg replay`, byte for byte.

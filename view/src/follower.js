@@ -240,8 +240,13 @@ class Follower {
     this.plan = this.highs(group, pages);
     this.go();
   }
+  /** A round for a charge wants at least the batch of the boot; one for what was written wants what is missing. */
   wantRoom(group, pages, bound) {
-    this.wants = () => this.reclaim(group, () => this.state.missing(group, pages, bound));
+    const least = pages ? this.sizes.reclaimBatch : 1;
+    this.wants = () => this.reclaim(group, () => {
+      const missing = this.state.missing(group, pages, bound);
+      return missing && Math.max(missing, least);
+    });
     this.drainBelow(new Set(this.state.subtree(group)));
   }
   /** The stocks of these groups have to be drained. */

@@ -11,7 +11,8 @@ use Rattle.clap.specs.declared.builder.action.ArgAction.TheVariants.{SetTrue}
 use Rattle.clap.specs.declared.builder.value_parser.ValueParser.TheVariants.{Signed}
 use Rattle.clap.specs.Kinds.{Kinds}
 use Rattle.zone_blocks.specs.declared.config.Config.{Config}
-use Rattle.zone_blocks.specs.Config.{most_batch, most_cpus, most_frames, most_high, most_stock}
+use Rattle.zone_blocks.specs.declared.choices.Choices.{Choices}
+use Rattle.zone_blocks.specs.Config.{most_batch, most_cpus, most_frames, most_high, most_reclaim_batch, most_stock, no_choices}
 use Rattle.load_options.specs.declared.task.Options.{Options}
 use Rattle.load_options.specs.declared.task.Task.{Task}
 use Rattle.load_options.specs.declared.task.Task.TheVariants.{Replay, Steps, Run, Check, Lint, Serve, ServeSteps, Version}
@@ -50,6 +51,7 @@ size_rules =
     ∷ size_rule (codes "batch") most_batch (codes "4")
     ∷ size_rule (codes "high") most_high (codes "8")
     ∷ size_rule (codes "stock") most_stock (codes "4")
+    ∷ size_rule (codes "reclaim-batch") most_reclaim_batch (codes "1")
     ∷ []
 
 -- the options that both subcommands that answer scripts have
@@ -127,6 +129,12 @@ infixl 10 ◌>>=◌
 abbrev ◌>>=◌ : {A B : Type 0} → Option A → (A → Option B) → Option B
 o >>= f = option_and_then f o
 
+-- each choice is the value of its own option
+abbrev pub choices_in : List Row → Option Choices
+choices_in found = do
+  reclaim_batch ← size_in (codes "reclaim-batch") most_reclaim_batch found
+  Some (record { reclaim_batch = reclaim_batch })
+
 -- each size is the value of its own option
 abbrev pub sizes_in : List Row → Option Config
 sizes_in found = do
@@ -135,7 +143,8 @@ sizes_in found = do
   batch ← size_in (codes "batch") most_batch found
   high ← size_in (codes "high") most_high found
   stock ← size_in (codes "stock") most_stock found
-  Some (record { frames = frames; cpus = cpus; batch = batch; high = high; stock = stock })
+  choices ← choices_in found
+  Some (record { frames = frames; cpus = cpus; batch = batch; high = high; stock = stock; choices = choices })
 
 -- whether a flag is given that both subcommands that answer scripts have
 abbrev pub has_task_flag : List Row → Bool
@@ -190,7 +199,7 @@ script_options_under name found = do
 abbrev pub bare_options : Task → Options
 bare_options task = record {
   task = task;
-  sizes = record { frames = 16; cpus = 2; batch = 4; high = 8; stock = 4 };
+  sizes = record { frames = 16; cpus = 2; batch = 4; high = 8; stock = 4; choices = no_choices };
   is_audited = false;
   is_numbered = false;
   is_strict = false;

@@ -20,6 +20,7 @@ use std::alloc::{AllocError, Global};
 use std::convert::AsStr;
 use std::rt::Env;
 use std::{env, io};
+use zone_blocks::choices::Choices;
 use zone_blocks::config::Config;
 
 /// The program's version.
@@ -53,6 +54,9 @@ const HIGH_HELP: &str = "Frames at which a CPU's list returns some to the zone, 
 
 const STOCK_HELP: &str = "Pages that a CPU charges ahead, 1 to 64";
 
+const RECLAIM_BATCH_HELP: &str =
+    "Pages that a round of reclaim wants at least for a charge, 1 to 64";
+
 const AUDIT_HELP: &str = "Reports at the end which pins were held, and the counts";
 
 const NUMBERED_HELP: &str = "Begins each line of an answer with the number of its script line";
@@ -69,12 +73,18 @@ const STEPS_HELP: &str =
     "Writes the steps of the lines as a log, with the answers as comments, in place of the answers";
 
 // The options of the sizes: name, help, greatest value and default.
-const SIZES: [(&str, &str, u32, &str); 5] = [
+const SIZES: [(&str, &str, u32, &str); 6] = [
     ("frames", FRAMES_HELP, Config::MAX_FRAMES, "16"),
     ("cpus", CPUS_HELP, Config::MAX_CPUS, "2"),
     ("batch", BATCH_HELP, Config::MAX_BATCH, "4"),
     ("high", HIGH_HELP, Config::MAX_HIGH, "8"),
     ("stock", STOCK_HELP, Config::MAX_STOCK, "4"),
+    (
+        "reclaim-batch",
+        RECLAIM_BATCH_HELP,
+        Choices::MAX_RECLAIM_BATCH,
+        "1",
+    ),
 ];
 
 // The options without a value that both subcommands that answer scripts have, with their help.
@@ -120,14 +130,15 @@ pub fn words<R: Env + AllocGlobal>(rt: &R) -> Result<Vec<String>, WordsFault> {
 }
 
 /// Parses the words after the program's name. They are `replay`, `run`, `lint` or `serve`, then any of `--frames`,
-/// `--cpus`, `--batch`, `--high` and `--stock`. After `replay` and `run` there may also be `--audit`, `--numbered` and
+/// `--cpus`, `--batch`, `--high`, `--stock` and `--reclaim-batch`. After `replay` and `run` there may also be `--audit`, `--numbered` and
 /// `--strict`, and after `replay` `--explain` and `--check`. After `replay` there may be `--steps` instead of these
 /// five. After `serve` there may be `--audit` and `--explain`, or `--steps` instead. Each is given at most once. Or the words
 /// are `check`, alone or with `--all`, or `--version` or `-V` alone. Anything else is a fault of the words, even a request
 /// for help.
 ///
 /// A size is a whole number in its own range: 1 to 1,048,576 frames, 1 to 64 CPUs, batch 1 to 64, high 1 to 256,
-/// stock 1 to 64. `Config::is_valid` requires more: high is at least batch. The defaults are 16, 2, 4, 8 and 4.
+/// stock 1 to 64, reclaim-batch 1 to 64. `Config::is_valid` requires more: high is at least batch. The defaults are 16,
+/// 2, 4, 8, 4 and 1.
 pub fn options<S: AsStr>(alloc: Global, words: &[S]) -> Result<Options, WordsFault>
     ensures asked { GivesOptions (options_of (map S.text words.now)) result }
     ensures in_range { IfOk result (λ o. HasSizesInRange o.sizes) }

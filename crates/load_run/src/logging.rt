@@ -8,7 +8,7 @@ ghost use Rattle.step_watch.specs.Watched.{has_whole_log, log_text};
 ghost use Rattle.line_server.specs.Logs.{AddsPart, answer_comments};
 ghost use Rattle.load_run.specs.Ending.{boot_end_text};
 ghost use Rattle.load_run.specs.Logs.{AreLoggedSteps, GrowsBy, LogsAll, LogsEnd, log_head_text};
-ghost use Rattle.load_run.specs.Logs.{sizes_comment, text_at, text_of_line};
+ghost use Rattle.load_run.specs.Logs.{choices_text, sizes_comment, text_at, text_of_line};
 
 use crate::boot_end::{BootEnd, empty_cpus, write_boot_end};
 use cpu_part::{BootName, Tables};
@@ -19,6 +19,7 @@ use script_lines::line::Line;
 use script_lines::script::first_line;
 use std::alloc::{AllocError, Global};
 use step_watch::Watch;
+use zone_blocks::choices::Choices;
 use zone_blocks::config::Config;
 
 // Adds the comment with the sizes of the boot that the zone's line doesn't have.
@@ -29,8 +30,21 @@ fn add_sizes(alloc: Global, sizes: &Config, log: &mut Vec<u8>) -> Result<(), All
     let batch = sizes.batch;
     let high = sizes.high;
     let stock = sizes.stock;
-    writeln!(text, "# memcg batch {batch} high {high} stock {stock}")?;
+    write!(text, "# memcg batch {batch} high {high} stock {stock}")?;
+    write_choices(&sizes.choices, &mut text)?;
+    text.push_str("\n")?;
     log.extend_from_slice(text.as_bytes())
+}
+
+// Writes the choices that a boot without any choice doesn't make.
+fn write_choices(choices: &Choices, text: &mut String) -> Result<(), AllocError>
+    ensures { OnOk result (text.new ≡ text.old ++ choices_text choices.now) }
+{
+    if choices.reclaim_batch != 1 {
+        let reclaim_batch = choices.reclaim_batch;
+        write!(text, " reclaim-batch {reclaim_batch}")?;
+    }
+    Ok(())
 }
 
 // The text of the line of this number, from 1; nothing if there is none.

@@ -77,7 +77,7 @@ no_rounds t g pages m none = record {
   steps = [];
   does = record {
     freed = 0;
-    reclaims = subst (λ (o : Option ℕ). ReclaimsBefore o g pages (progress 0 m [] m)) (sym none) (record { no_page = refl; machine = refl; no_step = refl });
+    reclaims = subst (λ (o : Option ℕ). ReclaimsBefore o t.choices.reclaim_batch g pages (progress 0 m [] m)) (sym none) (record { no_page = refl; machine = refl; no_step = refl });
     missed = λ over. absurd (false≢true (sym over ∙ ap (λ (o : Option ℕ). fits_limit o (current_of m.ledger g + pages)) none));
     keeps = keeps_none t m;
     moves = moves_rest t m;

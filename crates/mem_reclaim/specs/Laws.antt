@@ -15,7 +15,7 @@ use Rattle.mem_reclaim.specs.Killing.{IsKilledBy, kept_units}
 use Rattle.mem_reclaim.specs.Moves.{FreesPages, all_missed_in, missed_in, returned_in}
 use Rattle.mem_reclaim.specs.declared.passes.Pass.{Pass}
 use Rattle.mem_reclaim.specs.Passes.{TakesTurn}
-use Rattle.mem_reclaim.specs.Rounds.{ReclaimsRound}
+use Rattle.mem_reclaim.specs.Rounds.{ReclaimsRound, pages_missing, pages_wanted}
 use Rattle.mem_reclaim.specs.Sets.{IsKilledRoot, kill_set}
 use Rattle.mem_reclaim.specs.Staying.{MissedAll}
 use Rattle.mem_reclaim.specs.Victim.{IsVictim, may_be_killed, own_frames}
@@ -107,3 +107,8 @@ LoneKillsAreNotedAsMade =
     → (kill : IsKilledBy table limited killed before after) → is_oom_group before.ledger.groups
     killed.killed_root ≡ false
     → after.counts.last_puts < max_count → NotesKill limited killed.victim before kill.steps after
+
+-- a round that has to want at least one page wants just the pages that are missing
+abbrev pub BatchesOfOneWantWhatIsMissing : Type 0
+BatchesOfOneWantWhatIsMissing =
+    (group need limit : ℕ) → pages_wanted 1 group need limit ≡ pages_missing group need limit

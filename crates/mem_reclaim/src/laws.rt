@@ -1,7 +1,7 @@
 //! Laws of kills and of reclaim: what each function ensures holds of every victim and all groups that die with it, of
 //! every unit that was tried, and of every note.
 
-ghost use Rattle.mem_reclaim.specs.Laws.{FlaggedGroupsDieWhole, LoneKillsAreNotedAsMade, MissedUnitsWereTried};
+ghost use Rattle.mem_reclaim.specs.Laws.{BatchesOfOneWantWhatIsMissing, FlaggedGroupsDieWhole, LoneKillsAreNotedAsMade, MissedUnitsWereTried};
 ghost use Rattle.mem_reclaim.specs.Laws.{OnlyTheLivingDie, ProtectedGroupsHaveNoTurn, RoundsAreNotedAsMade};
 ghost use Rattle.mem_reclaim.specs.Laws.{TheVictimIsOne, VictimsDie};
 
@@ -44,4 +44,9 @@ pub fn rounds_are_noted_as_made()
 /// The note of a victim that dies alone reports the units that the steps of its kill returned.
 pub fn lone_kills_are_noted_as_made()
     ensures { LoneKillsAreNotedAsMade }
+{}
+
+/// Rounds that have to want at least one page want just the pages that are missing.
+pub fn batches_of_one_want_what_is_missing()
+    ensures { BatchesOfOneWantWhatIsMissing }
 {}
