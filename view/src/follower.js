@@ -450,9 +450,9 @@ class Follower {
       case "note-max":
         return need(this.over && a === this.over.group, "no limit refused");
       case "note-oom":
-        return need(a === this.limited && !this.killing && state.missing(a, this.over?.pages ?? 0), `${this.limited < 0 ? "no limit" : `group ${this.limited}`} is out of memory`);
+        return need(!this.sizes.isNoKill && a === this.limited && !this.killing && state.missing(a, this.over?.pages ?? 0), this.sizes.isNoKill ? "the boot kills nobody" : `${this.limited < 0 ? "no limit" : `group ${this.limited}`} is out of memory`);
       case "kill":
-        return need(a === this.dying[0], this.dying.length ? `kill ${this.dying[0]} was due` : "no group was due");
+        return need(!this.sizes.isNoKill && a === this.dying[0], this.dying.length ? `kill ${this.dying[0]} was due` : "no group was due");
       case "group-kill":
         return need(a === this.killedWhole && !this.dying.length, "no group was killed as a whole");
       case "unlock":

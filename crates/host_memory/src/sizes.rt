@@ -22,6 +22,8 @@ pub struct Sizes {
     pub stock: u32,
     /// Pages that a round of reclaim for a charge wants at least: 0 to 64. 0 and 1 mean just those that are missing.
     pub reclaim_batch: u32,
+    /// Whether no group is killed, if it isn't 0: a charge without room is refused.
+    pub no_kill: u32,
 }
 
 impl Sizes {
@@ -46,6 +48,7 @@ impl Sizes {
         ensures { result ≡ choices_of self.now }
     {
         Choices {
+            is_no_kill: self.no_kill != 0,
             reclaim_batch: self.reclaim_batch.max(1),
         }
     }

@@ -54,15 +54,19 @@ size_rules =
     ∷ size_rule (codes "reclaim-batch") most_reclaim_batch (codes "1")
     ∷ []
 
+-- the options of the sizes and choices
+abbrev pub zone_rules : List Rule
+zone_rules = size_rules ++ flag_rule (codes "no-kill") ∷ []
+
 -- the options that both subcommands that answer scripts have
 abbrev pub task_rules : List Rule
 task_rules =
-    ((size_rules ++ flag_rule (codes "audit") ∷ []) ++ flag_rule (codes "numbered") ∷ [])
+    ((zone_rules ++ flag_rule (codes "audit") ∷ []) ++ flag_rule (codes "numbered") ∷ [])
     ++ flag_rule (codes "strict") ∷ []
 
--- the subcommand on scripts of this name, with the options of the sizes
+-- the subcommand on scripts of this name, with the options of the sizes and choices
 abbrev pub sized_shape : List ℕ → Shape
-sized_shape name = record (new_shape name) { rules = size_rules }
+sized_shape name = record (new_shape name) { rules = zone_rules }
 
 -- the subcommand of this name that answers scripts, with its options
 abbrev pub command_shape : List ℕ → Shape
@@ -76,11 +80,11 @@ replay_shape = record (command_shape (codes "replay")) {
       ++ flag_rule (codes "steps") ∷ [];
 }
 
--- `serve`, which has three more options than the sizes
+-- `serve`, which has three more options than the sizes and choices
 abbrev pub serve_shape : Shape
 serve_shape = record (sized_shape (codes "serve")) {
   rules =
-      ((size_rules ++ flag_rule (codes "audit") ∷ []) ++ flag_rule (codes "explain") ∷ [])
+      ((zone_rules ++ flag_rule (codes "audit") ∷ []) ++ flag_rule (codes "explain") ∷ [])
       ++ flag_rule (codes "steps") ∷ [];
 }
 
@@ -133,7 +137,7 @@ o >>= f = option_and_then f o
 abbrev pub choices_in : List Row → Option Choices
 choices_in found = do
   reclaim_batch ← size_in (codes "reclaim-batch") most_reclaim_batch found
-  Some (record { reclaim_batch = reclaim_batch })
+  Some (record { is_no_kill = is_given (codes "no-kill") found; reclaim_batch = reclaim_batch })
 
 -- each size is the value of its own option
 abbrev pub sizes_in : List Row → Option Config

@@ -57,6 +57,8 @@ const STOCK_HELP: &str = "Pages that a CPU charges ahead, 1 to 64";
 const RECLAIM_BATCH_HELP: &str =
     "Pages that a round of reclaim wants at least for a charge, 1 to 64";
 
+const NO_KILL_HELP: &str = "Kills nobody: a charge without room is refused";
+
 const AUDIT_HELP: &str = "Reports at the end which pins were held, and the counts";
 
 const NUMBERED_HELP: &str = "Begins each line of an answer with the number of its script line";
@@ -86,6 +88,9 @@ const SIZES: [(&str, &str, u32, &str); 6] = [
         "1",
     ),
 ];
+
+// The options of the choices that have no value, with their help.
+const CHOICE_FLAGS: [(&str, &str); 1] = [("no-kill", NO_KILL_HELP)];
 
 // The options without a value that both subcommands that answer scripts have, with their help.
 const TASK_FLAGS: [(&str, &str); 3] = [
@@ -130,7 +135,7 @@ pub fn words<R: Env + AllocGlobal>(rt: &R) -> Result<Vec<String>, WordsFault> {
 }
 
 /// Parses the words after the program's name. They are `replay`, `run`, `lint` or `serve`, then any of `--frames`,
-/// `--cpus`, `--batch`, `--high`, `--stock` and `--reclaim-batch`. After `replay` and `run` there may also be `--audit`, `--numbered` and
+/// `--cpus`, `--batch`, `--high`, `--stock`, `--reclaim-batch` and `--no-kill`. After `replay` and `run` there may also be `--audit`, `--numbered` and
 /// `--strict`, and after `replay` `--explain` and `--check`. After `replay` there may be `--steps` instead of these
 /// five. After `serve` there may be `--audit` and `--explain`, or `--steps` instead. Each is given at most once. Or the words
 /// are `check`, alone or with `--all`, or `--version` or `-V` alone. Anything else is a fault of the words, even a request
@@ -367,7 +372,7 @@ fn replay_command<'a>(alloc: Global) -> Result<Command<'a>, AllocError>
     with_flags(alloc, command, &REPLAY_FLAGS)
 }
 
-// `serve`, which has three more options than the sizes.
+// `serve`, which has three more options than the sizes and choices.
 fn serve_command<'a>(alloc: Global) -> Result<Command<'a>, AllocError>
     ensures shape { IfOk result (λ command. (app_of command).top ≡ serve_shape) }
     ensures local { IfOk result (λ command. (fields_of command).has_globals ≡ false) }
@@ -394,13 +399,14 @@ fn subcommand<'a>(alloc: Global, name: &'a str, about: &'a str) -> Result<Comman
     with_flags(alloc, command, &TASK_FLAGS)
 }
 
-// A subcommand on scripts, with the options of the sizes.
+// A subcommand on scripts, with the options of the sizes and choices.
 fn sized<'a>(alloc: Global, name: &'a str, about: &'a str) -> Result<Command<'a>, AllocError>
     ensures shape { IfOk result (λ command. (app_of command).top ≡ sized_shape name.entry.now) }
     ensures local { IfOk result (λ command. (fields_of command).has_globals ≡ false) }
 {
     let command = Command::new(alloc, name).about(about);
-    with_sizes(alloc, command, &SIZES)
+    let command = with_sizes(alloc, command, &SIZES)?;
+    with_flags(alloc, command, &CHOICE_FLAGS)
 }
 
 // The command with these options, each with its help, which have no values.

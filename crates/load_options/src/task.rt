@@ -207,12 +207,13 @@ fn sizes(given: &ArgMatches<'_>) -> Option<Config>
     })
 }
 
-// How the zone reclaims.
+// How the zone reclaims, and whether it kills.
 fn choices(given: &ArgMatches<'_>) -> Option<Choices>
     ensures asked { result ≡ choices_in (rows_of (found_of given.now)) }
     ensures in_range { IfSome result AreValidChoices }
 {
     Some(Choices {
+        is_no_kill: is_set(given, "no-kill"),
         reclaim_batch: size(given, "reclaim-batch", Choices::MAX_RECLAIM_BATCH)?,
     })
 }

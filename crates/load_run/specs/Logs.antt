@@ -1,5 +1,5 @@
 -- What the steps of a script are as a log: the sizes; then of each line its part of the log; then that of the end.
-use Rattle.std.specs.Prelude.{◌≡◌, ℕ, ◌-◌, ◌==◌, if◌then◌else◌, true, List, [], ◌∷◌, ◌++◌, codes, decimal, get_or}
+use Rattle.std.specs.Prelude.{◌≡◌, ℕ, ◌-◌, ◌==◌, if◌then◌else◌, Bool, true, List, [], ◌∷◌, ◌++◌, codes, decimal, get_or}
 use Rattle.frame_word.specs.Tables.{KnownTable}
 use Rattle.zone_blocks.specs.declared.choices.Choices.{Choices}
 use Rattle.zone_blocks.specs.declared.config.Config.{Config}
@@ -17,13 +17,17 @@ use Rattle.load_run.specs.declared.boot_end.BootEnd.{BootEnd}
 use Rattle.load_run.specs.Ending.{EndsHeld, IsWholeRun, boot_end_text, last_words}
 use Rattle.load_run.specs.Starting.{IsNewBootState}
 
--- the text of a choice, if the boot makes it
+-- the text of the batch of reclaim, if the boot chose one
 abbrev pub batch_text : ℕ → List ℕ
 batch_text batch = if batch == 1 then [] else codes " reclaim-batch " ++ decimal batch
 
+-- the name of a choice that has no value, if the boot makes it
+abbrev pub flag_text : (is_made : Bool) → List ℕ → List ℕ
+flag_text is_made name = if is_made then name else []
+
 -- the text of the choices that the boot makes
 abbrev pub choices_text : Choices → List ℕ
-choices_text choices = batch_text choices.reclaim_batch
+choices_text choices = batch_text choices.reclaim_batch ++ flag_text choices.is_no_kill (codes " no-kill")
 
 -- the comment that a log of ours is known by: the sizes of the boot that the zone's line doesn't have, and its choices
 abbrev pub sizes_comment : Config → List ℕ

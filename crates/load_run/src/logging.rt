@@ -8,7 +8,7 @@ ghost use Rattle.step_watch.specs.Watched.{has_whole_log, log_text};
 ghost use Rattle.line_server.specs.Logs.{AddsPart, answer_comments};
 ghost use Rattle.load_run.specs.Ending.{boot_end_text};
 ghost use Rattle.load_run.specs.Logs.{AreLoggedSteps, GrowsBy, LogsAll, LogsEnd, log_head_text};
-ghost use Rattle.load_run.specs.Logs.{choices_text, sizes_comment, text_at, text_of_line};
+ghost use Rattle.load_run.specs.Logs.{choices_text, flag_text, sizes_comment, text_at, text_of_line};
 
 use crate::boot_end::{BootEnd, empty_cpus, write_boot_end};
 use cpu_part::{BootName, Tables};
@@ -43,6 +43,16 @@ fn write_choices(choices: &Choices, text: &mut String) -> Result<(), AllocError>
     if choices.reclaim_batch != 1 {
         let reclaim_batch = choices.reclaim_batch;
         write!(text, " reclaim-batch {reclaim_batch}")?;
+    }
+    write_flag(choices.is_no_kill, " no-kill", text)
+}
+
+// Writes the name of a choice that has no value, if the boot makes it.
+fn write_flag(is_made: bool, name: &str, text: &mut String) -> Result<(), AllocError>
+    ensures { OnOk result (text.new ≡ text.old ++ flag_text is_made name.now) }
+{
+    if is_made {
+        text.push_str(name)?;
     }
     Ok(())
 }

@@ -15,7 +15,7 @@ use Rattle.mem_machine.specs.{transition}
 use Rattle.mem_reclaim.specs.Wanted.{progress}
 use Rattle.mem_reclaim.proofs.Keeping.{keeps_none}
 use Rattle.mem_reclaim.proofs.Moving.{moves_rest}
-use Rattle.mem_alloc.specs.{AfterRoom, ClearsBelow, HasMadeRoom, IsRefusedAt, IsRefusedFor, IsRoomAnswer, ReclaimsHigh, KillsForFewPages, MakesRoom}
+use Rattle.mem_alloc.specs.{AfterRoom, ClearsBelow, HasMadeRoom, IsRefusedAt, IsRefusedFor, IsRoomAnswer, ReclaimsHigh, KillsForFewPages, KillsIfAllowed, MakesRoom}
 use Rattle.mem_alloc.specs.{PreparesCharge, ReclaimsBefore, ReclaimsFor, RelievesLimit, with_limit_noted, with_max_noted_at, ChargesOne, FillsStock}
 use Rattle.mem_alloc.specs.declared.faults.AllocFault.{AllocFault}
 use Rattle.mem_alloc.proofs.Lowering.{Lowers, keeps_lower, lowers_both, run_lowers}
@@ -57,7 +57,7 @@ clears_by t g pages back m y x n told noted noting_y drains drained =
 
 -- and then the rounds, and the kills
 pub relieves_by : (t : KnownTable) (r g pages : ℕ) (m x y n : KnownMachine) → BySteps Makes t (ClearsBelow g pages) m x → BySteps Makes t (ReclaimsFor g pages) x y
-    → BySteps Makes t (KillsForFewPages r g pages) y n → BySteps Makes t (RelievesLimit r g pages) m n
+    → BySteps Makes t (KillsIfAllowed (KillsForFewPages r g pages)) y n → BySteps Makes t (RelievesLimit r g pages) m n
 relieves_by t r g pages m x y n first next last = record {
   steps = first.steps ++ (next.steps ++ last.steps);
   does = record {

@@ -11,7 +11,7 @@ use Rattle.mem_alloc.specs.declared.faults.AllocFault.{AllocFault}
 use Rattle.mem_alloc.specs.declared.faults.AllocFault.TheVariants.{Over, NoFrames, RequesterKilled}
 use Rattle.mem_alloc.specs.High.{ReclaimsHigh}
 -- what is killed, and whether there is room
-pub use Rattle.mem_alloc.specs.Kills.{KillsForRoom, NeedsRoom, has_room_at, most_killed_for}
+pub use Rattle.mem_alloc.specs.Kills.{KillsForRoom, KillsIfAllowed, NeedsRoom, has_room_at, most_killed_for}
 
 -- the notes with one more, if the group has a limit: that the limit has no room for this many more pages
 abbrev pub limit_notes : Option ℕ → Ledger → ℕ → ℕ → KnownNotes → KnownNotes
@@ -69,11 +69,11 @@ pub record KillsForFewPages (requester limited pages : ℕ) (call : Transition K
   pub many : most_killed_for < pages → MachineStays call
 
 -- The limit of the group `limited` had no room for this many pages. That is noted there as `max`, the stocks of its
--- subtree are drained, its units are reclaimed in rounds, and then its victims are killed.
+-- subtree are drained, its units are reclaimed in rounds, and then its victims are killed, if the boot allows that.
 abbrev pub RelievesLimit : ℕ → ℕ → ℕ → Transition KnownMachine → Type 0
 RelievesLimit requester limited pages call =
-    InTurn (ClearsBelow limited pages) (InTurn (ReclaimsFor limited pages) (KillsForFewPages requester limited pages))
-    call
+    InTurn (ClearsBelow limited pages)
+    (InTurn (ReclaimsFor limited pages) (KillsIfAllowed (KillsForFewPages requester limited pages))) call
 
 -- the limit of the group `limited` has room for this many pages, and the requester, the group that asks for them, isn't
 -- killed

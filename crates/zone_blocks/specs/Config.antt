@@ -1,5 +1,5 @@
 -- The sizes that a zone may be booted with.
-use Rattle.std.specs.Prelude.{◌≤◌, ℕ}
+use Rattle.std.specs.Prelude.{◌≤◌, ℕ, false}
 use Rattle.zone_blocks.specs.declared.choices.Choices.{Choices}
 use Rattle.zone_blocks.specs.declared.config.Config.{Config}
 
@@ -27,9 +27,9 @@ most_stock = 64
 abbrev pub most_reclaim_batch : ℕ
 most_reclaim_batch = 64
 
--- the choices of a boot that makes none: a round of reclaim wants the pages that are missing
+-- the choices of a boot that makes none: groups may be killed, and a round of reclaim wants the pages that are missing
 abbrev pub no_choices : Choices
-no_choices = record { reclaim_batch = 1 }
+no_choices = record { is_no_kill = false; reclaim_batch = 1 }
 
 -- a round of reclaim has to want at least one page, and at most the greatest number
 pub record AreValidChoices (choices : Choices) : Type 0 where

@@ -2,9 +2,12 @@
 
 ghost use Rattle.std.specs.Prelude.{◌↔◌, IsTrue};
 
-/// The choices of a boot: how the zone reclaims.
+/// The choices of a boot: how the zone reclaims, and whether it kills.
 #[derive(Clone, Copy, Debug, PartialEq, Eq)]
 pub struct Choices {
+    /// Whether no group is killed: a charge that finds no room even after reclaim is refused, whatever its order, and a
+    /// limit that is written below the usage may stay below it.
+    pub is_no_kill: bool,
     /// The fewest pages that a round of reclaim wants if a limit has no room for a charge: 1 to 64. Linux wants 32
     /// (`SWAP_CLUSTER_MAX`).
     pub reclaim_batch: u32,
@@ -14,7 +17,10 @@ impl Choices {
     ghost use Rattle.zone_blocks.specs.Config.{AreValidChoices};
 
     /// The choices of a boot that makes none.
-    pub const NONE: Choices = Choices { reclaim_batch: 1 };
+    pub const NONE: Choices = Choices {
+        is_no_kill: false,
+        reclaim_batch: 1,
+    };
 
     /// The most pages that a round may have to want.
     pub const MAX_RECLAIM_BATCH: u32 = 64;

@@ -17,7 +17,7 @@ pub struct Config {
     pub high: u32,
     /// Pages that a CPU prepays at once: 1 to 64.
     pub stock: u32,
-    /// How the zone reclaims.
+    /// How the zone reclaims, and whether it kills.
     pub choices: Choices,
 }
 
