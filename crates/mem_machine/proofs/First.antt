@@ -16,6 +16,7 @@ use Rattle.step_rules.specs.declared.phase.ChargedUnit.{ChargedUnit}
 use Rattle.step_rules.proofs.Sums.{sum_none}
 use Rattle.mem_machine.specs.declared.frame_state.FrameState.{FrameState}
 use Rattle.mem_machine.specs.declared.frame_state.FrameState.TheVariants.{Free, Head, Tail}
+use Rattle.mem_machine.specs.Machines.{first_turn}
 use Rattle.mem_machine.specs.{frame_state_at, free_of, frame_state_group, one_if_is, phase_hidden, AreUnits, AreEmpty, no_counts, KnownMachine}
 use Rattle.mem_machine.specs.{FitsFrameState, IsConsistent, IsFirst, IsShownBy, BalancesCounts, home_of, frames_charged, left_by, pages_booked}
 use Rattle.mem_machine.specs.{booked, AreBooked, AreOwners, Rests}
@@ -178,13 +179,14 @@ module _ (t : KnownTable) (m : KnownMachine) (first : IsFirst t m) where
 
 pub first_is : (t : KnownTable) (m : KnownMachine) (frames : ℕ) → frames ≡ t.frames → m.frame_states ≡ replicate frames Free
     → m.ledger ≡ initial_ledger → AreNowhere m.links → m.killed ≡ replicate 64 false → m.counts ≡ no_counts
-    → m.notes ≡ no_notes → m.run.past ≡ seat_at_first t.table 0 → IsFirst t m
-first_is t m frames sized frame_states ledger nowhere killed counts notes past = record {
+    → m.notes ≡ no_notes → m.last_turn ≡ first_turn t.choices.is_fair → m.run.past ≡ seat_at_first t.table 0 → IsFirst t m
+first_is t m frames sized frame_states ledger nowhere killed counts notes turn past = record {
   frame_states = frame_states ∙ ap (λ (n : ℕ). replicate n Free) sized;
   ledger = ledger;
   nowhere = nowhere;
   killed = killed;
   counts = counts;
   notes = notes;
+  last_turn = turn;
   past = past;
 }

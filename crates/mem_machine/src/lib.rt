@@ -50,6 +50,7 @@ mod start;
 mod stepping;
 mod stocks;
 mod subtrees;
+mod turns;
 mod visits;
 mod watching;
 

@@ -22,6 +22,6 @@ returns g c =
     turn_some g.N.BootName.table c.args.pass c.args.target c.args.group c.args.want p.result.min p.result.low c.current-usage.result c.spared_by.result
     c.turn_want-wanted.result m c.note_spared.new.machine c.charges-charges.result.now c.charges-charges.ensures c.prove_charges.ensures.legal.groups
     c.requires.inside p.ensures.min p.ensures.low c.current-usage.ensures c.spared_by.ensures c.turn_want-wanted.ensures
-    c.note_spared.ensures c.if-wanted-eq0.false c.reclaim_group.result c.reclaim_group.new.machine
+    c.note_spared.ensures c.if-wanted-eq0.false c.begin_turn.new.self c.begin_turn.ensures c.reclaim_group.result c.reclaim_group.new.machine
     e.passes e.keeps (in_subtree-refl m.ledger.groups c.args.group c.requires.there) e.usage e.few e.leaves e.missed in
     record { turn = taken.turn; keeps = taken.keeps; usage = taken.usage; few = taken.few; leaves = taken.leaves; tried = taken.tried }

@@ -1,0 +1,37 @@
+//! The group that had the last turn of a reclaim, if turns go round (`Choices::is_fair`).
+
+ghost use Rattle.std.specs.Prelude.{◌≡◌};
+ghost use Rattle.mem_machine.specs.Machines.{first_turn, with_turn};
+
+use crate::machine::Machine;
+use cpu_part::{BootName, Tables};
+use group_tree::group::{GroupId, MAX_GROUPS};
+
+// What counts as the group of the last turn in a new boot: the greatest number, after which the least comes next.
+pub(crate) fn first_turn<N: BootName>(tables: &Tables<N>) -> Option<GroupId>
+    ensures { result ≡ first_turn N.table.choices.is_fair }
+{
+    if tables.words.choices().is_fair {
+        GroupId::of(MAX_GROUPS as u32 - 1)
+    } else {
+        None
+    }
+}
+
+impl<N: BootName> Machine<N> {
+    /// The group that had the last turn of a reclaim; None if turns don't go round.
+    pub fn last_turn(&self) -> Option<GroupId>
+        ensures { result ≡ self.now.last_turn }
+    {
+        self.last_turn
+    }
+
+    /// A turn of this group begins: if turns go round, it is the last now. Nothing else changes, and no step is made.
+    pub fn begin_turn(&mut self, group: GroupId)
+        ensures { self.new ≡ with_turn self.old group }
+    {
+        if self.last_turn.is_some() {
+            self.last_turn = Some(group);
+        }
+    }
+}
