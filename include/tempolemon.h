@@ -74,6 +74,7 @@ typedef struct {
     uint32_t stock;  /* pages that a CPU prepays at once: 1 to 64 */
     uint32_t reclaim_batch; /* pages that a round of reclaim for a charge wants at least: 0 to 64; 0 is 1 */
     uint32_t no_kill; /* 0, or 1: nobody is killed, and a charge without room is refused with 15 */
+    uint32_t fair; /* 0, or 1: each pass of reclaim begins after the group that had the last turn, and goes round */
 } tempolemon_sizes;
 
 /* Boots a zone, replays a script on it, and ends the boot. The answers are those of `memcg replay`, byte for byte.

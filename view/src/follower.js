@@ -25,7 +25,7 @@ function choiceOf(state, limited, need, victim = -1) {
  */
 class Follower {
   constructor() {
-    Object.assign(this, { state: null, reader: null, sizes: null, lacksSizes: false, line: null, isEnd: false, plan: null, expected: -1, number: 0, seconds: -1, hasReasons: null, choice: null, choices: 0 });
+    Object.assign(this, { state: null, reader: null, sizes: null, lacksSizes: false, line: null, isEnd: false, plan: null, expected: -1, number: 0, seconds: -1, hasReasons: null, choice: null, choices: 0, lastTurn: MOST_GROUPS - 1 });
     this.sawNone = new Uint8Array(MOST_CPUS + 1); // whether the CPU saw last that its stock has no page
   }
   zone(state, reader) {
@@ -174,11 +174,16 @@ class Follower {
       return pages;
     };
     for (const pass of state.isProtecting ? [1, 2, 3] : [1, 2]) {
-      for (const group of state.subtree(top)) if (told.pages < want) yield* this.turn(top, group, pass, want - told.pages, attempt, detail);
+      for (const group of this.inTurn(state.subtree(top))) if (told.pages < want) yield* this.turn(top, group, pass, want - told.pages, attempt, detail);
     }
     close();
     this.notes.push(`# round ${number} tried ${told.tried} missed ${told.tried - told.returned} returned ${told.returned} bytes ${told.pages * PAGE} usage ${state.groups[top].current * PAGE}`);
     return told.pages;
+  }
+  /** The groups in the order of their turns: if turns go round, from the one on that comes after the last one that had a turn. */
+  inTurn(groups) {
+    const last = this.lastTurn;
+    return this.sizes.isFair ? [...groups.filter(group => group > last), ...groups.filter(group => group <= last)] : groups;
   }
   /** A group's turn in a pass: it ends at what is protected. The third pass spares what memory.min protects, and notes if it took what memory.low does. */
   *turn(top, group, pass, want, attempt, detail) {
@@ -188,6 +193,7 @@ class Follower {
     let freed = 0;
     if (pass === 1 && most < want && current) detail(`# spared ${facts}`);
     if (most <= 0) return;
+    this.lastTurn = group;
     while (pass === 1 && state.length[active] > state.length[inactive]) this.move(state.first[active], false);
     for (const list of pass === 1 ? [inactive] : [inactive, active]) {
       const last = state.last[list];

@@ -24,6 +24,8 @@ pub struct Sizes {
     pub reclaim_batch: u32,
     /// Whether no group is killed, if it isn't 0: a charge without room is refused.
     pub no_kill: u32,
+    /// Whether turns of reclaim go round, if it isn't 0: each pass begins after the group that had the last turn.
+    pub fair: u32,
 }
 
 impl Sizes {
@@ -48,6 +50,7 @@ impl Sizes {
         ensures { result ≡ choices_of self.now }
     {
         Choices {
+            is_fair: self.fair != 0,
             is_no_kill: self.no_kill != 0,
             reclaim_batch: self.reclaim_batch.max(1),
         }

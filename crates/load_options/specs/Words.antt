@@ -56,7 +56,7 @@ size_rules =
 
 -- the options of the sizes and choices
 abbrev pub zone_rules : List Rule
-zone_rules = size_rules ++ flag_rule (codes "no-kill") ∷ []
+zone_rules = size_rules ++ flag_rule (codes "no-kill") ∷ flag_rule (codes "fair") ∷ []
 
 -- the options that both subcommands that answer scripts have
 abbrev pub task_rules : List Rule
@@ -137,7 +137,11 @@ o >>= f = option_and_then f o
 abbrev pub choices_in : List Row → Option Choices
 choices_in found = do
   reclaim_batch ← size_in (codes "reclaim-batch") most_reclaim_batch found
-  Some (record { is_no_kill = is_given (codes "no-kill") found; reclaim_batch = reclaim_batch })
+  Some (record {
+    is_fair = is_given (codes "fair") found;
+    is_no_kill = is_given (codes "no-kill") found;
+    reclaim_batch = reclaim_batch;
+  })
 
 -- each size is the value of its own option
 abbrev pub sizes_in : List Row → Option Config

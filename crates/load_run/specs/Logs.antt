@@ -27,7 +27,9 @@ flag_text is_made name = if is_made then name else []
 
 -- the text of the choices that the boot makes
 abbrev pub choices_text : Choices → List ℕ
-choices_text choices = batch_text choices.reclaim_batch ++ flag_text choices.is_no_kill (codes " no-kill")
+choices_text choices =
+    batch_text choices.reclaim_batch
+    ++ (flag_text choices.is_no_kill (codes " no-kill") ++ flag_text choices.is_fair (codes " fair"))
 
 -- the comment that a log of ours is known by: the sizes of the boot that the zone's line doesn't have, and its choices
 abbrev pub sizes_comment : Config → List ℕ

@@ -44,7 +44,8 @@ fn write_choices(choices: &Choices, text: &mut String) -> Result<(), AllocError>
         let reclaim_batch = choices.reclaim_batch;
         write!(text, " reclaim-batch {reclaim_batch}")?;
     }
-    write_flag(choices.is_no_kill, " no-kill", text)
+    write_flag(choices.is_no_kill, " no-kill", text)?;
+    write_flag(choices.is_fair, " fair", text)
 }
 
 // Writes the name of a choice that has no value, if the boot makes it.

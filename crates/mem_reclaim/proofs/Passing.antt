@@ -185,7 +185,7 @@ low_broken t of_min of_low usage g want freed m x n last leads held is runs visi
 
 -- ---- a turn
 
-last_not_first : (pass : Pass) (settings : List ReclaimSettings) → is_last pass settings ≡ true → is_first pass ≡ false
+pub last_not_first : (pass : Pass) (settings : List ReclaimSettings) → is_last pass settings ≡ true → is_first pass ≡ false
 last_not_first First settings last = absurd (false≢true last)
 last_not_first Second settings last = refl
 last_not_first Third settings last = refl
