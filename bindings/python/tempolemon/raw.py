@@ -7,7 +7,7 @@ DONE, SMALL_BUFFER, BUSY = 0, 103, 109
 
 
 class Sizes(ctypes.Structure):
-    _fields_ = [(name, c_uint32) for name in ("frames", "cpus", "batch", "high", "stock")]
+    _fields_ = [(name, c_uint32) for name in ("frames", "cpus", "batch", "high", "stock", "reclaim_batch", "no_kill", "fair")]
 
 
 class Handle(ctypes.Structure):
