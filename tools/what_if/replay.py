@@ -241,6 +241,8 @@ class Replay:
         if words[0] == "frame":
             self.count(group, 1)
             return int(words[1])
+        if words[1] == "15" and self.session.is_no_kill:
+            return None # the page isn't given, and nobody dies
         if words[1] == "15" and not group.death:
             # Nobody below the limit had anything that a kill could free. A task would die that can't have its page.
             self.bury(group, self.groups[from_node(words[3])], group, answer)
