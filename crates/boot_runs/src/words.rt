@@ -120,3 +120,15 @@ fn asks_for_what_the_words_say(rt: HostRuntime) {
         expect_row(&rt, asked == wanted, words);
     }
 }
+
+#[test]
+fn asks_for_the_choices(rt: HostRuntime) {
+    let words = "lint --fair --reclaim-batch 64 --no-kill";
+    let wanted = Choices {
+        is_fair: true,
+        is_no_kill: true,
+        reclaim_batch: 64,
+    };
+    let asked = options(rt.alloc(), &words_of(&rt, words)).expect(&rt, words);
+    expect_row(&rt, asked.sizes.choices == wanted, words);
+}

@@ -1,6 +1,6 @@
 -- Rounds of reclaim, as far as they were made. Serves `reclaim_round`, `reclaim_in_batches`, `reclaim_to_limit` and `reclaim_amount`.
 use Rattle.std.proofs.Common.{◌≡◌, ◌≢◌, ◌⊎◌, ℕ, zero, suc, ap, ◌+◌, ◌-◌, ◌*◌, ◌^◌, ◌<◌, ◌≤◌, Bool, true, [], ◌++◌, refl, sym, ◌∙◌, subst, inl, inr, arith}
-use Rattle.std.specs.Prelude.{nat_lt}
+use Rattle.std.specs.Prelude.{max, nat_lt}
 use Rattle.std.proofs.lemmas.Bool.{lt-ltb}
 use Rattle.std.proofs.lemmas.List.{append_assoc, append-nil}
 use Rattle.frame_word.specs.Tables.{KnownTable}
@@ -88,7 +88,7 @@ asks_missing = record { least = λ n. omega arith }
 
 batch_least : (batch n : ℕ) → n ≤ wanted_pages batch n
 batch_least batch zero = omega arith
-batch_least batch (suc n) = omega arith
+batch_least batch (suc n) = let is : wanted_pages batch (suc n) ≡ max batch (suc n) = refl in omega (arith, is)
 
 -- it wants at least a batch
 pub asks_batch : (batch : ℕ) → AsksEnough (wanted_pages batch)
@@ -97,7 +97,7 @@ asks_batch batch = record { least = batch_least batch }
 -- a batch of one page asks for no page more
 one_each : (n : ℕ) → wanted_pages 1 n ≡ n
 one_each zero = refl
-one_each (suc n) = omega arith
+one_each (suc n) = let is : wanted_pages 1 (suc n) ≡ max 1 (suc n) = refl in omega (arith, is)
 
 pub batch_of_one : BatchesOfOneWantWhatIsMissing
 batch_of_one g need limit = λ i ledger. one_each (pages_missing g need limit ledger) i

@@ -19,7 +19,7 @@ use group_charge::note::Note;
 use group_protection::protecting::{Protection, protection_of};
 use group_tree::group::GroupId;
 use lru_lists::record::LruList;
-use mem_machine::{Machine, bit_set, prove_charges, prove_number};
+use mem_machine::{Machine, bit_set, prove_charges};
 use step_rules::step::NoteKey;
 
 /// A pass over the groups of a subtree.
@@ -302,7 +302,6 @@ pub(crate) fn reclaim_pass<N: BootName>(
     let Some(last) = machine.last_turn() else {
         return pass_over(machine, tables, target, groups, want, pass);
     };
-    prove_number(last);
     let (above, others) = bit_set::parted(groups, last.number());
     let freed = pass_over(machine, tables, target, above, want, pass);
     if want <= freed {
