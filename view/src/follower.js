@@ -25,7 +25,7 @@ function choiceOf(state, limited, need, victim = -1) {
  */
 class Follower {
   constructor() {
-    Object.assign(this, { state: null, reader: null, sizes: null, lacksSizes: false, line: null, isEnd: false, plan: null, expected: -1, number: 0, seconds: -1, hasReasons: null, choice: null, choices: 0, lastTurn: MOST_GROUPS - 1 });
+    Object.assign(this, { state: null, reader: null, sizes: null, lacksSizes: false, line: null, isEnd: false, plan: null, expected: -1, number: 0, seconds: -1, hasReasons: null, choice: null, choices: 0, lastTurn: 0 });
     this.sawNone = new Uint8Array(MOST_CPUS + 1); // whether the CPU saw last that its stock has no page
   }
   zone(state, reader) {

@@ -68,11 +68,10 @@ turn_after (Some last) group = Some group
 abbrev pub with_turn : KnownMachine → (group : ℕ) → KnownMachine
 with_turn machine group = record machine { last_turn = turn_after machine.last_turn group }
 
--- what counts as the group of the last turn before any: none if turns don't go round, else the greatest number, so that
--- the first pass begins with the least
+-- the group that had the last turn, before any had one: none if turns don't go round, else the root
 abbrev pub first_turn : (is_fair : Bool) → Option ℕ
 first_turn false = None
-first_turn true = Some 63
+first_turn true = Some 0
 
 -- the machine with details noted from now on, or not
 abbrev pub with_detail_notes : KnownMachine → (is_on : Bool) → KnownMachine

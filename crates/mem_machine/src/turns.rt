@@ -5,14 +5,14 @@ ghost use Rattle.mem_machine.specs.Machines.{first_turn, with_turn};
 
 use crate::machine::Machine;
 use cpu_part::{BootName, Tables};
-use group_tree::group::{GroupId, MAX_GROUPS};
+use group_tree::group::GroupId;
 
-// What counts as the group of the last turn in a new boot: the greatest number, after which the least comes next.
+// In a new boot the root counts as the group that had the last turn.
 pub(crate) fn first_turn<N: BootName>(tables: &Tables<N>) -> Option<GroupId>
     ensures { result ≡ first_turn N.table.choices.is_fair }
 {
     if tables.words.choices().is_fair {
-        GroupId::of(MAX_GROUPS as u32 - 1)
+        Some(GroupId::root())
     } else {
         None
     }
