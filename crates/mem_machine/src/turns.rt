@@ -1,7 +1,7 @@
 //! The group that had the last turn of a reclaim, if turns go round (`Choices::is_fair`).
 
 ghost use Rattle.std.specs.Prelude.{◌≡◌};
-ghost use Rattle.mem_machine.specs.Machines.{first_turn, with_turn};
+ghost use Rattle.mem_machine.specs.Machines.{first_turn, turn_after, with_turn};
 
 use crate::machine::Machine;
 use cpu_part::{BootName, Tables};
@@ -18,6 +18,16 @@ pub(crate) fn first_turn<N: BootName>(tables: &Tables<N>) -> Option<GroupId>
     }
 }
 
+// The group that had the last turn, after a turn of this group.
+fn turn_after(last: Option<GroupId>, group: GroupId) -> Option<GroupId>
+    ensures { result ≡ turn_after last group }
+{
+    match last {
+        Some(_) => Some(group),
+        None => None,
+    }
+}
+
 impl<N: BootName> Machine<N> {
     /// The group that had the last turn of a reclaim; None if turns don't go round.
     pub fn last_turn(&self) -> Option<GroupId>
@@ -30,8 +40,6 @@ impl<N: BootName> Machine<N> {
     pub fn begin_turn(&mut self, group: GroupId)
         ensures { self.new ≡ with_turn self.old group }
     {
-        if self.last_turn.is_some() {
-            self.last_turn = Some(group);
-        }
+        self.last_turn = turn_after(self.last_turn, group);
     }
 }
