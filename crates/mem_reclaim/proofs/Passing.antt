@@ -449,21 +449,31 @@ module _ (groups : List Group) (g all last above others : ℕ) (are : IsSubtree 
 
   above_is : filter (nat_lt last) (subtree_of groups g) ≡ members_of above
   unfolding subtree_of
-  above_is = part_members above (in_subtree groups g) (nat_lt last) 0 64 (λ i from low. (
-    λ one. let is = cond_one (nat_lt last i) (bit_at all i) (sym (above_are i low) ∙ one) in
-    both_true (in_subtree groups g i) (nat_lt last i) ((are i low).0 is.0) is.1,
-    λ both. let parts = and_parts (in_subtree groups g i) (nat_lt last i) both in
-    above_are i low ∙ cond-true (nat_lt last i) (bit_at all i) 0 parts.1 ∙ (are i low).1 parts.0,
-  ))
+  above_is = part_members above (in_subtree groups g) (nat_lt last) 0 64 (λ i from low. (above_of i low, above_from i low))
+    where
+      above_of : (i : ℕ) → i < 64 → bit_at above i ≡ 1 → (in_subtree groups g i && nat_lt last i) ≡ true
+      above_of i low one =
+          let is = cond_one (nat_lt last i) (bit_at all i) (sym (above_are i low) ∙ one) in
+          both_true (in_subtree groups g i) (nat_lt last i) ((are i low).0 is.0) is.1
+
+      above_from : (i : ℕ) → i < 64 → (in_subtree groups g i && nat_lt last i) ≡ true → bit_at above i ≡ 1
+      above_from i low both =
+          let parts = and_parts (in_subtree groups g i) (nat_lt last i) both in
+          above_are i low ∙ cond-true (nat_lt last i) (bit_at all i) 0 parts.1 ∙ (are i low).1 parts.0
 
   others_is : filter (λ i. not (nat_lt last i)) (subtree_of groups g) ≡ members_of others
   unfolding subtree_of
-  others_is = part_members others (in_subtree groups g) (λ i. not (nat_lt last i)) 0 64 (λ i from low. (
-    λ one. let is = cond_two (nat_lt last i) (bit_at all i) (sym (others_are i low) ∙ one) in
-    both_true (in_subtree groups g i) (not (nat_lt last i)) ((are i low).0 is.0) is.1,
-    λ both. let parts = and_parts (in_subtree groups g i) (not (nat_lt last i)) both in
-    others_are i low ∙ cond-false (nat_lt last i) 0 (bit_at all i) (not-true (nat_lt last i) parts.1) ∙ (are i low).1 parts.0,
-  ))
+  others_is = part_members others (in_subtree groups g) (λ i. not (nat_lt last i)) 0 64 (λ i from low. (others_of i low, others_from i low))
+    where
+      others_of : (i : ℕ) → i < 64 → bit_at others i ≡ 1 → (in_subtree groups g i && not (nat_lt last i)) ≡ true
+      others_of i low one =
+          let is = cond_two (nat_lt last i) (bit_at all i) (sym (others_are i low) ∙ one) in
+          both_true (in_subtree groups g i) (not (nat_lt last i)) ((are i low).0 is.0) is.1
+
+      others_from : (i : ℕ) → i < 64 → (in_subtree groups g i && not (nat_lt last i)) ≡ true → bit_at others i ≡ 1
+      others_from i low both =
+          let parts = and_parts (in_subtree groups g i) (not (nat_lt last i)) both in
+          others_are i low ∙ cond-false (nat_lt last i) 0 (bit_at all i) (not-true (nat_lt last i) parts.1) ∙ (are i low).1 parts.0
 
   pub parts_rotated : members_of above ++ members_of others ≡ rotated last (subtree_of groups g)
   parts_rotated = λ i. sym above_is i ++ sym others_is i

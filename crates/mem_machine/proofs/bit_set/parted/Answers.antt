@@ -1,5 +1,6 @@
 use Rattle.std.proofs.Common.{◌≡◌, ℕ, ◌+◌, ◌-◌, ◌/◌, ◌%◌, ◌^◌, ◌<◌, ◌≤◌, ap, sym, ◌∙◌, inl, inr, arith, nat_lt, bit_and}
 use Rattle.std.specs.Int.{bit_at}
+use Rattle.std.specs.Prelude.{min}
 use Rattle.std.proofs.lemmas.Bool.{cases_lt, cond-false, cond-true, le-ltb, lt-ltb}
 use Rattle.std.proofs.lemmas.Nat.{shr-shr}
 use Rattle.std.proofs.lemmas.Nat.Bits.{bit_at-lt, bit_at_and, bit_at_ones, bit_at_ones_above, bit_at_xor}
@@ -19,31 +20,35 @@ above place i low beyond =
 
 pub returns-clause-others : goal.returns-clause-others
 returns-clause-others c i low =
-    let w = c.args.word in
-    let p = c.args.place in
+    let w : ℕ = c.args.word in
+    let p : ℕ = c.args.place in
     let both = bit_at_and w (ones p) i in
     elim (cases_lt p i) [
       | inl beyond ↦
           let none = above p i c.requires beyond in
-          both ∙ omega (arith, none) ∙ sym (cond-true (nat_lt p i) 0 (bit_at w i) (lt-ltb p i beyond))
+          let is : min (bit_at w i) (bit_at (ones p) i) ≡ 0 = omega (arith, none) in
+          both ∙ is ∙ sym (cond-true (nat_lt p i) 0 (bit_at w i) (lt-ltb p i beyond))
       | inr within ↦
           let one = up_to p i c.requires within in
           let bit = bit_at-lt w i in
-          both ∙ omega (arith, one, bit) ∙ sym (cond-false (nat_lt p i) 0 (bit_at w i) (le-ltb p i within))
+          let is : min (bit_at w i) (bit_at (ones p) i) ≡ bit_at w i = omega (arith, one, bit) in
+          both ∙ is ∙ sym (cond-false (nat_lt p i) 0 (bit_at w i) (le-ltb p i within))
     ]
 
 pub returns-clause-above : goal.returns-clause-above
 returns-clause-above c i low =
-    let w = c.args.word in
-    let p = c.args.place in
+    let w : ℕ = c.args.word in
+    let p : ℕ = c.args.place in
     let both = bit_at_and w (ones p) i in
     let either = bit_at_xor w (bit_and w (ones p)) i in
     let bit = bit_at-lt w i in
     elim (cases_lt p i) [
       | inl beyond ↦
           let none = above p i c.requires beyond in
-          either ∙ omega (arith, both, none, bit) ∙ sym (cond-true (nat_lt p i) (bit_at w i) 0 (lt-ltb p i beyond))
+          let is : (bit_at w i + bit_at (bit_and w (ones p)) i) % 2 ≡ bit_at w i = omega (arith, both, none, bit) in
+          either ∙ is ∙ sym (cond-true (nat_lt p i) (bit_at w i) 0 (lt-ltb p i beyond))
       | inr within ↦
           let one = up_to p i c.requires within in
-          either ∙ omega (arith, both, one, bit) ∙ sym (cond-false (nat_lt p i) (bit_at w i) 0 (le-ltb p i within))
+          let is : (bit_at w i + bit_at (bit_and w (ones p)) i) % 2 ≡ 0 = omega (arith, both, one, bit) in
+          either ∙ is ∙ sym (cond-false (nat_lt p i) (bit_at w i) 0 (le-ltb p i within))
     ]
