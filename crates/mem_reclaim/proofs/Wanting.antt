@@ -146,13 +146,9 @@ pub frees_first : {A : Type 0} (t : KnownTable) (does : A → ℕ → Reclaiming
     → FreesBySteps t some m k (WhileWanted does xs want) → FreesBySteps t some m k (WhileWanted does (xs ++ ys) want)
 frees_first t does xs ys want m k some enough first =
     let e : some + 0 ≡ some = omega arith in
-    let none : want - some ≡ 0 = omega (arith, enough) in
     subst (λ (x : ℕ). FreesBySteps t x m k (WhileWanted does (xs ++ ys) want)) e
-    (frees_both t does xs ys want m k k some 0 first (record { steps = []; does = rests ys (want - some) none; moves = moves_rest t k }))
-  where
-    rests : (todo : List _) (w : ℕ) → w ≡ 0 → WhileWanted does todo w (progress 0 k [] k)
-    rests [] w none = rested k
-    rests (x ∷ later) w none = inl (none, rested k)
+    (frees_both t does xs ys want m k k some 0 first
+    (record { steps = []; does = left_alone t does ys want m ys some k enough; moves = moves_rest t k }))
 
 -- ---- a first thing, a second and a third
 
