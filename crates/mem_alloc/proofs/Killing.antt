@@ -17,7 +17,7 @@ use Rattle.boot_words.specs.Pasts.{IsHeld}
 use Rattle.step_rules.specs.{sum_to, Run}
 use Rattle.group_charge.specs.declared.note.Note.TheVariants as notes
 use Rattle.mem_machine.specs.{IsConsistent, KnownMachine, is_killed, with_run, with_note, Makes, StaysVisited, note_oom_steps, BySteps, MachineStays}
-use Rattle.mem_machine.specs.{transition, KnownRun}
+use Rattle.mem_machine.specs.{Transition, transition, KnownRun}
 use Rattle.mem_reclaim.specs.declared.sets.Killed.{Killed}
 use Rattle.mem_reclaim.specs.{IsKilledBy, OnlyDrains, OnlyReleases, with_all_killed, IsKilledRoot, kill_set, IsVictim}
 use Rattle.mem_reclaim.proofs.Choosing.{chosen_there}

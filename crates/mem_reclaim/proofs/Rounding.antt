@@ -1,7 +1,7 @@
 -- Rounds of reclaim, as far as they were made. Serves `reclaim_round`, `reclaim_in_batches`, `reclaim_to_limit` and `reclaim_amount`.
-use Rattle.std.proofs.Common.{◌≡◌, ◌≢◌, ◌⊎◌, ℕ, zero, suc, ap, ◌+◌, ◌-◌, ◌*◌, ◌^◌, ◌<◌, ◌≤◌, Bool, true, [], ◌++◌, refl, sym, ◌∙◌, subst, inl, inr, arith}
+use Rattle.std.proofs.Common.{◌≡◌, ◌≢◌, ◌⊎◌, ℕ, zero, suc, ap, ◌+◌, ◌-◌, ◌*◌, ◌^◌, ◌<◌, ◌≤◌, ◌==◌, Bool, true, [], ◌++◌, refl, sym, ◌∙◌, subst, inl, inr, arith}
 use Rattle.std.specs.Prelude.{max, nat_lt}
-use Rattle.std.proofs.lemmas.Bool.{lt-ltb}
+use Rattle.std.proofs.lemmas.Bool.{cond-false, lt-ltb, ne_eqb}
 use Rattle.std.proofs.lemmas.List.{append_assoc, append-nil}
 use Rattle.frame_word.specs.Tables.{KnownTable}
 use Rattle.group_charge.specs.{Ledger, current_of}
@@ -86,9 +86,12 @@ pub record AsksEnough (wanted : ℕ → ℕ) : Type 0 where
 pub asks_missing : AsksEnough (λ n. n)
 asks_missing = record { least = λ n. omega arith }
 
+some_wanted : (batch n : ℕ) → wanted_pages batch (suc n) ≡ max batch (suc n)
+some_wanted batch n = cond-false (suc n == 0) 0 (max batch (suc n)) (ne_eqb (suc n) 0 (λ none. omega (arith, none)))
+
 batch_least : (batch n : ℕ) → n ≤ wanted_pages batch n
 batch_least batch zero = omega arith
-batch_least batch (suc n) = let is : wanted_pages batch (suc n) ≡ max batch (suc n) = refl in omega (arith, is)
+batch_least batch (suc n) = let is = some_wanted batch n in omega (arith, is)
 
 -- it wants at least a batch
 pub asks_batch : (batch : ℕ) → AsksEnough (wanted_pages batch)
@@ -97,7 +100,7 @@ asks_batch batch = record { least = batch_least batch }
 -- a batch of one page asks for no page more
 one_each : (n : ℕ) → wanted_pages 1 n ≡ n
 one_each zero = refl
-one_each (suc n) = let is : wanted_pages 1 (suc n) ≡ max 1 (suc n) = refl in omega (arith, is)
+one_each (suc n) = let is = some_wanted 1 n in omega (arith, is)
 
 pub batch_of_one : BatchesOfOneWantWhatIsMissing
 batch_of_one g need limit = λ i ledger. one_each (pages_missing g need limit ledger) i
