@@ -25,17 +25,17 @@ batch_text batch = if batch == 1 then [] else codes " reclaim-batch " ++ decimal
 abbrev pub flag_text : (is_made : Bool) → List ℕ → List ℕ
 flag_text is_made name = if is_made then name else []
 
--- the text of the choices that the boot makes
-abbrev pub choices_text : Choices → List ℕ
-choices_text choices =
-    batch_text choices.reclaim_batch
-    ++ (flag_text choices.is_no_kill (codes " no-kill") ++ flag_text choices.is_fair (codes " fair"))
+-- the text with the choices that the boot makes
+abbrev pub with_choices : List ℕ → Choices → List ℕ
+with_choices text choices =
+    ((text ++ batch_text choices.reclaim_batch) ++ flag_text choices.is_no_kill (codes " no-kill"))
+    ++ flag_text choices.is_fair (codes " fair")
 
 -- the comment that a log of ours is known by: the sizes of the boot that the zone's line doesn't have, and its choices
 abbrev pub sizes_comment : Config → List ℕ
 sizes_comment sizes =
-    codes "# memcg batch " ++ (decimal sizes.batch ++ (codes " high " ++ (decimal sizes.high ++ (codes " stock "
-    ++ (decimal sizes.stock ++ (choices_text sizes.choices ++ codes "\n"))))))
+    with_choices (codes "# memcg batch " ++ (decimal sizes.batch ++ (codes " high " ++ (decimal sizes.high
+    ++ (codes " stock " ++ decimal sizes.stock))))) sizes.choices ++ codes "\n"
 
 -- what a log of a boot with these sizes begins with: the zone's line, and the comment with the other sizes
 abbrev pub log_head_text : Config → List ℕ

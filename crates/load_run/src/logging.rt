@@ -8,7 +8,7 @@ ghost use Rattle.step_watch.specs.Watched.{has_whole_log, log_text};
 ghost use Rattle.line_server.specs.Logs.{AddsPart, answer_comments};
 ghost use Rattle.load_run.specs.Ending.{boot_end_text};
 ghost use Rattle.load_run.specs.Logs.{AreLoggedSteps, GrowsBy, LogsAll, LogsEnd, log_head_text};
-ghost use Rattle.load_run.specs.Logs.{choices_text, flag_text, sizes_comment, text_at, text_of_line};
+ghost use Rattle.load_run.specs.Logs.{batch_text, flag_text, sizes_comment, text_at, text_of_line, with_choices};
 
 use crate::boot_end::{BootEnd, empty_cpus, write_boot_end};
 use cpu_part::{BootName, Tables};
@@ -36,26 +36,30 @@ fn add_sizes(alloc: Global, sizes: &Config, log: &mut Vec<u8>) -> Result<(), All
     log.extend_from_slice(text.as_bytes())
 }
 
-// Writes the choices that a boot without any choice doesn't make.
-fn write_choices(choices: &Choices, text: &mut String) -> Result<(), AllocError>
-    ensures { OnOk result (text.new ≡ text.old ++ choices_text choices.now) }
+// Writes the batch of reclaim, if the boot chose one.
+fn write_batch(batch: u32, text: &mut String) -> Result<(), AllocError>
+    ensures { OnOk result (text.new ≡ text.old ++ batch_text batch) }
 {
-    if choices.reclaim_batch != 1 {
-        let reclaim_batch = choices.reclaim_batch;
-        write!(text, " reclaim-batch {reclaim_batch}")?;
+    if batch == 1 {
+        return Ok(());
     }
-    write_flag(choices.is_no_kill, " no-kill", text)?;
-    write_flag(choices.is_fair, " fair", text)
+    write!(text, " reclaim-batch {batch}")
 }
 
 // Writes the name of a choice that has no value, if the boot makes it.
 fn write_flag(is_made: bool, name: &str, text: &mut String) -> Result<(), AllocError>
     ensures { OnOk result (text.new ≡ text.old ++ flag_text is_made name.now) }
 {
-    if is_made {
-        text.push_str(name)?;
-    }
-    Ok(())
+    text.push_str(if is_made { name } else { "" })
+}
+
+// Writes the choices that the boot makes.
+fn write_choices(choices: &Choices, text: &mut String) -> Result<(), AllocError>
+    ensures { OnOk result (text.new ≡ with_choices text.old choices.now) }
+{
+    write_batch(choices.reclaim_batch, text)?;
+    write_flag(choices.is_no_kill, " no-kill", text)?;
+    write_flag(choices.is_fair, " fair", text)
 }
 
 // The text of the line of this number, from 1; nothing if there is none.
