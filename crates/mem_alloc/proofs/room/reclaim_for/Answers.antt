@@ -17,8 +17,8 @@ returns-in-Some-clause-reclaims g c =
     let t = g.N.BootName.table in
     let is : limit_of c.args.machine.now.ledger.groups c.args.limited ≡ Some c.in-Some.limit =
     ap (λ (l : Ledger). limit_of l.groups c.args.limited) (sym c.charges.ensures) ∙ sym c.max.ensures ∙ c.in-Some.is in
-    let chosen : c.choices.result.reclaim_batch ≡ t.choices.reclaim_batch =
-    ap (λ (k : Choices). k.reclaim_batch) c.choices.ensures ∙ ap (λ (w : KnownTable). w.choices.reclaim_batch) c.args.tables.now.words_are in
+    let chosen : c.choices-batch.result.reclaim_batch ≡ t.choices.reclaim_batch =
+    ap (λ (k : Choices). k.reclaim_batch) c.choices-batch.ensures ∙ ap (λ (w : KnownTable). w.choices.reclaim_batch) c.args.tables.now.words_are in
     let e = c.reclaim_in_batches.ensures in
-    rounds_for t c.args.limited c.args.pages c.in-Some.limit c.choices.result.reclaim_batch c.reclaim_in_batches.result c.args.machine.now
+    rounds_for t c.args.limited c.args.pages c.in-Some.limit c.choices-batch.result.reclaim_batch c.reclaim_in_batches.result c.args.machine.now
     c.reclaim_in_batches.new.machine is chosen e.rounds e.missed e.keeps
