@@ -7,11 +7,18 @@ use crate::machine::Machine;
 use cpu_part::{BootName, Tables};
 use group_tree::group::GroupId;
 
+// Whether the boot chose that turns go round.
+fn is_fair<N: BootName>(tables: &Tables<N>) -> bool
+    ensures { result ≡ N.table.choices.is_fair }
+{
+    tables.words.choices().is_fair
+}
+
 // In a new boot the root counts as the group that had the last turn.
 pub(crate) fn first_turn<N: BootName>(tables: &Tables<N>) -> Option<GroupId>
     ensures { result ≡ first_turn N.table.choices.is_fair }
 {
-    if tables.words.choices().is_fair {
+    if is_fair(tables) {
         Some(GroupId::root())
     } else {
         None
