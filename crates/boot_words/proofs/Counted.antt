@@ -1,14 +1,14 @@
 -- The word of a frame counts its references. Serves `words_count_references`.
 use Rattle.std.proofs.Common.{◌≡◌, ℕ, ◌<◌, ◌≤◌, ◌==◌, ◌||◌, true, false, Some, None, refl, ap, sym, ◌∙◌, subst, arith, eq-eqb}
 use Rattle.std.specs.Prelude.{MatchOption, slice_index}
-use Rattle.frame_word.specs.{mark, most_references, visit_index}
+use Rattle.frame_word.specs.{mark, visit_index}
 use Rattle.step_rules.specs.declared.phase.ChargedUnit.{ChargedUnit}
 use Rattle.step_rules.specs.declared.phase.Stage.{Stage}
 use Rattle.step_rules.specs.declared.phase.Stage.TheVariants.{AwaitsReturn, BackAt, BackPassing, Bare, Collected, FreshAt, FreshPassing, Live}
 use Rattle.step_rules.specs.declared.phase.Way.TheVariants.{OnList, PassingBack, PassingOut}
 use Rattle.step_rules.specs.declared.phase.Phase.{Phase}
 use Rattle.step_rules.specs.declared.phase.Phase.TheVariants.{InZone, Lent, Head, Tail}
-use Rattle.step_rules.specs.State.{State}
+use Rattle.step_rules.specs.State.{State, most_references}
 use Rattle.step_rules.specs.{is_live_phase, passes_back, passes_out, Zone, is_cpu, live_references, one_if, visits, Run, state_of, PhasePaid, groups_in, lent_to, holds_lock}
 use Rattle.step_rules.proofs.Freeing.{zone_of_run}
 use Rattle.step_rules.proofs.Keeping.{homed_run}

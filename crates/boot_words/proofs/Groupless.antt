@@ -1,6 +1,5 @@
 -- A CPU that saw no group last has no fresh frame.
 use Rattle.std.proofs.Common.{[], ◌≡◌, ℕ, ◌≤◌, Bool, true, false, None, List, ◌∷◌, refl, ap, sym, ◌∙◌, subst, arith, inl, inr, eq-eqb}
-use Rattle.frame_word.specs.Tables.{KnownTable}
 use Rattle.stock_word.specs.declared.stock.Stock.TheVariants.{NoGroup}
 use Rattle.stock_word.specs.Stock.{drained_of, group_of}
 use Rattle.step_rules.specs.declared.step.Action.TheVariants.{Credit}
@@ -10,7 +9,7 @@ use Rattle.step_rules.specs.State.{State, one_if, times}
 use Rattle.step_rules.proofs.LegalTests.{credit_tests}
 use Rattle.step_rules.proofs.PhaseLemmas.{fresh_is, none_some}
 use Rattle.step_rules.proofs.Runs.{sound_run}
-use Rattle.boot_words.specs.{MayDo, own_past, zone_of_boot, IsAwayCpu, KnownCpuSeat, state_left, NoGroupNothingFresh}
+use Rattle.boot_words.specs.{MayDo, own_past, zone_of_boot, IsAwayCpu, KnownCpuSeat, state_left, NoGroupNothingFresh, KnownTable}
 use Rattle.boot_words.proofs.Drains.{group_by}
 
 -- the group of the stock that its past left

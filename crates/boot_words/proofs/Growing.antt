@@ -6,6 +6,7 @@ use Rattle.std.proofs.lemmas.Bool.{false≢true}
 use Rattle.std.proofs.lemmas.List.{length-set, set-get_or}
 use mathlib.Core.Option.{some}
 use lib.ListN.{get_elem?}
+use Rattle.stock_word.specs.Stock.{group_base}
 use Rattle.step_rules.specs.declared.phase.Hold.{Hold}
 use Rattle.step_rules.specs.declared.phase.Hold.TheVariants.{HeldBy, Unheld, Visiting}
 use Rattle.step_rules.specs.declared.step.Action.{Action}
@@ -151,7 +152,7 @@ pub grown_begins : (zone : Zone) (run : Run) (p : Past) (e : Step × Answer) (go
 grown_begins zone run p e goes small = record {
   goes = record { rest = []; is = ap (λ l. l ++ e ∷ []) goes.is ∙ sym (append_none ((p.seen ++ goes.rest) ++ e ∷ [])); others = tt };
   fast = λ lock. tt;
-  few = subst (λ r. ((state_of zone (r ++ e ∷ [])).parts p.number).book < 65536) goes.is (small p.number);
+  few = subst (λ r. ((state_of zone (r ++ e ∷ [])).parts p.number).book < group_base) goes.is (small p.number);
 }
 
 at_most : (b : Bool) → one_if b ≤ 1

@@ -1,6 +1,5 @@
 -- Gets and puts leave a CPU's stock alone, and what the CPU knows of it.
 use Rattle.std.proofs.Common.{[], ◌≡◌, ℕ, ◌==◌, Bool, true, false, cond, ◌∷◌, ◌++◌, length, refl, ap, sym, ◌∙◌, subst}
-use Rattle.frame_word.specs.Tables.{KnownTable}
 use Rattle.step_rules.specs.declared.step.Action.{Action}
 use Rattle.step_rules.specs.declared.step.Action.TheVariants.{Get, Put}
 use Rattle.step_rules.specs.declared.step.Answer.{Answer}
@@ -9,7 +8,7 @@ use Rattle.step_rules.specs.State.{State}
 use Rattle.step_rules.specs.{with_at, after, state_of, IsLegalRun, with_back, holds_lock}
 use Rattle.step_rules.proofs.Basics.{at_same}
 use Rattle.step_rules.proofs.Runs.{legal_from, state_more}
-use Rattle.boot_words.specs.{HasNoStepOf, IsFast, stock_in, stock_said, KnownPasts, own_past, zone_of_boot}
+use Rattle.boot_words.specs.{HasNoStepOf, IsFast, stock_in, stock_said, KnownPasts, own_past, zone_of_boot, KnownTable}
 use Rattle.boot_words.proofs.Holding.{take_length}
 use Rattle.boot_words.proofs.Away.{away_stays}
 use Rattle.frame_word.specs.declared.answers.Get as gets

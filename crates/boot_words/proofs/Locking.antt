@@ -3,7 +3,6 @@ use Rattle.std.proofs.Common.{[], ◌≡◌, ◌≢◌, ℕ, ◌+◌, ◌≤◌,
 use Rattle.std.specs.Prelude.{slice_index, not}
 use Rattle.std.proofs.lemmas.Bool.{or_left}
 use Rattle.atomic_table.specs.Table.{keeps}
-use Rattle.frame_word.specs.Tables.{KnownTable}
 use Rattle.stock_word.specs.declared.stock.Stock.{Stock}
 use Rattle.stock_word.specs.{HasWord, word_of, stock_index}
 use Rattle.step_rules.specs.declared.phase.Hold.TheVariants.{HeldBy, Unheld}
@@ -22,7 +21,7 @@ use Rattle.step_rules.proofs.Runs.{legal_more, state_more}
 use Rattle.step_rules.proofs.SoundSteps.{cpu_range}
 use Rattle.boot_words.specs.{OthersFollow, GrewBy, IsLegalLater, stock_in, hide, hide_phase, zone_references, HasSameLists, AllOf, BeginsRun}
 use Rattle.boot_words.specs.{HoldsLock, local_seen, LeavesFree, KnownPasts, IsCpuPast, IsHeld, IsHolder, IsZonePast, MayMake, Unlocks, cpu_past}
-use Rattle.boot_words.specs.{local_by_pasts, first_past, own_past, second_past, zone_of_boot, MayChange, first_alone, rest_of, IsAwayCpu}
+use Rattle.boot_words.specs.{local_by_pasts, first_past, own_past, second_past, zone_of_boot, MayChange, first_alone, rest_of, IsAwayCpu, KnownTable}
 use Rattle.boot_words.proofs.StockSteps.{stock_is_at, stock_low}
 use Rattle.boot_words.specs.declared.past.Past.{Past}
 use Rattle.boot_words.specs.Pasts.{Locks}

@@ -1,7 +1,6 @@
 -- A load makes any step that changes no word.
 use Rattle.std.proofs.Common.{[], List, ◌∷◌, refl, sym, subst, rules}
 use Rattle.atomic_table.specs.Table.{keeps}
-use Rattle.frame_word.specs.Tables.{KnownTable}
 use Rattle.step_rules.specs.declared.step.Step.{Step}
 use Rattle.step_rules.specs.declared.step.Action.{Action}
 use Rattle.step_rules.specs.declared.step.Action.TheVariants.{Lock}
@@ -11,7 +10,7 @@ use Rattle.step_rules.specs.{Allows, IsAnswer, IsCounted, state_of, IsLocalStep}
 use Rattle.step_rules.proofs.LocalLaws.{made_allows}
 use Rattle.step_rules.proofs.Own.{own_answer}
 use Rattle.step_rules.proofs.Runs.{legal_more, sound_run}
-use Rattle.boot_words.specs.{IsPlain, KnownPasts, IsHeld, cpu_past, local_by_pasts, own_past, zone_of_boot, MayChange}
+use Rattle.boot_words.specs.{IsPlain, KnownPasts, IsHeld, cpu_past, local_by_pasts, own_past, zone_of_boot, MayChange, KnownTable}
 use Rattle.boot_words.specs.declared.past.Past.{Past}
 use Rattle.boot_words.proofs.Grown.{grown}
 use Rattle.boot_words.proofs.HolderSteps.{legal_now, next_holds}

@@ -1,7 +1,6 @@
 -- A CPU and the zone see the same run, and what a CPU knows then.
 use Rattle.std.proofs.Common.{[], ◌≡◌, ℕ, zero, suc, ◌+◌, ◌≤◌, true, List, ◌∷◌, ◌++◌, length, refl, ap, sym, ◌∙◌, subst, arith, inl}
 use Rattle.std.specs.Prelude.{slice_index}
-use Rattle.frame_word.specs.Tables.{KnownTable}
 use Rattle.step_rules.specs.declared.step.Step.{Step}
 use Rattle.step_rules.specs.declared.step.Action.TheVariants.{Lock}
 use Rattle.step_rules.specs.declared.step.Answer.{Answer}
@@ -12,7 +11,7 @@ use Rattle.step_rules.proofs.CoverParts.{own_part}
 use Rattle.step_rules.proofs.Runs.{legal_from, state_more}
 use Rattle.boot_words.specs.{SeesMore, hide, LeavesFree, HasNoStepOf, HasSameLists, stock_in, AllOf, BeginsRun, KnownPasts, IsCpuPast, IsZonePast}
 use Rattle.boot_words.specs.{Meets, cpu_past, first_past, local_by_pasts, own_past, second_past, zone_of_boot, MayChange, first_alone, rest_of}
-use Rattle.boot_words.specs.{IsAwayCpu, KnownCpuSeat, SawLast, cpu_at_first, cpus_at_first}
+use Rattle.boot_words.specs.{IsAwayCpu, KnownCpuSeat, SawLast, cpu_at_first, cpus_at_first, KnownTable}
 use Rattle.boot_words.specs.declared.past.Past.{Past}
 use Rattle.boot_words.specs.Pasts.{Locks}
 use Rattle.boot_words.proofs.Away.{away_stays}

@@ -1,12 +1,13 @@
 -- The end of a table.
 use Rattle.std.specs.Prelude.{[], ◌≡◌, ℕ, ◌≤◌, ◌<◌, ◌++◌, nat_le, List, ◌∷◌}
-use Rattle.frame_word.specs.{KnownTable}
+use Rattle.stock_word.specs.Stock.{group_base}
 use Rattle.step_rules.specs.{Zone, one_if, Run, state_of}
 use Rattle.boot_words.specs.Pasts.{IsCpuPast}
 use Rattle.boot_words.specs.Words.{IsRunOf}
 use Rattle.boot_words.specs.declared.past.Past.{Past}
 use Rattle.boot_words.specs.Rule.{sum_over, AllOf, words_in, BeginsRun, of_number}
 use Rattle.boot_words.specs.Cpus.{KnownCpuSeat}
+use Rattle.boot_words.specs.Tables.{KnownTable}
 
 -- the seat has the past of one of the CPUs
 abbrev pub HasCpuPast : KnownTable → KnownCpuSeat → Type 0
@@ -22,7 +23,7 @@ pasts_of_cpus (c ∷ cpus) = c.past.pasts ++ pasts_of_cpus cpus
 pub record IsEndOfRun (zone : Zone) (words : List ℕ) (pasts : List Past) : Type 0 where
   pub run : Run
   pub is : IsRunOf zone (words_in zone words) run
-  pub small : (cpu : ℕ) → ((state_of zone run).parts cpu).book < 65536
+  pub small : (cpu : ℕ) → ((state_of zone run).parts cpu).book < group_base
   pub begin : AllOf (BeginsRun zone run) pasts
   pub few : (number : ℕ) → sum_over (of_number number) pasts ≤ one_if (nat_le number zone.cpus)
 

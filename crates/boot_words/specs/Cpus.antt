@@ -1,6 +1,5 @@
 -- The seat of a CPU in contracts, and its calls on its own stock.
 use Rattle.std.specs.Prelude.{◌≡◌, ◌≢◌, ◌⊎◌, ℕ, ◌+◌, false, Some, MatchBool}
-use Rattle.frame_word.specs.Tables.{KnownTable}
 use Rattle.stock_word.specs.declared.stock.Stock.{Stock}
 use Rattle.stock_word.specs.declared.stock.Stock.TheVariants.{HeldBy}
 use Rattle.stock_word.specs.declared.answers.Consume.{Consume}
@@ -18,6 +17,7 @@ use Rattle.boot_words.specs.Pasts.{KnownPasts, own_past, IsCpuPast}
 use Rattle.boot_words.specs.Seats.{zone_of_boot}
 use Rattle.boot_words.specs.Words.{stock_in}
 use Rattle.boot_words.specs.Calls.{CpuMakes}
+use Rattle.boot_words.specs.Tables.{KnownTable}
 
 -- what a contract sees of the seat: its pasts, the CPU's number, and the last stock that the CPU saw
 pub record KnownCpuSeat : Type 0 where

@@ -1,8 +1,9 @@
 -- Laws of the words, the run beside them and the pasts of all seats, between any two atomic steps.
 use Rattle.std.specs.Prelude.{[], ◌≡◌, ◌≢◌, ◌↔◌, ℕ, ◌+◌, ◌<◌, ◌≤◌, true, Option, Some, None, MatchOption, List, length, slice_index}
-use Rattle.frame_word.specs.{mark, most_references, visit_index, KnownTable}
+use Rattle.frame_word.specs.{mark, visit_index}
 use Rattle.stock_word.specs.declared.stock.Stock.TheVariants.{NoGroup}
 use Rattle.stock_word.specs.{word_of, stock_pages_of, stock_index, report_index, HasWord}
+use Rattle.stock_word.specs.Stock.{group_base}
 use Rattle.step_rules.specs.declared.phase.Way.TheVariants.{OnList}
 use Rattle.step_rules.specs.declared.phase.Stage.{Stage}
 use Rattle.step_rules.specs.declared.phase.Stage.TheVariants.{AwaitsReturn, BackAt, Bare, Collected, FreshAt}
@@ -11,7 +12,7 @@ use Rattle.step_rules.specs.declared.phase.Phase.TheVariants.{InZone, Lent, Head
 use Rattle.step_rules.specs.declared.step.Action.TheVariants.{Get}
 use Rattle.step_rules.specs.declared.step.Answer.TheVariants.{Zero}
 use Rattle.step_rules.specs.State.{State}
-use Rattle.step_rules.specs.{Part, Zone, is_cpu, live_references, state_of}
+use Rattle.step_rules.specs.{Part, Zone, is_cpu, live_references, state_of, most_references}
 use Rattle.boot_words.specs.Pasts.{KnownPasts, IsCpuPast, own_past}
 use Rattle.boot_words.specs.Rule.{words_in, AllPasts, RunRule}
 use Rattle.boot_words.specs.Seats.{zone_of_boot}
@@ -21,6 +22,7 @@ use Rattle.boot_words.specs.Cpus.{IsAwayCpu, KnownCpuSeat, state_left}
 use Rattle.boot_words.specs.Hidden.{hide}
 use Rattle.boot_words.specs.Sight.{HasSameLists, HasSameOrDrained}
 use Rattle.boot_words.specs.Words.{stock_in}
+use Rattle.boot_words.specs.Tables.{KnownTable}
 
 -- ---- references
 
@@ -72,7 +74,7 @@ pub record IsStockBooked (words : List ℕ) (part : Part) (cpu : ℕ) : Type 0 w
   pub has_word : HasWord (stock_in part)
   pub book : part.book ≡ stock_pages_of (stock_in part) + length part.fresh + part.unreported
       + slice_index words (report_index cpu)
-  pub few : part.book < 65536
+  pub few : part.book < group_base
   pub unfilled : part.stock.group ≡ None → part.book ≡ 0
 
 -- Between any two atomic steps, each CPU's prepaid pages are booked so.

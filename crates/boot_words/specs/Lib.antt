@@ -1,3 +1,4 @@
+pub mod Tables
 pub mod Runs
 pub mod Words
 pub mod Steps
@@ -18,6 +19,7 @@ pub mod Opening
 pub mod Closed
 pub mod Laws
 -- what other crates and the proofs import by one name, `Rattle.boot_words.specs`
+pub use Rattle.boot_words.specs.Tables.{KnownTable}
 pub use Rattle.boot_words.specs.Runs.{BooksNothingOf, GrewBy, HasNoStepOf, IsFast, IsLegalLater, OthersFollow, books, no_past}
 pub use Rattle.boot_words.specs.Words.{AreFrameWords, AreStockWords, IsRunOf, frame_word, stock_in, stock_said, with_frame_word, with_report_word}
 pub use Rattle.boot_words.specs.Words.{with_stock_word, word_in_phase}
@@ -33,7 +35,7 @@ pub use Rattle.boot_words.specs.Held.{HoldsLock, freeze_answer, local_seen, put_
 pub use Rattle.boot_words.specs.Locks.{LeavesFree, ZoneRests}
 pub use Rattle.boot_words.specs.Pasts.{IsCpuPast, IsHeld, IsHolder, IsZonePast, KnownPasts, MakesStep, MayDo, MayMake, Meets, Unlocks, cpu_past}
 pub use Rattle.boot_words.specs.Pasts.{first_past, freeze_said, local_by_pasts, own_past, put_said, second_past}
-pub use Rattle.boot_words.specs.Composed.{AreLegal, GrewInTurn, GrewUnderLock, MakesInTurn, answered_done, lend_run, take_back_run}
+pub use Rattle.boot_words.specs.Composed.{AreLegal, GrewInTurn, GrewUnderLock, MakesInTurn, lend_run, take_back_run}
 pub use Rattle.boot_words.specs.Growth.{ABootHasNoSteps, AreChangesOf, GainsGoOn, GainsSteps, GrewByAll, HasInOrder, IsRunSoFar, IsRunWithout}
 pub use Rattle.boot_words.specs.Growth.{SeesMore, TheRunSoFarIsLegal, changes_nothing, changes_of}
 pub use Rattle.boot_words.specs.Calls.{CpuMakes, GetsReference, RacesAt}

@@ -5,7 +5,6 @@ use Rattle.frame_word.specs.declared.answers.Get.{Get}
 use Rattle.frame_word.specs.declared.answers.Get.TheVariants as gets
 use Rattle.frame_word.specs.declared.answers.Put.{Put}
 use Rattle.frame_word.specs.declared.answers.Put.TheVariants as puts
-use Rattle.frame_word.specs.Tables.{KnownTable}
 use Rattle.step_rules.specs.declared.phase.Hold.TheVariants.{HeldBy, Unheld}
 use Rattle.step_rules.specs.declared.step.Action.{Action}
 use Rattle.step_rules.specs.declared.step.Action.TheVariants.{Lock, Unlock}
@@ -21,6 +20,7 @@ use Rattle.boot_words.specs.Seats.{zone_of_boot}
 use Rattle.boot_words.specs.Held.{HoldsLock, local_seen}
 use Rattle.boot_words.specs.Locks.{LeavesFree}
 use Rattle.boot_words.specs.Growth.{SeesMore}
+use Rattle.boot_words.specs.Tables.{KnownTable}
 
 -- a seat's pasts: its own, or the zone's and then that of the CPU that holds the lock, or none while the zone's has it
 pub record KnownPasts : Type 0 where

@@ -97,7 +97,7 @@ pub struct BootWords {
 }
 
 impl Model for BootWords {
-    ghost use Rattle.frame_word.specs.Tables.{KnownTable};
+    ghost use Rattle.boot_words.specs.Tables.{KnownTable};
 
     ghost Value = { KnownTable };
 

@@ -21,13 +21,12 @@ pub struct MemoryStat {
 pub fn stat_text(stat: MemoryStat) -> ArrayText
     ensures { result ≡ stat_text stat }
 {
-    let inactive = u64::from(stat.inactive) * PAGE_BYTES;
-    let active = u64::from(stat.active) * PAGE_BYTES;
-    let dirty = u64::from(stat.dirty) * PAGE_BYTES;
+    let inactive = u64::from(stat.inactive);
+    let active = u64::from(stat.active);
     let mut text = ArrayText::new();
-    push_count(&mut text, b"file", inactive + active);
-    push_count(&mut text, b"file_dirty", dirty);
-    push_count(&mut text, b"inactive_file", inactive);
-    push_count(&mut text, b"active_file", active);
+    push_count(&mut text, b"file", (inactive + active) * PAGE_BYTES);
+    push_count(&mut text, b"file_dirty", u64::from(stat.dirty) * PAGE_BYTES);
+    push_count(&mut text, b"inactive_file", inactive * PAGE_BYTES);
+    push_count(&mut text, b"active_file", active * PAGE_BYTES);
     text
 }

@@ -5,7 +5,6 @@ use Rattle.std.proofs.lemmas.Bool.{le-leb}
 use Rattle.std.specs.Prelude.{IsPermutation, MatchBool, remove}
 use Rattle.frame_word.specs.declared.answers.Get as gets
 use Rattle.frame_word.specs.declared.answers.Get.TheVariants as get
-use Rattle.frame_word.specs.Tables.{KnownTable}
 use Rattle.stock_word.specs.declared.stock.Stock.TheVariants.{HeldBy}
 use Rattle.stock_word.specs.Stock.{drained_of, is_held}
 use Rattle.step_rules.specs.declared.step.Action.{Action}
@@ -17,7 +16,7 @@ use Rattle.step_rules.specs.State.{State}
 use Rattle.step_rules.proofs.Freeing.{zone_of_run}
 use Rattle.step_rules.proofs.Runs.{sound_run}
 use Rattle.boot_words.specs.{IsFast, HasSameLists, MayDo, own_past, zone_of_boot, CpuMakes, GetsReference, Exchanges, IsAwayCpu, KnownCpuSeat}
-use Rattle.boot_words.specs.{state_left}
+use Rattle.boot_words.specs.{state_left, KnownTable}
 use Rattle.boot_words.proofs.OwnParts.{own_part_follows}
 use Rattle.cpu_part.specs.{KnownCpuLists, HasOwn, KnowsItsPart}
 use Rattle.cpu_part.proofs.Legal.{fresh_once, legal_consume, legal_credit, legal_get, legal_put, list_inside, listed_once, pin_inside}

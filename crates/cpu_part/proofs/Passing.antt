@@ -1,7 +1,6 @@
 -- What a step under the lock says of the CPU's frames.
 use Rattle.std.proofs.Common.{◌≡◌, ℕ, ◌<◌, ◌≤◌, List, ◌∷◌, length, sym, ap, ◌∙◌, subst, arith, inr}
 use Rattle.std.proofs.lemmas.Bool.{leb-true, ltb-true}
-use Rattle.frame_word.specs.Tables.{KnownTable}
 use Rattle.step_rules.specs.declared.step.Action.TheVariants.{Consume, PassBack}
 use Rattle.step_rules.specs.{KeepsInvariant, Part, Zone, is_frame, times, state_of, seen_by}
 use Rattle.step_rules.proofs.Freeing.{zone_of_run}
@@ -9,7 +8,7 @@ use Rattle.step_rules.proofs.LegalTests.{consume_tests, pass_back_tests}
 use Rattle.step_rules.proofs.Lists.{times_same}
 use Rattle.step_rules.proofs.Runs.{sound_run}
 use Rattle.step_rules.proofs.SoundSteps.{below_frames}
-use Rattle.boot_words.specs.{KnownPasts, IsHeld, IsHolder, MayMake, cpu_past, local_by_pasts, zone_of_boot}
+use Rattle.boot_words.specs.{KnownPasts, IsHeld, IsHolder, MayMake, cpu_past, local_by_pasts, zone_of_boot, KnownTable}
 use Rattle.cpu_part.specs.{KnownCpuLists, HasOwn}
 use Rattle.cpu_part.proofs.Legal.{list_inside}
 use Rattle.cpu_part.proofs.Owning.{own_unseen}

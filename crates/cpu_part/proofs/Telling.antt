@@ -1,18 +1,18 @@
 -- The steps that the answer of a fast call tells of are those by which the CPU's past grew.
-use Rattle.std.proofs.Common.{◌≡◌, ◌≢◌, ℕ, refl, ap, sym, ◌∙◌, subst}
+use Rattle.std.proofs.Common.{◌≡◌, ◌≢◌, ℕ, [], ◌∷◌, refl, ap, sym, ◌∙◌, subst}
 use Rattle.std.specs.Prelude.{Result, Err, Ok}
 use Rattle.frame_word.specs.declared.answers.Get as gets
 use Rattle.frame_word.specs.declared.answers.Get.TheVariants as get
-use Rattle.frame_word.specs.Tables.{KnownTable}
 use Rattle.group_tree.specs.declared.fault.Fault.{Fault}
 use Rattle.step_rules.specs.declared.step.Action.{Action}
 use Rattle.step_rules.specs.declared.step.Answer.{Answer}
-use Rattle.boot_words.specs.{GrewBy, GrewByAll, KnownPasts, own_past, zone_of_boot, CpuMakes, GetsReference, RacesAt, KnownCpuSeat}
-use Rattle.cpu_part.specs.{IfRaced, PinAnswers, KnownCpuLists, KnowsItsPart, one_step, steps_of_get}
+use Rattle.step_rules.specs.After.{cpu_makes}
+use Rattle.boot_words.specs.{GrewBy, GrewByAll, KnownPasts, own_past, zone_of_boot, CpuMakes, GetsReference, RacesAt, KnownCpuSeat, KnownTable}
+use Rattle.cpu_part.specs.{IfRaced, PinAnswers, KnownCpuLists, KnowsItsPart, steps_of_get}
 
 module _ (t : KnownTable) (k : KnownCpuSeat) (c : KnownCpuLists) (knows : KnowsItsPart t k c) where
   pub told_one : (action : Action) (answer : Answer) (s : KnownPasts) → CpuMakes t k.past action answer s
-      → GrewByAll (own_past k.past) (one_step c.number action answer) (own_past s)
+      → GrewByAll (own_past k.past) (cpu_makes c.number action answer ∷ []) (own_past s)
   told_one action answer s made = (
     own_past s,
     subst (λ (n : ℕ). GrewBy (own_past k.past) (record { seat = n; action = action }) answer (own_past s)) (sym knows.is.number ∙ knows.number) made.grew,

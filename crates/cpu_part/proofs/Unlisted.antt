@@ -3,7 +3,6 @@ use Rattle.std.proofs.Common.{◌≡◌, ◌≢◌, ℕ, zero, suc, ◌+◌, ◌
 use Rattle.std.proofs.lemmas.Bool.{cases_Bool}
 use Rattle.frame_word.specs.declared.answers.Get as gets
 use Rattle.frame_word.specs.declared.answers.Get.TheVariants as get
-use Rattle.frame_word.specs.Tables.{KnownTable}
 use Rattle.step_rules.specs.declared.phase.ChargedUnit.{ChargedUnit}
 use Rattle.step_rules.specs.declared.phase.Phase.{Phase}
 use Rattle.step_rules.specs.declared.phase.Phase.TheVariants as phase
@@ -24,7 +23,7 @@ use Rattle.step_rules.proofs.PhaseLemmas.{live_is, nobody_has_live}
 use Rattle.step_rules.proofs.Runs.{legal_from, sound_run}
 use Rattle.step_rules.proofs.Sums.{sum_none}
 use Rattle.boot_words.specs.{KnownPasts, own_past, OthersFollow, zone_of_boot, frame_word, word_in_phase, CpuMakes, GetsReference, KnownCpuSeat}
-use Rattle.boot_words.specs.{state_left}
+use Rattle.boot_words.specs.{state_left, KnownTable}
 use Rattle.boot_words.proofs.Holding.{allowed_at, take_length}
 use Rattle.boot_words.proofs.Owning.{lists_are_own}
 use Rattle.boot_words.proofs.Counts.{never_zero}

@@ -5,15 +5,15 @@ use Rattle.frame_word.specs.declared.answers.Get.{Get}
 use Rattle.frame_word.specs.declared.answers.Get.TheVariants.{Held, Raced}
 use Rattle.frame_word.specs.declared.answers.Put.{Put}
 use Rattle.frame_word.specs.declared.answers.Put.TheVariants.{Left, Last}
-use Rattle.frame_word.specs.Word.{most_references}
 use Rattle.stock_word.specs.declared.stock.Stock.{Stock}
 use Rattle.stock_word.specs.declared.stock.Stock.TheVariants.{HeldBy}
 use Rattle.stock_word.specs.Stock.{drained_of, group_of}
+use Rattle.step_rules.specs.State.{most_references, most_fresh}
 use Rattle.cpu_part.specs.declared.answers.Fast.{Fast}
 use Rattle.cpu_part.specs.declared.answers.Fast.TheVariants.{FreshFull, ListEmpty, OtherGroup, Drained, NoStock, Got}
 use Rattle.cpu_part.specs.declared.answers.Dropped.{Dropped}
 use Rattle.cpu_part.specs.declared.answers.Dropped.TheVariants.{Listed, NeedVisit}
-use Rattle.cpu_part.specs.Cpus.{most_fresh, KnownCpuLists}
+use Rattle.cpu_part.specs.Cpus.{KnownCpuLists}
 
 -- there is a frame on the list, and room for another fresh frame
 abbrev pub CanTake : KnownCpuLists → Type 0

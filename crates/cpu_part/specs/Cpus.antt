@@ -1,7 +1,7 @@
 -- What a contract sees of a CPU's part, and what always holds of it.
 use Rattle.std.specs.Prelude.{◌≡◌, ℕ, ◌+◌, ◌≤◌, List, []}
 use Rattle.atomic_table.specs.Seated.{TableId}
-use Rattle.step_rules.specs.State.{times}
+use Rattle.step_rules.specs.State.{times, most_fresh, most_pins}
 
 -- the table of no boot: it has no frame and no CPU
 abbrev pub no_table : TableId
@@ -20,14 +20,6 @@ pub record KnownCpuLists : Type 0 where
 -- how many listed and fresh frames a CPU has at most, together
 abbrev pub most_listed : ℕ
 most_listed = 256
-
--- how many of them are fresh at most
-abbrev pub most_fresh : ℕ
-most_fresh = 32
-
--- how many pins and back frames a CPU has at most, together
-abbrev pub most_pins : ℕ
-most_pins = 256
 
 -- how many frames and pins a CPU's part can have
 pub record AreWithin (list fresh back pins : ℕ) : Type 0 where

@@ -1,8 +1,8 @@
 -- What a CPU knows of its own part by its past.
 use Rattle.std.specs.Prelude.{◌≡◌, ℕ}
-use Rattle.frame_word.specs.Tables.{KnownTable}
 use Rattle.step_rules.specs.State.{State, times}
 use Rattle.boot_words.specs.Cpus.{IsAwayCpu, KnownCpuSeat, state_left}
+use Rattle.boot_words.specs.Tables.{KnownTable}
 use Rattle.cpu_part.specs.Cpus.{KnownCpuLists}
 
 -- the state has the CPU's lists, and a reference of the CPU for each of its pins

@@ -6,7 +6,7 @@ use std::marker::{Brand, PhantomData};
 
 /// The name of a boot. Only contracts see what it names: the boot's table.
 pub trait BootName {
-    ghost use Rattle.frame_word.specs.Tables.{KnownTable};
+    ghost use Rattle.boot_words.specs.Tables.{KnownTable};
 
     ghost table: { KnownTable };
 }

@@ -3,8 +3,8 @@ ghost use Rattle.std.specs.Prelude.{◌≡◌, ◌≢◌, ◌+◌, ◌<◌, ◌�
 ghost use Rattle.frame_word.specs.declared.answers.Get.TheVariants.{Zero};
 ghost use Rattle.group_tree.specs.declared.fault.Fault.TheVariants.{PinsFull};
 ghost use Rattle.boot_words.specs.{GrewByAll, own_past, zone_of_boot, RacesAt};
-ghost use Rattle.step_rules.specs.State.{times};
-ghost use Rattle.cpu_part.specs.Cpus.{most_pins, IsUnlisted};
+ghost use Rattle.step_rules.specs.State.{times, most_pins};
+ghost use Rattle.cpu_part.specs.Cpus.{IsUnlisted};
 ghost use Rattle.cpu_part.specs.Calls.{IfRaced, PinAnswers, UnpinAnswers};
 ghost use Rattle.cpu_part.specs.Known.{KnowsItsPart};
 ghost use Rattle.cpu_part.specs.Told.{steps_of_get, steps_of_put};

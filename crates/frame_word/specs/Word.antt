@@ -1,10 +1,6 @@
 -- What the word of a frame says, and which word is that of a visit.
 use Rattle.std.specs.Prelude.{ℕ, ◌+◌, ◌-◌}
 
--- the most references that a frame can have
-abbrev pub most_references : ℕ
-most_references = 255
-
 -- a CPU's passing mark is this number plus the CPU's
 abbrev pub mark_base : ℕ
 mark_base = 256

@@ -3,9 +3,8 @@ use Rattle.std.proofs.Common.{◌≡◌, ℕ, ◌+◌, ◌<◌, true, List, [], 
 use Rattle.std.proofs.Common.{append-nil, append_assoc}
 use Rattle.std.proofs.lemmas.Result.{IfOk-weaker}
 use Rattle.std.specs.Prelude.{codes}
-use Rattle.frame_word.specs.Tables.{KnownTable}
 use Rattle.step_rules.specs.After.{Run}
-use Rattle.boot_words.specs.{zone_of_boot}
+use Rattle.boot_words.specs.{zone_of_boot, KnownTable}
 use Rattle.step_watch.specs.Watched.{IsNewLog, has_whole_log, log_text, steps_text}
 use Rattle.script_lines.specs.declared.line.Line.{Line}
 use Rattle.script_replay.specs.Lines.{HasRun, InOrder, RunGoesOn, SystemState}

@@ -2,10 +2,9 @@
 use Rattle.std.proofs.Common.{◌≡◌, ℕ, ◌<◌, Some, List, [], ◌∷◌, ◌++◌, length, refl, sym, ap, subst, arith, append_assoc, append-nil}
 use Rattle.std.specs.Prelude.{slice_get, slice_set}
 use Rattle.std.proofs.lemmas.List.Sums.{sum_by-append}
-use Rattle.frame_word.specs.Tables.{KnownTable}
 use Rattle.frame_word.specs.declared.answers.Put.{Put}
 use Rattle.boot_words.specs.declared.past.Past.{Past}
-use Rattle.boot_words.specs.{Meets, own_past, GainsSteps, GrewByAll, IsRunSoFar}
+use Rattle.boot_words.specs.{Meets, own_past, GainsSteps, GrewByAll, IsRunSoFar, KnownTable}
 use Rattle.boot_words.proofs.Gaining.{gains_both, gains_go_on, none_gains}
 use Rattle.step_rules.specs.declared.step.Answer.{Answer}
 use Rattle.step_rules.specs.declared.step.Step.{Step}

@@ -3,7 +3,6 @@
 use Rattle.std.proofs.Common.{◌≡◌, ℕ, ◌+◌, Some, List, [], ◌++◌, All, drop, length, sym, take, ◌∙◌, ap, subst, arith, zero, suc}
 use Rattle.std.specs.List.{slice_get}
 use Rattle.std.proofs.lemmas.Option.{slice_get_within}
-use Rattle.frame_word.specs.Tables.{KnownTable}
 use Rattle.cpu_part.specs.Cpus.{KnownCpuLists, first_cpu}
 use Rattle.zone_blocks.specs.declared.config.Config.{Config}
 use Rattle.step_rules.specs.State.{Zone}
@@ -13,7 +12,7 @@ use Rattle.mem_machine.specs.{KnownMachine, IsFirst, with_watch, AgreesWithRun}
 use Rattle.mem_history.specs.Whole.{ShowsAll}
 use Rattle.mem_history.proofs.Booting.{a_boot_is_shown}
 use Rattle.boot_words.specs.declared.past.Past.{Past}
-use Rattle.boot_words.specs.{own_past, IsRunSoFar, zone_of_boot}
+use Rattle.boot_words.specs.{own_past, IsRunSoFar, zone_of_boot, KnownTable}
 use Rattle.mem_system.specs.{IsSizedAs, first_cpus, CpuInRun, parts_of, pasts_of, KnownLocked}
 use Rattle.mem_history.proofs.Agreeing.{a_boot_agrees}
 use Rattle.mem_system.proofs.Closing.{written_back}
@@ -54,7 +53,7 @@ module _ (sizes : Config) (t : KnownTable) (start : SystemState) (new : IsNewBoo
   pub boot_agrees : AgreesWithRun t [] start.locked.machine.ledger
   boot_agrees = a_boot_agrees t start.locked.machine new.machine
 
--- what lines name is there, also as the tables and the CPUs' parts have it
+-- what lines name is there, also as the system and the CPUs' parts have it
 pub lines_there : (sizes : Config) (t : KnownTable) (parts : ℕ) (lines : List Line) → IsSizedAs sizes t → parts ≡ t.cpus
     → All (LineInRange sizes.frames sizes.cpus) lines → All (LineInRange t.frames parts) lines
 lines_there sizes t parts lines sized long all =
@@ -85,7 +84,7 @@ watched_first t m watch first = record {
   past = first.past;
 }
 
--- a new watch of a boot's sizes is one of its tables
+-- a new watch of a boot's sizes is one of its system
 pub new_watch : (booted sizes : Config) (t : KnownTable) → IsSizedAs booted t → booted ≡ sizes → (watch : KnownWatch)
     → IsNewWatch (core.zone_of_config sizes) watch → IsNewWatch (zone_of_boot t) watch
 new_watch booted sizes t sized same watch new =

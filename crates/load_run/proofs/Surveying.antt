@@ -4,7 +4,6 @@ use Rattle.std.specs.Prelude.{slice_get}
 use Rattle.std.proofs.lemmas.Bool.{and_parts, cases_Bool, eqb-true, leb-true, true≢false}
 use Rattle.std.proofs.lemmas.List.{append_cancel_left, length-map}
 use Rattle.std.proofs.lemmas.Option.{get_or_from_slice_get, slice_get-get_or}
-use Rattle.frame_word.specs.Tables.{KnownTable}
 use Rattle.step_rules.specs.declared.phase.Hold.{Hold}
 use Rattle.step_rules.specs.{Zone, is_cpu, may_zone_act, Run, state_of, IsLegalRun}
 use Rattle.step_rules.proofs.Answering.{only_seats_act}
@@ -12,7 +11,7 @@ use Rattle.step_rules.proofs.PhaseLemmas.{none_some}
 use Rattle.step_rules.proofs.Runs.{legal_more}
 use Rattle.boot_words.specs.declared.past.Past.{Past}
 use Rattle.boot_words.specs.{AreChangesOf, HasInOrder, IsRunSoFar, SeesMore, changes_nothing, changes_of, IsZonePast, own_past, AllOf, IsPastOf}
-use Rattle.boot_words.specs.{HasNoStepOf, zone_of_boot}
+use Rattle.boot_words.specs.{HasNoStepOf, zone_of_boot, KnownTable}
 use Rattle.boot_words.proofs.Gaining.{sees_changes, sees_in_order, the_run_so_far_is_legal}
 use Rattle.boot_words.proofs.Holding.{allowed_at, append_none}
 use Rattle.boot_words.proofs.Ordered.{IsSeatOfChange, has_behind, only_quiet_are_left_out, others_add_none}

@@ -14,20 +14,18 @@ use Rattle.step_rules.specs.declared.step.Action.TheVariants.{Lock, Unlock, Open
 use Rattle.step_rules.specs.declared.step.Action.TheVariants.{Consume, Credit, Report, Absorb, Fill, DrainStock, Grant, Ungrant, PlaceBlock, Publish, Return}
 use Rattle.step_rules.specs.declared.step.Action.TheVariants.{Note, NoteGroupKill, SetMax, SetFlag, Make, Remove, Kill}
 use Rattle.step_rules.specs.{Zone, is_unheld, may_zone_act, visits, Allows, IsAnswer, IsMade, is_legal, IsLegalRun, Run, after, state_of, is_own}
-use Rattle.step_rules.specs.{own_steps, KeepsInvariant}
+use Rattle.step_rules.specs.{own_steps, KeepsInvariant, cpu_makes}
 use Rattle.step_rules.specs.State.{State}
 use Rattle.step_rules.proofs.LegalTests.{lock_tests, open_visit_tests, shut_visit_tests, freeze_tests, unfreeze_tests, pass_out_tests, take_in_tests, pass_back_tests, collect_tests}
 use Rattle.step_rules.proofs.LegalTests.{report_tests, absorb_tests, fill_tests, drain_stock_tests, grant_tests, ungrant_tests, place_block_tests, publish_tests, return_tests}
 use Rattle.step_rules.proofs.LegalTests.{set_max_tests, set_flag_tests, make_tests, remove_tests, kill_tests}
 use Rattle.step_rules.proofs.PhaseLemmas.{visited}
 use Rattle.step_rules.proofs.Runs.{after_illegal, allowed, sound_run, state_more}
-use Rattle.boot_words.specs.{GrewByAll, hide, own_past, HasNoStepOf, IsFast, zone_of_boot}
+use Rattle.boot_words.specs.{GrewByAll, hide, own_past, HasNoStepOf, IsFast, zone_of_boot, KnownTable}
 use Rattle.boot_words.specs.declared.past.Past.{Past}
 use Rattle.boot_words.proofs.Hiding.{fast_is_hidden}
 use Rattle.boot_words.proofs.Holding.{allowed_at, append_none}
-use Rattle.frame_word.specs.Tables.{KnownTable}
 use Rattle.mem_machine.specs.{KnownMachine, IsShownBy}
-use Rattle.mem_machine.specs.Steps.{cpu_makes}
 use Rattle.mem_system.specs.{between_locks, IsSound, KnownLocked}
 use Rattle.mem_system.proofs.Beside.{legal_front}
 use Rattle.mem_system.proofs.Mixed.{AreBehindOthers, all_own, as_many, both, gained, has_none, just_these}

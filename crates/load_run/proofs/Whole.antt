@@ -2,9 +2,8 @@
 -- `steps_on_boot`, `run_by_threads`, `serve_on_boot`.
 use Rattle.std.proofs.Common.{◌∙◌, ℕ, List, [], ◌∷◌, ◌++◌, subst, sym}
 use Rattle.std.proofs.lemmas.List.{length-map}
-use Rattle.frame_word.specs.Tables.{KnownTable}
 use Rattle.boot_words.specs.declared.past.Past.{Past}
-use Rattle.boot_words.specs.{own_past, AllOf, BeginsRun, IsPastOf, AreFrameWords, AreStockWords, zone_of_boot}
+use Rattle.boot_words.specs.{own_past, AllOf, BeginsRun, IsPastOf, AreFrameWords, AreStockWords, zone_of_boot, KnownTable}
 use Rattle.boot_words.proofs.Gaining.{the_run_so_far_is_legal}
 use Rattle.boot_words.proofs.Growing.{past_of_run}
 use Rattle.step_rules.specs.State.{State, Zone}
@@ -12,7 +11,7 @@ use Rattle.step_rules.specs.After.{Run}
 use Rattle.mem_core.proofs.Keeping.{always_keeps}
 use Rattle.mem_system.specs.Cpus.{CpuInRun, pasts_of}
 use Rattle.script_lines.specs.declared.line.Line.{Line}
-use Rattle.script_replay.specs.{KeepsHistory, LinesSoFar, past_line, HasRun, SystemState}
+use Rattle.script_replay.specs.{KeepsHistory, LinesSoFar, with_line, HasRun, SystemState}
 use Rattle.script_replay.specs.Terms.{Terms}
 use Rattle.load_run.specs.declared.boot_end.BootEnd.{BootEnd}
 use Rattle.load_run.specs.Ending.{EndsHeld, IsWholeRun, last_words}
@@ -22,7 +21,7 @@ pub kept_goes_on : (on : Terms) (lines : List Line) (before last : LinesSoFar) (
     → HasRun last.run last.now
 kept_goes_on on [] before last text keeps has = subst (λ (p : LinesSoFar). HasRun p.run p.now) (sym keeps.1) has
 kept_goes_on on (line ∷ lines) before last text keeps has =
-    kept_goes_on on lines (past_line before keeps.steps keeps.between) last keeps.rest keeps.keeps (keeps.goes_on before.run has)
+    kept_goes_on on lines (with_line before keeps.steps keeps.between) last keeps.rest keeps.keeps (keeps.goes_on before.run has)
 
 -- the pasts at the end of a table
 all_begin : (zone : Zone) (run : Run) (pasts : List Past) → AllOf (BeginsRun zone run) pasts → AllOf (IsPastOf run) pasts

@@ -1,10 +1,9 @@
 -- What the steps of a script are as a log: the sizes; then of each line its part of the log; then that of the end.
 use Rattle.std.specs.Prelude.{◌≡◌, ℕ, ◌-◌, ◌==◌, if◌then◌else◌, Bool, true, List, [], ◌∷◌, ◌++◌, codes, decimal, get_or}
-use Rattle.frame_word.specs.Tables.{KnownTable}
 use Rattle.zone_blocks.specs.declared.choices.Choices.{Choices}
 use Rattle.zone_blocks.specs.declared.config.Config.{Config}
 use Rattle.step_rules.specs.After.{Run}
-use Rattle.boot_words.specs.{zone_of_boot}
+use Rattle.boot_words.specs.{zone_of_boot, KnownTable}
 use Rattle.step_watch.specs.Watched.{steps_text}
 use Rattle.log_lines.specs.Line.{zone_text}
 use Rattle.script_lines.specs.declared.line.Line.{Line}

@@ -1,12 +1,11 @@
 -- What a session promises, by the status that it ends with.
 use Rattle.std.specs.Prelude.{◌≡◌, ◌⊎◌, ℕ, ◌≤◌, Bool, List, [], ◌++◌, Option, Some, ⊤}
 use Rattle.std.specs.Io.KnownBytes.{Appends}
-use Rattle.frame_word.specs.Tables.{KnownTable}
 use Rattle.zone_blocks.specs.declared.config.Config.{Config}
 use Rattle.zone_blocks.specs.Config.{IsValidConfig}
 use Rattle.boot_words.specs.Words.{Words}
 use Rattle.step_rules.specs.After.{Run}
-use Rattle.boot_words.specs.{zone_of_boot}
+use Rattle.boot_words.specs.{zone_of_boot, KnownTable}
 use Rattle.mem_machine.specs.{AgreesWithRun}
 use Rattle.script_replay.specs.Lines.{SystemState}
 use Rattle.line_server.specs.declared.fault.ServeFault.{ServeFault}

@@ -1,9 +1,8 @@
 -- What a look at all pasts together shows, and what a seat changes in a run.
 use Rattle.std.specs.Prelude.{◌≡◌, ℕ, suc, ◌==◌, ◌&&◌, not, Some, List, ◌∷◌, ◌++◌, filter, map, slice_get}
-use Rattle.frame_word.specs.Tables.{KnownTable}
 use Rattle.step_rules.specs.After.{Run, IsLegalRun}
 use Rattle.boot_words.specs.declared.past.Past.{Past}
-use Rattle.boot_words.specs.{AreChangesOf, changes_nothing, Meets, own_past, AllOf, OthersFollow, zone_of_boot}
+use Rattle.boot_words.specs.{AreChangesOf, changes_nothing, Meets, own_past, AllOf, OthersFollow, zone_of_boot, KnownTable}
 use Rattle.stock_word.specs.declared.stock.Stock.{Stock}
 use Rattle.mem_machine.specs.{with_past}
 use Rattle.mem_system.specs.{CpuInRun, parts_of, pasts_of, MachineAndCpu}

@@ -1,9 +1,8 @@
 -- The steps of all threads as one legal run, and what it shows of each visit and of what was found.
 use Rattle.std.specs.Prelude.{◌≡◌, ℕ, ◌++◌, true}
-use Rattle.frame_word.specs.Tables.{KnownTable}
 use Rattle.step_rules.specs.{Run, state_of, is_unheld, own_steps}
 use Rattle.step_rules.specs.State.{State}
-use Rattle.boot_words.specs.{hide, KnownPasts, own_past, zone_of_boot}
+use Rattle.boot_words.specs.{hide, KnownPasts, own_past, zone_of_boot, KnownTable}
 use Rattle.mem_machine.specs.{KnownMachine, IsShownBy}
 use Rattle.mem_system.specs.declared.command.LockedCommand.{LockedCommand}
 use Rattle.mem_system.specs.declared.command.ReplyWithText.{ReplyWithText}

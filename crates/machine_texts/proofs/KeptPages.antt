@@ -12,7 +12,6 @@ use Rattle.group_tree.specs.declared.group.Group.{Group}
 use Rattle.group_charge.specs.declared.account.Account.{Account}
 use Rattle.group_charge.specs.Charges.{AreCharges, current_of, pages_of, usage_charged}
 use Rattle.group_charge.proofs.ChargeLemmas.{account_at-there}
-use Rattle.frame_word.specs.Seats.{KnownTable}
 use Rattle.lru_lists.specs.declared.record.Home.{Home}
 use Rattle.lru_lists.specs.declared.record.Entry.{Entry}
 use Rattle.lru_lists.specs.declared.record.LruList.{LruList}
@@ -22,6 +21,7 @@ use Rattle.step_rules.specs.{is_within, one_if}
 use Rattle.step_rules.specs.State.{sum_to}
 use Rattle.step_rules.proofs.Placing.{within_cases}
 use Rattle.step_rules.proofs.Sums.{sum_both, sum_same}
+use Rattle.boot_words.specs.Tables.{KnownTable}
 use Rattle.mem_machine.specs.declared.frame_state.FrameState.{FrameState}
 use Rattle.mem_machine.specs.declared.frame_state.FrameState.TheVariants.{Free, Lent, Head, Tail}
 use Rattle.mem_machine.specs.{AreUnits, FitsFrameState, IsConsistent, KnownMachine, entries_in, frame_state_at, frame_state_group, head_group_of}
@@ -161,8 +161,16 @@ rows_few f h most (row ∷ rows) (a ∷ accounts) same small few =
     let rest = rows_few f h most rows accounts (ap (drop 1) same) (λ k d lt. small (suc k) d (omega arith)) (λ k d lt. few (suc k) d (omega arith)) in
     let low : row.number < 64 = small 0 row (omega arith) in
     let one : f a.group + h a.group ≤ most a = few 0 a (omega arith) (omega (arith, number, low)) in
-    omega (arith, rest, one, ap f number, ap h number, sum_by-cons (λ (r : Group). f r.number) row rows, sum_by-cons (λ (r : Group). h r.number) row rows,
-    sum_by-cons most a accounts)
+    omega (
+      arith,
+      rest,
+      one,
+      ap f number,
+      ap h number,
+      sum_by-cons (λ (r : Group). f r.number) row rows,
+      sum_by-cons (λ (r : Group). h r.number) row rows,
+      sum_by-cons most a accounts,
+    )
 
 both_if : (b : Bool) (n k most : ℕ) → n + k ≤ most → cond b n 0 + cond b k 0 ≤ cond b most 0
 both_if true n k most few = few

@@ -7,8 +7,8 @@ use Rattle.group_tree.specs.Groups.{path_of}
 use Rattle.stock_word.specs.declared.stock.Stock.{Stock}
 use Rattle.stock_word.specs.declared.stock.Stock.TheVariants.{NoGroup, HeldBy, DrainedOf}
 use Rattle.control_files.specs.Limit.{page_bytes}
+use Rattle.boot_words.specs.Tables.{KnownTable}
 use Rattle.cpu_part.specs.Cpus.{KnownCpuLists}
-use Rattle.frame_word.specs.Tables.{KnownTable}
 use Rattle.mem_machine.specs.{KnownMachine, stock_left}
 use Rattle.machine_texts.specs.Characters.{characters}
 

@@ -2,6 +2,8 @@
 
 ghost use Rattle.std.specs.Prelude.{◌≡◌, ◌<◌, ◌≤◌, ◌^◌, IsTrue};
 ghost use Rattle.group_tree.specs.Groups.{has_group};
+ghost use Rattle.group_charge.specs.Charges.{current_of};
+ghost use Rattle.control_files.specs.Stat.{file_pages};
 ghost use Rattle.machine_texts.specs.Stat.{counted_pages, is_counted, memory_stat, pages_below, pages_on, pages_shared};
 ghost use Rattle.machine_texts.specs.Stat.{pages_at};
 
@@ -15,7 +17,8 @@ use mem_machine::{FrameState, Machine, prove_charges};
 /// nothing else needs these sums.
 pub fn memory_stat<N: BootName>(machine: &Machine<N>, group: GroupId) -> MemoryStat
     requires { IsTrue (has_group machine.now.ledger.groups group) }
-    ensures { result ≡ memory_stat machine.now group }
+    ensures shown { result ≡ memory_stat machine.now group }
+    ensures charged { file_pages result ≤ current_of machine.now.ledger group }
 {
     let inactive = pages_below(machine, group, LruList::Inactive, false);
     let active = pages_below(machine, group, LruList::Active, false);

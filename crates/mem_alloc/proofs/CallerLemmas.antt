@@ -1,9 +1,9 @@
 -- What crates above cite: the group over whose limit a charge would have gone is there.
 use Rattle.std.proofs.Common.{◌≡◌, ℕ, ◌^◌, true, subst, sym}
 use Rattle.std.specs.Prelude.{Err}
-use Rattle.frame_word.specs.Tables.{KnownTable}
 use Rattle.group_tree.specs.Groups.{has_group}
 use Rattle.group_tree.proofs.CallerLemmas.{in_subtree-above}
+use Rattle.boot_words.specs.Tables.{KnownTable}
 use Rattle.cpu_part.specs.Cpus.{KnownCpuLists}
 use Rattle.zone_blocks.specs.declared.config.Config.{Config}
 use Rattle.step_rules.specs.After.{Run}

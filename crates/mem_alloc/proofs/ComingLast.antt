@@ -3,11 +3,11 @@ use Rattle.std.proofs.Common.{◌≡◌, ℕ, ◌+◌, ◌≤◌, ◌⊎◌, Boo
 use Rattle.std.proofs.Common.{length-append}
 use Rattle.std.proofs.lemmas.Bool.{cases_lt, false≢true}
 use Rattle.std.proofs.lemmas.List.{append_assoc, append-nil}
-use Rattle.frame_word.specs.Tables.{KnownTable}
 use Rattle.group_tree.specs.declared.group.Group.{Group}
 use Rattle.group_charge.specs.declared.settings.ReclaimSettings.{ReclaimSettings}
 use Rattle.group_charge.specs.Charges.{Ledger}
 use Rattle.group_protection.specs.Protections.{min_key, setting}
+use Rattle.boot_words.specs.Tables.{KnownTable}
 use Rattle.cpu_part.specs.Cpus.{KnownCpuLists}
 use Rattle.step_rules.specs.After.{Run}
 use Rattle.mem_machine.specs.{KnownMachine, is_killed, VisitState, LendsMany}

@@ -5,7 +5,6 @@ use Rattle.std.proofs.Common.{arith, length-append}
 use Rattle.std.specs.Prelude.{Result, Ok, Err, IsErr, IfErr, OnOk}
 use Rattle.std.proofs.lemmas.List.{append_assoc, append-nil}
 use Rattle.zone_blocks.specs.{HasNoneFrom, IsValidConfig}
-use Rattle.frame_word.specs.Tables.{KnownTable}
 use Rattle.stock_word.specs.declared.stock.Stock.TheVariants.{HeldBy}
 use Rattle.cpu_part.specs.Cpus.{KnownCpuLists}
 use Rattle.zone_blocks.specs.declared.config.Config.{Config}
@@ -14,7 +13,7 @@ use Rattle.group_charge.specs.declared.note.Note.TheVariants.{Zone}
 use Rattle.mem_machine.specs.{KnownMachine, is_killed, with_note, with_run, Makes, VisitMakes, Visits, visit_state, LendsMany, Refills, HoldsPage}
 use Rattle.mem_machine.specs.{MayCharge, PaysForFront, stock_now, Drains, Fills, stock_group, drain_steps, refill_steps, take_front_steps, BySteps}
 use Rattle.mem_machine.specs.{Finds, transition}
-use Rattle.boot_words.specs.{IsHeld, stock_in}
+use Rattle.boot_words.specs.{IsHeld, stock_in, KnownTable}
 use Rattle.mem_machine.proofs.StocksKept.{filled_stock, has_stock_step, stock_kept, stock_left}
 use Rattle.mem_reclaim.specs.Staying.{Keeps}
 use Rattle.mem_alloc.specs.declared.faults.AllocFault.{AllocFault}

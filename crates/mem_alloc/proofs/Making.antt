@@ -3,11 +3,11 @@ use Rattle.std.proofs.Common.{◌≡◌, ℕ, ◌+◌, ◌<◌, Bool, false, Opt
 use Rattle.std.specs.Prelude.{nat_le, Result, Ok, Err, IsErr, IfErr, IfOk, MatchResult}
 use Rattle.std.proofs.lemmas.Bool.{false≢true, leb-false}
 use Rattle.std.proofs.lemmas.List.{append_assoc, append-nil}
-use Rattle.frame_word.specs.Tables.{KnownTable}
 use Rattle.boot_words.specs.Pasts.{IsHeld}
 use Rattle.group_tree.specs.declared.group.Group.{Group}
 use Rattle.group_tree.specs.{limit_of, IsLowestOver, fits_limit}
 use Rattle.group_charge.specs.Charges.{current_of, with_max_noted}
+use Rattle.boot_words.specs.Tables.{KnownTable}
 use Rattle.cpu_part.specs.Cpus.{KnownCpuLists}
 use Rattle.step_rules.specs.After.{Run}
 use Rattle.mem_machine.specs.{KnownMachine, is_killed, with_run, Makes, StaysVisited, VisitMakes, Visits, VisitState, visit_state, over_steps}

@@ -1,8 +1,7 @@
 -- The ledger's number for a group is its usage by the run. Serves `current_is_kept`, `the_whole_is_promised`.
 use Rattle.std.proofs.Common.{◌≡◌, ℕ, ◌+◌, List, sym, ◌∙◌, ap, arith}
-use Rattle.frame_word.specs.Tables.{KnownTable}
 use Rattle.group_charge.specs.Charges.{AreCharges, current_of}
-use Rattle.boot_words.specs.{zone_of_boot}
+use Rattle.boot_words.specs.{zone_of_boot, KnownTable}
 use Rattle.cpu_part.specs.Cpus.{KnownCpuLists}
 use Rattle.step_rules.specs.{KeepsInvariant, told_pages, frames_kept, pages_prepaid, usage_of, Run, state_of}
 use Rattle.step_rules.specs.State.{State}

@@ -1,10 +1,9 @@
 -- A fast call that changes a list or a reference is one step of its CPU. Serves `fast_calls_lead`.
 use Rattle.std.proofs.Common.{◌≡◌, ℕ, ◌+◌, ◌^◌, ◌-◌, List, [], ◌∷◌, ◌++◌, refl, sym, ◌∙◌, ap, subst}
 use Rattle.std.specs.Prelude.{min, remove}
-use Rattle.frame_word.specs.Tables.{KnownTable}
 use Rattle.frame_word.specs.declared.answers.Put.{Put as Putted}
 use Rattle.frame_word.specs.declared.answers.Put.TheVariants as put
-use Rattle.boot_words.specs.{zone_of_boot}
+use Rattle.boot_words.specs.{zone_of_boot, KnownTable}
 use Rattle.cpu_part.specs.{UnpinAnswers, KnownCpuLists, HasOwn}
 use Rattle.cpu_part.proofs.Legal.{fresh_once, listed_once}
 use Rattle.cpu_part.proofs.Owning.{own_credited, own_last, own_left, own_pinned, own_took}

@@ -1,13 +1,12 @@
 -- What the CPU that has taken the lock sees is what the run shows it. Serves `the_holder_is_shown`, `lines_follow`.
 use Rattle.std.proofs.Common.{◌≡◌, ℕ, ◌+◌, List, length, sym, ◌∙◌, ap, subst, arith}
-use Rattle.frame_word.specs.Tables.{KnownTable}
 use Rattle.cpu_part.specs.{KnownCpuLists, HasOwn}
 use Rattle.cpu_part.proofs.Owning.{own_unseen}
 use Rattle.step_rules.specs.declared.phase.Hold.{Hold}
 use Rattle.step_rules.specs.declared.phase.Hold.TheVariants.{HeldBy}
 use Rattle.step_rules.specs.{Part, Zone, Run, state_of, IsLegalRun, other_part_seen, seen_by}
 use Rattle.step_rules.specs.State.{State}
-use Rattle.boot_words.specs.{hide, show_own, cpu_past, zone_of_boot}
+use Rattle.boot_words.specs.{hide, show_own, cpu_past, zone_of_boot, KnownTable}
 use Rattle.boot_words.proofs.Showing.{holder_sees_both}
 use Rattle.mem_machine.specs.{KnownMachine, VisitState, left_by, local_of}
 use Rattle.mem_history.specs.Whole.{HasTakenLock, LeavesState}

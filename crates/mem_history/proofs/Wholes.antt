@@ -5,23 +5,21 @@ use Rattle.std.specs.List.{slice_get}
 use Rattle.std.proofs.lemmas.Bool.{cases_eq, and_from, le-leb}
 use Rattle.std.proofs.lemmas.List.{append_assoc, length-set, get_or-set_same, get_or-set_other}
 use Rattle.std.proofs.lemmas.Option.{slice_get_within, get_or_from_slice_get, slice_get-get_or}
-use Rattle.frame_word.specs.Tables.{KnownTable}
 use Rattle.cpu_part.specs.{KnownCpuLists, HasOwn}
 use Rattle.cpu_part.proofs.Owning.{own_same, own_unseen}
 use Rattle.step_rules.specs.declared.phase.Hold.TheVariants.{Unheld, HeldBy}
 use Rattle.step_rules.specs.declared.step.Step.{Step}
 use Rattle.step_rules.specs.declared.step.Action.TheVariants.{Lock, Unlock}
 use Rattle.step_rules.specs.declared.step.Answer.TheVariants.{Done}
-use Rattle.step_rules.specs.{Zone, is_cpu, is_unheld, is_legal, Run, after, state_of, IsLegalRun, seen_by, ShowsLocal, pushed, IsLocalRun}
+use Rattle.step_rules.specs.{Zone, is_cpu, is_unheld, is_legal, Run, after, state_of, IsLegalRun, seen_by, ShowsLocal, pushed, IsLocalRun, cpu_makes}
 use Rattle.step_rules.specs.State.{State}
 use Rattle.step_rules.proofs.Runs.{state_more}
 use Rattle.step_rules.proofs.Freeing.{zone_of_run}
 use Rattle.step_rules.proofs.Interleaving.{local_runs_interleave}
 use Rattle.step_rules.proofs.Seeing.{the_lock_is_passed_on}
-use Rattle.boot_words.specs.{hide, HasNoStepOf, zone_of_boot}
+use Rattle.boot_words.specs.{hide, HasNoStepOf, zone_of_boot, KnownTable}
 use Rattle.boot_words.proofs.Owning.{lists_are_own}
 use Rattle.mem_machine.specs.{AgreesWithRun, KnownMachine, VisitState, left_by, lock_holder, local_of, IsInterleaving, Shows}
-use Rattle.mem_machine.specs.Steps.{cpu_makes}
 use Rattle.mem_machine.proofs.Sight.{hide_seen, left_seen}
 use Rattle.mem_machine.proofs.Tells.{ledgers_agree}
 use Rattle.mem_history.specs.Whole.{HasTakenLock, IsPartAt, LeavesState, LinesFollow, ShowsAll, TheHolderIsShown, TheSameIsShown, under_lock}

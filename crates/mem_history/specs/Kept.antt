@@ -1,9 +1,8 @@
 -- How the whole begins, and what holds whenever a run shows it.
 use Rattle.std.specs.Prelude.{◌≡◌, ℕ, ◌+◌, ◌-◌, nat_le, zero, suc, Option, Some, None, List, [], length, slice_get, if◌then◌else◌}
 use Rattle.std.specs.Option.{option_map_or}
-use Rattle.frame_word.specs.Tables.{KnownTable}
 use Rattle.group_charge.specs.Charges.{AreCharges, current_of}
-use Rattle.boot_words.specs.{zone_of_boot}
+use Rattle.boot_words.specs.{zone_of_boot, KnownTable}
 use Rattle.cpu_part.specs.Cpus.{KnownCpuLists, first_cpu}
 use Rattle.step_rules.specs.{PartStock, times, frames_kept, pages_prepaid, Run, state_of, Shown}
 use Rattle.step_rules.specs.Promise.{Promise}

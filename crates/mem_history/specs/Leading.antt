@@ -1,11 +1,10 @@
 -- Which step a call without the lock is, if it changes a list or a reference.
 use Rattle.std.specs.Prelude.{◌≡◌, ℕ, Some, List, slice_get}
-use Rattle.frame_word.specs.Tables.{KnownTable}
 use Rattle.frame_word.specs.declared.answers.Get.TheVariants as get
 use Rattle.frame_word.specs.declared.answers.Put.{Put as Putted}
 use Rattle.frame_word.specs.declared.answers.Put.TheVariants as put
 use Rattle.stock_word.specs.declared.stock.Stock.{Stock}
-use Rattle.boot_words.specs.{zone_of_boot}
+use Rattle.boot_words.specs.{zone_of_boot, KnownTable}
 use Rattle.cpu_part.specs.declared.answers.Fast.TheVariants.{Got}
 use Rattle.cpu_part.specs.declared.answers.Dropped.TheVariants.{Listed}
 use Rattle.cpu_part.specs.{KnownCpuLists, FastAnswers, DropAnswers, PinAnswers, UnpinAnswers}

@@ -1,16 +1,14 @@
 -- One run that shows the machine and the part of every CPU, and how a line continues it.
 use Rattle.std.specs.Prelude.{◌≡◌, ℕ, suc, true, Some, List, [], ◌∷◌, ◌++◌, length, slice_get, slice_set}
-use Rattle.frame_word.specs.Tables.{KnownTable}
 use Rattle.cpu_part.specs.{KnownCpuLists, HasOwn}
 use Rattle.step_rules.specs.declared.step.Action.{Action}
 use Rattle.step_rules.specs.declared.step.Action.TheVariants.{Lock, Unlock}
 use Rattle.step_rules.specs.declared.step.Answer.{Answer}
 use Rattle.step_rules.specs.declared.step.Answer.TheVariants.{Done}
 use Rattle.step_rules.specs.State.{State, is_unheld}
-use Rattle.step_rules.specs.After.{Run, after, state_of, IsLegalRun}
-use Rattle.boot_words.specs.{hide, IsFast, zone_of_boot}
+use Rattle.step_rules.specs.After.{Run, after, state_of, IsLegalRun, cpu_makes}
+use Rattle.boot_words.specs.{hide, IsFast, zone_of_boot, KnownTable}
 use Rattle.mem_machine.specs.{AgreesWithRun, KnownMachine, VisitState, left_by, with_run, Holds, IsShut, Makes, Shows}
-use Rattle.mem_machine.specs.Steps.{cpu_makes}
 
 -- the machine's past left this state, except who holds the lock, with every CPU's own part hidden
 abbrev pub LeavesState : KnownTable → KnownMachine → State → Type 0

@@ -2,7 +2,6 @@
 use Rattle.std.proofs.Common.{◌≡◌, ℕ, ◌==◌, ◌||◌, Bool, true, false, Option, Some, None, [], cond, refl, sym, ap, ◌∙◌, subst, inl, inr}
 use Rattle.std.specs.Option.{option_map_or}
 use Rattle.std.proofs.lemmas.Bool.{cases_eq, ne_eqb, true≢false}
-use Rattle.frame_word.specs.Tables.{KnownTable}
 use Rattle.group_tree.specs.declared.event.EventKey.{EventKey}
 use Rattle.group_tree.specs.{count_of, no_events, has_group, initial_groups}
 use Rattle.group_tree.proofs.EventLemmas.{none_counted}
@@ -12,7 +11,7 @@ use Rattle.group_charge.specs.Charges.{account_at, empty_account, events_local_o
 use Rattle.step_rules.specs.Peaks.{IsPeak}
 use Rattle.step_rules.proofs.Noting.{events_are_counted}
 use Rattle.step_rules.proofs.Peaking.{peaks_are_kept}
-use Rattle.boot_words.specs.{zone_of_boot}
+use Rattle.boot_words.specs.{zone_of_boot, KnownTable}
 use Rattle.mem_machine.specs.{AgreesWithRun}
 
 -- the one account there, or none

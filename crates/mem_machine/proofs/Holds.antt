@@ -1,7 +1,6 @@
 -- A visit is opened and shut. Serves `open` and `shut`.
 use Rattle.std.proofs.Common.{◌≡◌, ℕ, ◌+◌, ◌==◌, ◌&&◌, Bool, true, Option, List, [], ◌∷◌, refl, sym, ap, ◌∙◌, subst, arith, eq-eqb}
 use Rattle.std.proofs.lemmas.Bool.{and_from}
-use Rattle.frame_word.specs.Tables.{KnownTable}
 use Rattle.step_rules.specs.declared.phase.Hold.{Hold}
 use Rattle.step_rules.specs.declared.phase.Hold.TheVariants.{HeldBy, Visiting}
 use Rattle.step_rules.specs.declared.step.Step.{Step}
@@ -11,9 +10,10 @@ use Rattle.step_rules.specs.declared.step.Answer.TheVariants.{Done}
 use Rattle.step_rules.specs.{told_pages, IsLocalStep, is_legal, is_held_by, visits}
 use Rattle.step_rules.specs.State.{State}
 use Rattle.boot_words.specs.Hidden.{hide}
+use Rattle.boot_words.specs.Tables.{KnownTable}
 use Rattle.cpu_part.specs.{KnownCpuLists, HasOwn}
 use Rattle.mem_machine.specs.{counts_along, IsSoundMachine, machine_of, Holds, IsShut, Makes, Visits, lock_holder, local_of, KnownMachine, IsShownBy}
-use Rattle.mem_machine.specs.{with_run, KnownRun, Notes, after_made, open_steps, shut_steps}
+use Rattle.mem_machine.specs.{with_run, KnownRun, Records, after_made, open_steps, shut_steps}
 use Rattle.mem_machine.specs.declared.machine.Machine.TheInside.{Inside}
 use Rattle.mem_machine.proofs.Followed.{are_still, follows_same}
 use Rattle.mem_machine.proofs.Hiding.{nothing_passes_here}
@@ -27,7 +27,7 @@ use Rattle.mem_machine.proofs.Staying.{HaveSameBooks, owners_stay, sums_stay}
 
 module _ {N : Type 0} (t : KnownTable) (fields : Inside N) (ok : IsSoundMachine t fields) (c : KnownCpuLists) (holds : Holds t (machine_of fields) c)
     (e : Step × Answer) (hold : Hold) (only : after_made (local_of t (machine_of fields)) e ≡ record (local_of t (machine_of fields)) { hold = hold })
-    (run : KnownRun) (noted : Notes t (machine_of fields).run (e ∷ []) run) where
+    (run : KnownRun) (noted : Records t (machine_of fields).run (e ∷ []) run) where
   abbrev m : KnownMachine
   m = machine_of {N = N} fields
 

@@ -8,7 +8,6 @@ use Rattle.std.proofs.lemmas.List.{get_or-set_other, get_or-set_same, length-set
 use Rattle.std.proofs.lemmas.Option.{none-some}
 use Rattle.zone_blocks.specs.declared.block.Block.{Block}
 use Rattle.zone_blocks.specs.{AreMaximalBlocks, HasNoneFrom, IsFree, IsFrontOfSmallest, TakesFrames}
-use Rattle.frame_word.specs.Tables.{KnownTable}
 use Rattle.lru_lists.specs.declared.record.Home.{Home}
 use Rattle.step_rules.specs.declared.phase.Way.TheVariants.{OnList, PassingOut}
 use Rattle.step_rules.specs.declared.phase.Phase.{Phase}
@@ -19,21 +18,19 @@ use Rattle.step_rules.specs.Phases as phases
 use Rattle.step_rules.specs.{told_pages, Part, Zone, is_frame, with_at, is_legal, Run, after, with_listed, IsLocalRun}
 use Rattle.step_rules.specs.State.{State}
 use Rattle.step_rules.proofs.Basics.{at_other, at_same}
-use Rattle.boot_words.specs.{AreLegal, MakesInTurn, hide, hide_phase, KnownPasts, IsHeld}
+use Rattle.boot_words.specs.{AreLegal, hide, hide_phase, KnownTable}
 use Rattle.cpu_part.specs.Cpus.{KnownCpuLists}
-use Rattle.cpu_part.proofs.CallerLemmas.{makes_each}
-use Rattle.step_watch.specs.Watched.{KnownWatch, Watches}
 use Rattle.mem_machine.specs.declared.frame_state.FrameState.{FrameState}
 use Rattle.mem_machine.specs.declared.frame_state.FrameState.TheVariants.{Free, Lent, Head, Tail}
 use Rattle.mem_machine.specs.{AreBooked, AreOwners, counts_along, frame_state_at, frame_state_group, free_of, head_group_of, is_free_state}
 use Rattle.mem_machine.specs.{phase_hidden, LendsFrame, LendsNone, LendsOne, Visits, local_of, visit_state, KnownMachine, VisitState, FitsFrameState}
-use Rattle.mem_machine.specs.{IsConsistent, IsShownBy, home_of, left_by, pages_booked, AreLocal, KnownRun, Notes, after_made, lend_steps}
+use Rattle.mem_machine.specs.{IsConsistent, IsShownBy, home_of, left_by, pages_booked, AreLocal, KnownRun, Records, after_made, lend_steps}
 use Rattle.mem_machine.proofs.Followed.{are_still, follows_same}
 use Rattle.mem_machine.proofs.HandOvers.{IsVisited}
 use Rattle.mem_machine.proofs.Hiding.{is_free_seen}
 use Rattle.mem_machine.proofs.Made.{visits_here, zone_seen}
 use Rattle.mem_machine.proofs.Moved.{AllMoved, books_stay, is_visited, left_moved, makes_moved, number_range, own_moved, owners_moved, shown_moved, sums_moved, visit_moved}
-use Rattle.mem_machine.proofs.Noted.{all_grow, local_legal}
+use Rattle.mem_machine.proofs.Noted.{local_legal}
 use Rattle.mem_machine.proofs.Reaching.{cpu_step, zone_step}
 use Rattle.mem_machine.proofs.Records.{charges_stay, covers_one, free_at, free_inside, free_is, free_taken, units_stay}
 use Rattle.mem_machine.proofs.Sight.{left_seen, shown_seen}
@@ -59,7 +56,7 @@ module _ (t : KnownTable) (m : KnownMachine) (c : KnownCpuLists) (ok : IsConsist
     (list : List ℕ) (listed : part.list ≡ list) (fresh : part.fresh ≡ c.fresh) (back : part.back ≡ c.back)
     (steps : Run) (leads : IsLocalRun c.number (local_of t m) steps (record (local_of t m) { phases = ph; parts = with_at (local_of t m).parts c.number part; references = (local_of t m).references }))
     (still : are_still steps ≡ true) (counts : m.counts ≡ counts_along (local_of t m) steps m.counts)
-    (blocks : List Block) (areas : AreMaximalBlocks (free_of (slice_set m.frame_states f r)) blocks) (run : KnownRun) (noted : Notes t m.run steps run) where
+    (blocks : List Block) (areas : AreMaximalBlocks (free_of (slice_set m.frame_states f r)) blocks) (run : KnownRun) (noted : Records t m.run steps run) where
   abbrev s : State
   s = local_of t m
 
@@ -168,7 +165,7 @@ module _ (t : KnownTable) (m : KnownMachine) (c : KnownCpuLists) (ok : IsConsist
             ∙ (shown_seen t m ok visit.held).phases g ∙ sym (ap phase_hidden (get_or-set_other m.frame_states f g (Lent c.number) Free ne))
       ]
 
-  pub lent_moved : (blocks : List Block) → AreMaximalBlocks (free_of (slice_set m.frame_states f (Lent c.number))) blocks → (run : KnownRun) → Notes t m.run (lend_steps c.number f) run
+  pub lent_moved : (blocks : List Block) → AreMaximalBlocks (free_of (slice_set m.frame_states f (Lent c.number))) blocks → (run : KnownRun) → Records t m.run (lend_steps c.number f) run
       → (sums : List ℕ) (owners : List (Option ℕ)) → AreBooked t.cpus (left_by t m.run.past).parts sums → AreOwners t.cpus (left_by t m.run.past).parts owners
       → AllMoved t m c (LendsFrame f) (lend_steps c.number f) (record m { blocks = blocks; frame_states = slice_set m.frame_states f (Lent c.number); run = run })
       (record c { list = c.list ++ f ∷ [] }) (free_of (slice_set m.frame_states f (Lent c.number))) sums owners
@@ -191,7 +188,7 @@ module _ (t : KnownTable) (m now : KnownMachine) (same : m ≡ now) (c : KnownCp
   pub lent_all : (d : KnownCpuLists) (before free : List Bool) (blocks : List Block) (i q : ℕ) (sums : List ℕ) (owners : List (Option ℕ)) → before ≡ free_of m.frame_states
       → AreBooked t.cpus (left_by t m.run.past).parts sums → AreOwners t.cpus (left_by t m.run.past).parts owners
       → TakesFrames before (record { at = i; order = 0 }) free → AreMaximalBlocks free blocks → i ≡ f → q ≡ c.number → d ≡ record c { list = c.list ++ f ∷ [] }
-      → (run : KnownRun) → Notes t m.run (lend_steps c.number f) run
+      → (run : KnownRun) → Records t m.run (lend_steps c.number f) run
       → AllMoved t now c (LendsFrame f) (lend_steps c.number f) (record m { blocks = blocks; frame_states = slice_set m.frame_states i (Lent q); run = run }) d free sums owners
   lent_all d before free blocks i q sums owners was are own takes areas index number cpu run noted =
       let takes_f : TakesFrames before (record { at = f; order = 0 }) free = subst (λ (x : ℕ). TakesFrames before (record { at = x; order = 0 }) free) index takes in
@@ -213,15 +210,6 @@ module _ (t : KnownTable) (m now : KnownMachine) (same : m ≡ now) (c : KnownCp
 -- the number of a visited CPU fits a byte
 pub number_low : (t : KnownTable) (m now : KnownMachine) → m ≡ now → (c : KnownCpuLists) → Visits t now c → c.number ≤ t.cpus
 number_low t m now same c visit = (number_range t m c (visits_here t m now same c visit)).1
-
--- the steps were made, and the watch took them
-pub lent_notes : (t : KnownTable) (run : KnownRun) (p f i q : ℕ) → i ≡ f → q ≡ p → (later : KnownPasts) (watch : KnownWatch) → IsHeld t run.past
-    → MakesInTurn t run.past (lend_steps p f) later → Watches run.watch (lend_steps q i) watch
-    → Notes t run (lend_steps p f) (record { past = later; watch = watch })
-lent_notes t run p f i q index number later watch held turn saw = record {
-  grew = all_grow t run.past (lend_steps p f) later (makes_each t run.past (lend_steps p f) later held turn);
-  watched = subst (λ (x : ℕ × ℕ). Watches run.watch (lend_steps x.1 x.0) watch) (λ j. (index j, number j)) saw;
-}
 
 -- ---- the first of the free frames
 
@@ -270,7 +258,7 @@ module _ (t : KnownTable) (m now : KnownMachine) (same : m ≡ now) (c : KnownCp
 
   pub first_lent : (d : KnownCpuLists) (blocks : List Block) (i q : ℕ) (sums : List ℕ) (owners : List (Option ℕ)) → AreBooked t.cpus (left_by t m.run.past).parts sums
       → AreOwners t.cpus (left_by t m.run.past).parts owners → AreMaximalBlocks free blocks → i ≡ f → q ≡ c.number → d ≡ record c { list = c.list ++ f ∷ [] }
-      → (run : KnownRun) → Notes t m.run (lend_steps c.number f) run
+      → (run : KnownRun) → Records t m.run (lend_steps c.number f) run
       → AllMoved t now c (LendsOne f) (lend_steps c.number f) (record m { blocks = blocks; frame_states = slice_set m.frame_states i (Lent q); run = run }) d free sums owners
   first_lent d blocks i q sums owners are own areas index number cpu run noted =
       let all = lent_all t m now same c visit ok f first_inside first_free d before free blocks i q sums owners was are own

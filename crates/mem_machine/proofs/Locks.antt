@@ -2,7 +2,6 @@
 use Rattle.std.proofs.Common.{◌≡◌, ◌≢◌, ℕ, ◌≤◌, ◌==◌, ◌||◌, ◌&&◌, Bool, true, false, Option, List, [], ◌∷◌, ◌++◌, refl, sym, ap, ◌∙◌, subst, inl, inr, arith, eq-eqb}
 use Rattle.std.specs.Prelude.{not}
 use Rattle.std.proofs.lemmas.Bool.{and_from}
-use Rattle.frame_word.specs.Tables.{KnownTable}
 use Rattle.step_rules.specs.declared.phase.Hold.{Hold}
 use Rattle.step_rules.specs.declared.phase.Hold.TheVariants.{HeldBy, Unheld}
 use Rattle.step_rules.specs.declared.step.Action.TheVariants.{Unlock}
@@ -14,7 +13,7 @@ use Rattle.step_rules.proofs.Runs.{state_more}
 use Rattle.step_rules.proofs.Sums.{all_each}
 use Rattle.group_tree.specs.Bounds.{most_groups}
 use Rattle.boot_words.specs.{LeavesFree, HasSameLists, KnownPasts, IsHeld, IsZonePast, MayMake, Meets, Unlocks, cpu_past, local_by_pasts, own_past}
-use Rattle.boot_words.specs.{zone_of_boot, IsAwayCpu, KnownCpuSeat, state_left}
+use Rattle.boot_words.specs.{zone_of_boot, IsAwayCpu, KnownCpuSeat, state_left, KnownTable}
 use Rattle.boot_words.specs.Pasts.{Locks}
 use Rattle.boot_words.proofs.Owning.{lists_are_own}
 use Rattle.cpu_part.specs.{KnownCpuLists, HasOwn, KnowsItsPart}

@@ -2,7 +2,6 @@
 -- or references of `local_of`.
 use Rattle.std.proofs.Common.{◌≡◌, ◌≢◌, ℕ, ◌+◌, ◌==◌, ◌&&◌, List, cond, refl, sym, ap, ◌∙◌, subst, inl, inr, arith, length}
 use Rattle.std.specs.Prelude.{is_some, nat_le, unwrap_or}
-use Rattle.frame_word.specs.Tables.{KnownTable}
 use Rattle.step_rules.specs.declared.phase.Phase.{Phase}
 use Rattle.step_rules.specs.declared.phase.Phase.TheVariants as phase
 use Rattle.step_rules.specs.declared.phase.Stage.TheVariants.{FreshAt, BackAt, Live}
@@ -11,7 +10,7 @@ use Rattle.step_rules.specs.{IsBooked, Part, one_if, times, Run, state_of, other
 use Rattle.step_rules.specs.State.{State}
 use Rattle.step_rules.proofs.CoverParts.{own_part, other_part, other_reference}
 use Rattle.step_rules.proofs.Runs.{sound_run}
-use Rattle.boot_words.specs.{hide, show_phase, cpu_past, zone_of_boot}
+use Rattle.boot_words.specs.{hide, show_phase, cpu_past, zone_of_boot, KnownTable}
 use Rattle.boot_words.proofs.Showing.{holder_sees_both}
 use Rattle.cpu_part.specs.Cpus.{KnownCpuLists}
 use Rattle.mem_machine.specs.declared.frame_state.FrameState.{FrameState}

@@ -3,7 +3,6 @@ use Rattle.std.proofs.Common.{◌≡◌, ℕ, ◌+◌, ◌==◌, ◌||◌, Bool,
 use Rattle.std.specs.List.{fold}
 use Rattle.std.specs.Prelude.{◌⊎◌}
 use Rattle.std.proofs.lemmas.Bool.{false≢true, or_parts}
-use Rattle.frame_word.specs.Tables.{KnownTable}
 use Rattle.stock_word.specs.declared.stock.Stock.TheVariants.{HeldBy}
 use Rattle.step_rules.specs.declared.step.Step.{Step}
 use Rattle.step_rules.specs.declared.step.Action.{Action}
@@ -14,7 +13,7 @@ use Rattle.step_rules.specs.State.{Part, State, PartStock, with_at}
 use Rattle.step_rules.specs.After.{Run, after, filled, with_back}
 use Rattle.step_rules.proofs.Basics.{at_each, at_same}
 use Rattle.step_rules.proofs.Runs.{after_illegal}
-use Rattle.boot_words.specs.{IsHeld, stock_in, stock_said}
+use Rattle.boot_words.specs.{IsHeld, stock_in, stock_said, KnownTable}
 use Rattle.cpu_part.specs.{KnownCpuLists, HasOwn}
 use Rattle.mem_machine.specs.{Makes, Visits, local_of, KnownMachine, part_at, stock_group, after_made, stock_now, AreDrainedIf, Fills, HasDrained}
 use Rattle.mem_machine.specs.{IsDrained, StockTest}

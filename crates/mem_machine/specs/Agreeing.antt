@@ -1,11 +1,10 @@
 -- What the ledger's peaks and event counts say of a run, and that each call keeps this true.
 use Rattle.std.specs.Prelude.{◌≡◌, ℕ, ◌++◌, true}
-use Rattle.frame_word.specs.Tables.{KnownTable}
 use Rattle.group_tree.specs.declared.event.EventKey.{EventKey}
 use Rattle.group_tree.specs.{count_of, has_group}
 use Rattle.group_charge.specs.Charges.{Ledger, peak_of, events_of, events_local_of}
 use Rattle.step_rules.specs.{Run, state_of, IsPeak, events_in, events_local_in}
-use Rattle.boot_words.specs.{zone_of_boot}
+use Rattle.boot_words.specs.{zone_of_boot, KnownTable}
 use Rattle.mem_machine.specs.Local.{lock_holder, Makes}
 use Rattle.mem_machine.specs.Machines.{KnownMachine}
 use Rattle.mem_machine.specs.Interleaving.{Shows, IsInterleaving}

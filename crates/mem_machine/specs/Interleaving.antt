@@ -1,8 +1,7 @@
 -- What a call's list of steps means among the steps of other CPUs.
 use Rattle.std.specs.Prelude.{◌≡◌, ℕ, ◌++◌}
-use Rattle.frame_word.specs.Tables.{KnownTable}
 use Rattle.step_rules.specs.{Run, ShowsLocal, own_steps, IsInterleaved}
-use Rattle.boot_words.specs.{zone_of_boot}
+use Rattle.boot_words.specs.{zone_of_boot, KnownTable}
 use Rattle.mem_machine.specs.Local.{lock_holder, local_of, Makes}
 use Rattle.mem_machine.specs.Machines.{KnownMachine}
 

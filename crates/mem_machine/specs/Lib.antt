@@ -72,5 +72,5 @@ pub use Rattle.mem_machine.specs.Settling.{fresh_steps, is_fresh_killed, keep_st
 pub use Rattle.mem_machine.specs.Paying.{HasRoomFor, HoldsPage, IsOfSize, MayCharge, PaysForFront}
 pub use Rattle.mem_machine.specs.Places.{NoneLentTo, frames_free, frames_in_groups}
 pub use Rattle.mem_machine.specs.Showing.{ListedUnit, listed, stock_left, stock_now, units_in}
-pub use Rattle.mem_machine.specs.Noted.{AreLocal, KnownRun, MayTake, MayTakeAll, Notes, PastsGrowBy, after_made}
+pub use Rattle.mem_machine.specs.Noted.{AreLocal, KnownRun, MayTake, MayTakeAll, Records, PastsGrowBy, after_made}
 pub use Rattle.mem_machine.specs.Resting.{Rests}

@@ -1,7 +1,7 @@
 -- What the CPU that holds the lock sees of the machine and its own part, in the words of the rules, and which steps
 -- lead from one machine to another.
 use Rattle.std.specs.Prelude.{◌≡◌, ℕ, ◌==◌, ◌&&◌, nat_le, true, if◌then◌else◌, unwrap_or}
-use Rattle.frame_word.specs.Tables.{KnownTable}
+use Rattle.boot_words.specs.Tables.{KnownTable}
 use Rattle.cpu_part.specs.{KnownCpuLists, HasOwn}
 use Rattle.step_rules.specs.declared.phase.Hold.TheVariants.{HeldBy}
 use Rattle.step_rules.specs.declared.phase.Way.TheVariants.{OnList}
@@ -11,7 +11,7 @@ use Rattle.step_rules.specs.declared.phase.Phase.TheVariants as phase
 use Rattle.step_rules.specs.State.{State, times, visits}
 use Rattle.step_rules.specs.After.{Run}
 use Rattle.boot_words.specs.Pasts.{IsHeld, cpu_past, local_by_pasts}
-use Rattle.mem_machine.specs.Noted.{Notes}
+use Rattle.mem_machine.specs.Noted.{Records}
 -- the lists of local steps that lead from one local state to another
 pub use Rattle.step_rules.specs.Reaches.{IsLocalRun}
 -- the machine, and the part of the CPU that holds its lock
@@ -39,7 +39,7 @@ pub record Makes (table : KnownTable) (before : KnownMachine) (steps : Run) (aft
   pub leads : IsLocalRun (lock_holder before) (local_of table before) steps (local_of table after)
   pub follows : FollowsSteps (local_of table before) before.ledger steps after.ledger
   pub counts : after.counts ≡ counts_along (local_of table before) steps before.counts
-  pub noted : Notes table before.run steps after.run
+  pub noted : Records table before.run steps after.run
 
 -- these steps lead from the machine of one visit state to that of another
 abbrev pub VisitMakes : KnownTable → VisitState → Run → VisitState → Type 0

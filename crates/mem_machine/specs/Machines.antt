@@ -3,7 +3,6 @@ use Rattle.std.specs.Prelude.{◌≡◌, ◌≢◌, ℕ, ◌+◌, ◌<◌, ◌�
 use Rattle.std.specs.List.{slice_index_or}
 use Rattle.zone_blocks.specs.declared.block.Block.{Block}
 use Rattle.zone_blocks.specs.Areas.{AreMaximalBlocks}
-use Rattle.frame_word.specs.Tables.{KnownTable}
 use Rattle.group_charge.specs.{Ledger, pages_of, current_of, initial_ledger, with_new_group, KnownNotes, detail_noted, forgotten, no_notes, noted}
 use Rattle.group_tree.specs.{most_groups, IsLeastFreeNumber, IsLowestOver}
 use Rattle.lru_lists.specs.declared.record.Link.{Link}
@@ -14,9 +13,10 @@ use Rattle.lru_lists.specs.declared.record.LruList.TheVariants.{Inactive, Active
 use Rattle.lru_lists.specs.declared.lru.Lru.{Lru}
 use Rattle.lru_lists.specs.declared.queue.Queue.{Queue}
 use Rattle.lru_lists.specs.{link_at, AreNowhere, AllLinked, entries_of}
+use Rattle.stock_word.specs.Stock.{group_base}
 use Rattle.step_rules.specs.{told_pages, Part, one_if, sum_to, state_of}
 use Rattle.step_rules.specs.State.{State}
-use Rattle.boot_words.specs.{hide, KnownPasts, own_past, zone_of_boot, seat_at_first}
+use Rattle.boot_words.specs.{hide, KnownPasts, own_past, zone_of_boot, seat_at_first, KnownTable}
 use Rattle.cpu_part.specs.Cpus.{KnownCpuLists}
 use Rattle.mem_machine.specs.declared.frame_state.FrameState.{FrameState}
 use Rattle.mem_machine.specs.declared.frame_state.FrameState.TheVariants.{Free}
@@ -193,7 +193,7 @@ pub record IsShownBy (table : KnownTable) (machine : KnownMachine) (state : Stat
   pub references : (frame : ℕ) → state.references 0 frame ≡ one_if (is_some (home_of machine.links frame))
   pub settled : (group : ℕ) → state.pending group ≡ 0
   pub absorbed : (cpu : ℕ) → told_pages (state.parts cpu) ≡ 0
-  pub bounded : (cpu : ℕ) → (state.parts cpu).book < 65536
+  pub bounded : (cpu : ℕ) → (state.parts cpu).book < group_base
   pub charged : (group : ℕ)
       → pages_of machine.ledger group
       ≡ frames_charged machine.frame_states group + pages_booked table.cpus state.parts group

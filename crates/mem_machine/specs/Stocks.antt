@@ -1,13 +1,14 @@
 -- How stocks are drained and filled.
 use Rattle.std.specs.Prelude.{◌≡◌, ◌⊎◌, ℕ, zero, suc, ◌+◌, ◌≤◌, ◌<◌, ◌↔◌, Bool, true, false, Option, Some, None, List, [], ◌∷◌, ◌++◌}
 use Rattle.std.specs.Int.{bit_at}
-use Rattle.frame_word.specs.Tables.{KnownTable}
 use Rattle.group_tree.specs.Room.{PathHasRoom}
 use Rattle.group_charge.specs.{Ledger, current_of, with_charge, with_uncharge, noted}
 use Rattle.group_tree.specs.declared.group.Group.{Group}
 use Rattle.group_charge.specs.declared.note.Note.TheVariants.{Stock}
 use Rattle.group_tree.specs.{is_in_subtree}
+use Rattle.stock_word.specs.Stock.{group_base}
 use Rattle.step_rules.specs.{Part, is_of_group, drained, filled, with_part}
+use Rattle.boot_words.specs.Tables.{KnownTable}
 use Rattle.mem_machine.specs.Machines.{KnownMachine, left_by, part_at}
 use Rattle.mem_machine.specs.Local.{Makes}
 use Rattle.mem_machine.specs.Steps.{Drain, drain_stocks_steps, over_steps, pages_drained}
@@ -29,7 +30,7 @@ IsDrained table machine cpu = HasDrained (part_at table machine cpu)
 
 -- a stock can take this many pages: at least one, and as many as fit its word
 abbrev pub FitsStock : ℕ → Type 0
-FitsStock pages = (0 < pages) × (pages < 65536)
+FitsStock pages = (0 < pages) × (pages < group_base)
 
 -- The CPU's stock is drained of this many pages. They are no longer booked to the stock, nor charged to its group. A
 -- stock that is already drained gives 0 pages. Nothing else that the run leaves has changed.

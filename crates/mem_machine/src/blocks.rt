@@ -9,6 +9,7 @@ use crate::frame_state::FrameState;
 use crate::lists::join_list;
 use crate::machine::Machine;
 use crate::proving::prove_charges;
+use crate::publishing::publish;
 use crate::stepping::make_step;
 use cpu_part::{BootName, CpuLists, Tables};
 use frame_word::Frame;
@@ -68,9 +69,8 @@ impl<N: BootName> Machine<N> {
         let pages = order.frames();
         prove_charges(&self.charges);
         if let Err(over) = self.charges.try_charge(group, pages) {
-            let full = over.group;
             make_step(tables, &mut self.past, &mut self.watch, || {
-                (Action::Grant { group, pages }, Answer::Over(full))
+                (Action::Grant { group, pages }, Answer::Over(over.group))
             });
             return Err(TakeFault::Over(over));
         }
@@ -90,21 +90,12 @@ impl<N: BootName> Machine<N> {
         let Some(head) = tables.words.frame(block.at) else {
             unreachable!()
         };
-        let frame = head.number();
         place_unit(&mut self.frame_states, block, group);
         make_step(tables, &mut self.past, &mut self.watch, || {
-            (
-                Action::PlaceBlock { group, order },
-                Answer::Placed(Block { at: frame, order }),
-            )
+            (Action::PlaceBlock { group, order }, Answer::Placed(block))
         });
-        tables.words.unfreeze(&mut self.past, head, 1);
-        self.watch
-            .take(0, || (Action::Unfreeze { frame, count: 1 }, Answer::Done));
-        join_list(&mut self.links, &mut self.lists, group, frame);
-        make_step(tables, &mut self.past, &mut self.watch, || {
-            (Action::Publish { frame }, Answer::Done)
-        });
+        join_list(&mut self.links, &mut self.lists, group, block.at);
+        publish(tables, &mut self.past, &mut self.watch, head);
         Ok(head)
     }
 }

@@ -12,6 +12,7 @@ ghost use Rattle.step_watch.specs.Watched.{Watches};
 
 use crate::frame_state::{FrameState, single_order};
 use crate::machine::Machine;
+use crate::passed::collect_passed;
 use crate::proving::prove_sizes;
 use cpu_part::{BootName, CpuLists, Tables};
 use frame_word::Frame;
@@ -98,22 +99,8 @@ impl<N: BootName> Machine<N> {
         let Some(frame) = cpu.pass_front(tables, &mut self.past) else {
             return false;
         };
+        collect_passed(tables, &mut self.past, &mut self.watch, cpu_number, frame);
         let at = frame.number();
-        self.watch.take(
-            cpu_number,
-            || (Action::PassBack { frame: at }, Answer::Done),
-        );
-        tables.words.collect(&mut self.past, cpu_number, frame);
-        self.watch.take(
-            0,
-            || (
-                Action::Collect {
-                    frame: at,
-                    cpu: cpu_number,
-                },
-                Answer::Done,
-            ),
-        );
         self.frame_states[at as usize] = FrameState::Free;
         self.zone.give(Block {
             at,

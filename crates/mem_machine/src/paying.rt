@@ -1,6 +1,7 @@
 //! What the lock's holder can pay with: the pages of its own stock, and the room for more charges.
 
 ghost use Rattle.std.specs.Prelude.{◌≡◌, ℕ, ◌<◌, ◌≤◌, [], length};
+ghost use Rattle.stock_word.specs.Stock.{group_base};
 ghost use Rattle.mem_machine.specs.Local.{Holds, Makes, Visits, visit_state};
 ghost use Rattle.mem_machine.specs.Paying.{HasRoomFor, HoldsPage, IsOfSize, PaysForFront};
 ghost use Rattle.mem_machine.specs.Showing.{stock_now};
@@ -29,7 +30,7 @@ impl<N: BootName> Machine<N> {
     /// below 2^32 pages. It does nothing.
     pub fn prove_room(&self)
         requires size { IsOfSize N.table }
-        ensures room { (pages : ℕ) → pages < 65536 → HasRoomFor self.now pages }
+        ensures room { (pages : ℕ) → pages < group_base → HasRoomFor self.now pages }
     {
         prove_charges(&self.charges);
     }

@@ -5,7 +5,7 @@ ghost use Rattle.std.specs.List.{slice_index_or};
 ghost use Rattle.boot_words.specs.{AreLegal, local_by_pasts, IsHeld, IsHolder};
 ghost use Rattle.mem_machine.specs.Machines.{is_killed, stock_group};
 ghost use Rattle.mem_machine.specs.Local.{Makes, Visits, visit_state};
-ghost use Rattle.mem_machine.specs.Noted.{Notes};
+ghost use Rattle.mem_machine.specs.Noted.{Records};
 ghost use Rattle.mem_machine.specs.Settling.{HandsOver, KeepsFresh, DropsFresh, SettlesNext, SettlesAllFresh, Settles};
 ghost use Rattle.mem_machine.specs.Settling.{ReturnsNext, ReturnsAllBack, LeavesOthers};
 ghost use Rattle.mem_machine.specs.Settling.{MakesFreshSteps, MakesReturnSteps, keep_steps, drop_steps};
@@ -16,6 +16,8 @@ use crate::frame_state::{FrameState, single_order};
 use crate::freed::free_unit;
 use crate::lists::join_list;
 use crate::machine::Machine;
+use crate::passed::collect_passed;
+use crate::publishing::publish;
 use crate::stepping::make_step;
 use boot_words::PastSeat;
 use cpu_part::{BootName, CpuLists, Tables};
@@ -55,7 +57,7 @@ fn collect_fresh<N: BootName>(
     ensures cpu { HandsOver result cpu.old cpu.new }
     ensures sums { sums.new ≡ slice_set sums.old group (slice_index_or sums.old group 0 - 1) }
     ensures held { IsHeld N.table past.new }
-    ensures notes { Notes N.table (record { past = past.old; watch = watch.old })
+    ensures notes { Records N.table (record { past = past.old; watch = watch.old })
         (collect_steps cpu.old.number result) (record { past = past.new; watch = watch.new }) }
 {
     let cpu_number = cpu.number();
@@ -87,15 +89,10 @@ impl<N: BootName> Machine<N> {
             group,
         );
         let frame = head.number();
-        tables.words.unfreeze(&mut self.past, head, 1);
-        self.watch
-            .take(0, || (Action::Unfreeze { frame, count: 1 }, Answer::Done));
         let order = single_order();
         self.frame_states[frame as usize] = FrameState::Head(ChargedUnit { group, order });
         join_list(&mut self.links, &mut self.lists, group, frame);
-        make_step(tables, &mut self.past, &mut self.watch, || {
-            (Action::Publish { frame }, Answer::Done)
-        });
+        publish(tables, &mut self.past, &mut self.watch, head);
         head
     }
 
@@ -145,22 +142,8 @@ impl<N: BootName> Machine<N> {
         let Some(frame) = cpu.pass_back_unit(tables, &mut self.past) else {
             return None;
         };
+        collect_passed(tables, &mut self.past, &mut self.watch, cpu_number, frame);
         let at = frame.number();
-        self.watch.take(
-            cpu_number,
-            || (Action::PassBack { frame: at }, Answer::Done),
-        );
-        tables.words.collect(&mut self.past, cpu_number, frame);
-        self.watch.take(
-            0,
-            || (
-                Action::Collect {
-                    frame: at,
-                    cpu: cpu_number,
-                },
-                Answer::Done,
-            ),
-        );
         let FrameState::Head(unit) = self.frame_states[at as usize] else {
             unreachable!()
         };

@@ -1,7 +1,7 @@
 //! What the machine shows of a group's kept units.
 
 ghost use Rattle.std.specs.Prelude.{◌≡◌, ◌+◌, ◌<◌};
-ghost use Rattle.frame_word.specs.Word.{most_references};
+ghost use Rattle.step_rules.specs.State.{most_references};
 ghost use Rattle.boot_words.specs.{own_past, zone_of_boot, LoadsReferences};
 ghost use Rattle.mem_machine.specs.Machines.{HeadsKeptUnit, entries_in};
 ghost use Rattle.mem_machine.specs.Resting.{Rests};

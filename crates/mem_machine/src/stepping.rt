@@ -1,12 +1,12 @@
 //! Making the steps that no word is of.
 
 ghost use Rattle.std.specs.Prelude.{◌∷◌, []};
+ghost use Rattle.step_rules.specs.After.{zone_makes};
 ghost use Rattle.boot_words.specs.{IsHeld, MakesStep, IsPlain};
 ghost use Rattle.step_rules.specs.declared.step.Action.{Action};
 ghost use Rattle.step_rules.specs.declared.step.Answer.{Answer};
 ghost use Rattle.step_watch.specs.Watched.{Builds};
-ghost use Rattle.mem_machine.specs.Noted.{MayTake, Notes};
-ghost use Rattle.mem_machine.specs.Steps.{zone_makes};
+ghost use Rattle.mem_machine.specs.Noted.{MayTake, Records};
 
 use boot_words::PastSeat;
 use cpu_part::{BootName, Tables};
@@ -30,7 +30,7 @@ pub(crate) fn make_step<N: BootName, F: FnOnce() -> (Action, Answer) + Copy>(
     ensures run { (action : Action) (answer : Answer) → Builds (F.post made) action answer
         → MakesStep N.table past.old 0 action answer past.new }
     ensures notes { (action : Action) (answer : Answer) → Builds (F.post made) action answer
-        → Notes N.table (record { past = past.old; watch = watch.old }) (zone_makes action answer ∷ [])
+        → Records N.table (record { past = past.old; watch = watch.old }) (zone_makes action answer ∷ [])
         (record { past = past.new; watch = watch.new }) }
 {
     let (action, answer) = made();

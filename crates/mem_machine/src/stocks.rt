@@ -150,9 +150,8 @@ impl<N: BootName> Machine<N> {
         let cpu_number = cpu.number();
         prove_charges(&self.charges);
         if let Err(over) = self.charges.try_charge(group, pages) {
-            let full = over.group;
             make_step(tables, &mut self.past, &mut self.watch, || {
-                (Action::Grant { group, pages }, Answer::Over(full))
+                (Action::Grant { group, pages }, Answer::Over(over.group))
             });
             return Err(over);
         }

@@ -2,12 +2,12 @@
 use Rattle.std.proofs.Common.{◌≡◌, ◌≢◌, ℕ, ◌+◌, ◌≤◌, Bool, true, false, Option, Some, None, List, refl, sym, ap, ◌∙◌, subst, arith, cond}
 use Rattle.std.proofs.lemmas.Bool.{true≢false}
 use Rattle.std.proofs.lemmas.Option.{none-some}
-use Rattle.frame_word.specs.Tables.{KnownTable}
 use Rattle.group_tree.specs.Groups.{in_subtree}
 use Rattle.group_charge.specs.{KnownNotes, current_of}
 use Rattle.lru_lists.specs.declared.record.Link.{Link}
 use Rattle.lru_lists.specs.declared.record.Home.{Home}
 use Rattle.lru_lists.specs.{link_at, SameOwners, owner_of}
+use Rattle.boot_words.specs.Tables.{KnownTable}
 use Rattle.cpu_part.specs.Cpus.{KnownCpuLists}
 use Rattle.mem_machine.specs.{KnownMachine, home_of, left_by, Makes, Visits, KnownRun, evict_steps, MissesUnit, EvictsUnit, Evicts}
 use Rattle.boot_words.specs.Pasts.{IsHeld, local_by_pasts, own_past}

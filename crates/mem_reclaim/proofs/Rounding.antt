@@ -3,11 +3,11 @@ use Rattle.std.proofs.Common.{◌≡◌, ◌≢◌, ◌⊎◌, ℕ, zero, suc, a
 use Rattle.std.specs.Prelude.{max, nat_lt}
 use Rattle.std.proofs.lemmas.Bool.{cond-false, lt-ltb, ne_eqb}
 use Rattle.std.proofs.lemmas.List.{append_assoc, append-nil}
-use Rattle.frame_word.specs.Tables.{KnownTable}
 use Rattle.group_charge.specs.{Ledger, current_of}
 use Rattle.step_rules.specs.After.{Run}
 use Rattle.group_charge.specs.declared.note.Note.{Note}
 use Rattle.group_charge.specs.declared.note.Note.TheVariants.{Asked}
+use Rattle.boot_words.specs.Tables.{KnownTable}
 use Rattle.mem_machine.specs.Machines.{KnownMachine, with_note}
 use Rattle.mem_reclaim.specs.{AfterNote, FreesNothing, Reclaiming, progress, FreesPages, FreesBySteps, Reclaims, ReclaimsAmount, ReclaimsPages}
 use Rattle.mem_reclaim.specs.{ReclaimsRound, ReclaimsRounds, pages_missing, pages_wanted, round_note, wanted_pages, Keeps, MissedAll}

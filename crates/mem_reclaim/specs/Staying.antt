@@ -1,6 +1,5 @@
 -- What each reclaim keeps, and what it tried.
 use Rattle.std.specs.Prelude.{◌≡◌, ◌≢◌, ℕ, ◌+◌, ◌<◌, ◌≤◌, ◌⊎◌, true, false, Some, None, List}
-use Rattle.frame_word.specs.Tables.{KnownTable}
 use Rattle.std.specs.Int.{bit_at}
 use Rattle.group_tree.specs.{most_groups, in_subtree}
 use Rattle.group_charge.specs.Charges.{current_of}
@@ -9,6 +8,7 @@ use Rattle.lru_lists.specs.declared.record.Link.{Link}
 use Rattle.lru_lists.specs.declared.record.Home.{Home}
 use Rattle.lru_lists.specs.declared.record.LruList.{LruList}
 use Rattle.lru_lists.specs.{link_at, owner_of}
+use Rattle.boot_words.specs.Tables.{KnownTable}
 use Rattle.mem_machine.specs.{HeadsKeptUnit, KnownMachine, home_of, part_at, StaysVisited, local_of}
 use Rattle.mem_reclaim.specs.Moves.{misses_of}
 

@@ -2,9 +2,9 @@
 -- does.
 use Rattle.std.proofs.Common.{◌≡◌, ◌≤◌, ℕ, zero, suc, IsTrue, List, [], Some, refl, subst, arith}
 use Rattle.std.specs.Prelude.{Result, Ok, Err, MatchResult, ◌≢◌, ◌∷◌}
-use Rattle.frame_word.specs.Tables.{KnownTable}
 use Rattle.group_tree.specs.Groups.{has_group, number_at}
 use Rattle.group_charge.specs.Charges.{Ledger}
+use Rattle.boot_words.specs.Tables.{KnownTable}
 use Rattle.cpu_part.specs.Cpus.{KnownCpuLists}
 use Rattle.zone_blocks.specs.declared.config.Config.{Config}
 use Rattle.mem_machine.specs.{KnownMachine, VisitMakes, VisitState, visit_state}

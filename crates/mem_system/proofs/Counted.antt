@@ -6,7 +6,6 @@ use Rattle.std.specs.Prelude.{IfSome}
 use Rattle.std.specs.List.{slice_get}
 use Rattle.std.proofs.lemmas.Bool.{cases_Bool, or_left, or_right, true≢false}
 use Rattle.std.proofs.lemmas.List.{append_cancel_left}
-use Rattle.frame_word.specs.Tables.{KnownTable}
 use Rattle.group_tree.specs.declared.group.Group.{Group}
 use Rattle.group_tree.specs.Groups.{has_group}
 use Rattle.group_charge.specs.Charges.{Ledger, peak_of}
@@ -27,7 +26,7 @@ use Rattle.step_rules.specs.{pushed, IsInterleaved, IsLocalRun, MayFollow, is_ow
 use Rattle.step_rules.proofs.LocalLaws.{other_step_is_hidden, own_step_is_legal}
 use Rattle.step_rules.proofs.Peaking.{peaks_are_kept}
 use Rattle.step_rules.proofs.Runs.{allowed, state_more}
-use Rattle.boot_words.specs.{IsHeld, KnownPasts, Meets, Unlocks, cpu_past, own_past, AllOf, HasNoStepOf, zone_of_boot}
+use Rattle.boot_words.specs.{IsHeld, KnownPasts, Meets, Unlocks, cpu_past, own_past, AllOf, HasNoStepOf, zone_of_boot, KnownTable}
 use Rattle.boot_words.specs.Pasts.{Locks}
 use Rattle.boot_words.proofs.Holding.{allowed_at, append_none}
 use Rattle.mem_machine.specs.declared.counts.Counts.{Counts}

@@ -4,7 +4,6 @@ use Rattle.std.specs.Prelude.{Ok, unwrap_or}
 use Rattle.std.specs.Borrow.{Bor}
 use Rattle.std.proofs.lemmas.Bool.{false≢true}
 use Rattle.std.proofs.lemmas.Option.{none-some}
-use Rattle.frame_word.specs.Tables.{KnownTable}
 use Rattle.zone_blocks.specs.declared.config.Config.{Config}
 use Rattle.group_tree.specs.declared.fault.Fault.TheVariants.{NotKept}
 use Rattle.step_rules.specs.declared.step.Action.TheVariants.{Consume}
@@ -13,7 +12,7 @@ use Rattle.step_rules.specs.State.{State}
 use Rattle.step_rules.proofs.Basics.{at_same}
 use Rattle.step_rules.proofs.Lists.{times_same}
 use Rattle.step_rules.proofs.SoundSteps.{below_frames}
-use Rattle.boot_words.specs.{cpu_past, zone_of_boot}
+use Rattle.boot_words.specs.{cpu_past, zone_of_boot, KnownTable}
 use Rattle.lru_lists.specs.declared.record.Home.{Home}
 use Rattle.mem_machine.specs.{IsConsistent, KnownMachine, home_of, is_killed, with_run, LendsMany, VisitState, local_of, lock_holder}
 use Rattle.mem_machine.specs.{visit_state, ReturnsAllBack, SettlesAllFresh, is_fresh_killed, settle_steps, open_steps, shut_steps, take_front_steps}

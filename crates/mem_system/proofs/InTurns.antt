@@ -4,7 +4,7 @@ use Rattle.std.specs.Prelude.{slice_set, sum_by, All}
 use Rattle.std.proofs.lemmas.List.{drop_more, take_more_set, drop-set-lt, length-set, nil_from_length, take_all, drop_all}
 use Rattle.std.proofs.lemmas.List.Sums.{get_or-le-sum_by, sum_by-cons}
 use Rattle.std.proofs.lemmas.List.Elements.{All-push}
-use Rattle.frame_word.specs.Tables.{KnownTable}
+use Rattle.boot_words.specs.Tables.{KnownTable}
 use Rattle.cpu_part.specs.Cpus.{KnownCpuLists}
 use Rattle.mem_machine.specs.Machines.{KnownMachine}
 use Rattle.mem_system.specs.{CpuInRun, parts_of, ForEachCpu, IsEmptied, LendsAndFillsNone, MachineAndCpu, machine_and_cpu, pins_of_all}

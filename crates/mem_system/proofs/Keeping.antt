@@ -1,9 +1,9 @@
 -- Serves the commands that lower a usage or set a limit, and `execute`.
 use Rattle.std.proofs.Common.{◌≡◌, ℕ, ◌+◌, ◌<◌, ◌≤◌, ◌++◌, [], List, Option, Some, None, true, false, refl, sym, ◌∙◌, subst, arith}
-use Rattle.frame_word.specs.Tables.{KnownTable}
 use Rattle.group_tree.specs.declared.group.Group.{Group}
 use Rattle.group_tree.specs.Groups.{has_group, has_child}
 use Rattle.group_charge.specs.Charges.{current_of}
+use Rattle.boot_words.specs.Tables.{KnownTable}
 use Rattle.cpu_part.specs.Cpus.{KnownCpuLists}
 use Rattle.mem_machine.specs.{KnownMachine, with_run, KeepsVisit, Makes, Visits, drain_stocks_steps, set_max_steps, AreDrained, DrainsSubtree}
 use Rattle.mem_machine.specs.{of_subtree, BySteps, transition}

@@ -1,6 +1,7 @@
 -- Visits under the lock, and the steps that the watch takes of them. Serves the visits at the end of a system.
 use Rattle.std.proofs.Common.{◌≡◌, ℕ, List, [], ◌∷◌, ◌++◌, sym, ap, ◌∙◌, subst}
-use Rattle.frame_word.specs.Tables.{KnownTable}
+use Rattle.step_rules.specs.After.{cpu_makes}
+use Rattle.boot_words.specs.Tables.{KnownTable}
 use Rattle.cpu_part.specs.Cpus.{KnownCpuLists}
 use Rattle.boot_words.specs.Cpus.{KnownCpuSeat}
 use Rattle.boot_words.specs.Pasts.{IsHeld, KnownPasts, Locks, Unlocks, own_past}
@@ -11,7 +12,6 @@ use Rattle.step_watch.specs.Watched.{KnownWatch, Watches}
 use Rattle.step_watch.proofs.Watching.{watches_none, watches_both}
 use Rattle.mem_machine.specs.{KnownMachine, left_by, part_at, with_past, with_run, with_watch, KnownRun, frame_state_at, Holds, VisitState}
 use Rattle.mem_machine.specs.{VisitMakes, visit_state, HasDrained}
-use Rattle.mem_machine.specs.Steps.{cpu_makes}
 use Rattle.mem_machine.proofs.Sight.{left_seen}
 use Rattle.mem_system.specs.Commands.{Transition, BySteps}
 use Rattle.mem_system.specs.Cpus.{CpuInRun, between_locks, cpu_in_run}

@@ -3,7 +3,6 @@ use Rattle.std.proofs.Common.{◌≡◌, ◌⊎◌, ℕ, ◌+◌, ◌<◌, ◌�
 use Rattle.std.specs.Prelude.{is_some, unwrap_or}
 use Rattle.std.proofs.lemmas.Bool.{cases_lt, cases_eq, false≢true}
 use Rattle.std.proofs.lemmas.Nat.{pow_pos}
-use Rattle.frame_word.specs.Tables.{KnownTable}
 use Rattle.step_rules.specs.declared.phase.ChargedUnit.{ChargedUnit}
 use Rattle.step_rules.specs.declared.phase.Stage.{Stage}
 use Rattle.step_rules.specs.declared.phase.Stage.TheVariants.{FreshAt, Live, BackAt}
@@ -16,7 +15,7 @@ use Rattle.step_rules.specs.State.{State, sum_to}
 use Rattle.step_rules.proofs.Freeing.{zone_of_run}
 use Rattle.step_rules.proofs.Living.{live_are_referenced}
 use Rattle.step_rules.proofs.Runs.{sound_run}
-use Rattle.boot_words.specs.{hide, hide_phase, hide_stage, own_past, zone_of_boot}
+use Rattle.boot_words.specs.{hide, hide_phase, hide_stage, own_past, zone_of_boot, KnownTable}
 use Rattle.boot_words.proofs.Backs.{back_of, backs_are_cpus}
 use Rattle.boot_words.proofs.Left.{zone_left}
 use Rattle.cpu_part.specs.{KnownCpuLists, HasOwn}

@@ -4,9 +4,8 @@ use Rattle.std.specs.Prelude.{is_some, slice_get}
 use Rattle.std.proofs.lemmas.Option.{get_or_from_slice_get}
 use Rattle.std.proofs.lemmas.Bool.{false≢true}
 use Rattle.atomic_table.specs.Seated.{TableId}
-use Rattle.frame_word.specs.Tables.{KnownTable}
 use Rattle.boot_words.specs.declared.past.Past.{Past}
-use Rattle.boot_words.specs.{IsAwayCpu, KnownCpuSeat, state_left, cpu_at_first, cpus_at_first, no_past}
+use Rattle.boot_words.specs.{IsAwayCpu, KnownCpuSeat, state_left, cpu_at_first, cpus_at_first, no_past, KnownTable}
 use Rattle.cpu_part.specs.{KnownCpuLists, IsIdle, first_cpu, HasOwn, KnowsItsPart}
 use Rattle.mem_system.specs.Boots.{first_cpus, first_pasts}
 

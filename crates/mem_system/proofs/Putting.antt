@@ -4,11 +4,10 @@ use Rattle.std.specs.Prelude.{IfSome, IsPermutation, MatchOption, slice_set}
 use Rattle.std.proofs.lemmas.List.{map-append, nil_from_length, take_all, take_more_set}
 use Rattle.std.proofs.lemmas.List.Sorted.{IsPermutation-append_right, IsPermutation-refl, IsPermutation-trans}
 use Rattle.std.proofs.lemmas.List.Sums.{sum_by-append, sum_by-cons}
-use Rattle.frame_word.specs.Tables.{KnownTable}
 use Rattle.frame_word.specs.declared.answers.Put.{Put}
 use Rattle.frame_word.specs.declared.answers.Put.TheVariants.{Left, Last}
 use Rattle.step_rules.specs.{Run, times}
-use Rattle.boot_words.specs.{KnownCpuSeat, GrewByAll, own_past, AllOf, BeginsRun, zone_of_boot}
+use Rattle.boot_words.specs.{KnownCpuSeat, GrewByAll, own_past, AllOf, BeginsRun, zone_of_boot, KnownTable}
 use Rattle.boot_words.proofs.Gaining.{grown_number}
 use Rattle.boot_words.proofs.Grown.{all_grew_both}
 use Rattle.cpu_part.specs.{KnownCpuLists, UnpinAnswers, steps_of_put, KnowsItsPart}

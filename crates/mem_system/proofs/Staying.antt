@@ -1,7 +1,7 @@
 -- Serves `serve_frame_outcome`: settling leaves the groups.
 use Rattle.std.proofs.Common.{◌≡◌, ℕ, List, [], ◌∷◌, ap, ◌∙◌, inl, inr}
 use Rattle.std.proofs.lemmas.Bool.{cases_Bool}
-use Rattle.frame_word.specs.Tables.{KnownTable}
+use Rattle.boot_words.specs.Tables.{KnownTable}
 use Rattle.cpu_part.specs.Cpus.{KnownCpuLists}
 use Rattle.mem_machine.specs.{KnownMachine, visit_state, SettlesFresh, SettlesAllFresh, ReturnsAllBack, Settles, is_fresh_killed}
 

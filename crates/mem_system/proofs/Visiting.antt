@@ -2,11 +2,10 @@
 use Rattle.std.proofs.Common.{◌≡◌, ℕ, true, false, ◌++◌, refl, sym, ap, ◌∙◌, subst, unwrap_or}
 use Rattle.std.specs.List.{flat_map}
 use Rattle.std.proofs.lemmas.Bool.{false≢true}
-use Rattle.frame_word.specs.Tables.{KnownTable}
 use Rattle.step_rules.specs.declared.phase.Hold.{Hold}
 use Rattle.step_rules.specs.declared.phase.Hold.TheVariants.{HeldBy, Unheld, Visiting}
 use Rattle.step_rules.specs.{Part, is_unheld, visits, Run, state_of}
-use Rattle.boot_words.specs.{KnownCpuSeat, IsHeld, Unlocks, own_past, zone_of_boot}
+use Rattle.boot_words.specs.{KnownCpuSeat, IsHeld, Unlocks, own_past, zone_of_boot, KnownTable}
 use Rattle.boot_words.specs.Pasts.{Locks}
 use Rattle.cpu_part.specs.{KnownCpuLists, KnowsItsPart}
 use Rattle.mem_machine.specs.{KnownMachine, is_killed, with_past, with_run, without_notes, Holds, IsShut, Makes, visit_state, Rests}

@@ -1,8 +1,7 @@
 -- What contracts see of a boot, of a system, and of the first parts of its CPUs.
 use Rattle.std.specs.Prelude.{◌≡◌, ℕ, zero, suc, ◌+◌, List, [], ◌∷◌}
-use Rattle.frame_word.specs.Tables.{KnownTable}
 use Rattle.boot_words.specs.declared.past.Past.{Past}
-use Rattle.boot_words.specs.{no_past, KnownPasts, IsAwayCpu, KnownCpuSeat, cpus_at_first, seat_at_first, AllOf}
+use Rattle.boot_words.specs.{no_past, KnownPasts, IsAwayCpu, KnownCpuSeat, cpus_at_first, seat_at_first, AllOf, KnownTable}
 use Rattle.cpu_part.specs.Cpus.{KnownCpuLists, first_cpu}
 use Rattle.zone_blocks.specs.declared.config.Config.{Config}
 use Rattle.zone_blocks.specs.Config.{IsValidConfig}

@@ -1,14 +1,12 @@
 -- What contracts see of a CPU, and how a visit goes on with its past and the zone's.
 use Rattle.std.specs.Prelude.{◌≡◌, ℕ, List, [], ◌∷◌, ◌++◌, map}
-use Rattle.frame_word.specs.Tables.{KnownTable}
 use Rattle.step_rules.specs.declared.step.Action.TheVariants.{Lock, Unlock}
 use Rattle.step_rules.specs.declared.step.Answer.TheVariants.{Done}
-use Rattle.step_rules.specs.After.{Run}
+use Rattle.step_rules.specs.After.{Run, cpu_makes}
 use Rattle.stock_word.specs.declared.stock.Stock.{Stock}
 use Rattle.boot_words.specs.declared.past.Past.{Past}
-use Rattle.boot_words.specs.{KnownPasts, own_past, GrewByAll, KnownCpuSeat}
+use Rattle.boot_words.specs.{KnownPasts, own_past, GrewByAll, KnownCpuSeat, KnownTable}
 use Rattle.cpu_part.specs.{KnownCpuLists, KnowsItsPart}
-use Rattle.mem_machine.specs.Steps.{cpu_makes}
 
 -- a CPU as callers have it: its part, its own past of the run, and the stock that it saw last
 pub record CpuInRun : Type 0 where

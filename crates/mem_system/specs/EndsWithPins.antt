@@ -1,9 +1,8 @@
 -- How a system ends whose CPUs may still have pins: each pin is put, and then the boot ends. There is one legal run of all
 -- its steps.
 use Rattle.std.specs.Prelude.{◌≡◌, List, ◌++◌, IsPermutation}
-use Rattle.frame_word.specs.Tables.{KnownTable}
 use Rattle.step_rules.specs.After.{Run}
-use Rattle.boot_words.specs.{GrewByAll, own_past, zone_of_boot, AllOf, BeginsRun}
+use Rattle.boot_words.specs.{GrewByAll, own_past, zone_of_boot, AllOf, BeginsRun, KnownTable}
 use Rattle.boot_words.specs.declared.past.Past.{Past}
 use Rattle.mem_system.specs.declared.end_with_pins.SystemEnd.{SystemEnd}
 use Rattle.mem_system.specs.Cpus.{CpuInRun, between_locks, parts_of}

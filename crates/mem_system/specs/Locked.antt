@@ -1,7 +1,6 @@
 -- What lies behind the zone's lock, and what always holds of it.
 use Rattle.std.specs.Prelude.{◌≡◌, ℕ, ◌≤◌, false}
-use Rattle.boot_words.specs.{SeesMore, own_past, zone_of_boot}
-use Rattle.frame_word.specs.Tables.{KnownTable}
+use Rattle.boot_words.specs.{SeesMore, own_past, zone_of_boot, KnownTable}
 use Rattle.zone_blocks.specs.declared.config.Config.{Config}
 use Rattle.zone_blocks.specs.Config.{IsValidConfig}
 use Rattle.group_charge.specs.Charges.{AreCharges}

@@ -1,8 +1,7 @@
 -- That no unit is lost: each charged unit is on a list of its group, fresh or back at a CPU, or has references.
 use Rattle.std.specs.Prelude.{◌≡◌, ◌⊎◌, ℕ, ◌≤◌, Some, List, slice_get}
-use Rattle.frame_word.specs.Tables.{KnownTable}
 use Rattle.step_rules.specs.{times, Run, IsLegalRun, state_of}
-use Rattle.boot_words.specs.{zone_of_boot, own_past, BeginsRun}
+use Rattle.boot_words.specs.{zone_of_boot, own_past, BeginsRun, KnownTable}
 use Rattle.cpu_part.specs.{KnownCpuLists, HasOwn}
 use Rattle.step_rules.specs.declared.phase.ChargedUnit.{ChargedUnit}
 use Rattle.lru_lists.specs.declared.record.Home.{Home}

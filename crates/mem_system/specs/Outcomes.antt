@@ -5,7 +5,7 @@ use Rattle.group_tree.specs.declared.fault.Fault.{Fault}
 use Rattle.group_charge.specs.Charges.{Ledger}
 use Rattle.control_files.specs.Files.{file_text}
 use Rattle.control_files.specs.Stat.{stat_text}
-use Rattle.frame_word.specs.Tables.{KnownTable}
+use Rattle.boot_words.specs.Tables.{KnownTable}
 use Rattle.cpu_part.specs.Cpus.{KnownCpuLists}
 use Rattle.mem_machine.specs.{KnownMachine, Makes, VisitDoes, VisitState, Transition, BySteps}
 use Rattle.mem_system.specs.declared.outcome.Outcome.{Outcome}

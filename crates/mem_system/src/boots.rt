@@ -1,4 +1,4 @@
-//! A boot: the table of its words with all its seats, and the machine, tables and CPUs' parts that it becomes.
+//! A boot: the table of its words with all its seats, and the machine, table and CPUs' parts that it becomes.
 
 ghost use Rattle.std.specs.Prelude.{◌≡◌, [], length, All, IfOk};
 ghost use Rattle.boot_words.specs.{IsRunSoFar, IsAwayCpu, cpus_at_first, seat_at_first, AllOf, own_past};
@@ -58,14 +58,14 @@ impl Model for Boot {
 }
 
 impl Boot {
-    /// Makes the parts of the boot, under a name of its tables: what lies behind the lock, the tables, and a part for
+    /// Makes the parts of the boot, under a name of its table: what lies behind the lock, the table, and a part for
     /// each CPU, in order. This call reserves all memory that later calls need. It returns `AllocError` if memory runs
     /// out; nothing is left then.
     pub fn into_parts<N: BootName>(
         self,
         alloc: Global,
     ) -> Result<(Locked<N>, Tables<N>, Vec<Cpu<N>>), AllocError>
-        requires frames { self.table ≡ N.table }
+        requires table { self.table ≡ N.table }
         ensures machine { IfOk result (λ parts. IsFirst N.table parts.0.machine) }
         ensures sizes { IfOk result (λ parts. parts.0.sizes ≡ self.sizes) }
         ensures cpus { IfOk result (λ parts. parts_of parts.2.items ≡ first_cpus 1 self.sizes.cpus) }
@@ -91,11 +91,11 @@ impl Boot {
         }
     }
 
-    /// Starts the boot under a name of its tables: returns the system, and a part for each CPU, in order. It returns
+    /// Starts the boot under a name of its table: returns the system, and a part for each CPU, in order. It returns
     /// `AllocError` if memory runs out; nothing is left then. A clause can't look through the lock: `Boot::into_parts`
     /// says what lies behind it.
     pub fn start<N: BootName>(self, alloc: Global) -> Result<(System<N>, Vec<Cpu<N>>), AllocError>
-        requires frames { self.table ≡ N.table }
+        requires table { self.table ≡ N.table }
         ensures sizes { IfOk result (λ started. started.0.sizes ≡ self.sizes) }
         ensures cpus { IfOk result (λ started.
             parts_of started.1.items ≡ first_cpus 1 self.sizes.cpus) }

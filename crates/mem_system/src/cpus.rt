@@ -7,8 +7,8 @@ ghost use Rattle.boot_words.specs.{GrewByAll, RacesAt, IsAwayCpu, cpu_at_first, 
 ghost use Rattle.stock_word.specs.declared.stock.Stock.TheVariants.{NoGroup};
 ghost use Rattle.stock_word.specs.Stock.{HasWord};
 ghost use Rattle.group_tree.specs.declared.fault.Fault.TheVariants.{PinsFull};
-ghost use Rattle.step_rules.specs.State.{times};
-ghost use Rattle.cpu_part.specs.Cpus.{AreWithin, IsIdle, IsUnlisted, first_cpu, most_fresh, most_listed, most_pins};
+ghost use Rattle.step_rules.specs.State.{times, most_fresh, most_pins};
+ghost use Rattle.cpu_part.specs.Cpus.{AreWithin, IsIdle, IsUnlisted, first_cpu, most_listed};
 ghost use Rattle.cpu_part.specs.Calls.{DropAnswers, FastAnswers, IfGot, IfRaced, PinAnswers, UnpinAnswers};
 ghost use Rattle.cpu_part.specs.Told.{steps_of_drop, steps_of_fast, steps_of_get, steps_of_put};
 ghost use Rattle.mem_system.specs.Cpus.{KnowsItself, cpu_in_run, seat_of};

@@ -1,4 +1,4 @@
-//! The system: a boot's tables, the machine behind the zone's lock, a part for each CPU, and the commands that a CPU
+//! The system: a boot's table, the machine behind the zone's lock, a part for each CPU, and the commands that a CPU
 //! gives under that lock. Each command is served in a visit, as a list of steps of the rules, and no visit is open
 //! while the lock is free.
 //!

@@ -3,10 +3,10 @@
 ghost use Rattle.std.specs.Prelude.{◌≡◌, ◌∷◌, []};
 ghost use Rattle.group_tree.specs.Groups.{number_at};
 ghost use Rattle.group_charge.specs.Charges.{AreCharges};
+ghost use Rattle.step_rules.specs.After.{cpu_makes};
 ghost use Rattle.boot_words.specs.Pasts.{Meets};
 ghost use Rattle.step_watch.specs.Watched.{Watches};
 ghost use Rattle.mem_machine.specs.Machines.{IsConsistent, with_past, with_detail_notes, with_watch};
-ghost use Rattle.mem_machine.specs.Steps.{cpu_makes};
 ghost use Rattle.mem_system.specs.Boots.{IsSizedAs};
 ghost use Rattle.mem_system.specs.Locked.{IsQuiet};
 ghost use Rattle.zone_blocks.specs.Config.{IsValidConfig};
@@ -44,7 +44,7 @@ impl<N: BootName> Model for Locked<N> {
 
 impl<N: BootName> Locked<N> {
     /// Shows what always holds behind the lock. No visit is open, the machine rests, the sizes are in their ranges
-    /// and are those of the tables, the machine is consistent, and the groups make up a tree. It does nothing.
+    /// and are those of the table, the machine is consistent, and the groups make up a tree. It does nothing.
     pub fn prove_quiet(&self)
         ensures quiet { IsQuiet N.table self.now }
         ensures consistent { IsConsistent N.table self.now.machine }

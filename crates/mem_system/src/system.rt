@@ -1,4 +1,4 @@
-//! The system: the zone's lock, what lies behind it, and the tables that all CPUs share.
+//! The system: the zone's lock, what lies behind it, and the table that all CPUs share.
 
 ghost use Rattle.std.specs.Prelude.{◌≡◌};
 ghost use Rattle.std.specs.Sync.Mutex.{mutex_guard_value};
@@ -25,7 +25,7 @@ use zone_blocks::config::Config;
 // How often a thread tries the lock before it may sleep.
 const TRIES: u32 = 100;
 
-/// A boot that has started: the machine behind the zone's lock, its tables, and its sizes. CPUs share it by `&`.
+/// A boot that has started: the machine behind the zone's lock, its table, and its sizes. CPUs share it by `&`.
 #[derive(Drop)]
 pub struct System<N: BootName> {
     pub(crate) locked: Mutex<Locked<N>>,
@@ -58,10 +58,10 @@ fn pause(tries: u32) {
 }
 
 impl<N: BootName> System<N> {
-    /// The system with this behind its lock and with these tables; from now on CPUs share it. Clauses speak only of its
-    /// tables and sizes, because none can look through the lock.
+    /// The system with this behind its lock and with this table; from now on CPUs share it. Clauses speak only of its
+    /// table and sizes, because none can look through the lock.
     pub fn of(locked: Locked<N>, tables: Tables<N>) -> System<N>
-        ensures frames { result.table ≡ tables.words }
+        ensures table { result.table ≡ tables.words }
         ensures sizes { result.sizes ≡ locked.sizes }
     {
         let sizes = locked.sizes();
@@ -74,13 +74,13 @@ impl<N: BootName> System<N> {
     }
 
     /// Takes the system apart after all sharing ended: returns what lies behind the lock, as the last visit left it,
-    /// and its tables. Clauses say only what always holds behind the lock.
+    /// and its table. Clauses say only what always holds behind the lock.
     pub fn into_parts(self) -> (Locked<N>, Tables<N>)
         ensures quiet { IsQuiet N.table result.0 }
         ensures consistent { IsConsistent N.table result.0.machine }
         ensures charges { AreCharges result.0.machine.ledger }
         ensures sizes { result.0.sizes ≡ self.sizes }
-        ensures frames { result.1.words ≡ self.table }
+        ensures table { result.1.words ≡ self.table }
     {
         let System {
             locked,
@@ -93,9 +93,9 @@ impl<N: BootName> System<N> {
         (locked, tables)
     }
 
-    /// The tables that N names, for the calls that take no lock.
+    /// The table that N names, for the calls that take no lock.
     pub fn tables(&self) -> &Tables<N>
-        ensures frames { result.now.words ≡ N.table }
+        ensures table { result.now.words ≡ N.table }
     {
         &self.tables
     }

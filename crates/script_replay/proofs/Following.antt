@@ -4,7 +4,6 @@ use Rattle.std.specs.Prelude.{slice_set}
 use Rattle.std.specs.List.{slice_get}
 use Rattle.std.proofs.lemmas.List.{append-nil, length-set}
 use Rattle.frame_word.specs.declared.answers.Get.TheVariants.{Held}
-use Rattle.frame_word.specs.Tables.{KnownTable}
 use Rattle.stock_word.specs.declared.stock.Stock.{Stock}
 use Rattle.group_charge.specs.Charges.{Ledger}
 use Rattle.group_tree.specs.declared.fault.Fault.TheVariants.{NoGroup, PinsFull, NotPinned}
@@ -18,11 +17,10 @@ use Rattle.step_rules.specs.declared.step.Action.TheVariants as step
 use Rattle.step_rules.specs.declared.step.Answer.{Answer as StepAnswer}
 use Rattle.step_rules.specs.declared.step.Answer.TheVariants as step_answer
 use Rattle.step_rules.specs.State.{State}
-use Rattle.step_rules.specs.After.{Run, state_of, IsLegalRun}
+use Rattle.step_rules.specs.After.{Run, state_of, IsLegalRun, cpu_makes}
 use Rattle.step_watch.specs.Watched.{KnownWatch}
-use Rattle.boot_words.specs.{own_past, IsFast, zone_of_boot}
+use Rattle.boot_words.specs.{own_past, IsFast, zone_of_boot, KnownTable}
 use Rattle.mem_machine.specs.{VisitState, visit_state, KnownMachine, left_by, with_run, with_watch, AgreesWithRun}
-use Rattle.mem_machine.specs.Steps.{cpu_makes}
 use Rattle.mem_machine.proofs.Locks.{unlocked_found}
 use Rattle.mem_history.specs.{GoesOnTo, HasTakenLock, IsOwnStep, LeaveTheSame, ShowsAll, under_lock, IsPart, put_answer}
 use Rattle.mem_history.proofs.Wholes.{lines_follow, parts_after, the_same_is_shown}

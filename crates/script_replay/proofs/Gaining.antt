@@ -7,23 +7,22 @@ use Rattle.std.specs.List.{slice_get}
 use Rattle.std.proofs.lemmas.List.{map-set}
 use Rattle.std.proofs.lemmas.Option.{slice_get-map}
 use Rattle.boot_words.specs.declared.past.Past.{Past}
-use Rattle.boot_words.specs.{AllOf, KnownPasts, Meets, own_past, GrewByAll, IsRunSoFar, changes_nothing}
+use Rattle.boot_words.specs.{AllOf, KnownPasts, Meets, own_past, GrewByAll, IsRunSoFar, changes_nothing, KnownTable}
 use Rattle.boot_words.proofs.Gaining.{gains_go_on, meet_gains, none_gains}
 use Rattle.frame_word.specs.declared.answers.Put.{Put}
 use Rattle.frame_word.specs.declared.answers.Put.TheVariants as put
-use Rattle.frame_word.specs.Tables.{KnownTable}
 use Rattle.stock_word.specs.declared.stock.Stock.{Stock}
 use Rattle.stock_word.specs.Stock.{is_held}
 use Rattle.group_tree.specs.declared.fault.Fault.TheVariants.{PinsFull, NotPinned}
 use Rattle.cpu_part.specs.declared.answers.Fast.{Fast}
 use Rattle.cpu_part.specs.declared.answers.Fast.TheVariants as fast
-use Rattle.cpu_part.specs.Told.{one_step, steps_of_fast, steps_of_put}
+use Rattle.cpu_part.specs.Told.{steps_of_fast, steps_of_put}
 use Rattle.step_rules.specs.declared.step.Step.{Step}
 use Rattle.step_rules.specs.declared.step.Action.{Action}
 use Rattle.step_rules.specs.declared.step.Action.TheVariants as step
 use Rattle.step_rules.specs.declared.step.Answer.{Answer}
 use Rattle.step_rules.specs.declared.step.Answer.TheVariants as step_answer
-use Rattle.step_rules.specs.After.{Run}
+use Rattle.step_rules.specs.After.{Run, cpu_makes}
 use Rattle.step_watch.specs.Watched.{Watches}
 use Rattle.step_watch.proofs.Watching.{watches_both, watches_none}
 use Rattle.mem_machine.specs.Machines.{left_by, with_past}
@@ -43,17 +42,17 @@ module _ (n : ℕ) (before after : KnownPasts) where
   nothing grew = record { made = []; grew = grew; changes = refl; own = tt }
 
   -- one step that is told
-  told : (action : Action) (answer : Answer) → GrewByAll (own_past before) (one_step n action answer) (own_past after)
-      → MakesUnlocked n (one_step n action answer) before after
-  told action answer grew = record { made = one_step n action answer; grew = grew; changes = inr ([], refl, refl); own = (refl, tt) }
+  told : (action : Action) (answer : Answer) → GrewByAll (own_past before) (cpu_makes n action answer ∷ []) (own_past after)
+      → MakesUnlocked n (cpu_makes n action answer ∷ []) before after
+  told action answer grew = record { made = cpu_makes n action answer ∷ []; grew = grew; changes = inr ([], refl, refl); own = (refl, tt) }
 
   -- one step that changes nothing
-  quiet : (action : Action) (answer : Answer) → changes_nothing answer ≡ true → GrewByAll (own_past before) (one_step n action answer) (own_past after)
+  quiet : (action : Action) (answer : Answer) → changes_nothing answer ≡ true → GrewByAll (own_past before) (cpu_makes n action answer ∷ []) (own_past after)
       → MakesUnlocked n [] before after
-  quiet action answer none grew = record { made = one_step n action answer; grew = grew; changes = inl (none, refl); own = (refl, tt) }
+  quiet action answer none grew = record { made = cpu_makes n action answer ∷ []; grew = grew; changes = inl (none, refl); own = (refl, tt) }
 
   -- a step that finds the stock drained, if it was made
-  drained : (action : Action) (b : Bool) → GrewByAll (own_past before) (if b then one_step n action step_answer.Drained else []) (own_past after)
+  drained : (action : Action) (b : Bool) → GrewByAll (own_past before) (if b then cpu_makes n action step_answer.Drained ∷ [] else []) (own_past after)
       → MakesUnlocked n [] before after
   drained action true grew = quiet action step_answer.Drained refl grew
   drained action false grew = nothing grew

@@ -6,7 +6,7 @@ use Rattle.std.specs.declared.string.String.{String}
 use Rattle.std.specs.String.{string_bytes}
 use Rattle.std.proofs.lemmas.List.{get_or_default}
 use Rattle.std.proofs.lemmas.Option.{slice_get_read}
-use Rattle.frame_word.specs.Tables.{KnownTable}
+use Rattle.boot_words.specs.Tables.{KnownTable}
 use Rattle.step_watch.specs.Watched.{has_legal_steps}
 use Rattle.mem_system.specs.{CpuInRun, KnownLocked, IsSound, locked_state}
 use Rattle.script_lines.specs.declared.line.Command.{Command}

@@ -6,9 +6,8 @@ use Rattle.std.specs.Option.{option_map}
 use Rattle.std.specs.List.{slice_get}
 use Rattle.std.proofs.lemmas.List.{map-set}
 use Rattle.std.proofs.lemmas.Option.{slice_get-map}
-use Rattle.frame_word.specs.Tables.{KnownTable}
 use Rattle.step_rules.specs.After.{Run, IsLegalRun}
-use Rattle.boot_words.specs.{zone_of_boot}
+use Rattle.boot_words.specs.{zone_of_boot, KnownTable}
 use Rattle.mem_machine.specs.{AgreesWithRun}
 use Rattle.mem_history.specs.Whole.{GoesOnTo, ShowsAll}
 use Rattle.mem_history.proofs.Along.{legal_front}
@@ -17,7 +16,7 @@ use Rattle.mem_system.specs.Cpus.{CpuInRun, parts_of}
 use Rattle.mem_system.specs.Visits.{transition, locked_state}
 use Rattle.script_lines.specs.declared.line.Line.{Line}
 use Rattle.script_lines.specs.declared.line.Line.TheVariants.{Go, At}
-use Rattle.script_replay.specs.{WritesCommand, KeepsHistory, KeepsPromise, LegalLinesAreShown, LegalLinesKeepIt, past, AtPart, ServesAll, ServesLine}
+use Rattle.script_replay.specs.{WritesCommand, KeepsHistory, KeepsPromise, LegalLinesAreShown, LegalLinesKeepIt, lines_so_far, AtPart, ServesAll, ServesLine}
 use Rattle.script_replay.specs.{SystemState, steps_of_served}
 use Rattle.script_replay.specs.Terms.{Terms}
 use Rattle.script_replay.proofs.Following.{answer_follows}
@@ -85,8 +84,8 @@ line_kept on run line s e text serves goes told = record {
 
 all_kept : (on : Terms) (lines : List Line) (s e : SystemState) (text : List ℕ) (served : ServesAll on lines s e text) (run : Run)
     → ShowsAll on.table run s.locked.machine (parts_of s.cpus) → (whole : Run) → whole ≡ run ++ steps_of_served on lines s e text served
-    → IsLegalRun (zone_of_boot on.table) whole → AgreesWithRun on.table run s.locked.machine.ledger → KeepsHistory on lines (past run s) (past whole e) text
-all_kept on [] s e text served run shows whole is legal told = (served.0, λ i. past ((is ∙ append-nil run) i) (served.1 i))
+    → IsLegalRun (zone_of_boot on.table) whole → AgreesWithRun on.table run s.locked.machine.ledger → KeepsHistory on lines (lines_so_far run s) (lines_so_far whole e) text
+all_kept on [] s e text served run shows whole is legal told = (served.0, λ i. lines_so_far ((is ∙ append-nil run) i) (served.1 i))
 all_kept on (line ∷ lines) s e text served run shows whole is legal told =
     let one = served.serves_first in
     let mid = served.between in

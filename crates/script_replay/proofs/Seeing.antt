@@ -1,15 +1,13 @@
 -- The watch took the steps of each line, and so of all lines. Serves `replay_checked`, and `log_line` of `line_server`.
 use Rattle.std.proofs.Common.{◌≡◌, ◌++◌, ℕ, zero, Bool, true, List, [], ◌∷◌, refl, sym, ap, subst}
-use Rattle.frame_word.specs.Tables.{KnownTable}
-use Rattle.boot_words.specs.{zone_of_boot}
+use Rattle.boot_words.specs.{zone_of_boot, KnownTable}
 use Rattle.cpu_part.specs.declared.answers.Fast.TheVariants.{Got}
 use Rattle.group_tree.specs.declared.fault.Fault.TheVariants.{NoGroup}
 use Rattle.step_rules.specs.declared.step.Action.TheVariants as step
 use Rattle.step_rules.specs.declared.step.Answer.TheVariants as step_answer
-use Rattle.step_rules.specs.After.{Run}
+use Rattle.step_rules.specs.After.{Run, cpu_makes}
 use Rattle.step_watch.specs.Watched.{KnownWatch, Watches, SawRun, has_legal_steps}
 use Rattle.step_watch.proofs.Watching.{watches_none, watches_both, watched_runs_are_legal}
-use Rattle.mem_machine.specs.Steps.{cpu_makes}
 use Rattle.mem_system.specs.Locked.{KnownLocked}
 use Rattle.mem_system.specs.Visits.{transition, LockedState}
 use Rattle.reply_texts.specs.LineAnswer.{LineAnswer}

@@ -1,17 +1,15 @@
 -- A command between the Lock and the Unlock that the watch takes. Serves `serve_under_lock`, `serve_frame_under_lock`.
 use Rattle.std.proofs.Common.{◌≡◌, ◌≢◌, ℕ, ◌++◌, Bool, [], ◌∷◌, ap, inr, refl, subst, sym}
 use Rattle.std.specs.Prelude.{◌⊎◌}
-use Rattle.boot_words.specs.{AllOf, own_past, GrewByAll, changes_of}
+use Rattle.boot_words.specs.{AllOf, own_past, GrewByAll, changes_of, KnownTable}
 use Rattle.boot_words.proofs.Gaining.{of_two_seats, visit_gains}
-use Rattle.frame_word.specs.Tables.{KnownTable}
 use Rattle.group_charge.specs.Charges.{Ledger}
 use Rattle.step_rules.specs.declared.step.Step.{Step}
 use Rattle.step_rules.specs.declared.step.Answer.{Answer}
 use Rattle.step_rules.specs.State.{State}
-use Rattle.step_rules.specs.{Run, after, IsLocalRun}
+use Rattle.step_rules.specs.{Run, after, IsLocalRun, cpu_makes}
 use Rattle.step_rules.specs.declared.step.Action.TheVariants.{Lock, Unlock}
 use Rattle.step_rules.specs.declared.step.Answer.TheVariants as step_answer
-use Rattle.mem_machine.specs.Steps.{cpu_makes}
 use Rattle.mem_history.specs.Whole.{under_lock}
 use Rattle.mem_system.specs.declared.command.LockedCommand.{LockedCommand}
 use Rattle.mem_system.specs.declared.command.ReplyWithText.{ReplyWithText}

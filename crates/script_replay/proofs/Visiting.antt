@@ -3,8 +3,8 @@ use Rattle.std.proofs.Common.{Result, ◌≡◌, ℕ, zero, ◌+◌, ◌-◌, �
 use Rattle.std.specs.Prelude.{IfNone, IfSome, slice_set}
 use Rattle.std.specs.declared.string.String.{String}
 use Rattle.std.proofs.lemmas.Option.{none-some, slice_get_read}
-use Rattle.frame_word.specs.Tables.{KnownTable}
 use Rattle.step_rules.specs.After.{Run}
+use Rattle.boot_words.specs.Tables.{KnownTable}
 use Rattle.mem_system.specs.{CpuInRun, between_locks, KnownSystem, IsSound, KnownLocked, IsServed, locked_state}
 use Rattle.mem_system.specs.declared.command.LockedCommand.{LockedCommand}
 use Rattle.mem_system.specs.declared.command.ReplyWithText.{ReplyWithText}

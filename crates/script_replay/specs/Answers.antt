@@ -6,22 +6,20 @@ use Rattle.std.specs.Prelude.{Option, Some, None, Result, IfOk, length}
 use Rattle.std.specs.declared.string.String.{String}
 use Rattle.std.specs.String.{string_bytes}
 use Rattle.frame_word.specs.declared.answers.Get.TheVariants.{Held}
-use Rattle.frame_word.specs.Tables.{KnownTable}
-use Rattle.boot_words.specs.{AllOf, KnownPasts, own_past, AreChangesOf, GainsSteps, GrewByAll}
+use Rattle.boot_words.specs.{AllOf, KnownPasts, own_past, AreChangesOf, GainsSteps, GrewByAll, KnownTable}
 use Rattle.group_tree.specs.Groups.{number_at}
 use Rattle.group_tree.specs.declared.fault.Fault.TheVariants.{NoGroup, PinsFull, NotPinned}
-use Rattle.step_rules.specs.State.{times}
+use Rattle.step_rules.specs.State.{times, most_pins}
 use Rattle.cpu_part.specs.declared.answers.Fast.{Fast as FastAnswer}
 use Rattle.cpu_part.specs.declared.answers.Fast.TheVariants.{Got}
 use Rattle.cpu_part.specs.declared.answers.Dropped.TheVariants as dropped
-use Rattle.cpu_part.specs.{most_pins, FastAnswers, DropAnswers, PinAnswers, StaysSo, UnpinAnswers}
+use Rattle.cpu_part.specs.{FastAnswers, DropAnswers, PinAnswers, StaysSo, UnpinAnswers}
 use Rattle.step_rules.specs.declared.step.Action.TheVariants as step
 use Rattle.step_rules.specs.declared.step.Answer.TheVariants as step_answer
-use Rattle.step_rules.specs.After.{Run}
+use Rattle.step_rules.specs.After.{Run, cpu_makes}
 use Rattle.step_watch.specs.Watched.{KnownWatch, Watches}
 use Rattle.machine_texts.specs.{explanation_text, blocks_text, show_text, stock_line_text}
 use Rattle.mem_machine.specs.{KnownMachine, left_by, with_run, with_detail_notes, with_watch, KnownRun}
-use Rattle.mem_machine.specs.Steps.{cpu_makes}
 use Rattle.mem_history.specs.{under_lock, put_answer}
 use Rattle.mem_system.specs.declared.command.LockedCommand.{LockedCommand}
 use Rattle.mem_system.specs.declared.command.LockedCommand.TheVariants as cmd

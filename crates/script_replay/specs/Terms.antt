@@ -1,13 +1,13 @@
 -- The terms of a replay.
 use Rattle.std.specs.Prelude.{Bool, false}
-use Rattle.frame_word.specs.Tables.{KnownTable}
 use Rattle.zone_blocks.specs.declared.config.Config.{Config}
+use Rattle.boot_words.specs.Tables.{KnownTable}
 use Rattle.mem_system.specs.Boots.{KnownSystem}
 use Rattle.script_replay.specs.declared.form.Form.{Form}
 
 -- what CPUs share of a boot of these sizes, with this table
-abbrev pub boot_tables : KnownTable → Config → KnownSystem
-boot_tables table sizes = record { table = table; sizes = sizes }
+abbrev pub known_system : KnownTable → Config → KnownSystem
+known_system table sizes = record { table = table; sizes = sizes }
 
 -- the terms of a replay: the table of its boot, whether answers are explained, and whether each line of an answer
 -- begins with the number of its script line

@@ -3,11 +3,11 @@
 ghost use Rattle.std.specs.Prelude.{◌≡◌, ◌∷◌, [], IsTrue, List, None, Some, ℕ};
 ghost use Rattle.std.specs.Borrow.{Bor};
 ghost use Rattle.group_tree.specs.Groups.{has_group, number_at};
+ghost use Rattle.step_rules.specs.After.{cpu_makes};
 ghost use Rattle.boot_words.specs.Pasts.{own_past};
 ghost use Rattle.step_rules.specs.declared.step.Action.TheVariants.{Lock, Unlock};
 ghost use Rattle.step_rules.specs.declared.step.Answer.TheVariants.{Done};
 ghost use Rattle.mem_machine.specs.Showing.{stock_left};
-ghost use Rattle.mem_machine.specs.Steps.{cpu_makes};
 ghost use Rattle.mem_system.specs.Visits.{locked_state};
 ghost use Rattle.script_lines.specs.declared.line.Command.TheVariants.{Alloc};
 ghost use Rattle.script_replay.specs.Answers.{AnswersLocked, OnlyWatched, ServesUnderLock, locked_with_detail_notes};
@@ -36,7 +36,8 @@ fn watch_lock<N: BootName>(locked: &mut Locked<N>, cpu: u32)
     locked.take_step(cpu, Action::Lock, Answer::Done);
 }
 
-// This CPU takes the lock for a command. Details are noted from now on exactly if the command is explained.
+// The watch takes the step by which this CPU gets the lock for a command. Details are noted from now on exactly if the
+// command is explained.
 #[inline(always)]
 fn begin_command<N: BootName>(locked: &mut Locked<N>, cpu: u32, is_explained: bool)
     ensures watched { OnlyWatched (cpu_makes cpu Lock Done ∷ []) (locked_with_detail_notes locked.old is_explained)
@@ -48,7 +49,7 @@ fn begin_command<N: BootName>(locked: &mut Locked<N>, cpu: u32, is_explained: bo
     watch_lock(locked, cpu);
 }
 
-// The CPU of this number releases the lock.
+// The watch takes the step by which the CPU of this number gives the lock back.
 #[inline(always)]
 #[tactic(auto, using(crate::proofs::Taking::unwatched))]
 fn end_command<N: BootName>(locked: &mut Locked<N>, cpu: u32)
@@ -60,7 +61,8 @@ fn end_command<N: BootName>(locked: &mut Locked<N>, cpu: u32)
     locked.take_step(cpu, Action::Unlock, Answer::Done);
 }
 
-// Serves a command, whose CPU holds the lock: carries out its `LockedCommand`, or only settles the CPU.
+// Serves a command while no other CPU can: carries out its `LockedCommand`, or only settles the CPU. In the run the
+// CPU takes the lock and gives it back here.
 #[inline(always)]
 #[tactic(auto, using(crate::proofs::InRange::locked_command_in_zone))]
 pub(crate) fn serve_locked<N: BootName>(

@@ -1,6 +1,7 @@
 //! The commands that the CPU carries out without the lock, and their steps, which the machine's watch takes by value.
 
 ghost use Rattle.std.specs.Prelude.{◌≡◌, ◌<◌, ◌^◌, ◌∷◌, [], IfNone, IfSome, MatchBool, false, if◌then◌else◌, ℕ};
+ghost use Rattle.step_rules.specs.After.{cpu_makes};
 ghost use Rattle.cpu_part.specs.Calls.{FastAnswers};
 ghost use Rattle.frame_word.specs.declared.answers.Put.TheVariants.{Left};
 ghost use Rattle.reply_texts.specs.declared.steps.UnlockedAnswer.TheVariants as unlocked;
@@ -8,7 +9,6 @@ ghost use Rattle.script_lines.specs.declared.line.Command.TheVariants as command
 ghost use Rattle.step_rules.specs.declared.step.Action.TheVariants as step;
 ghost use Rattle.step_rules.specs.declared.step.Answer.TheVariants as step_answer;
 ghost use Rattle.mem_system.specs.Visits.{locked_state};
-ghost use Rattle.mem_machine.specs.Steps.{cpu_makes};
 ghost use Rattle.script_replay.specs.Answers.{AnswersUnlocked, CanNotList, Gains, ListsAgain, MakesUnlocked, NeedsLock};
 ghost use Rattle.script_replay.specs.Answers.{OnlySaw, OnlyWatched, steps_unlocked, steps_tried};
 ghost use Rattle.script_replay.specs.Commands.{is_tried};

@@ -10,6 +10,18 @@ use Rattle.step_rules.specs.declared.phase.Phase.{Phase}
 use Rattle.step_rules.specs.declared.phase.Phase.TheVariants.{InZone}
 use Rattle.step_rules.specs.Phases.{Kind, ListFrame, FreshFrame, BackFrame, is_free}
 
+-- the most references that a frame can have
+abbrev pub most_references : ℕ
+most_references = 255
+
+-- how many fresh frames a CPU has at most
+abbrev pub most_fresh : ℕ
+most_fresh = 32
+
+-- how many pins and back frames a CPU has at most, together
+abbrev pub most_pins : ℕ
+most_pins = 256
+
 -- the sizes of a zone: how many frames it has, and how many CPUs
 pub record Zone : Type 0 where
   pub frames : ℕ

@@ -3,16 +3,24 @@ use Rattle.std.specs.Prelude.{ℕ, ◌+◌, ◌*◌, ◌<◌, Bool, true, false,
 use Rattle.stock_word.specs.declared.stock.Stock.{Stock}
 use Rattle.stock_word.specs.declared.stock.Stock.TheVariants.{NoGroup, HeldBy, DrainedOf}
 
+-- how much a group counts in a stock's word: the pages are below this
+abbrev pub group_base : ℕ
+group_base = 65536
+
+-- the word of a drained stock is this or more
+abbrev pub drained_base : ℕ
+drained_base = 4294967296
+
 -- the word of a stock
 abbrev pub word_of : Stock → ℕ
 word_of NoGroup = 0
-word_of (HeldBy g n) = (g + 1) * 65536 + n
-word_of (DrainedOf g) = 4294967296 + (g + 1) * 65536
+word_of (HeldBy g n) = (g + 1) * group_base + n
+word_of (DrainedOf g) = drained_base + (g + 1) * group_base
 
--- the stock has a word: its group is one of 64, and its pages are at most 65,535
+-- the stock has a word: its group is one of 64, and its pages are below `group_base`
 abbrev pub HasWord : Stock → Type 0
 HasWord NoGroup = Unit {0}
-HasWord (HeldBy g n) = (g < 64) × (n < 65536)
+HasWord (HeldBy g n) = (g < 64) × (n < group_base)
 HasWord (DrainedOf g) = g < 64
 
 -- the pages in a stock

@@ -1,6 +1,9 @@
 //! What a stock word says.
 
-// This word and any above it is that of a drained stock.
+// How much a group counts in a word. The pages are below it.
+const GROUP: u64 = 1 << 16;
+
+// The word of a drained stock is this or more.
 const DRAINED: u64 = 1 << 32;
 
 /// What a CPU has prepaid. Groups are numbers from 0 to 63.
@@ -25,8 +28,8 @@ impl Stock {
     {
         match self {
             Stock::NoGroup => 0,
-            Stock::HeldBy { group, pages } => (u64::from(group) + 1) * 65_536 + u64::from(pages),
-            Stock::DrainedOf { group } => DRAINED + (u64::from(group) + 1) * 65_536,
+            Stock::HeldBy { group, pages } => (u64::from(group) + 1) * GROUP + u64::from(pages),
+            Stock::DrainedOf { group } => DRAINED + (u64::from(group) + 1) * GROUP,
         }
     }
 
@@ -34,13 +37,13 @@ impl Stock {
     pub fn of_word(word: u64) -> Stock
         ensures { (stock : Stock) → HasWord stock → word ≡ word_of stock → result ≡ stock }
     {
-        let code = (word % DRAINED) / 65_536;
+        let code = (word % DRAINED) / GROUP;
         if code == 0 {
             return Stock::NoGroup;
         }
         let group = (code - 1) as u32;
         if word < DRAINED {
-            let pages = (word % 65_536) as u32;
+            let pages = (word % GROUP) as u32;
             Stock::HeldBy { group, pages }
         } else {
             Stock::DrainedOf { group }

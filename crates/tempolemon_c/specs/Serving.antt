@@ -1,7 +1,7 @@
 -- What each request does to a live boot.
 use Rattle.std.specs.Prelude.{◌≡◌, [], Option, None, Some}
-use Rattle.frame_word.specs.Tables.{KnownTable}
 use Rattle.zone_blocks.specs.declared.config.Config.{Config}
+use Rattle.boot_words.specs.Tables.{KnownTable}
 use Rattle.load_run.specs.{IsNewBootState, EndsHeld}
 use Rattle.load_run.specs.declared.boot_end.BootEnd.{BootEnd}
 use Rattle.tempolemon_c.specs.Known.{KnownLive}

@@ -7,14 +7,14 @@ ghost use Rattle.mem_system.specs.{IsSizedAs, HasItsGroups, reply_of};
 ghost use Rattle.script_replay.specs.{system_state, CpuCommandInRange, terms, HasValueAnswer};
 ghost use Rattle.load_run.specs.{IsNewBootState, EndsHeld};
 ghost use Rattle.tempolemon_c.specs.HandleCalls.{CallsLive, HasNoGroup, IsCpu, IsTypedCall, ReturnsCommandAnswer};
-ghost use Rattle.tempolemon_c.specs.HandleCalls.{file_reply};
+ghost use Rattle.tempolemon_c.specs.HandleCalls.{IsPinCheck, file_reply};
 ghost use Rattle.tempolemon_c.specs.declared.calls.Call.TheVariants.{Alloc, Script};
 ghost use Rattle.tempolemon_c.specs.Commands.{AnswersScript, FailsScript, FailsText, ReplaysText, TakesUnreadAnswer};
 ghost use Rattle.tempolemon_c.specs.Commands.{with_unread_answer};
 
-use crate::calls::{Call, CallAnswer, FileText, frame_named};
+use crate::calls::{Call, CallAnswer, FileText, PinCheck, frame_named};
 use control_files::file::{File, file_text};
-use cpu_part::{BootName, Tables};
+use cpu_part::{BootName, MAX_PINS, Tables};
 use group_charge::charges::Charges;
 use group_tree::group::GroupId;
 use load_run::boot_end::{BootEnd, end_boot};
@@ -26,6 +26,7 @@ use script_replay::{Form, alloc_value, replay, serve_value};
 use std::alloc::{AllocError, Global};
 use std::marker::Model;
 use zone_blocks::config::Config;
+use zone_blocks::order::Order;
 
 /// A boot between calls: what lies behind the lock, the tables, a part for each CPU in order, the sizes, and an answer
 /// that a buffer had no room for. If it is dropped, the boot ends.
@@ -185,6 +186,24 @@ impl<N: BootName> Live<N> {
     {
         let _path = self.locked.charges().tree().path_of(group).as_bytes(); // Called for its contract.
         CallAnswer::Served(alloc_value(&mut self.locked, &self.tables, &mut self.cpus, cpu, group))
+    }
+
+    /// Whether the CPU of this number may have one more pin, of a block of this order. The CPU is looked for first, and
+    /// then its pins are counted.
+    pub fn check_pin(&self, cpu: u32, order: u32) -> PinCheck
+        ensures { IsPinCheck cpu order self.now result }
+    {
+        if cpu < 1 || self.cpus.len() < cpu as usize {
+            return PinCheck::NoCpu;
+        }
+        let part = &self.cpus[(cpu - 1) as usize];
+        if part.back_len() + part.pin_count() == MAX_PINS {
+            return PinCheck::PinsFull;
+        }
+        if order == 0 || order > Order::GREATEST {
+            return PinCheck::BadOrder;
+        }
+        PinCheck::May
     }
 
     /// What a file of a group shows. The group exists, and isn't the root, which has no files.

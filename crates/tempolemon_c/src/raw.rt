@@ -1,16 +1,16 @@
 //! A pointer to the parts of a boot, or to nothing, without a name.
 
 ghost use Rattle.std.specs.Prelude.{◌≡◌, IsSome, IsSomeAnd, None, Option};
-ghost use Rattle.frame_word.specs.Tables.{KnownTable};
-ghost use Rattle.tempolemon_c.specs.HandleCalls.{CallsLive, GroupHasFiles, IsTypedCall, ShowsFile};
+ghost use Rattle.boot_words.specs.Tables.{KnownTable};
+ghost use Rattle.tempolemon_c.specs.HandleCalls.{CallsLive, ChecksPin, GroupHasFiles, IsTypedCall, ShowsFile};
 ghost use Rattle.tempolemon_c.specs.Known.{KnownLive};
 ghost use Rattle.tempolemon_c.specs.Owned.{brand, frames_coded, known_coded, live_owns};
 ghost use Rattle.tempolemon_c.specs.Serving.{IsFit, OnRaw, ServesRaw};
 
-use crate::calls::{Call, CallAnswer, FileText};
+use crate::calls::{Call, CallAnswer, FileText, PinCheck};
 use crate::live_pointer::LivePointer;
 use crate::requests::{Request, RequestAnswer};
-use crate::serving::{call_pointer, serve, show_file};
+use crate::serving::{call_pointer, check_pin, serve, show_file};
 use control_files::file::File;
 use group_tree::group::GroupId;
 use std::alloc::Global;
@@ -97,6 +97,16 @@ pub fn show_raw(raw: RawBoot, group: GroupId, file: File) -> (RawBoot, FileText)
 {
     let (pointer, shown) = show_file::<Brand>(raw.into_pointer(), group, file);
     (RawBoot::of(pointer), shown)
+}
+
+/// Whether a CPU may have one more pin, as `check_pin` says, under the name that it picks for the table.
+pub fn check_pin_raw(raw: RawBoot, cpu: u32, order: u32) -> (RawBoot, PinCheck)
+    requires some { IsSome raw.live }
+    ensures checks { OnRaw (λ from to. ChecksPin cpu order result.1 from to)
+        raw.frames raw.live result.0.frames result.0.live }
+{
+    let (pointer, check) = check_pin::<Brand>(raw.into_pointer(), cpu, order);
+    (RawBoot::of(pointer), check)
 }
 
 fn crosses<T: Send>(value: T) -> T {

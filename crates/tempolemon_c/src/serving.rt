@@ -1,11 +1,11 @@
 //! Serving requests under the name of a boot's table.
 
 ghost use Rattle.std.specs.Prelude.{◌≡◌, IsSome, IsSomeAnd, None};
-ghost use Rattle.tempolemon_c.specs.HandleCalls.{CallsLive, GroupHasFiles, IsTypedCall, ShowsFile};
+ghost use Rattle.tempolemon_c.specs.HandleCalls.{CallsLive, ChecksPin, GroupHasFiles, IsTypedCall, ShowsFile};
 ghost use Rattle.tempolemon_c.specs.Serving.{IsFit, OnLive, ServesRequest, frames_after_request};
 ghost use Rattle.tempolemon_c.specs.declared.requests.Request.TheVariants.{End, Lines, Start, StoreUnread, TakeUnread};
 
-use crate::calls::{Call, CallAnswer, FileText};
+use crate::calls::{Call, CallAnswer, FileText, PinCheck};
 use crate::live::Live;
 use crate::live_pointer::LivePointer;
 use crate::requests::{Request, RequestAnswer};
@@ -74,6 +74,22 @@ pub fn show_file<N: BootName>(
     let live = pointer.into_box_parts().into_box();
     let shown = live.show(group, file);
     (LivePointer::of(BoxParts::of(live)), shown)
+}
+
+/// Whether the CPU of this number may have one more pin, of a block of this order, on the parts of a boot.
+pub fn check_pin<N: BootName>(
+    pointer: LivePointer<N>,
+    cpu: u32,
+    order: u32,
+) -> (LivePointer<N>, PinCheck)
+    requires some { IsSome pointer.live }
+    requires named { pointer.frames ≡ N.table }
+    ensures named { result.0.frames ≡ N.table }
+    ensures checks { OnLive (λ from to. ChecksPin cpu order result.1 from to) pointer.live result.0.live }
+{
+    let live = pointer.into_box_parts().into_box();
+    let check = live.check_pin(cpu, order);
+    (LivePointer::of(BoxParts::of(live)), check)
 }
 
 fn start<N: BootName>(

@@ -1,7 +1,7 @@
 -- What each request does to what a handle leads to.
 use Rattle.std.specs.Prelude.{◌≡◌, Option, None, Some, IsSomeAnd}
-use Rattle.frame_word.specs.Tables.{KnownTable}
 use Rattle.zone_blocks.specs.declared.config.Config.{Config}
+use Rattle.boot_words.specs.Tables.{KnownTable}
 use Rattle.mem_system.specs.EndsWithPins.{HasEnded}
 use Rattle.zone_threads.specs.{HasCpu, HasNoCpu, IfNotEntered, KnownHome, TakesCpu, ReadsText}
 use Rattle.zone_threads.specs.declared.home.NotLeft.TheVariants as not_left

@@ -5,7 +5,7 @@ ghost use Rattle.mem_system.specs.Boots.{IsSizedAs};
 ghost use Rattle.zone_threads.specs.{Calls, AnswersRead, HasNoCpu, ReadsText};
 ghost use Rattle.tempolemon_threads.specs.Behind.{part_behind, zone_behind};
 ghost use Rattle.tempolemon_threads.specs.Handling.{EndsAs, EntersNone, ForksAs};
-ghost use Rattle.tempolemon_threads.specs.Zones.{BootsZone, OnPart, ReturnsPart, TakesPart, led_of};
+ghost use Rattle.tempolemon_threads.specs.Handles.{BootsZone, OnPart, ReturnsPart, TakesPart, led_of};
 
 use crate::handles::{CpuPart, Zone};
 use crate::raw::{RawHome, call_raw, fork_raw, read_raw, serve_raw};

@@ -1,7 +1,7 @@
 //! A pointer to a home under a name, or to nothing.
 
 ghost use Rattle.std.specs.Prelude.{◌≡◌, IsSome, None, Option, Some};
-ghost use Rattle.frame_word.specs.Tables.{KnownTable};
+ghost use Rattle.boot_words.specs.Tables.{KnownTable};
 ghost use Rattle.zone_threads.specs.Homes.{KnownHome};
 ghost use Rattle.tempolemon_threads.specs.Owned.{frames_coded, home_owns, home_coded};
 

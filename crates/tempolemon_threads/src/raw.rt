@@ -1,7 +1,7 @@
 //! A pointer to a home, or to nothing, without a name.
 
 ghost use Rattle.std.specs.Prelude.{◌≡◌, IsSome, IsSomeAnd, None, Option};
-ghost use Rattle.frame_word.specs.Tables.{KnownTable};
+ghost use Rattle.boot_words.specs.Tables.{KnownTable};
 ghost use Rattle.zone_threads.specs.{AnswersRead, Calls, HasCpu, KnownHome};
 ghost use Rattle.tempolemon_threads.specs.Owned.{brand, frames_coded, home_owns, home_coded};
 ghost use Rattle.tempolemon_threads.specs.Serving.{ForksRaw, IsFitForHome, OnRawHome, ServesRawHome};

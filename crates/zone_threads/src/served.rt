@@ -1,9 +1,11 @@
 //! What is served with what lies behind the lock.
 
-ghost use Rattle.std.specs.Prelude.{◌≡◌, IfNone, IfSome, IsTrue};
+ghost use Rattle.std.specs.Prelude.{◌≡◌, ◌<◌, IfNone, IfSome, IsTrue, MatchBool};
+ghost use Rattle.frame_word.specs.declared.answers.Get.TheVariants.{Held};
 ghost use Rattle.group_tree.specs.Groups.{has_group};
 ghost use Rattle.mem_system.specs.{IsOfZone, SettlesCaller, IsVisited, ServesFrameOutcome, ServesOutcome};
 ghost use Rattle.zone_threads.specs.Calling.{NoGroupBehindLock, IsMissingIn, IsReadUnderLock, ServesBlock};
+ghost use Rattle.zone_threads.specs.Calling.{AllocatesPinned, HasPinRoom, MayPinBlock, MissesPin, Pins};
 ghost use Rattle.zone_threads.specs.Calling.{ReadsPages, SaysPages, ServesDirtyUnit, ServesPages};
 
 use crate::behind::Behind;
@@ -12,7 +14,9 @@ use control_files::file::{File, file_text};
 use control_files::limit::{Limit, write_limit};
 use control_files::stat::stat_text;
 use cpu_part::{BootName, Tables};
+use frame_word::Get;
 use group_charge::charges::Charges;
+use group_tree::fault::Fault;
 use group_tree::group::GroupId;
 use mem_system::{
     Cpu, LockedCommand, Outcome, serve_dirty_alloc, serve_frame_outcome, serve_outcome,
@@ -127,6 +131,41 @@ impl<N: BootName> Behind<N> {
         Some(outcome)
     }
 
+    /// Allocates a block for the group of this number, and pins it. If the get fails, which only another CPU's get can
+    /// cause, the block is released again.
+    pub fn alloc_pinned(
+        &mut self,
+        tables: &Tables<N>,
+        cpu: &mut Cpu<N>,
+        group: u32,
+        order: u32,
+    ) -> CallAnswer
+        requires { MayPinBlock order cpu.old }
+        ensures { AllocatesPinned N.table self.old.locked.sizes group order result cpu.old cpu.new }
+    {
+        self.locked.prove_quiet();
+        let Some(group) = find_group(self.locked.charges(), group) else {
+            self.locked.meet(tables, cpu);
+            self.locked.prove_quiet();
+            return CallAnswer::NoGroup;
+        };
+        let path = *self.locked.charges().tree().path_of(group);
+        let path = path.as_bytes();
+        let alloc = LockedCommand::Alloc { path, order };
+        let outcome = serve_outcome(&mut self.locked, tables, cpu, &alloc);
+        self.locked.prove_quiet();
+        let Outcome::Frame(frame) = outcome else {
+            return CallAnswer::Served(outcome);
+        };
+        if pin(tables, cpu, frame) {
+            return CallAnswer::Served(outcome);
+        }
+        let release = LockedCommand::Release { frame };
+        let _released = serve_outcome(&mut self.locked, tables, cpu, &release);
+        self.locked.prove_quiet();
+        CallAnswer::Refused(Fault::NotPinned)
+    }
+
     /// Reads a number of pages of the group of this number. The CPU isn't settled.
     pub fn read_pages(
         &mut self,
@@ -213,6 +252,21 @@ impl<N: BootName> Behind<N> {
             Err(fault) => ReadAnswer::Refused(fault),
         }
     }
+}
+
+// Pins the unit that begins at the frame of this number. Returns whether it did.
+fn pin<N: BootName>(tables: &Tables<N>, cpu: &mut Cpu<N>, number: u32) -> bool
+    requires room { HasPinRoom cpu.old }
+    requires frame { number < N.table.frames }
+    ensures { MatchBool result (Pins number Held cpu.old cpu.new) (MissesPin number cpu.old cpu.new) }
+{
+    let Some(frame) = tables.words.frame(number) else {
+        unreachable!()
+    };
+    let Ok(got) = cpu.get(tables, frame) else {
+        unreachable!()
+    };
+    matches!(got, Get::Held)
 }
 
 // The group of this number; `None` if there is none.

@@ -6,8 +6,8 @@ ghost use Rattle.zone_threads.specs.Calling.{Calls, IfMissing, AnswersRead, Serv
 ghost use Rattle.zone_threads.specs.Calling.{ServesPages};
 ghost use Rattle.zone_threads.specs.Homes.{OnCpu};
 ghost use Rattle.zone_threads.specs.Shown.{ReadsText};
-ghost use Rattle.zone_threads.specs.declared.calls.Call.TheVariants.{AllocBlock, AllocDirty, ReadPages, Settle, Visit};
-ghost use Rattle.zone_threads.specs.declared.calls.Call.TheVariants.{WritePages};
+ghost use Rattle.zone_threads.specs.declared.calls.Call.TheVariants.{AllocBlock, AllocDirty, AllocPinned, ReadPages};
+ghost use Rattle.zone_threads.specs.declared.calls.Call.TheVariants.{Settle, Visit, WritePages};
 
 use crate::calls::{CallAnswer, GroupPages, ReadAnswer, ReadCall};
 use crate::home::Home;
@@ -15,9 +15,11 @@ use crate::served::Missed;
 use crate::texts::{TextAnswer, TextCall};
 use control_files::file::File;
 use control_files::limit::Limit;
-use cpu_part::BootName;
+use cpu_part::{BootName, MAX_PINS};
+use group_tree::fault::Fault;
 use mem_system::{LockedCommand, Outcome};
 use std::alloc::Global;
+use zone_blocks::order::Order;
 
 impl<N: BootName> Home<N> {
     /// Serves a command under the lock.
@@ -56,6 +58,30 @@ impl<N: BootName> Home<N> {
             Err(Missed::Busy) => CallAnswer::Busy,
             Err(Missed::NoGroup) => CallAnswer::NoGroup,
         }
+    }
+
+    /// Allocates a block under the lock, and pins it there. Whether the CPU may have one more pin is looked at first,
+    /// then the order, and then the lock is tried.
+    pub fn alloc_pinned(&mut self, group: u32, order: u32) -> CallAnswer
+        requires some { IsSome self.old.cpu }
+        ensures { Calls N.table (AllocPinned group order) self.old self.new result }
+    {
+        let zone = &*self.zone;
+        let Some(cpu) = &mut self.cpu else {
+            unreachable!()
+        };
+        if cpu.back_len() + cpu.pin_count() == MAX_PINS {
+            return CallAnswer::Refused(Fault::PinsFull);
+        }
+        if order == 0 || order > Order::GREATEST {
+            return CallAnswer::Refused(Fault::BadOrder);
+        }
+        let Some((mut behind, loan)) = zone.take() else {
+            return CallAnswer::Busy;
+        };
+        let answer = behind.alloc_pinned(&zone.tables, cpu, group, order);
+        zone.lock.put_back(behind, loan);
+        answer
     }
 
     /// Reads a number of pages of the group of this number under the lock.

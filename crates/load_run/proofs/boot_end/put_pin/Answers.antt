@@ -1,7 +1,7 @@
 -- Serves the contract of `put_pin`: the pin is put between two meetings, and the watch takes the step.
 use Rattle.std.proofs.Common.{◌≡◌, ◌∙◌, [], ◌∷◌, ap, sym}
 use Rattle.step_rules.specs.declared.step.Action.TheVariants as step
-use Rattle.step_watch.specs.Watched.{cpu_makes}
+use Rattle.step_rules.specs.After.{cpu_makes}
 use Rattle.mem_history.specs.Leading.{put_answer}
 use Rattle.load_run.proofs.Putting.{put_met}
 use Rattle.load_run.proofs.boot_end.put_pin.Goals.{in-Left, in-Last}

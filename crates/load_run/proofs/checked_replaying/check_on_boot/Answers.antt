@@ -3,7 +3,7 @@ use Rattle.std.proofs.lemmas.Result.{IfErr-at_err, IfOk-at_ok, err_from_is_err_a
 use Rattle.boot_words.specs.{zone_of_boot}
 use Rattle.mem_system.specs.{CpuInRun, KnownLocked}
 use Rattle.step_watch.specs.Watched.{has_legal_steps}
-use Rattle.script_replay.specs.{past, HasRun, SystemState, system_state, form_terms}
+use Rattle.script_replay.specs.{lines_so_far, HasRun, SystemState, system_state, form_terms}
 use Rattle.load_run.specs.{checked_text, EndsChecked, boot_end_text}
 use Rattle.load_run.proofs.Starting.{boot_agrees, boot_shown, given_back, lent_parts, lent_so_far, lines_there}
 use Rattle.load_run.proofs.Stopped.{new_watched, stop_told}
@@ -84,7 +84,7 @@ returns g c =
     let saw = saw_more (zone_of_boot t) tells.run left.locked.machine.run.watch held.leaves.steps held.emptied.machine.run.watch tells.saw held.leaves.watched on in
     let start : SystemState = system_state c.set_watch.new.self c.deref_mut.result.now in
     let end : SystemState = system_state left.locked left.cpus in
-    let has : HasRun tells.run end = kept_goes_on (form_terms t c.args.form) c.args.lines.now (past [] start) (past tells.run end) _ tells.history new.first.so_far in
+    let has : HasRun tells.run end = kept_goes_on (form_terms t c.args.form) c.args.lines.now (lines_so_far [] start) (lines_so_far tells.run end) _ tells.history new.first.so_far in
     let shown = c.in_ok-told.told.items in
     record {
       answers = record {

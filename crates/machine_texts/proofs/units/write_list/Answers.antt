@@ -1,8 +1,7 @@
 use Rattle.std.proofs.Common.{◌≡◌, ◌++◌, ◌+◌, ℕ, ◌<◌, ◌≤◌, IfOk, append-nil, ap, arith, rules, subst, sym, ◌∙◌}
 use Rattle.std.proofs.lemmas.Option.{none-some}
 use Rattle.std.specs.String.{string_bytes}
-use Rattle.frame_word.specs.Tables.{KnownTable}
-use Rattle.boot_words.specs.{LoadsReferences, own_past, zone_of_boot}
+use Rattle.boot_words.specs.{LoadsReferences, own_past, zone_of_boot, KnownTable}
 use Rattle.lru_lists.specs.Lists.{entry_after}
 use Rattle.mem_machine.specs.{home_of, entries_in, listed}
 use Rattle.machine_texts.specs.Units.{order_at, unit_text}

@@ -43,4 +43,4 @@ returns-clause-lacks g c _ = record {
 }
 
 pub returns-clause-drained : goal.returns-clause-drained
-returns-clause-drained g c _ = subst (λ (s : State). HasDrained (s.parts c.args.cpu.now.number)) (sym c.in-Err.ensures.refused.left) c.requires.drained
+returns-clause-drained g c _ = subst (λ (s : State). HasDrained (s.parts c.args.cpu.now.number)) (sym c.in-Err.ensures.refused.left) c.requires.may_fill.drained

@@ -1,8 +1,8 @@
 use Rattle.std.proofs.Common.{◌≡◌, ℕ, ◌+◌, ◌-◌, ◌<◌, sym, ap, ◌∙◌, arith}
 use Rattle.std.proofs.lemmas.Bool.{lt-ltb, ltb-true}
-use Rattle.frame_word.specs.Tables.{KnownTable}
 use Rattle.stock_word.specs.declared.stock.Stock.TheVariants.{HeldBy}
 use Rattle.stock_word.specs.Stock.{stock_pages_of}
+use Rattle.boot_words.specs.Tables.{KnownTable}
 use Rattle.mem_machine.specs.{KnownMachine, HoldsPage, stock_now}
 use Rattle.mem_alloc.proofs.charging.holds_page.Goals as goal
 

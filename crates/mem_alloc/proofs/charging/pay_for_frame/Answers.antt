@@ -33,20 +33,21 @@ pub drain_stock-requires-clause-held : goal.drain_stock-requires-clause-held
 drain_stock-requires-clause-held g c =
     subst (λ (m : KnownMachine). IsHeld g.N.BootName.table m.run.past) (sym c.holds_page.ensures.machine) c.requires.visit.held
 
-pub fill_drained_stock-requires-clause-visit : goal.fill_drained_stock-requires-clause-visit
-fill_drained_stock-requires-clause-visit g c =
-    c.drain_stock.ensures.visit c.args.cpu.now
-    (subst (λ (m : KnownMachine). Visits g.N.BootName.table m c.args.cpu.now) (sym c.holds_page.ensures.machine) c.requires.visit)
-
-pub fill_drained_stock-requires-clause-there : goal.fill_drained_stock-requires-clause-there
-fill_drained_stock-requires-clause-there g c =
-    ap (λ x. has_group x c.args.group) (drained_trees g.N.BootName.table _ _ _ _ c.drain_stock.ensures.drains)
-    ∙ ap (λ (x : KnownMachine). has_group x.ledger.groups c.args.group) c.holds_page.ensures.machine ∙ c.requires.there
-
-pub fill_drained_stock-requires-clause-alive : goal.fill_drained_stock-requires-clause-alive
-fill_drained_stock-requires-clause-alive g c =
-    ap (λ (x : KnownMachine). is_killed x.killed c.args.group) (c.drain_stock.ensures.drains.machine)
-    ∙ ap (λ (x : KnownMachine). is_killed x.killed c.args.group) c.holds_page.ensures.machine ∙ c.requires.alive
+pub fill_drained_stock-requires-clause-may_pay : goal.fill_drained_stock-requires-clause-may_pay
+fill_drained_stock-requires-clause-may_pay g c =
+    let t = g.N.BootName.table in
+    let drains = c.drain_stock.ensures.drains in
+    let looked = c.holds_page.ensures.machine in
+    record {
+      visit = c.drain_stock.ensures.visit c.args.cpu.now (subst (λ (m : KnownMachine). Visits t m c.args.cpu.now) (sym looked) c.requires.visit);
+      size = c.requires.size;
+      sizes = c.requires.sizes;
+      there = ap (λ x. has_group x c.args.group) (drained_trees t _ _ _ _ drains)
+          ∙ ap (λ (x : KnownMachine). has_group x.ledger.groups c.args.group) looked ∙ c.requires.there;
+      alive = ap (λ (x : KnownMachine). is_killed x.killed c.args.group) (drains.machine)
+          ∙ ap (λ (x : KnownMachine). is_killed x.killed c.args.group) looked ∙ c.requires.alive;
+      none_fresh = c.requires.none_fresh;
+    }
 
 pub fill_drained_stock-requires-clause-drained : goal.fill_drained_stock-requires-clause-drained
 fill_drained_stock-requires-clause-drained g c =

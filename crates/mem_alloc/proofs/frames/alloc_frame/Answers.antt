@@ -9,6 +9,16 @@ use Rattle.mem_alloc.proofs.Filling.{keeps_both, pays_keep, no_frame_keeps, fill
 use Rattle.mem_machine.proofs.Followed.{makes_none}
 use Rattle.mem_alloc.proofs.frames.alloc_frame.Goals as goal
 
+pub pay_for_frame-requires : goal.pay_for_frame-requires
+pay_for_frame-requires g c = record {
+  visit = c.requires.visit;
+  size = c.requires.size;
+  sizes = c.requires.sizes;
+  there = c.requires.there;
+  alive = sym c.is_killed.ensures ∙ c.if-is_killed.false;
+  none_fresh = c.requires.settled.0;
+}
+
 pub returns-in_err-pay_for_frame : goal.returns-in_err-pay_for_frame
 returns-in_err-pay_for_frame g c =
     let t = g.N.BootName.table in

@@ -1,5 +1,5 @@
 use Rattle.std.proofs.Common.{None, Some, sym, ap, ◌∙◌, ◌≡◌}
-use Rattle.frame_word.specs.Tables.{KnownTable}
+use Rattle.boot_words.specs.Tables.{KnownTable}
 use Rattle.zone_blocks.specs.declared.choices.Choices.{Choices}
 use Rattle.group_tree.specs.Groups.{limit_of}
 use Rattle.group_charge.specs.Charges.{Ledger}

@@ -1,9 +1,9 @@
 use Rattle.std.proofs.Common.{refl, sym, subst}
 use Rattle.step_rules.specs.declared.step.Action.{Action}
 use Rattle.step_rules.specs.declared.step.Answer.{Answer}
+use Rattle.step_rules.specs.After.{zone_makes}
 use Rattle.boot_words.specs.{MakesStep, IsPlain}
 use Rattle.mem_machine.specs.Noted.{MayTake}
-use Rattle.mem_machine.specs.Steps.{zone_makes}
 use Rattle.mem_machine.proofs.AtTable.{held_at, made_at, take_at}
 use Rattle.mem_machine.proofs.Noted.{notes_one}
 use Rattle.mem_machine.proofs.stepping.make_step.Goals as goal

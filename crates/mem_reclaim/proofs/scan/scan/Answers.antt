@@ -1,7 +1,7 @@
 use Rattle.std.proofs.Common.{◌<◌, ◌≤◌, sym, ap, ◌∙◌, arith, rules}
-use Rattle.frame_word.specs.Tables.{KnownTable}
 use Rattle.group_tree.proofs.CallerLemmas.{in_subtree-refl}
 use Rattle.lru_lists.specs.Lists.{entry_of}
+use Rattle.boot_words.specs.Tables.{KnownTable}
 use Rattle.mem_machine.specs.Machines.{home_of}
 use Rattle.mem_reclaim.proofs.Scanning.{scan_first, scan_here, scan_more, scan_done, scan_enough}
 use Rattle.mem_reclaim.proofs.Grown.{held_after}

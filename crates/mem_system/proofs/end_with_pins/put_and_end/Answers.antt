@@ -9,8 +9,8 @@ unreachable-requires g c =
     let first = c.deref_mut.ensures.value in
     let long = c.put_all_pins.auto.cpus ∙ ap length first in
     let same = written_back c.args.cpus.len c.put_all_pins.new.cpus c.args.cpus.items long (sym c.deref_mut.ensures.len ∙ ap length first) in
-    let none : c.in-Err.field-0.pins ≡ 0 = c.in-Err.ensures.pins ∙ ap (λ (l : List CpuInRun). pins_of_all (parts_of l)) same ∙ c.put_all_pins.ensures.none in
-    let some = c.in-Err.ensures.some_pin in
+    let none : c.in-Err.field-0.pins ≡ 0 = c.in-Err.ensures.pinned.pins ∙ ap (λ (l : List CpuInRun). pins_of_all (parts_of l)) same ∙ c.put_all_pins.ensures.none in
+    let some = c.in-Err.ensures.pinned.some_pin in
     omega (arith, none, some)
 
 pub returns : goal.returns

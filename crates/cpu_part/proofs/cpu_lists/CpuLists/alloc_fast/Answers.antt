@@ -1,10 +1,9 @@
 use Rattle.std.proofs.Common.{◌<◌, ◌≤◌, length, ap, sym, subst, refl, arith, rules}
-use Rattle.frame_word.specs.Tables.{KnownTable}
 use Rattle.step_rules.specs.declared.step.Action.TheVariants.{Consume}
 use Rattle.step_rules.specs.State.{times}
 use Rattle.step_rules.proofs.Lists.{times_same}
 use Rattle.stock_word.specs.declared.answers.Consume.TheVariants as consumes
-use Rattle.boot_words.specs.{MayDo, ConsumesPage}
+use Rattle.boot_words.specs.{MayDo, ConsumesPage, KnownTable}
 use Rattle.cpu_part.specs.Known.{KnowsItsPart}
 use Rattle.cpu_part.proofs.Knowing.{front_inside, knows_drained, knows_took, may_consume}
 use Rattle.cpu_part.proofs.cpu_lists.CpuLists.alloc_fast.Goals as goal

@@ -1,8 +1,8 @@
 use Rattle.std.proofs.Common.{◌+◌, refl, subst, sym}
-use Rattle.frame_word.specs.Tables.{KnownTable}
 use Rattle.stock_word.specs.declared.answers.Credit.TheVariants as credits
 use Rattle.step_rules.specs.declared.step.Action.TheVariants.{Credit}
 use Rattle.boot_words.specs.Cpus.{CreditsPage}
+use Rattle.boot_words.specs.Tables.{KnownTable}
 use Rattle.cpu_part.specs.Known.{KnowsItsPart}
 use Rattle.cpu_part.proofs.Knowing.{knows_drained, knows_listed, may_credit}
 use Rattle.cpu_part.proofs.Making.{may_do_at}

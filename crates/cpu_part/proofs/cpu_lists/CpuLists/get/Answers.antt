@@ -1,8 +1,7 @@
 use Rattle.std.proofs.Common.{◌+◌, ◌<◌, length, arith, subst, sym}
-use Rattle.frame_word.specs.Tables.{KnownTable}
 use Rattle.frame_word.specs.declared.answers.Get.TheVariants as gets
 use Rattle.step_rules.specs.declared.step.Action.TheVariants.{Get}
-use Rattle.boot_words.specs.{GetsReference, IsAwayCpu}
+use Rattle.boot_words.specs.{GetsReference, IsAwayCpu, KnownTable}
 use Rattle.cpu_part.specs.{KnownCpuLists, KnowsItsPart}
 use Rattle.cpu_part.proofs.Knowing.{knows_held, knows_not_held, may_get}
 use Rattle.cpu_part.proofs.Making.{may_do_at}

@@ -1,10 +1,9 @@
 use Rattle.std.proofs.Common.{◌≤◌, length, ap, arith, rules, subst, sym, ◌∙◌}
 use Rattle.std.proofs.lemmas.List.{length-append}
-use Rattle.frame_word.specs.Tables.{KnownTable}
 use Rattle.step_rules.specs.declared.step.Action.TheVariants.{Put}
 use Rattle.step_rules.specs.declared.step.Answer.TheVariants as said
 use Rattle.step_rules.specs.State.{times}
-use Rattle.boot_words.specs.{CpuMakes, IsAwayCpu}
+use Rattle.boot_words.specs.{CpuMakes, IsAwayCpu, KnownTable}
 use Rattle.cpu_part.specs.{KnownCpuLists, KnowsItsPart}
 use Rattle.cpu_part.proofs.Counts.{one_shorter}
 use Rattle.cpu_part.proofs.Knowing.{knows_last, knows_left, may_put}

@@ -1,6 +1,8 @@
 use Rattle.std.proofs.Common.{◌<◌, sym, arith, rules}
 use Rattle.mem_machine.specs.Kept.{machine_of}
-use Rattle.mem_machine.proofs.Lends.{given_free, lent_all, lent_notes, may_lend, number_low}
+use Rattle.mem_machine.specs.Steps.{lend_steps}
+use Rattle.mem_machine.proofs.Collecting.{turn_notes}
+use Rattle.mem_machine.proofs.Lends.{given_free, lent_all, may_lend, number_low}
 use Rattle.mem_machine.proofs.Made.{visits_here}
 use Rattle.mem_machine.proofs.machine.Machine.lend.Goals as goal
 
@@ -34,7 +36,7 @@ invariant_of-self g c =
     let t = g.N.BootName.table in
     let m = machine_of c.self.inside in
     let visit = visits_here t m _ c.self.view_is c.args.cpu.now c.requires.visit in
-    let noted = lent_notes t (machine_of c.self.inside).run c.args.cpu.now.number c.args.frame _ _ c.number-given.ensures c.number-cpu_number.ensures.number _ _ visit.held
+    let noted = turn_notes lend_steps t (machine_of c.self.inside).run c.args.cpu.now.number c.args.frame _ _ c.number-given.ensures c.number-cpu_number.ensures.number _ _ visit.held
     c.borrow.ensures.run c.watch_lent.ensures in
     let all = lent_all t (machine_of c.self.inside) _ c.self.view_is c.args.cpu.now c.requires.visit c.self.invariant.consistent c.args.frame c.requires.frame c.requires.free
     _ _ _ _ _ _ _ _ c.self.invariant.free c.self.invariant.sums c.self.invariant.owners c.take_frame.ensures.frames c.take_frame.ensures.areas c.number-given.ensures
@@ -46,7 +48,7 @@ returns g c =
     let t = g.N.BootName.table in
     let m = machine_of c.self.inside in
     let visit = visits_here t m _ c.self.view_is c.args.cpu.now c.requires.visit in
-    let noted = lent_notes t (machine_of c.self.inside).run c.args.cpu.now.number c.args.frame _ _ c.number-given.ensures c.number-cpu_number.ensures.number _ _ visit.held
+    let noted = turn_notes lend_steps t (machine_of c.self.inside).run c.args.cpu.now.number c.args.frame _ _ c.number-given.ensures c.number-cpu_number.ensures.number _ _ visit.held
     c.borrow.ensures.run c.watch_lent.ensures in
     let all = lent_all t (machine_of c.self.inside) _ c.self.view_is c.args.cpu.now c.requires.visit c.self.invariant.consistent c.args.frame c.requires.frame c.requires.free
     _ _ _ _ _ _ _ _ c.self.invariant.free c.self.invariant.sums c.self.invariant.owners c.take_frame.ensures.frames c.take_frame.ensures.areas c.number-given.ensures

@@ -1,8 +1,10 @@
 use Rattle.std.proofs.Common.{◌<◌, ◌≤◌, ap, sym, subst, arith, rules}
 use Rattle.zone_blocks.specs.Zone.{BuddyZone}
-use Rattle.frame_word.specs.Tables.{KnownTable}
+use Rattle.boot_words.specs.Tables.{KnownTable}
 use Rattle.mem_machine.specs.Kept.{machine_of}
-use Rattle.mem_machine.proofs.Lends.{block_inside, first_lent, lent_notes, lent_to_none, may_lend_first, number_low}
+use Rattle.mem_machine.specs.Steps.{lend_steps}
+use Rattle.mem_machine.proofs.Collecting.{turn_notes}
+use Rattle.mem_machine.proofs.Lends.{block_inside, first_lent, lent_to_none, may_lend_first, number_low}
 use Rattle.mem_machine.proofs.Made.{visits_here}
 use Rattle.mem_machine.proofs.machine.Machine.lend_one.Goals as goal
 
@@ -36,7 +38,7 @@ invariant_of-self-2 g c =
     let t = g.N.BootName.table in
     let m = machine_of c.self.inside in
     let visit = visits_here t m _ c.self.view_is c.args.cpu.now c.requires.visit in
-    let noted = lent_notes t (machine_of c.self.inside).run c.args.cpu.now.number c.in-Some-frame.frame _ _ c.number-at.ensures c.number-cpu_number.ensures.number _ _ visit.held
+    let noted = turn_notes lend_steps t (machine_of c.self.inside).run c.args.cpu.now.number c.in-Some-frame.frame _ _ c.number-at.ensures c.number-cpu_number.ensures.number _ _ visit.held
     c.borrow.ensures.run c.watch_lent.ensures in
     let all = first_lent t (machine_of c.self.inside) _ c.self.view_is c.args.cpu.now c.requires.visit c.self.invariant.consistent
     _ _ c.single_order.result c.in-Some.block c.in-Some-frame.frame c.self.invariant.free c.single_order.ensures c.in-Some.ensures.taken c.in-Some.ensures.frames c.in-Some-frame.ensures.0
@@ -48,7 +50,7 @@ returns g c =
     let t = g.N.BootName.table in
     let m = machine_of c.self.inside in
     let visit = visits_here t m _ c.self.view_is c.args.cpu.now c.requires.visit in
-    let noted = lent_notes t (machine_of c.self.inside).run c.args.cpu.now.number c.in-Some-frame.frame _ _ c.number-at.ensures c.number-cpu_number.ensures.number _ _ visit.held
+    let noted = turn_notes lend_steps t (machine_of c.self.inside).run c.args.cpu.now.number c.in-Some-frame.frame _ _ c.number-at.ensures c.number-cpu_number.ensures.number _ _ visit.held
     c.borrow.ensures.run c.watch_lent.ensures in
     let all = first_lent t (machine_of c.self.inside) _ c.self.view_is c.args.cpu.now c.requires.visit c.self.invariant.consistent
     _ _ c.single_order.result c.in-Some.block c.in-Some-frame.frame c.self.invariant.free c.single_order.ensures c.in-Some.ensures.taken c.in-Some.ensures.frames c.in-Some-frame.ensures.0

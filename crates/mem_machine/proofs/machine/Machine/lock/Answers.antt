@@ -1,8 +1,8 @@
 use Rattle.std.proofs.Common.{◌≡◌, sym, subst}
-use Rattle.frame_word.specs.Tables.{KnownTable}
 use Rattle.step_rules.specs.declared.phase.Hold.TheVariants.{HeldBy}
 use Rattle.boot_words.specs.Pasts.{Locks, own_past}
 use Rattle.boot_words.specs.Cpus.{IsAwayCpu}
+use Rattle.boot_words.specs.Tables.{KnownTable}
 use Rattle.mem_machine.specs.{machine_of, KnownMachine, with_past}
 use Rattle.mem_machine.proofs.Locks.{locked_holds, locked_shut, rests_at, sound_then}
 use Rattle.mem_machine.proofs.machine.Machine.lock.Goals as goal

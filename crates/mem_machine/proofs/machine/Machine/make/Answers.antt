@@ -4,8 +4,8 @@ use Rattle.std.proofs.lemmas.List.{length-set}
 use Rattle.group_tree.proofs.GroupLemmas.{can_make}
 use Rattle.step_rules.specs.declared.step.Action.TheVariants.{Make}
 use Rattle.step_rules.specs.declared.step.Answer.TheVariants.{Number}
-use Rattle.mem_machine.specs.{machine_of, MayTake, Notes}
-use Rattle.mem_machine.specs.Steps.{zone_makes}
+use Rattle.step_rules.specs.After.{zone_makes}
+use Rattle.mem_machine.specs.{machine_of, MayTake, Records}
 use Rattle.mem_machine.proofs.GroupSteps.{adds, grouped, makes_group}
 use Rattle.mem_machine.proofs.Made.{held_here}
 use Rattle.mem_machine.proofs.Noted.{legal_step}
@@ -33,7 +33,7 @@ invariant_of-self-2 g c =
     let all = grouped g.N.BootName.table (machine_of c.self.inside) c.self.invariant.consistent (held_here g.N.BootName.table (machine_of c.self.inside) _ c.self.view_is c.requires.held) _ _ _
     (makes_group g.N.BootName.table (machine_of c.self.inside) _ c.self.view_is c.self.invariant.consistent c.requires.held c.in_ok-group.group c.args.path.now inside c.in_ok-group.ensures.refused
     c.prove_charges.ensures.legal c.in_ok-group.ensures.least _ c.in_ok-group.ensures.made _ (ap (λ (n : ℕ). slice_set c.self.inside.killed.items n false) value))
-    c.in_ok-group.ensures.pages (length-set c.self.inside.killed.items c.number-number.result false ∙ sized) _ (subst (λ (path : List ℕ). Notes g.N.BootName.table (machine_of c.self.inside).run (zone_makes (Make path) (Number c.in_ok-group.group) ∷ [])
+    c.in_ok-group.ensures.pages (length-set c.self.inside.killed.items c.number-number.result false ∙ sized) _ (subst (λ (path : List ℕ). Records g.N.BootName.table (machine_of c.self.inside).run (zone_makes (Make path) (Number c.in_ok-group.group) ∷ [])
     (record { past = c.make_step.new.past; watch = c.make_step.new.watch })) c.in-Some.ensures.1 (c.make_step.ensures.notes _ _ (search rules))) _ refl in
     record { consistent = all.consistent; free = c.self.invariant.free; sums = all.sums _ c.self.invariant.sums; owners = all.owners _ c.self.invariant.owners }
 
@@ -46,7 +46,7 @@ returns-clause-steps g c =
     (grouped g.N.BootName.table (machine_of c.self.inside) c.self.invariant.consistent (held_here g.N.BootName.table (machine_of c.self.inside) _ c.self.view_is c.requires.held) _ _ _
     (makes_group g.N.BootName.table (machine_of c.self.inside) _ c.self.view_is c.self.invariant.consistent c.requires.held c.in_ok-group.group c.args.path.now inside c.in_ok-group.ensures.refused
     c.prove_charges.ensures.legal c.in_ok-group.ensures.least _ c.in_ok-group.ensures.made _ (ap (λ (n : ℕ). slice_set c.self.inside.killed.items n false) value))
-    c.in_ok-group.ensures.pages (length-set c.self.inside.killed.items c.number-number.result false ∙ sized) _ (subst (λ (path : List ℕ). Notes g.N.BootName.table (machine_of c.self.inside).run (zone_makes (Make path) (Number c.in_ok-group.group) ∷ [])
+    c.in_ok-group.ensures.pages (length-set c.self.inside.killed.items c.number-number.result false ∙ sized) _ (subst (λ (path : List ℕ). Records g.N.BootName.table (machine_of c.self.inside).run (zone_makes (Make path) (Number c.in_ok-group.group) ∷ [])
     (record { past = c.make_step.new.past; watch = c.make_step.new.watch })) c.in-Some.ensures.1 (c.make_step.ensures.notes _ _ (search rules))) _ c.self.view_is).steps
 
 pub returns-clause-visit : goal.returns-clause-visit
@@ -58,7 +58,7 @@ returns-clause-visit g c =
     (grouped g.N.BootName.table (machine_of c.self.inside) c.self.invariant.consistent (held_here g.N.BootName.table (machine_of c.self.inside) _ c.self.view_is c.requires.held) _ _ _
     (makes_group g.N.BootName.table (machine_of c.self.inside) _ c.self.view_is c.self.invariant.consistent c.requires.held c.in_ok-group.group c.args.path.now inside c.in_ok-group.ensures.refused
     c.prove_charges.ensures.legal c.in_ok-group.ensures.least _ c.in_ok-group.ensures.made _ (ap (λ (n : ℕ). slice_set c.self.inside.killed.items n false) value))
-    c.in_ok-group.ensures.pages (length-set c.self.inside.killed.items c.number-number.result false ∙ sized) _ (subst (λ (path : List ℕ). Notes g.N.BootName.table (machine_of c.self.inside).run (zone_makes (Make path) (Number c.in_ok-group.group) ∷ [])
+    c.in_ok-group.ensures.pages (length-set c.self.inside.killed.items c.number-number.result false ∙ sized) _ (subst (λ (path : List ℕ). Records g.N.BootName.table (machine_of c.self.inside).run (zone_makes (Make path) (Number c.in_ok-group.group) ∷ [])
     (record { past = c.make_step.new.past; watch = c.make_step.new.watch })) c.in-Some.ensures.1 (c.make_step.ensures.notes _ _ (search rules))) _ c.self.view_is).visit
 
 pub unreachable-requires : goal.unreachable-requires

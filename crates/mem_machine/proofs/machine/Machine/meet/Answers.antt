@@ -1,7 +1,6 @@
 use Rattle.std.proofs.Common.{◌≡◌, sym, ap, ◌∙◌, subst}
-use Rattle.frame_word.specs.Tables.{KnownTable}
 use Rattle.step_rules.specs.State.{State}
-use Rattle.boot_words.specs.{Meets, IsAwayCpu}
+use Rattle.boot_words.specs.{Meets, IsAwayCpu, KnownTable}
 use Rattle.mem_machine.specs.{machine_of, KnownMachine, left_by}
 use Rattle.mem_machine.proofs.Locks.{met_knows, rests_at, sound_then}
 use Rattle.mem_machine.proofs.machine.Machine.meet.Goals as goal

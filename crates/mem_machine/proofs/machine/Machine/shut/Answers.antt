@@ -1,12 +1,12 @@
 use Rattle.std.proofs.Common.{◌∙◌, ℕ, refl, sym, subst, rules}
-use Rattle.frame_word.specs.Tables.{KnownTable}
 use Rattle.step_rules.specs.declared.phase.Hold.TheVariants.{HeldBy}
 use Rattle.step_rules.specs.declared.step.Action.TheVariants.{ShutVisit}
 use Rattle.step_rules.specs.declared.step.Answer.TheVariants.{Done}
+use Rattle.step_rules.specs.After.{zone_makes}
+use Rattle.boot_words.specs.Tables.{KnownTable}
 use Rattle.step_watch.specs.Watched.{Watches}
 use Rattle.boot_words.specs.Pasts.{IsHeld, MakesStep, MayMake}
 use Rattle.mem_machine.specs.{machine_of, IsOpen, Makes, KnownMachine, with_run, shut_steps}
-use Rattle.mem_machine.specs.Steps.{zone_makes}
 use Rattle.mem_machine.proofs.AtTable.{made_at, may_at}
 use Rattle.mem_machine.proofs.Holds.{hold_then, holds_then, makes_then, may_shut, visit_holds, sound_held}
 use Rattle.mem_machine.proofs.Made.{holds_here}

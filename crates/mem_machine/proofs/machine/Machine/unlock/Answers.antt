@@ -1,8 +1,7 @@
 use Rattle.std.proofs.Common.{◌≡◌, ◌∙◌, ap, sym, subst}
-use Rattle.frame_word.specs.Tables.{KnownTable}
 use Rattle.step_rules.specs.declared.phase.Hold.TheVariants.{Unheld}
 use Rattle.step_rules.specs.declared.step.Action.TheVariants.{Unlock}
-use Rattle.boot_words.specs.{IsHeld, MayMake, Unlocks, zone_of_boot, stock_in, IsAwayCpu, state_left}
+use Rattle.boot_words.specs.{IsHeld, MayMake, Unlocks, zone_of_boot, stock_in, IsAwayCpu, state_left, KnownTable}
 use Rattle.step_rules.specs.After.{Run, state_of}
 use Rattle.mem_machine.specs.{machine_of, IsShut, KnownMachine}
 use Rattle.mem_machine.proofs.Locks.{may_unlock, sound_then, unlocked_found, unlocked_knows}

@@ -1,6 +1,6 @@
 -- A pointer to a home may cross threads, as the home may.
+use Rattle.boot_words.specs.Tables.{KnownTable}
 use Rattle.host_memory.proofs.Sends.{Ptr, exits_of, shape, fields, to, IsSend, AllSend, owning_send, struct_send, sendable, Keyless, Option, None, Some, Global, quiet, the_field_send, box_crosses}
-use Rattle.frame_word.specs.Tables.{KnownTable}
 use Rattle.zone_threads.specs.Homes.{KnownHome}
 use Rattle.zone_threads.proofs.home.Home.TheSendSync.{the_send as home_send}
 use Rattle.tempolemon_threads.specs.Owned.{brand, home_row, home_owns}

@@ -1,9 +1,9 @@
 -- Serves `read`: the reply is what the charges after the visit make of the outcome.
 use Rattle.std.proofs.Common.{◌≡◌, ◌≢◌, ◌∙◌, ap, sym, subst}
 use Rattle.zone_blocks.specs.declared.config.Config.{Config}
-use Rattle.frame_word.specs.Tables.{KnownTable}
 use Rattle.group_charge.specs.Charges.{Ledger}
 use Rattle.control_files.specs.Files as files
+use Rattle.boot_words.specs.Tables.{KnownTable}
 use Rattle.mem_system.specs.Cpus.{CpuInRun}
 use Rattle.mem_system.specs.declared.command.LockedCommand.{LockedCommand}
 use Rattle.mem_system.specs.declared.command.LockedCommand.TheVariants as cmd

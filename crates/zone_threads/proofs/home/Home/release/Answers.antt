@@ -1,7 +1,7 @@
 -- Serves `release`: what the CPU couldn't list is released under the lock.
 use Rattle.std.proofs.Common.{◌≡◌, ◌∙◌, ℕ, Some, refl, rules, subst, sym}
 use Rattle.zone_blocks.specs.declared.config.Config.{Config}
-use Rattle.frame_word.specs.Tables.{KnownTable}
+use Rattle.boot_words.specs.Tables.{KnownTable}
 use Rattle.mem_system.specs.Cpus.{CpuInRun}
 use Rattle.mem_system.specs.declared.command.LockedCommand.TheVariants as cmd
 use Rattle.mem_system.specs.declared.outcome.Outcome.{Outcome}

@@ -1,8 +1,8 @@
 -- Lists of steps that are made under the lock, one after the other.
 use Rattle.std.specs.Prelude.{◌≡◌, [], ◌∷◌}
-use Rattle.frame_word.specs.Tables.{KnownTable}
 use Rattle.step_rules.specs.After.{Run}
 use Rattle.boot_words.specs.Pasts.{KnownPasts, MakesStep}
+use Rattle.boot_words.specs.Tables.{KnownTable}
 
 -- the steps were made in this order, with these answers
 abbrev pub MakesAll : KnownTable → KnownPasts → Run → KnownPasts → Type 0

@@ -1,7 +1,7 @@
 -- What contracts see of a host's handles.
 use Rattle.std.specs.Prelude.{◌≡◌, ◌↔◌, ℕ, Bool, Option, None, Some, IsSome, IsTrue}
-use Rattle.frame_word.specs.Tables.{KnownTable}
 use Rattle.zone_blocks.specs.declared.config.Config.{Config}
+use Rattle.boot_words.specs.Tables.{KnownTable}
 use Rattle.mem_system.specs.{IsSizedAs, HasEnded}
 use Rattle.zone_threads.specs.Homes.{HasCpu, HasCpuAsParked, HasNoCpu, IsCpu, KnownHome}
 use Rattle.mem_system.specs.declared.end_with_pins.SystemEnd.{SystemEnd}
