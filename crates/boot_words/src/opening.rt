@@ -14,9 +14,10 @@ use stock_word::Stock;
 use zone_blocks::choices::Choices;
 
 impl BootWords {
-    /// A table for this many frames, numbered from 0, and the CPUs 1 to `cpus` (1 to 64), with the zone's seat and those
-    /// of the CPUs in their order. It keeps the choices of the boot. Each word is 0 and the run has no step: each frame is free, no visit is open, no stock
-    /// has a group, and nobody holds the lock. `AllocError` if memory runs out.
+    /// A table for this many frames, numbered from 0, and the CPUs 1 to `cpus` (1 to 64), with the zone's seat and
+    /// those of the CPUs in their order. It keeps the choices of the boot. Each word is 0 and the run has no step: each
+    /// frame is free, no visit is open, no stock has a group, and nobody holds the lock. `AllocError` if memory runs
+    /// out.
     pub fn new(
         alloc: Global,
         frames: u32,

@@ -12,7 +12,8 @@ use Rattle.clap.specs.declared.builder.value_parser.ValueParser.TheVariants.{Sig
 use Rattle.clap.specs.Kinds.{Kinds}
 use Rattle.zone_blocks.specs.declared.config.Config.{Config}
 use Rattle.zone_blocks.specs.declared.choices.Choices.{Choices}
-use Rattle.zone_blocks.specs.Config.{most_batch, most_cpus, most_frames, most_high, most_reclaim_batch, most_stock, no_choices}
+use Rattle.zone_blocks.specs.Config.{most_batch, most_cpus, most_frames, most_high, most_reclaim_batch, most_stock}
+use Rattle.zone_blocks.specs.Config.{no_choices}
 use Rattle.load_options.specs.declared.task.Options.{Options}
 use Rattle.load_options.specs.declared.task.Task.{Task}
 use Rattle.load_options.specs.declared.task.Task.TheVariants.{Replay, Steps, Run, Check, Lint, Serve, ServeSteps, Version}

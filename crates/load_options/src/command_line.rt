@@ -137,11 +137,11 @@ pub fn words<R: Env + AllocGlobal>(rt: &R) -> Result<Vec<String>, WordsFault> {
 }
 
 /// Parses the words after the program's name. They are `replay`, `run`, `lint` or `serve`, then any of `--frames`,
-/// `--cpus`, `--batch`, `--high`, `--stock`, `--reclaim-batch`, `--no-kill` and `--fair`. After `replay` and `run` there may also be `--audit`, `--numbered` and
-/// `--strict`, and after `replay` `--explain` and `--check`. After `replay` there may be `--steps` instead of these
-/// five. After `serve` there may be `--audit` and `--explain`, or `--steps` instead. Each is given at most once. Or the words
-/// are `check`, alone or with `--all`, or `--version` or `-V` alone. Anything else is a fault of the words, even a request
-/// for help.
+/// `--cpus`, `--batch`, `--high`, `--stock`, `--reclaim-batch`, `--no-kill` and `--fair`. After `replay` and `run`
+/// there may also be `--audit`, `--numbered` and `--strict`, and after `replay` `--explain` and `--check`. After
+/// `replay` there may be `--steps` instead of these five. After `serve` there may be `--audit` and `--explain`, or
+/// `--steps` instead. Each is given at most once. Or the words are `check`, alone or with `--all`, or `--version` or
+/// `-V` alone. Anything else is a fault of the words, even a request for help.
 ///
 /// A size is a whole number in its own range: 1 to 1,048,576 frames, 1 to 64 CPUs, batch 1 to 64, high 1 to 256,
 /// stock 1 to 64, reclaim-batch 1 to 64. `Config::is_valid` requires more: high is at least batch. The defaults are 16,

@@ -4,7 +4,8 @@ ghost use Rattle.std.specs.Prelude.{◌≡◌, ◌≤◌, IfSome, codes, option_
 ghost use Rattle.clap.specs.Words.{found_of, rows_of, subcommand_rows_of};
 ghost use Rattle.load_options.specs.Sizes.{HasSizesInRange};
 ghost use Rattle.zone_blocks.specs.Config.{AreValidChoices};
-ghost use Rattle.load_options.specs.Words.{answering_task, bare_options, choices_in, has_other_flag, has_task_flag, is_given, number_kept};
+ghost use Rattle.load_options.specs.Words.{answering_task, bare_options, choices_in, has_other_flag, has_task_flag};
+ghost use Rattle.load_options.specs.Words.{is_given, number_kept};
 ghost use Rattle.load_options.specs.Words.{options_under, replay_task_in, script_options_under, size_in, sizes_in};
 ghost use Rattle.load_options.specs.Words.{serve_task_in, task_in};
 ghost use Rattle.load_options.specs.declared.task.Task.TheVariants.{Check};

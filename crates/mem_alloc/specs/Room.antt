@@ -52,8 +52,8 @@ ReclaimsBefore (Some limit) batch limited pages =
     ReclaimsRounds limited (pages_wanted batch limited pages limit) max_rounds
 
 -- Clean units of the group's subtree are freed in rounds, `freed` pages in all, until its limit has room for this many
--- pages. Each round wants at least as many pages as the boot chose. If it still has none, each clean unit that the subtree still keeps was tried and missed, or memory.min
--- keeps it.
+-- pages. Each round wants at least as many pages as the boot chose. If it still has none, each clean unit that the
+-- subtree still keeps was tried and missed, or memory.min keeps it.
 pub record ReclaimsFor (limited pages : ℕ) (call : Transition KnownMachine) : Type 0 where
   pub freed : ℕ
   pub reclaims : ReclaimsBefore (limit_of call.before.ledger.groups limited) call.table.choices.reclaim_batch limited

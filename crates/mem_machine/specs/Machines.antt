@@ -32,9 +32,9 @@ use Rattle.mem_machine.specs.FrameStates.{AreUnits, frame_state_at, free_of, pha
 
 -- The machine holds the free areas, a record for each frame, and the groups with their charges. It holds the links of
 -- all kept units, two lists for each group number, and which group numbers are killed. It counts how units ended, how
--- many were freed and how many were missed. It holds the notes since the last `forget_notes`, and, if turns go round, the
--- group that had the last turn of a reclaim. It holds the pasts of the zone and of the lock's holder, which grow by each
--- step, and the watch, which takes each step right after it.
+-- many were freed and how many were missed. It holds the notes since the last `forget_notes`, and, if turns go round,
+-- the group that had the last turn of a reclaim. It holds the pasts of the zone and of the lock's holder, which grow by
+-- each step, and the watch, which takes each step right after it.
 pub record KnownMachine : Type 0 where
   pub blocks : List Block
   pub frame_states : List FrameState

@@ -16,7 +16,8 @@ max_rounds = 16
 abbrev pub pages_missing : ℕ → ℕ → ℕ → Ledger → ℕ
 pages_missing group need limit ledger = current_of ledger group + need - limit
 
--- how many pages a round wants if this many are missing, and if it has to want at least `batch`: none if none is missing
+-- how many pages a round wants if this many are missing, and if it has to want at least `batch`: none if none is
+-- missing
 abbrev pub wanted_pages : (batch missing : ℕ) → ℕ
 wanted_pages batch missing = if missing == 0 then 0 else max batch missing
 

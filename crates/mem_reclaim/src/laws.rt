@@ -1,7 +1,8 @@
 //! Laws of kills and of reclaim: what each function ensures holds of every victim and all groups that die with it, of
 //! every unit that was tried, and of every note.
 
-ghost use Rattle.mem_reclaim.specs.Laws.{BatchesOfOneWantWhatIsMissing, FlaggedGroupsDieWhole, LoneKillsAreNotedAsMade, MissedUnitsWereTried};
+ghost use Rattle.mem_reclaim.specs.Laws.{BatchesOfOneWantWhatIsMissing, FlaggedGroupsDieWhole, LoneKillsAreNotedAsMade};
+ghost use Rattle.mem_reclaim.specs.Laws.{MissedUnitsWereTried};
 ghost use Rattle.mem_reclaim.specs.Laws.{OnlyTheLivingDie, ProtectedGroupsHaveNoTurn, RoundsAreNotedAsMade};
 ghost use Rattle.mem_reclaim.specs.Laws.{TheVictimIsOne, VictimsDie};
 

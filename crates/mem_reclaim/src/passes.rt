@@ -10,7 +10,8 @@ ghost use Rattle.mem_reclaim.specs.Moves.{FreesBySteps};
 ghost use Rattle.mem_reclaim.specs.Passes.{AreInSubtree, PassesGroup, ReclaimsGroup, ReclaimsPass, TakesTurn, is_first};
 ghost use Rattle.mem_reclaim.specs.Passes.{is_last, members_of};
 ghost use Rattle.mem_reclaim.specs.Passes.{notes_spared, spared_by, third_pass, turn_want, with_detail_if};
-ghost use Rattle.mem_reclaim.specs.Staying.{AreMissedOrKept, Keeps, MissedAll, MissedOfGroup, MissedOrKept, OnlyLeave, UsageFalls};
+ghost use Rattle.mem_reclaim.specs.Staying.{AreMissedOrKept, Keeps, MissedAll, MissedOfGroup, MissedOrKept, OnlyLeave};
+ghost use Rattle.mem_reclaim.specs.Staying.{UsageFalls};
 ghost use Rattle.mem_reclaim.specs.Wanted.{WhileWanted};
 
 use crate::scan::scan;

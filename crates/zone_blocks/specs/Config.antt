@@ -27,8 +27,8 @@ most_stock = 64
 abbrev pub most_reclaim_batch : ℕ
 most_reclaim_batch = 64
 
--- The choices of a boot that makes none: passes of reclaim begin with the least group, groups may be killed, and a round
--- wants the pages that are missing.
+-- The choices of a boot that makes none: passes of reclaim begin with the least group, groups may be killed, and a
+-- round wants the pages that are missing.
 abbrev pub no_choices : Choices
 no_choices = record { is_fair = false; is_no_kill = false; reclaim_batch = 1 }
 
