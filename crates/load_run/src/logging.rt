@@ -2,6 +2,7 @@
 //! follows them in comments.
 
 ghost use Rattle.std.specs.Prelude.{◌≡◌, ◌++◌, All, IfOk, OnOk, codes, length, map, true};
+ghost use Rattle.std.specs.String.{string_bytes};
 ghost use Rattle.script_lines.specs.Script.{texts_of};
 ghost use Rattle.script_replay.specs.{system_state, LineInRange, terms};
 ghost use Rattle.step_watch.specs.Watched.{has_whole_log, log_text};
@@ -38,7 +39,7 @@ fn add_sizes(alloc: Global, sizes: &Config, log: &mut Vec<u8>) -> Result<(), All
 
 // Writes the batch of reclaim, if the boot chose one.
 fn write_batch(batch: u32, text: &mut String) -> Result<(), AllocError>
-    ensures { OnOk result (text.new ≡ text.old ++ batch_text batch) }
+    ensures { OnOk result (string_bytes text.new ≡ string_bytes text.old ++ batch_text batch) }
 {
     if batch == 1 {
         return Ok(());
@@ -48,14 +49,14 @@ fn write_batch(batch: u32, text: &mut String) -> Result<(), AllocError>
 
 // Writes the name of a choice that has no value, if the boot makes it.
 fn write_flag(is_made: bool, name: &str, text: &mut String) -> Result<(), AllocError>
-    ensures { OnOk result (text.new ≡ text.old ++ flag_text is_made name.now) }
+    ensures { OnOk result (string_bytes text.new ≡ string_bytes text.old ++ flag_text is_made name.now) }
 {
     text.push_str(if is_made { name } else { "" })
 }
 
 // Writes the choices that the boot makes.
 fn write_choices(choices: &Choices, text: &mut String) -> Result<(), AllocError>
-    ensures { OnOk result (text.new ≡ with_choices text.old choices.now) }
+    ensures { OnOk result (string_bytes text.new ≡ with_choices (string_bytes text.old) choices.now) }
 {
     write_batch(choices.reclaim_batch, text)?;
     write_flag(choices.is_no_kill, " no-kill", text)?;
